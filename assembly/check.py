@@ -1,22 +1,23 @@
 #!/usr/bin/env python3
-"""Checks the assembly text of the library for C and of the cargo crate beside what is proved:
+"""Checks the assembly source of the library for C and of the cargo crate against the proved code:
 
     assembly/check.py [--target aarch64] [--of-ci] [c] [rust]
 
-It proves and builds both, or the one that is named; with --of-ci over the libraries that `rt ci` left in this tree. Of
-each text it wants that
+It proves and builds both, or the given one; with --of-ci over the libraries that `rt ci` left in this tree. For each
+source it checks that
 
 - assembly source and sums generated from the proved object equal the committed ones;
-- each assembler on the machine (GNU as, clang, rustc) makes that object of the text, as same_bytes.py compares two;
+- each assembler on the machine (GNU as, clang, rustc) makes that object from the source, by the comparison of
+  same_bytes.py;
 - the prefetches of its module are those of prefetch.py, and a module that lacks one of their places is refused;
-- a module that is another in one number or one line beside what is added is not compiled (tried with two of them);
-- what is compiled for x86-64-v4 has instructions of mnemonics.txt alone, and another is noticed;
-- 18 wrong texts are noticed, by the object and by the sums: a constant, a register, an offset, a jump, a word of data, a
-  place in a mergeable section;
-- it says the frame at each instruction, and wrong directives are noticed; of the library for C on x86-64 the unwinder of
-  libgcc comes to the caller from each instruction that runs.
+- a module that differs in one number or one line other than the additions is not compiled (tested with two of them);
+- the code compiled for x86-64-v4 has only instructions of mnemonics.txt, and another is detected;
+- 18 wrong sources are detected, by the object and by the sums: a constant, a register, an offset, a jump, a word of
+  data, a place in a mergeable section;
+- it declares the frame at each instruction, and wrong directives are detected; for the library for C on x86-64 the
+  unwinder of libgcc finds the caller from each executed instruction.
 
-It needs rt, and takes what assemblers there are. One line a check; the status is 1 where one failed."""
+It needs rt, and uses the assemblers of the machine. One line per check; the status is 1 if one failed."""
 import argparse
 import filecmp
 import os
@@ -109,9 +110,9 @@ def assemblers_for(target, sysroot):
     return [it for it in (kind(target, sysroot) for kind in (As, Clang, Rustc)) if it.is_there()]
 
 
-# ---- wrong texts ----
+# ---- wrong sources ----
 
-# Where a text is made wrong: the pattern's group is what changes, and the other word that comes in its place.
+# How a source is made wrong: the pattern's group is what changes, and the function returns the replacement.
 def other_number(word, _):
     return hex(int(word, 16) ^ 1)
 
@@ -138,7 +139,7 @@ def place_from_first(label, _):
 
 
 WORD_OF_DATA = r'\t\.quad (0x[0-9a-f]+)', other_number
-# A constant of 16 bytes: of the sections of data only the mergeable ones have labels within them.
+# A constant of 16 bytes: only the mergeable data sections have labels within them.
 CONSTANT = r'(\.L\d+_[0-9a-f]*[1-9a-f]0[.\w]*)'
 WRONG = {
     'x86-64': {'a constant': (r'\tmovabs \$(0x[0-9a-f]+),', other_number),
@@ -155,8 +156,8 @@ WRONG = {
 
 
 def wrong_texts(lines, target, count):
-    """Texts with one word changed: what it is, the section that it lies in, and the lines. They are drawn at random,
-    and the same each time."""
+    """Sources with one word changed: a description, the section of the change, and the lines. They are chosen at
+    random, with a fixed seed."""
     draw = random.Random(1)
     for turn in range(count):
         kind, (pattern, change) = list(WRONG[target].items())[turn % len(WRONG[target])]
@@ -186,7 +187,7 @@ def wrong_texts_are_noticed(text, proved, target, room):
 # ---- the checks ----
 
 def module_of(library, name):
-    """The text of the module that a text's object was compiled of, without prefetches and with them."""
+    """The text of the module that a source's object was compiled from, without prefetches and with them."""
     with open(os.path.join(TOP, library, 'out', 'module', name, 'module.ll'), encoding='latin-1') as file:
         annotated = file.read()
     return prefetch.strip(annotated), annotated
@@ -221,7 +222,7 @@ def other_modules_are_refused(library, name):
 
 
 def is_refused(module, words, annotated, is_wide):
-    """Whether a module is refused, where this text is taken for it with what is added."""
+    """True if a module is refused when this text is presented as the annotated one."""
     kit = os.path.dirname(os.path.dirname(os.path.realpath(shutil.which('rt'))))
     here, with_changes = os.getcwd(), compiling.with_changes
     with tempfile.TemporaryDirectory() as room:
@@ -254,7 +255,7 @@ def is_made_anew(text, made):
 
 
 def are_all_made_anew(library, target):
-    """What else is made of the object that was proved, or of its module."""
+    """Everything else that is generated from the proved object, or from its module."""
     made, committed = os.path.join(library, 'out', 'asm', target), os.path.join(library, 'asm')
     files = [(os.path.join(made, name), os.path.join(committed, name)) for name in sorted(os.listdir(os.path.join(TOP, made)))]
     other = [committed for anew, committed in files
@@ -270,7 +271,7 @@ def is_same(assembler, text, proved, room):
 
 
 def check_texts(report, library, target, sysroot=None):
-    """The texts of a library that was proved and built."""
+    """The sources of a library that was proved and built."""
     out = os.path.join(TOP, library, 'out')
     assemblers = assemblers_for(target, sysroot)
     report.attempt(f'all that is made of {library} for {target}', are_all_made_anew, library, target)
@@ -292,7 +293,8 @@ def check_texts(report, library, target, sysroot=None):
 
 
 def other_instructions_are_noticed(text, room):
-    """The text as it is has none; one that the list lacks is noticed in each wide function, and a wide vector in another."""
+    """The source itself has none; an instruction that the list lacks is detected in each wide function, and a wide
+    vector in another."""
     with open(text) as file:
         right = file.read()
     want(not faults_of(right, room), 'it has others')
@@ -332,7 +334,7 @@ def has_sums(assembler, text, room):
 
 
 def check_sums(report, folder, sets):
-    """Texts for x86-64 beside their sums, where no object that was proved is at hand."""
+    """Sources for x86-64 against their sums, if no proved object is available."""
     with tempfile.TemporaryDirectory() as room:
         for assembler in assemblers_for('x86-64', None):
             for name in sets:

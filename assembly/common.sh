@@ -1,9 +1,9 @@
-# What proves and builds: sourced by c/build, c/install, rust/build-library, web/build and the benchmark's scripts, with `fail`
-# defined. $assembly is this folder.
+# Proves and builds: sourced by c/build, c/install, rust/build-library, web/build and the benchmark's scripts, with
+# `fail` defined. $assembly is this folder.
 assembly=$(cd "$(dirname "${BASH_SOURCE[0]}")" && pwd)
 
-# read_build WORDS: sets `update` where a word is --update, and `prover` to the command whose verbs `lib` and `run` prove
-# and build, which --of-ci changes. It runs by `annotated`, with no prefetches where a word is --plain.
+# read_build WORDS: sets `update` if an argument is --update, and `prover` to the command whose verbs `lib` and `run`
+# prove and build, which --of-ci changes. It runs through `annotated`, with no prefetches if an argument is --plain.
 read_build() {
     update='' prover=rt annotated=("$assembly/annotated")
     local word
@@ -17,8 +17,8 @@ read_build() {
     done
 }
 
-# proving NAME LOG COMMAND..: runs a command of rt in the current folder, whose output goes to a log, and says what it
-# proves and how long that took. It stops with what the log says.
+# proving NAME LOG COMMAND..: runs a command of rt in the current folder, whose output goes to a log, and prints what it
+# proves and how long that took. On an error it stops and prints the log.
 proving() {
     local name=$1 log=$2 start=$SECONDS functions
     shift 2
@@ -32,8 +32,8 @@ proving() {
     echo "${functions:-proved before}, $((SECONDS - start)) s" >&2
 }
 
-# prove_into FILE NAME LOG COMMAND..: proves and builds the crate in whose folder out/ the file is made. What was built
-# before is removed first, also for another target, since a refused build leaves the older file.
+# prove_into FILE NAME LOG COMMAND..: proves and builds the crate in whose folder out/ the file is made. Removes older
+# results first, also for another target, since a refused build leaves the older file.
 prove_into() {
     local file=$1
     rm -f "$file"
@@ -41,8 +41,8 @@ prove_into() {
     [ -f "$file" ] || fail "rt made no $file: $3"
 }
 
-# write_text OBJECT FOLDER NAME TITLE [TAG]: gives the object's functions the text's names, and writes the text to
-# FOLDER/NAME.s. If GNU as makes the object of it again, the sums of what it made go to FOLDER/NAME.sums.
+# write_text OBJECT FOLDER NAME TITLE [TAG]: renames the object's functions to the source's names, and writes the source
+# to FOLDER/NAME.s. If GNU as makes the same object from it, the sums of that object go to FOLDER/NAME.sums.
 write_text() {
     local object=$1 file=$2/$3 title=$4 same=$assembly/same_bytes.py
     shift 4
@@ -53,8 +53,8 @@ write_text() {
     python3 -B "$same" --sums "$room/text.o" > "$file.sums" || fail "$file.sums was not written"
 }
 
-# settle MADE COMMITTED UPDATE: says which files that were made aren't those that are committed. Where UPDATE isn't
-# empty it puts them there.
+# settle MADE COMMITTED UPDATE: prints which generated files differ from the committed ones. If UPDATE isn't empty it
+# copies them there.
 settle() {
     local file other=()
     for file in "$1"/*; do

@@ -1,19 +1,19 @@
 #!/usr/bin/env python3
-"""Stands in the place of the toolchain's clang, where `annotated` puts it:
+"""Replaces the toolchain's clang, installed by `annotated`:
 
     assembly/compile.py CLANG FOLDER WIDE WORD..
 
-Clang first does what the words say. Where it has compiled a module of what was proved, the module with prefetches
-(prefetch.py) is compiled in its place by the same words, for x86-64 so that no jump crosses or ends at a multiple of 32
-bytes, at which some processors decode a jump anew each time. Where WIDE isn't empty, that folder gets an object for
-x86-64-v4 too, of the same module (wide.py). Before that it compares, and stops where something differs:
+It first runs clang with these arguments. If clang has compiled a module of the proved code, the module with prefetches
+(prefetch.py) is compiled in its place with the same arguments, for x86-64 so that no jump crosses or ends at a multiple
+of 32 bytes, where some processors decode a jump again each time. If WIDE isn't empty, that folder gets an object for
+x86-64-v4 too, from the same module (wide.py). Before that it compares, and stops if something differs:
 
-- the module as text, compiled by the same words, with what the toolchain made of the module, byte for byte;
-- the module with all that was added, as clang reads it, and without that again, with the text of the module.
+- the module as text, compiled with the same arguments, with the toolchain's object of the module, byte for byte;
+- the module with all additions, as clang reads it, and with these removed again, with the text of the module.
 
-For 64-bit ARM the toolchain has clang optimize the module, changes its text and has clang compile that: the prefetches are
-in the first of the two. FOLDER and WIDE get the module that the object was made of, as module.ll, and the `words` of clang's
-last call; WIDE also the object, as module.o."""
+For 64-bit ARM the toolchain has clang optimize the module, changes its text and has clang compile that: the
+prefetches are in the first of the two. FOLDER and WIDE get the module that the object was made from, as module.ll,
+and the `words`, the arguments of clang's last call; WIDE also the object, as module.o."""
 import filecmp
 import os
 import re
@@ -40,7 +40,7 @@ class Clang:
         return subprocess.run([self.path, *words], cwd=folder).returncode
 
     def module(self):
-        """The bitcode that these words compile, or None where they compile none."""
+        """The bitcode that these arguments compile, or None if they compile none."""
         read = [word for word in self.words if word.endswith('.bc') and os.path.exists(word)]
         return read[0] if len(read) == 1 and '-x' in self.words else None
 
@@ -48,14 +48,14 @@ class Clang:
         return os.path.abspath(self.words[self.words.index('-o') + 1])
 
     def compile(self, folder, made, more=()):
-        """Does what the words say with the module of its name in a folder, and writes another file."""
+        """Runs the arguments with the module of its name in a folder, and writes another file."""
         words = [made if os.path.abspath(word) == self.made() else word for word in self.words]
         if self.run([*words, *more], folder):
             stop(f'clang does not compile the module in {folder}')
 
     def written(self, kind, folder, made, *more):
-        """Writes the module of a folder as clang reads it, as text (-S) or as bitcode (-c), under the same name, which a
-        text begins with."""
+        """Writes the module of a folder as clang reads it, as text (-S) or as bitcode (-c), under the same name,
+        with which a text begins."""
         os.makedirs(made, exist_ok=True)
         words = [*self.target, '--no-default-config', '-w', '-x', 'ir', '-Xclang', '-disable-llvm-passes', '-emit-llvm']
         if self.run([*words, *more, kind, self.module(), '-o', os.path.join(made, self.module())], folder):
@@ -77,9 +77,9 @@ def write(path, text):
 
 
 def expect_as_text(clang, room):
-    """That the module as text gives the toolchain's object; the text, as clang reads it."""
+    """Checks that the module as text gives the toolchain's object. Returns the text, as clang reads it."""
     ordered, proved, again = (os.path.join(room, it) for it in ('ordered', 'proved', 'again'))
-    # Where it says in which order a value's uses stand, which decides nothing but the order of some instructions.
+    # The text includes the order of a value's uses, which determines only the order of some instructions.
     clang.written('-S', os.getcwd(), ordered, '-Xclang', '-emit-llvm-uselists')
     clang.compile(ordered, again)
     if not filecmp.cmp(again, clang.made(), shallow=False):
@@ -89,8 +89,8 @@ def expect_as_text(clang, room):
 
 
 def compile_changed(clang, room, text, made, is_wide=False):
-    """Writes the object of the module with what is added, once that is seen to be the proved one without it. The answer is
-    its text."""
+    """Writes the object of the module with its additions, after checking that without them it is the proved one.
+    Returns its text."""
     annotated, bitcode, as_read, narrow = (os.path.join(room, it) for it in ('annotated', 'bitcode', 'as_read', 'narrow'))
     write(os.path.join(annotated, clang.module()), with_changes(text, is_wide))
     clang.written('-c', annotated, bitcode)
@@ -109,7 +109,7 @@ def with_changes(text, is_wide):
 
 
 def without_changes(clang, folder, narrow, is_wide):
-    """The text of a folder's module again, after clang has numbered anew what a wide module's functions have apart."""
+    """The text of a folder's module, after clang has renumbered what a wide module's functions have separately."""
     if is_wide:
         write(os.path.join(narrow, clang.module()), wide.narrow(clang.text(folder)))
         clang.written('-S', narrow, folder)
@@ -126,8 +126,8 @@ def is_for_x86_64(text):
 
 
 def compile_all(clang, widened):
-    """The object of the module with prefetches in the place of the toolchain's, and the one for x86-64-v4. The answer is
-    the first one's text."""
+    """Writes the object of the module with prefetches in place of the toolchain's, and the one for x86-64-v4.
+    Returns the first one's text."""
     with tempfile.TemporaryDirectory() as room:
         text = expect_as_text(clang, room)
         if widened:

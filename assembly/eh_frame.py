@@ -1,4 +1,4 @@
-"""The frames that an object's table .eh_frame tells an unwinder, read here without binutils."""
+"""The frames in an object's table .eh_frame, read here without binutils."""
 import struct
 
 CFA_OFFSET, OFFSET, RESTORE, ADVANCE = 0x0e, 0x80, 0xc0, 0x40
@@ -7,7 +7,7 @@ DEF_CFA, NOTHING = 0x0c, 0x00
 
 
 def number(data, at, is_signed=False):
-    """A number of the form LEB128, and where it ends."""
+    """A number of the form LEB128, and its end."""
     value = shift = 0
     while True:
         byte = data[at]
@@ -21,8 +21,9 @@ PROCESSORS = {62: (2, 7, 16), 183: (261, 31, 30)}
 
 
 class Table:
-    """`functions` has the frames of each function, which is all of a section: pairs of a place and the frame from there on. A
-    frame is the distance from the stack pointer to the CFA, and pairs of a register's number and its place below the CFA."""
+    """`functions` has the frames of each function, which is a whole section: pairs of a place and the frame from
+    there on. A frame is the distance from the stack pointer to the CFA, and pairs of a register's number and its
+    place below the CFA."""
 
     def __init__(self, object_):
         self.heads, self.functions = {}, {}
@@ -55,7 +56,7 @@ class Table:
             raise ValueError('.eh_frame has more than functions')
 
     def head(self, at, end):
-        """What the functions of one head have in common: the units of places, and the frame that a call leaves."""
+        """The common data of the functions of one CIE: the units of places, and the frame after a call."""
         if self.data[at + 8:at + 12] != b'\x01zR\0':
             raise ValueError(f'.eh_frame has a head of another kind at {at:#x}')
         code, at = number(self.data, at + 12)
@@ -73,7 +74,7 @@ class Table:
         return self.followed(at + 17, end, code, units, (entry[0], dict(entry[1])), dict(entry[1]))[0]
 
     def followed(self, at, end, code, units, frame, entry):
-        """The frames that a run of directives says, from the entry's on."""
+        """The frames of a sequence of directives, from the entry's on."""
         place, (depth, saved), rows = 0, frame, []
         while at < end:
             rows = [row for row in rows if row[0] != place] + [(place, (depth, dict(saved)))]
@@ -107,7 +108,7 @@ class Table:
         return rows, at
 
     def sorted_frames(self):
-        """Each function and its frames, in one order."""
+        """Each function and its frames, sorted."""
         return [(name, [(place, depth, sorted(saved.items())) for place, (depth, saved) in rows])
                 for name, rows in sorted(self.functions.items())]
 

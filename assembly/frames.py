@@ -1,25 +1,27 @@
-"""The frame of a function at each of its instructions, and the directives that say it to an assembler.
+"""The frame of a function at each of its instructions, and the directives that declare it to an assembler.
 
-A frame is how far the stack pointer lies below the CFA, which is where it was before the call, and where below the CFA the
-registers lie that the caller wants back. It is found by following the instructions and their jumps, since LLVM's own tables
-are wrong for 64-bit ARM. The code that is framed here moves the stack pointer by numbers alone. What else writes
-it is refused, as is a place that two ways reach with different frames, and a function that returns with a frame left.
+A frame is the distance of the stack pointer below the CFA, which is where it was before the call, and the places below
+the CFA of the registers that the caller needs back. It is computed by following the instructions and their jumps, since
+LLVM's own tables are wrong for 64-bit ARM. The code that is framed here moves the stack pointer only by constants.
+Anything else that writes it is refused, and so is a place that two paths reach with different frames, and a function
+that returns with a frame left.
 
-An unwinder, a debugger or a profiler rests on these directives; no value does."""
+Unwinders, debuggers and profilers depend on these directives; no value does."""
 import re
 from collections import namedtuple
 
 Frame = namedtuple('Frame', 'depth saved')    # saved: pairs of a register's number and its place below the CFA
-# An instruction: its text, and the number of the one that it jumps to, OUTSIDE, or None where it jumps nowhere.
+# An instruction: its text, and the number of its jump's target, OUTSIDE, or None if it doesn't jump.
 Step = namedtuple('Step', 'text target')
 OUTSIDE = -1
 
 
 class Processor:
-    """What of frames depends on the processor. `numbers` are those of DWARF, of the registers that a caller wants back."""
+    """The parts of frames that depend on the processor. `numbers` are DWARF's numbers of the registers that a caller
+    needs back."""
 
     def after(self, text, frame):
-        """The frame behind an instruction."""
+        """The frame after an instruction."""
         depth, saved = frame.depth, dict(frame.saved)
         depth = self.moved(text, depth, saved)
         if any(at < -depth for at in saved.values()):
@@ -89,7 +91,7 @@ BY_MACHINE = {62: X86(), 183: Arm()}
 
 
 def frames(processor, steps):
-    """The frame before each instruction, by its number; those that no way reaches have none."""
+    """The frame before each instruction, by its number; unreachable ones have none."""
     entry = Frame(processor.entry, ())
     found, waiting = {}, [(0, entry)]
     while waiting:
@@ -103,7 +105,7 @@ def frames(processor, steps):
 
 
 def followed(processor, steps, number, frame, entry):
-    """What may follow an instruction, with its frame."""
+    """The successors of an instruction, with its frame."""
     text, target = steps[number]
     leaves = processor.returns.match(text) or target == OUTSIDE
     if leaves and frame != entry:
@@ -119,7 +121,7 @@ def followed(processor, steps, number, frame, entry):
 
 
 def directives(processor, steps):
-    """For each instruction the lines that stand before it."""
+    """For each instruction the lines before it."""
     found = frames(processor, steps)
     said = Frame(processor.entry, ())
     for number in range(len(steps)):

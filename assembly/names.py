@@ -1,12 +1,12 @@
 #!/usr/bin/env python3
-"""Gives the functions of an object the names that its text has:
+"""Renames the functions of an object to the names of its source:
 
     assembly/names.py OBJECT [TAG]
 
-A name of the toolchain, as `twox_core::xxhash3::stripes::take_stripes::<#ebc3218c48dd1f1e>`, becomes one that every
-assembler takes, `twox_core.xxhash3.stripes.take_stripes`: without the mark of a generic's arguments, which moves with
-the toolchain. Further functions of one name get .2, .3 and so on behind it. Each function's section has its name. Local
-names end in .TAG, so that texts of different tags can be assembled as one. Global names stay."""
+A name of the toolchain, such as `twox_core::xxhash3::stripes::take_stripes::<#ebc3218c48dd1f1e>`, becomes one that
+every assembler accepts, `twox_core.xxhash3.stripes.take_stripes`: without the mark of a generic's arguments, which
+depends on the toolchain. Further functions of one name get the suffixes .2, .3 and so on. Each function's section
+has its name. Local names end in .TAG, so that sources of different tags can be assembled as one. Global names stay."""
 import re
 import subprocess
 import sys
@@ -50,7 +50,7 @@ class NewNames:
         return name + number + (f'.{self.tag}' if self.tag else '')
 
     def words(self):
-        """objcopy's."""
+        """objcopy's arguments."""
         for option, names in (('--redefine-sym', self.symbols), ('--rename-section', self.sections)):
             for old, new in names.items():
                 yield from (option, f'{old}={new}') if old != new else ()

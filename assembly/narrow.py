@@ -5,10 +5,11 @@
 
 IN is the text that wasm-opt writes. Two things change:
 
-- An address is the lower half of a number of 64 bits. The lower half of a sum is the sum of the lower halves, so the cut
-  goes from a sum to its parts, and wasm-opt can put a constant among them into the load.
-- An export's addresses and lengths are parameters of 32 bits, which are JavaScript's own numbers, and are made 64 bits wide
-  at its begin. What else it takes stays: SOURCE are the Rattle files that say which parameter is what."""
+- An address is the lower half of a number of 64 bits. The lower half of a sum is the sum of the lower halves, so the
+  truncation moves from a sum to its parts, and wasm-opt can put a constant among them into the load.
+- An export's addresses and lengths are parameters of 32 bits, which are JavaScript's own numbers, and are extended
+  to 64 bits at its beginning. Its other parameters stay: SOURCE are the Rattle files that define which parameter is
+  which."""
 import re
 import sys
 
@@ -41,7 +42,7 @@ def written(it):
 
 
 def cut(number):
-    """The lower half of a number of 64 bits, without cuts below."""
+    """The lower half of a number of 64 bits, without truncations below."""
     match number:
         case [word, left, right] if word in NARROW:
             return [NARROW[word], cut(left), cut(right)]
@@ -76,7 +77,7 @@ def crossing(name, kind):
 
 
 def with_numbers(function, kinds, name):
-    """The function with parameters of 32 bits where addresses and lengths are."""
+    """The function with parameters of 32 bits for addresses and lengths."""
     given = [it for it in function if it[0] == 'param']
     if [it[2:] for it in given] != [[width] for width, _ in kinds]:
         stop(f'{name} has other parameters than its source says')

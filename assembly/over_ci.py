@@ -1,11 +1,11 @@
 #!/usr/bin/env python3
-"""What `rt lib` does in the folder of a static library, and `rt run` in that of a program, over the libraries that `rt ci`
-left in this tree:
+"""Does what `rt lib` does in the folder of a static library, and `rt run` in that of a program, over the libraries that
+`rt ci` left in this tree:
 
     cd crates/twox_c && ../../assembly/over_ci.py lib [--cpu=x86-64-v3 | --target aarch64-unknown-linux-gnu]
     cd crates/xxh && ../../assembly/over_ci.py run [--cpu=x86-64-v3] -- WORD..
 
-It proves the crate of the folder alone. `rt` itself takes no library of `rt ci`, and would prove each anew."""
+It proves only the crate of the folder. `rt` itself uses no library of `rt ci`, and would prove each again."""
 import os
 import sys
 
@@ -28,7 +28,7 @@ def main(verb, *words):
     flags = [*kit.one_job(), *flags]
     if verb == 'lib':
         return crate.build_static(flags)
-    crate.held = []  # rt's locks, which it lets go of before it runs the program
+    crate.held = []  # rt's locks, which it releases before it runs the program
     return crate.run(flags, list(arguments))
 
 

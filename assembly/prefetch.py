@@ -1,20 +1,20 @@
 #!/usr/bin/env python3
-"""Adds prefetches to a module of LLVM in text, or takes them off again:
+"""Adds prefetches to a module of LLVM in text, or removes them again:
 
     assembly/prefetch.py add | strip < MODULE.ll
 
-A prefetch asks the processor to have a line of 64 bytes at hand soon. By LLVM's definition it does nothing else, also
-where its address leads to no memory. `add` writes them where the functions of PLACES call for the next bytes of an input,
-and refuses a module that lacks a place of a hash that it has. `strip` takes off what `add` writes, and nothing else."""
+A prefetch hints to the processor to load a line of 64 bytes. By LLVM's definition it does nothing else, also if its
+address is invalid. `add` writes them where the functions of PLACES request the next bytes of an input, and refuses a
+module that lacks a place of a hash that it has. `strip` removes what `add` writes, and nothing else."""
 import re
 import sys
 from collections import namedtuple
 
 # Where a module gets prefetches: in a function, before each call of one of `callees`. The argument `bytes` of these,
-# counted from 0, leads to `lines` lines of an input, and what is fetched lies `ahead` bytes after them. Where `apart` is
-# true its address is computed as a number: in a loop LLVM then has a pointer to the input and one to the secret, in place
-# of one index for both, by which some processors split an instruction in two. With `within` only that function counts
-# to which the one named there leads: a generic function is in a module once for each use.
+# counted from 0, points to `lines` lines of an input, and the prefetched lines are `ahead` bytes after them. If `apart`
+# is true the address is computed as a number: in a loop LLVM then has a pointer to the input and one to the secret,
+# instead of one index for both, by which some processors split an instruction in two. With `within` only the instance
+# of that function counts that the named function calls: a generic function is in a module once for each use.
 Place = namedtuple('Place', 'function callees bytes lines ahead apart within', defaults=[False, None])
 
 STRIPES = 'xxhash3::stripes::StripeAccumulator::'
@@ -27,7 +27,7 @@ EVERYWHERE = [
     Place('xxhash64::Core::write_many', ['xxhash64::Core::write'], 1, 1, BYTES_OF_MANY),
     Place('xxhash32::Core::write_blocks', ['xxhash32::Core::write_block'], 1, 2, BYTES_OF_MANY),
 ]
-# By the processor that a module is for. In few blocks a prefetch costs at x86-64-v2 what it has to gain.
+# By the processor of the module. With few blocks a prefetch costs at x86-64-v2 what it gains.
 IN_MANY_BLOCKS = Place(BLOCKS + 'process_block', FOUR_STRIPES, 2, 4, BYTES_OF_MANY, within=BLOCKS + 'take_many_blocks')
 IN_BLOCKS = Place(BLOCKS + 'process_block', FOUR_STRIPES, 2, 4, BYTES_OF_MANY, apart=True)
 # By eight lanes: the stripes around whole blocks, and as a one-shot's last.
@@ -76,7 +76,7 @@ class Module:
         self.count = 0
 
     def processor(self):
-        """What the functions that get prefetches are for: those that start a program are for another one."""
+        """The processor of the functions that get prefetches: those that start a program are for another one."""
         found = {self.processor_of(name) for place in EVERYWHERE for name in self.functions(place)}
         return found.pop() if len(found) == 1 else refuse(f'the functions are for {sorted(found)}')
 
@@ -85,7 +85,7 @@ class Module:
         return re.search(rf'^attributes {group} = .*"target-cpu"="([^"]*)"', self.text, re.M)[1]
 
     def calls(self, body):
-        """Each call of a function's body: its place, whom it calls, and the arguments."""
+        """Each call in a function's body: its place, its callee, and the arguments."""
         for at, line in enumerate(body.splitlines()):
             found = CALL.match(line.strip())
             if found:
@@ -102,7 +102,7 @@ class Module:
         return found
 
     def functions(self, place):
-        """In the module's order, so that a module is written alike each time."""
+        """In the module's order, so that a module's output is deterministic."""
         within = self.leads_to(place.within) if place.within else self.bodies
         return [name for name in self.bodies if name in within and plain(name).endswith(place.function)]
 

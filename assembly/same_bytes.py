@@ -1,25 +1,25 @@
 #!/usr/bin/env python3
-"""Compares objects as a linker sees them. To trust the assembly text, read this program and eh_frame.py:
+"""Compares objects as a linker sees them. To trust the assembly source, read this program and eh_frame.py:
 
-    assembly/same_bytes.py PROVED OURS             compares an object with the one that was proved
+    assembly/same_bytes.py PROVED OURS             compares an object with the proved one
     assembly/same_bytes.py --sums OBJECT           prints a sum for each part of an object
     assembly/same_bytes.py --against SUMS OBJECT   compares an object with such sums
 
 The parts of an object are its loaded sections, `names`, `notes` and `frames`.
 
-- A section has a name, kind, flags, size, alignment, bytes and relocations. A relocation has a place, a kind and a target:
-  a global name and an addend, or a section and an offset in it. A linker moves the entries of a mergeable section before it
-  adds the addend, so there the offset of the symbol and the addend are compared separately.
-- `names` has the processor, the order of the sections, each global name with its place, size, kind, binding and visibility,
-  the undefined names, the sections that aren't loaded, and whether the stack is executable.
+- A section has a name, kind, flags, size, alignment, bytes and relocations. A relocation has a place, a kind and a
+  target: a global name and an addend, or a section and an offset in it. A linker moves the entries of a mergeable
+  section before it adds the addend, so there the offset of the symbol and the addend are compared separately.
+- `names` has the processor, the order of the sections, each global name with its place, size, kind, binding and
+  visibility, the undefined names, the sections that aren't loaded, and whether the stack is executable.
 - `notes` has the notes that are loaded, except the properties that list which instructions an object uses.
 - `frames` has the frame at each instruction of each function, as an unwinder reads it from .eh_frame.
 
-What was proved has neither notes nor frames: text.py writes both. PROVED OURS doesn't compare them, --against does. Not compared
-at all: local names, empty sections, and the contents of sections that aren't loaded.
+The proved object has neither notes nor frames: text.py writes both. PROVED OURS doesn't compare them, --against does.
+Not compared at all: local names, empty sections, and the contents of sections that aren't loaded.
 
-The last line is `same: ..`, or `differ: ..` after a line for each difference. The status is 0 if they are the same, 1 if they
-differ, and 2 if a file is not an object that this program reads."""
+The last line is `same: ..`, or `differ: ..` after a line for each difference. The status is 0 if they are the same,
+1 if they differ, and 2 if a file is not an object that this program reads."""
 import hashlib
 import struct
 import sys
@@ -33,14 +33,14 @@ Part = namedtuple('Part', 'head body relocations')
 
 NONE, SYMTAB, STRTAB, RELA, NOTE, NOBITS, REL = 0, 2, 3, 4, 7, 8, 9
 LOADED, EXECUTED, MERGED = 2, 4, 0x10
-# Kinds of local symbols that stand for their address: none, data, function, section.
+# Kinds of local symbols that represent their address: none, data, function, section.
 PLAIN, SECTION = (0, 1, 2, 3), 3
 FRAMES = '.eh_frame'
-# What no linker makes code or data of: how LLVM was called, and which functions it may fold.
+# Sections from which no linker makes code or data: LLVM's command line, and the functions that it may fold.
 WITHOUT_MEANING = ('.comment', '.llvm_addrsig', '.note.GNU-stack')
 # A call of a local name: LLVM writes the one kind, GNU as the other, and the linker makes the same bytes of both.
 X86_64, PC32, PLT32 = 62, 2, 4
-# The note of properties, and the properties that list what an object uses: neither linker nor loader acts on those.
+# The note of properties, and the properties that list what an object uses, which neither linker nor loader evaluates.
 PROPERTIES, USED = (5, b'GNU\0'), range(0xc0010000, 0xc0018000)
 
 
@@ -73,7 +73,7 @@ class Object:
             yield Symbol(self.text(self.heads[head.link], name), *rest)
 
     def loaded(self):
-        """The heads of what a program loads, without notes and without the frames that an unwinder reads."""
+        """The headers of the loaded sections, without notes and without the frames for unwinders."""
         return [head for head in self.heads if head.flags & LOADED and head.size and head.kind != NOTE and head.name != FRAMES]
 
     def place(self, symbol):
@@ -113,7 +113,7 @@ class Object:
         return {**found, 'names': self.names(list(found))}
 
     def added(self):
-        """The parts that the text adds to what was proved."""
+        """The parts that the source adds to the proved object."""
         return {'notes': Part((), b'', sorted(self.notes())),
                 'frames': Part((), b'', Table(self).sorted_frames())}
 
@@ -128,7 +128,7 @@ class Object:
     def names(self, sections):
         defined = sorted((symbol.name, self.place(symbol), symbol.size, symbol.info, symbol.other)
                          for symbol in self.symbols if is_global(symbol) and symbol.section)
-        # LLVM names the table of the linker also where nothing leads to it.
+        # LLVM also names the linker's table if nothing refers to it.
         wanted = sorted((symbol.name, symbol.info, symbol.other) for symbol in self.symbols
                         if is_global(symbol) and not symbol.section and symbol.name != '_GLOBAL_OFFSET_TABLE_')
         for_linker = [head.name for head in self.heads if not head.flags & LOADED
@@ -173,7 +173,7 @@ def read_sums(path):
 
 
 def difference(proved, ours):
-    """What of a part differs, with an example."""
+    """The difference of a part, with an example."""
     if proved.head != ours.head:
         return f'proved {str(proved.head)[:200]}, ours {str(ours.head)[:200]}'
     if proved.body != ours.body:
@@ -186,7 +186,7 @@ def difference(proved, ours):
 
 
 def differences(proved, ours, told):
-    """A line for each part that is on one side alone, or differs: then `told` says more of it."""
+    """Yields a line for each part that is in only one object, or differs; `told` describes the difference."""
     for name in {**proved, **ours}:
         if name not in ours or name not in proved:
             yield f'{name}: only in {"what is proved" if name in proved else "ours"}'

@@ -1,13 +1,14 @@
 #!/usr/bin/env python3
-"""Prints assembly text of an object, of which every assembler makes its bytes again:
+"""Prints the assembly source of an object, from which every assembler makes its bytes again:
 
     assembly/text.py OBJECT TITLE [TAG]
 
-It is made of the object alone, by binutils' objdump and as, for x86-64 and 64-bit ARM. As their bytes stand the filling
-before loops, of which each assembler has its own; instructions that GNU as would write otherwise than the compiler did;
-and long jumps where a short one would reach. TITLE is what the first line says of the functions. Labels end in .TAG.
+It is made only from the object, by binutils' objdump and as, for x86-64 and 64-bit ARM. Written as bytes are the
+padding before loops, which differs between assemblers; instructions that GNU as would encode differently from the
+compiler; and long jumps where a short one would reach. TITLE is the description of the functions in the first line.
+Labels end in .TAG.
 
-Nothing rests on this program: same_bytes.py compares what is made of the text with the object."""
+This program need not be trusted: same_bytes.py compares the assembled source with the object."""
 import os
 import re
 import subprocess
@@ -25,15 +26,15 @@ WEAK, HIDDEN = 2, 2
 
 
 class X86:
-    """What of a text depends on the processor: x86-64."""
+    """The parts of a source that depend on the processor: x86-64."""
     comment = re.compile(r'\s#.*')
     filling = re.compile(r'.*\bnop|data16|xchg %ax,%ax')
-    # What leads to another place, and has no meaning alone.
+    # Instructions that refer to another place, and have no meaning by themselves.
     leads = re.compile(r'j|call|.*%rip')
-    # How many bytes an instruction that is assembled alone gets, and the directive that fills them.
+    # Number of bytes that an instruction gets when it is assembled by itself, and the directive that fills them.
     slot, fill = 16, '.balign 16,0'
-    # That a shadow stack may watch it: no function returns elsewhere than to its caller. It begins with no endbr64, so that
-    # jumps to it aren't said to be marked.
+    # Marks support for a shadow stack: every function returns only to its caller. It begins with no endbr64, so
+    # indirect branch tracking is not declared.
     notes = ('\t.section .note.gnu.property,"a",@note', '\t.p2align 3', '\t.long 4,16,5', '\t.asciz "GNU"',
              '\t.long 0xc0000002,4,2,0')
 
@@ -53,8 +54,8 @@ class X86:
         return text.replace('0x0(%rip)', f'{there}(%rip)')
 
     def jump(self, row, end, label):
-        """A jump within a section. Where a short one reaches, an assembler takes that, and ahead it counts from behind
-        the jump."""
+        """A jump within a section. If a short one reaches, an assembler uses that, and counts ahead from after the
+        jump."""
         name = row.text.split()[0]
         if len(row.raw) > 2 and name != 'call' and -126 <= end - row.at <= 127 + len(row.raw):
             return f'{self.bytes(row.raw[:-4])}\n\t.long {label}-.-4'
@@ -104,7 +105,7 @@ class Text:
         self.numbers = {name: number for number, name in enumerate(self.sections, 1)}
         self.functions = {(self.object.heads[symbol.section].name, symbol.value): symbol
                           for symbol in self.object.symbols if symbol.info & 15 == FUNCTION and symbol.section}
-        # The places in each section that something leads to.
+        # The referenced places in each section.
         self.marks = defaultdict(set)
         listing = self.listing(path)
         processor = frames.BY_MACHINE[self.object.machine]
@@ -128,7 +129,7 @@ class Text:
         return found
 
     def steps(self, section, rows):
-        """The instructions of a section as frames are found of them."""
+        """The instructions of a section for the analysis of frames."""
         processor = frames.BY_MACHINE[self.object.machine]
         leaving = {at for at, *_ in self.object.relocations_of(self.sections[section])}
         numbers, steps = {row.at: number for number, row in enumerate(rows)}, []
@@ -144,8 +145,8 @@ class Text:
         return f'.L{self.numbers[section]}_{at:x}{self.tag}'
 
     def target(self, where, offset, add):
-        """The name of a place: a local function, a label, or a global name. A place in a mergeable section is a label and what
-        is added to it, since a linker moves the label first."""
+        """The name of a place: a local function, a label, or a global name. A place in a mergeable section is a
+        label and an addend, since a linker moves the label first."""
         if where not in self.sections:
             name = where if where in self.globals() else self.processor.outside(where)
         elif self.sections[where].flags & MERGED:
@@ -159,7 +160,7 @@ class Text:
         return {symbol.name for symbol in self.object.symbols if is_global(symbol) and symbol.section}
 
     def written(self, section, rows):
-        """The instructions as they are to be assembled. Without a text their bytes are to stand."""
+        """The instructions as assembly source. Without a text they are written as bytes."""
         hits = {at: target for at, _, *target in self.object.relocations_of(self.sections[section])}
         return [row._replace(text=self.assembled(section, row, hits)) for row in rows]
 
@@ -178,7 +179,7 @@ class Text:
         return row.text
 
     def written_otherwise(self):
-        """The instructions that GNU as writes otherwise than they are: each is assembled in a room of its own."""
+        """The instructions that GNU as encodes differently: each is assembled in a separate slot."""
         alone = [(name, row) for name, rows in self.code.items() for row in rows
                  if row.text and not row.text.startswith('.') and not self.processor.leads.match(row.text)]
         with tempfile.TemporaryDirectory() as room:
@@ -194,7 +195,7 @@ class Text:
 
     def lines(self, title):
         yield f'/* {title} Generated of what is proved: not to be changed by hand. SPDX-License-Identifier: MIT */'
-        # A second text with weak names, which an optimizer has put into the same module, has nothing to add.
+        # A second source with weak names, which an optimizer has put into the same module, has nothing to add.
         guard = next((symbol.name for symbol in self.functions.values() if symbol.info >> 4 == WEAK), None)
         yield from [f'\t.ifndef {guard}'] if guard else []
         for name, head in self.sections.items():
@@ -227,7 +228,7 @@ class Text:
         yield from (f'\t.type {function.name},@function', f'{function.name}:')
 
     def lines_of_data(self, section, head):
-        """The bytes in rows of 16, which end where a label is."""
+        """The bytes in rows of 16, which end at labels."""
         if self.object.relocations_of(head):
             raise ValueError(f'{section} has addresses in it, which is not written here')
         yield f'\t.section {section},' + (f'"aM",@progbits,{head.entry}' if head.flags & MERGED else '"a",@progbits')

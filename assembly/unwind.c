@@ -1,9 +1,9 @@
 /* Unwinds at each instruction of the library for C, by the unwinder of libgcc, as an exception or a backtrace does.
 
-   The processor's trap flag stops a call behind each instruction. There the frames have to lead to the caller: to the place
-   behind the call, with the caller's stack pointer and with what its registers held. The text lies between first_of_text
-   and end_of_text (unwind.ld). It prints how many instructions were seen and at how many the frames are wrong, and answers
-   1 where there is one. For x86-64; assembly/check.py builds it. SPDX-License-Identifier: MIT */
+   The processor's trap flag stops a call after each instruction. There the frames must lead to the caller: to the place
+   after the call, with the caller's stack pointer and the contents of its registers. The code is between first_of_text
+   and end_of_text (unwind.ld). Prints the number of instructions and of those with wrong frames, and returns 1 if there
+   are any. For x86-64; assembly/check.py builds it. SPDX-License-Identifier: MIT */
 #define _GNU_SOURCE
 #include <signal.h>
 #include <stdint.h>
@@ -18,13 +18,13 @@ enum { REGISTERS = 6, VISITS = 3, LONGEST = 20000, SECRET = 200 };
 
 extern const char first_of_text[], end_of_text[], behind_call[];
 
-/* What the caller's registers hold during a call: rbx, rbp, r12 to r15, with DWARF's numbers. */
+/* The caller's registers during a call: rbx, rbp, r12 to r15, with DWARF's numbers. */
 static const uint64_t held[REGISTERS] = {0x1101, 0x2202, 0x3303, 0x4404, 0x5505, 0x6606};
 static const int numbers[REGISTERS] = {3, 6, 12, 13, 14, 15};
 static uintptr_t stack_of_caller;
 static unsigned char *visits, *wrong;
 
-/* Calls a function with up to five words, with the trap flag set, and says where its own stack pointer is. */
+/* Calls a function with up to five words, with the trap flag set, and stores its own stack pointer. */
 void stepped(const void *function, const uint64_t *arguments, uintptr_t *stack, const uint64_t *registers);
 __asm__(".text\n.globl stepped\n.type stepped,@function\nstepped:\n.cfi_startproc\n"
         "push %rbp\n.cfi_adjust_cfa_offset 8\npush %rbx\n.cfi_adjust_cfa_offset 8\n"
@@ -42,7 +42,7 @@ __asm__(".text\n.globl stepped\n.type stepped,@function\nstepped:\n.cfi_startpro
         "pop %r13\n.cfi_adjust_cfa_offset -8\npop %r12\n.cfi_adjust_cfa_offset -8\n"
         "pop %rbx\n.cfi_adjust_cfa_offset -8\npop %rbp\n.cfi_adjust_cfa_offset -8\nret\n.cfi_endproc\n");
 
-/* Whether a frame is the caller's, and all in it is as it was: told through `is_well`. */
+/* Whether a frame is the caller's with everything in it unchanged: reported through `is_well`. */
 static _Unwind_Reason_Code look_at_frame(struct _Unwind_Context *frame, void *is_well)
 {
     if (_Unwind_GetIP(frame) != (uintptr_t)behind_call)

@@ -1,5 +1,5 @@
-"""Whether a text says the frames of its functions: its table beside the flow of the instructions, and by the unwinder of
-libgcc at each instruction that runs."""
+"""Checks the frames that a source declares: its table against the flow of the instructions, and by the unwinder of
+libgcc at each executed instruction."""
 import os
 import re
 import subprocess
@@ -12,12 +12,12 @@ from text import Text
 
 TOP = os.path.dirname(os.path.dirname(os.path.abspath(__file__)))
 ASSEMBLY, C = os.path.join(TOP, 'assembly'), os.path.join(TOP, 'c')
-# On x86-64 the return address has a number and a place, too.
+# On x86-64 the return address also has a number and a place.
 RETURN_ADDRESS = {62: {16: -8}}
 
 
 def differences(path):
-    """The instructions of an object at which its table says another frame than they lead to, and how many there are."""
+    """The instructions of an object at which its table has another frame than the flow, and the number of all."""
     object_, text = Object(path), Text(path, '')
     table, processor, count, found = Table(object_), frames.BY_MACHINE[object_.machine], 0, []
     for section, rows in text.listing(path).items():
@@ -38,7 +38,7 @@ def are_told(assembler, text, room):
 
 
 def wrong_ones(lines):
-    """Texts with one directive wrong: what it is, and the lines."""
+    """Sources with one wrong directive: a description, and the lines."""
     at = next(at for at, line in enumerate(lines) if line.startswith('\t.cfi_def_cfa_offset'))
     depth = int(lines[at].split()[1])
     restored = next(at for at, line in enumerate(lines) if line.startswith('\t.cfi_restore'))
@@ -78,7 +78,7 @@ def run(framed, room):
 
 
 def unwinds(assembler, text, room):
-    """The unwinder comes to the caller from each instruction that runs, and from one with a wrong frame it doesn't."""
+    """The unwinder finds the caller from each executed instruction, and from one with a wrong frame it doesn't."""
     out = os.path.join(room, 'framed.o')
     assembler.assemble(text, out)
     done = run(out, room)

@@ -1,38 +1,41 @@
 #!/usr/bin/env python3
-"""Compiles a proved module for WebAssembly a second time, as engines run it fastest:
+"""Compiles a proved module for WebAssembly a second time, in the form that engines run fastest:
 
     assembly/webassembly.py MODULE OUT [--vectors]
 
-MODULE is a folder that `annotated` has kept. The toolchain's clang compiles its text, by the words that it was called by, and
-four things are other than there. All but the first are no step of a computation:
+MODULE is a folder that `annotated` has kept. The toolchain's clang compiles its text, with the same arguments as
+before, and four differences. Only the first changes steps of a computation:
 
-- The product of two words of 64 bits is made of four products of their halves, in place of a call that gives it by memory.
-- The bodies of exports, which are functions of their own, and what INLINED, CALLS_INLINED and OF_TRAIT name are inlined.
-  Elsewhere they are calls for the registers that a function has to keep, and WebAssembly has none. APART stays a function.
-- A line that hands a number on as it is stands between the loop of XXH64 and the product that follows it. Without it clang
-  joins that product with the loop's last one, and engines keep four more words in the loop.
-- With --vectors each function has the feature simd128. The kit itself compiles for WebAssembly without."""
+- The product of two words of 64 bits is computed from four products of their halves, instead of a call that returns it
+  in memory.
+- The bodies of exports, which are separate functions, and the functions in INLINED, CALLS_INLINED and OF_TRAIT are
+  inlined. Elsewhere they are calls because of the registers that a function has to save, and WebAssembly has none.
+  APART stays a function.
+- An opaque line that copies a number separates the loop of XXH64 from the product that follows it. Without it clang
+  merges that product with the loop's last one, and engines keep four more words in the loop.
+- With --vectors each function has the feature simd128. The toolchain itself compiles for WebAssembly without."""
 import os
 import re
 import shutil
 import subprocess
 import sys
 
-# Words of clang that name the toolchain's own target, where it lies, or what it reads and writes.
+# Options of clang that name the toolchain's own target, its location, or its input and output.
 OWN = ('--target=', '--sysroot=', '-march=', '-mcpu=', '-mllvm -no-x86-call-frame-opt', '-Werror', '-x ', '-o ', '-c')
 TARGET = 'wasm64-unknown-unknown'
-# The body that wasm-opt puts into its export, since an export into which clang does writes the stack's end back. It is compiled
-# for size, and so smaller than the loop of XXH64, which is to stay a call.
+# The body that wasm-opt inlines into its export, since an export into which clang inlines writes the stack's end back.
+# It is compiled for size, and so smaller than the loop of XXH64, which must stay a call.
 APART = 'rattle::export twox_xxh32'
-# Functions that are always inlined, and calls that are, by caller and callee: of inputs of up to 240 bytes with no secret.
+# Functions that are always inlined, and calls that are, by caller and callee: for inputs of up to 240 bytes with no
+# secret.
 INLINED = re.compile(r'^(define internal .*@"(?:rattle::export [^"]*|twox_core::width_128::oneshot_from_65)"\(.*) (#\d+) \{$', re.M)
 CALLS_INLINED = [('twox_core::width_128::oneshot_from_65', 'twox_core::width_128::impl_129_to_240_bytes'),
                  ('twox_core::width_64::oneshot_with_secret', 'twox_core::width_64::impl_129_to_240_bytes')]
-# What stands for a body that a kernel has of its trait: a call of it, which the toolchain gives no hint.
+# A kernel's default method of its trait: a call without an inline hint from the toolchain.
 OF_TRAIT = re.compile(r'^(define internal void @"twox_core::xxhash3::large::halves4::ImplVector::accumulate_four_stripes"'
                       r'\(.*) #\d+ \{$', re.M)
-# The function that multiplies, and its body by halves, the steps of `product_by_halves` in crates/symbolic_rules. A number
-# is handed on as it is in the midst: clang would find the product, and make the call of it.
+# The function that multiplies, and its body by halves, the steps of `product_by_halves` in crates/symbolic_rules. An
+# opaque copy in the middle hides the product from clang, which would make a call of it.
 PRODUCT = re.compile(r'^(define internal noundef i128 @"twox_core::xxhash3::mixing::full_product"'
                      r'\(i64 noundef %a0, i64 noundef %a1\) .*\{\n)(?s:.*?)^}\n', re.M)
 BY_HALVES = '''start:
@@ -64,7 +67,7 @@ BY_HALVES = '''start:
 # The function that takes an accumulator from the loop, up to its first line.
 MERGE = re.compile(r'^define internal noundef i64 @"twox_plain::xxhash64::rounds::merge_accumulator"'
                    r'\(i64 noundef %a0, i64 noundef %a1\) .*\{\nstart:\n', re.M)
-# Hands the accumulator on, by an assembly of no instruction.
+# Copies the accumulator, by an assembly of no instruction.
 HANDED_ON = '  %a1 = call i64 asm "", "=r,0"(i64 %from_loop)\n'
 
 
@@ -90,7 +93,7 @@ def stop(why):
 
 
 def with_product_by_halves(module):
-    """The module in which that function has that body."""
+    """The module with that body in the function."""
     module, count = PRODUCT.subn(lambda function: function[1] + BY_HALVES, module)
     if count != 1:
         stop(f'this module has {count} functions that multiply words of 64 bits')
@@ -98,7 +101,7 @@ def with_product_by_halves(module):
 
 
 def with_loop_apart(module):
-    """The module in which that function's accumulator has the other name, and the line gives it its own."""
+    """The module with the accumulator renamed in that function, and the opaque copy giving it its old name."""
     found = MERGE.findall(module)
     if len(found) != 1:
         stop(f'this module has {len(found)} functions that take an accumulator of XXH64')
@@ -106,7 +109,7 @@ def with_loop_apart(module):
 
 
 def with_functions_inlined(module):
-    """The module that says of those functions that they are inlined, where it said that they never are, but for one."""
+    """The module with those functions marked as inlined instead of never inlined, except one."""
     groups = dict(re.findall(r'^attributes (#\d+) = { (noinline|alwaysinline) nounwind ', module, re.M))
     always = {word: group for group, word in groups.items()}.get('alwaysinline')
     if not always or {groups.get(group) for _, group in INLINED.findall(module)} != {'noinline'}:
@@ -124,7 +127,7 @@ def with_functions_inlined(module):
 
 
 def with_calls_inlined(module):
-    """The module that says so of those calls."""
+    """The module with those calls marked in the same way."""
     for caller, callee in CALLS_INLINED:
         head = re.search(rf'^define internal .*@"{caller}"\(.*\{{$', module, re.M) or stop(f'this module has no {caller}')
         start, end = head.end(), module.index('\n}\n', head.end())
@@ -137,7 +140,7 @@ def with_calls_inlined(module):
 
 
 def with_vectors(module):
-    """The module whose functions are for a processor with vectors."""
+    """The module with functions for a processor with vectors."""
     module, count = re.subn(r'^(attributes #\d+ = .*"target-cpu"="lime1")', r'\1 "target-features"="+simd128"', module, flags=re.M)
     if not count or len(re.findall(r'"target-(?:cpu|features)"', module)) != 2 * count:
         stop('the functions of this module name another processor, or features')

@@ -1,16 +1,17 @@
 #!/usr/bin/env python3
-"""Makes a module for x86-64-v3 one for x86-64-v4, in text of LLVM, or makes it the first one again:
+"""Converts a module for x86-64-v3 to one for x86-64-v4, in text of LLVM, and back:
 
     assembly/wide.py widen | narrow < MODULE.ll
     assembly/wide.py check OBJECT
 
-`widen` changes what decides no value, and nothing else: `Kernel` says that many stripes are taken by eight lanes
-(`is_widened`, of which no clause says an answer, so that each caller is proved for both), and the functions of WIDE are
-compiled for x86-64-v4 with vectors of 512 bits. All others stay as they are. `narrow` takes that back.
+`widen` changes only what determines no value: `Kernel` returns true for eight lanes (`is_widened`, whose result no
+clause fixes, so that each caller is proved for both), and the functions of WIDE are compiled for x86-64-v4 with vectors
+of 512 bits. All others stay unchanged. `narrow` reverts that.
 
-`check` looks at an object's instructions: those of the functions of WIDE have to be among mnemonics.txt, and no other
-function may have vectors of 512 bits, masks or registers that x86-64-v3 lacks. The compiler isn't believed to be right for
-such processors: what it makes for them is admitted because oracle/machine-text shows it, and that knows these alone."""
+`check` tests an object's instructions: those of the functions of WIDE must be in mnemonics.txt, and no other
+function may have vectors of 512 bits, masks or registers that x86-64-v3 lacks. The compiler isn't trusted for such
+processors: its code for them is accepted because oracle/machine-text verifies it, which supports only these
+instructions."""
 import os
 import re
 import subprocess
@@ -23,12 +24,12 @@ ANSWER = 'twox_core::xxhash3::large::lanes4::ImplVector::is_widened'
 WIDE = ('twox_core::xxhash3::stripes::take_widened', 'twox_core::xxhash3::stripes::start_widened')
 FOR_V3, FOR_V4, WIDTH = '"target-cpu"="x86-64-v3"', '"target-cpu"="x86-64-v4"', '"prefer-vector-width"="512" '
 HEAD = re.compile(r'^(define [^@\n]*@(?:"([^"]*)"|([\w.]+))\(.*) #(\d+) \{$', re.M)
-# The body that answers a constant, the one number in it that may change.
+# The body that returns a constant, the one number in it that may change.
 BODY = re.compile(rf'^(define [^\n]*@"{ANSWER}"\([^\n]*\{{\n(?:(?!\}}).*\n)*?  %\w+ = zext i1 )(true|false)'
                   r'( to i8\n(?:(?!\}|.* i1 (?:true|false)).*\n)*\})$', re.M)
 TAG = re.compile(r'\.i\d+(_v\d)?$')       # behind a local name of the cargo crate's text
 NEW = 90_000       # numbers from here on are of no group of attributes
-# What x86-64-v3 lacks, in an instruction as objdump says it.
+# What x86-64-v3 lacks, in an instruction as objdump prints it.
 LACKED = re.compile(r'%zmm|%[xy]mm(1[6-9]|2\d|3[01])|%k[0-7]\b|\{')
 
 
@@ -48,7 +49,7 @@ def with_answer(text, old, new):
 
 
 def widen(text):
-    """The module with the other answer, whose wide functions have groups of attributes of their own."""
+    """The module with the other result, whose wide functions have groups of attributes of their own."""
     if FOR_V4 in text or WIDTH in text:
         refuse('the module is a wide one already')
     found, groups = set(), {}
@@ -73,12 +74,12 @@ def widen(text):
 
 
 def narrow(text):
-    """The module without what `widen` changes: clang then gives equal groups of attributes one number again."""
+    """The module without the changes of `widen`: clang then numbers equal groups of attributes alike again."""
     return with_answer(text.replace(WIDTH, '').replace(FOR_V4, FOR_V3), 'true', 'false')
 
 
 def faults(path, allowed):
-    """What an object has that it may not."""
+    """The instructions of an object that are not allowed."""
     out = subprocess.run(['objdump', '-d', '-w', '--no-show-raw-insn', path], check=True, capture_output=True, text=True).stdout
     wide, found = {plain(name) for name in WIDE}, set()
     for name, lines in re.findall(r'^[0-9a-f]+ <(.*)>:\n((?: .*\n)*)', out, re.M):

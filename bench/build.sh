@@ -4,7 +4,7 @@ room=$(mktemp -d)
 trap 'rm -rf "$room"' EXIT
 sets=(x86-64-v2 x86-64-v3)
 libraries=
-# The speed of a short call moves with what lies around its code, so a run takes the code in as many orders as this.
+# The speed of a short call depends on the code around it, so a run uses this many orders of the code.
 layouts=8
 debian_library=/usr/lib/x86_64-linux-gnu/libxxhash.so.0
 
@@ -16,10 +16,10 @@ fail() {
 . ../assembly/common.sh
 . ../checks/lib/need.sh
 
-# our_library TREE SET FILE: builds the libraries of the benchmark's crates in a tree, proved, for an instruction
-# set, as one object, as the tree builds what it ships: with prefetches, if it has them. Kernels that calls have to name
-# have none, and their crate lacks the other hashes. A tree may lack all crates but the first, which alone has what is wide
-# for x86-64-v4.
+# our_library TREE SET FILE: builds the libraries of the benchmark's crates in a tree, proved, for an instruction set,
+# as one object, as the tree builds its products: with prefetches, if it has them. Kernels that calls have to name have
+# none, and their crate lacks the other hashes. A tree may lack all crates except the first; only that one has the wide
+# code for x86-64-v4.
 our_library() {
     local tree=$1 set=$2 file=$3 crate archives=() cpu=() annotated=() wide=()
     [ ! -x "$tree/assembly/annotated" ] || annotated=("$tree/assembly/annotated")
@@ -38,9 +38,9 @@ our_library() {
 }
 
 # link_layouts SET PEERS OBJECT..: links $room/SET/driver_1 to driver_8. In each the functions of the objects begin at
-# multiples of 64, as in what is shipped (c/build, rust/build-library), and the objects stand in another order. The driver
-# stays where it is, and no jump of its loops crosses 32 bytes, which would slow all peers at once. PEERS are the names of
-# the peers in the objects, whose functions lie in sections of their own; $libraries are linked beside them.
+# multiples of 64, as in the products (c/build, rust/build-library), and the objects are in another order. The driver
+# stays in place, and no jump of its loops crosses 32 bytes, which would slow all peers at once. PEERS are the names of
+# the peers in the objects, whose functions are in sections of their own; $libraries are linked too.
 link_layouts() {
     local folder=$room/$1 peers=$2 objects=("${@:3}") layout found
     {
@@ -62,27 +62,28 @@ link_layouts() {
     done
 }
 
-# passes PROGRAM WORDS..: runs a driver three times, since a neighbour of a virtual machine can slow a whole row.
+# passes PROGRAM WORDS..: runs a driver three times, since a neighbour of a virtual machine can slow a whole
+# measurement.
 passes() {
     local pass
     for pass in 1 2 3; do "$@" || return; done
 }
 
-# one_round SET ROUND WORDS..: runs the layout of that round with these words; its lines lie in
+# one_round SET ROUND WORDS..: runs the layout of that round with these arguments; its lines go to
 # $room/SET/round_ROUND.
 one_round() {
     passes "$room/$1/driver_$((($2 - 1) % layouts + 1))" "${@:3}" > "$room/$1/round_$2" || fail "the driver stopped"
 }
 
-# build_shared: proves and builds the library for C, and the driver that measures it beside Debian's.
+# build_shared: proves and builds the library for C, and the driver that compares it with Debian's.
 build_shared() {
     "$top/c/build" > /dev/null || fail "the library for C was not built"
     gcc -O3 -Wall -Wextra shared.c -o "$room/shared_driver" || fail "the driver was not built"
     mkdir -p "$room/shared"
 }
 
-# shared_round ROUND WORDS..: measures it with these words; its lines lie in $room/shared/round_ROUND. The loader
-# chooses the file of ours, as it does for any program.
+# shared_round ROUND WORDS..: measures it with these arguments; its lines go to $room/shared/round_ROUND. The loader
+# chooses our file, as for any program.
 shared_round() {
     LD_LIBRARY_PATH=$top/c/out/lib passes "$room/shared_driver" libxxhash.so.0 "$debian_library" "${@:2}" \
         > "$room/shared/round_$1" 2> "$room/shared_files" || fail "the driver of the shared libraries stopped: $(cat "$room/shared_files")"

@@ -2,15 +2,14 @@
  *
  *     FORM NAME SIZE PEER NANOSECONDS
  *
- * FORM is oneshot, inlined or called (streams), kernel or kernel_stream; SIZE is the input's length, or of a
- * stream the length of its pieces. NANOSECONDS is what a call of a one-shot takes, or what a stream takes for
- * 1 MiB: the best of many short turns (turns.h). Before a row is timed its peers have to agree; status 1 if they
- * do not.
+ * FORM is oneshot, inlined or called (streams), kernel or kernel_stream; SIZE is the length of the input or of a
+ * stream's chunks. NANOSECONDS is the time of a one-shot's call, or of a stream for 1 MiB: the best of many short turns
+ * (turns.h). Before a row is timed its peers must agree; otherwise the status is 1.
  *
  *     driver [--quick] [--only WORD]..
  *
- * --quick takes fewer rows, and less time for each; --only takes the rows whose "FORM NAME SIZE" holds WORD
- * (of several words each). The peers are those of `peers`, a list that is compiled beside this file.
+ * --quick measures fewer rows, and each for less time; --only selects the rows whose "FORM NAME SIZE" contains WORD
+ * (or one of several). The peers are those of `peers`, a list in another file.
  */
 #include "peer.h"
 #include "turns.h"
@@ -28,7 +27,7 @@ static const char *const kernels[] = { "scalar", "lanes2", "lanes4", "split2" };
 static const char *form_of(struct row r) { return forms[r.form]; }
 static const char *name_of(struct row r) { return r.form == KERNEL || r.form == KERNEL_STREAM ? kernels[r.which] : hashes[r.which]; }
 
-/* Of 128 bits the sum of the halves is answered. */
+/* For 128 bits it returns the sum of the halves. */
 static uint64_t both(struct halves h) { return h.low + h.high; }
 
 static const struct streams *streams_of(const struct peer *p, int form) { return form == INLINED ? &p->inlined : &p->called; }

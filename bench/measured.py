@@ -1,7 +1,8 @@
-"""The data that docs/SPEED.md is drawn from: bench/data/measured.tsv. Its first lines, from `# `, say when and where it
-was measured. Each other line is a row: the part, the form, the hash, the size in bytes, our GB/s, our spread in percent,
-and for each peer `name=ratio`, a peer's time over ours, then our spread of that ratio in percent and the ratio of the
-best times, as `c_gcc=1.03/12/0.98`. What an older page didn't say is left out: the best times of most rows, and some speeds."""
+"""The data of docs/SPEED.md: bench/data/measured.tsv. Its first lines, from `# `, have the date and the machine.
+Each other line is a row: the part, the form, the hash, the size in bytes, our GB/s, our spread in percent, and for
+each peer `name=ratio`, a peer's time over ours, then our spread of that ratio in percent and the ratio of the best
+times, as `c_gcc=1.03/12/0.98`. Figures that an older page lacked are left out: the best times of most rows, and some
+speeds."""
 import os
 
 FILE = os.path.join(os.path.dirname(os.path.abspath(__file__)), "data", "measured.tsv")
@@ -21,7 +22,7 @@ class Row:
         self.speed, self.spread, self.peers = speed, spread, peers
 
     def best_peer(self, among=None):
-        """The peer that is the fastest beside ours, and its ratio."""
+        """The fastest peer and its ratio."""
         peers = {name: it for name, it in self.peers.items() if not among or name in among}
         name = min(peers, key=lambda it: peers[it].median)
         return name, peers[name]

@@ -1,10 +1,10 @@
 #!/usr/bin/env python3
 """Draws docs/SPEED.md and docs/speed.svg from bench/data:
 
-  bench/page.py [--check | FOLDER]
+    bench/page.py [--check | FOLDER]
 
-With --check it compares the page in docs with what it would draw; with a folder, data and page are there. The tables of
-`rust/bench`, `rust/programs/bench`, `python/bench` and `web/bench` are copied from bench/data."""
+With --check it checks that the page in docs is up to date; with a folder, it reads the data and writes the page
+there. The tables of `rust/bench`, `rust/programs/bench`, `python/bench` and `web/bench` are copied from bench/data."""
 import math
 import os
 import statistics

@@ -1,6 +1,6 @@
-/* What a peer of the benchmark offers: one-shots, and streams that are fed the input in pieces. The signatures
- * are those of the exports of the crate bench_exports, so that each peer is one call away. A peer leaves out
- * what it hasn't (a null pointer), and the driver's rows of that kind do without it. */
+/* What a peer of the benchmark offers: one-shots, and streams that hash the input in chunks. The signatures are
+ * those of the exports of the crate bench_exports, so that each peer is one call away. Functions that a peer lacks
+ * are null pointers, and the driver's rows of that kind omit it. */
 #ifndef PEER_H
 #define PEER_H
 #include <stddef.h>
@@ -8,8 +8,8 @@
 
 struct halves { uint64_t low, high; };
 
-/* The bytes of the room that holds the input. Our exports compare a length with it, and a secret's with its room,
- * which no caller in Rattle has to: so that this counts for nobody, the one-shots of every peer do. */
+/* Size of the input's buffer. Our exports compare a length with it, and a secret's with its size, which no caller in
+ * Rattle has to do: so that this favours nobody, the one-shots of every peer do. */
 #define ROOM ((size_t)64 << 20)
 #define IN_ROOM(length) ((length) < ROOM ? (length) : ROOM)
 
@@ -35,7 +35,7 @@ struct peer {
     uint64_t (*xxh3_64_keyed)(const void *secret, size_t secret_length, const void *input, size_t length);
     struct halves (*xxh3_128)(const void *input, size_t length);
     struct halves (*xxh3_128_seeded)(uint64_t seed, const void *input, size_t length);
-    struct streams inlined; /* the compiler may inline the call that takes a piece */
+    struct streams inlined; /* the compiler may inline the call that hashes a chunk */
     struct streams called;  /* it may not */
     uint64_t (*kernel_oneshot[KERNELS])(const void *input, size_t length); /* XXH3 64 by each kernel */
     stream_of_64 *kernel_stream[KERNELS];

@@ -1,5 +1,5 @@
-/* The reference library as a peer: PEER names it. With XXH_INLINE_ALL it is the header's own build, at the
- * instruction set and by the compiler that this file is built with; without, the shared library. */
+/* The reference library as a peer: PEER names it. With XXH_INLINE_ALL it is the header's own build, with the
+ * instruction set and the compiler of this file; without, the shared library. */
 #define XXH_STATIC_LINKING_ONLY
 #include <xxhash.h>
 #include "peer.h"
@@ -17,7 +17,7 @@ static uint64_t xxh3_64_keyed(const void *s, size_t m, const void *p, size_t n) 
 static struct halves xxh3_128(const void *p, size_t n) { return halves(XXH3_128bits(p, IN_ROOM(n))); }
 static struct halves xxh3_128_seeded(uint64_t seed, const void *p, size_t n) { return halves(XXH3_128bits_withSeed(p, IN_ROOM(n), seed)); }
 
-/* The calls that take a piece, none of them inlined. Those of the shared library never are. */
+/* The calls that hash a chunk, none of them inlined. Those of the shared library never are. */
 #ifdef XXH_INLINE_ALL
 #define CALLED __attribute__((noinline)) static void
 #else
@@ -28,7 +28,7 @@ CALLED update_64(XXH64_state_t *s, const void *p, size_t n) { XXH64_update(s, p,
 CALLED update_3_64(XXH3_state_t *s, const void *p, size_t n) { XXH3_64bits_update(s, p, n); }
 CALLED update_3_128(XXH3_state_t *s, const void *p, size_t n) { XXH3_128bits_update(s, p, n); }
 
-/* A stream that is fed by `update` in pieces. */
+/* A stream that hashes chunks by `update`. */
 #define STREAM(name, result, state_type, reset, update, digest)             \
     static result name(const void *p, size_t n, size_t piece)               \
     {                                                                       \
@@ -53,7 +53,7 @@ const struct peer PEER = {
     { xxh32_inlined, xxh64_inlined, xxh3_64_inlined, xxh3_128_inlined },
     { xxh32_called, xxh64_called, xxh3_64_called, xxh3_128_called },
 #ifdef XXH_INLINE_ALL
-    /* Beside each of our kernels stands the header's own. */
+    /* Each of our kernels is compared with the header's own. */
     { xxh3_64, xxh3_64, xxh3_64, xxh3_64 },
     { xxh3_64_called, xxh3_64_called, xxh3_64_called, xxh3_64_called },
 #else

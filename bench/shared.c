@@ -1,17 +1,17 @@
-/* Measures two shared libraries of the same names in turns, in one process, through the pointers that dlsym gives:
+/* Measures two shared libraries of the same names in turns, in one process, through the pointers of dlsym:
  *
  *     shared OURS THEIRS [--dispatch] [--quick] [--only WORD]..
  *
- * OURS and THEIRS are what dlopen is asked for: a path, or libxxhash.so.0 for the file that the loader chooses. It
- * writes a line for each row and library, as driver.c does:
+ * OURS and THEIRS are arguments of dlopen: a path, or libxxhash.so.0 for the file that the loader chooses. It writes a
+ * line for each row and library, as driver.c does:
  *
  *     FORM NAME SIZE LIBRARY NANOSECONDS
  *
- * With --dispatch THEIRS is called by the names `.._dispatch`, where it has them.
+ * With --dispatch THEIRS is called by the names `.._dispatch`, if it has them.
  *
- * FORM is oneshot or stream; SIZE is the input's length, or of a stream the length of its pieces. NANOSECONDS is what
- * a call takes, or what a stream takes for 1 MiB with its reset and its digest: the best of many short turns (turns.h).
- * Before a row is timed both have to agree; status 1 if they do not.
+ * FORM is oneshot or stream; SIZE is the length of the input or of a stream's chunks. NANOSECONDS is the time of a
+ * call, or of a stream for 1 MiB with its reset and its digest: the best of many short turns (turns.h). Before a row
+ * is timed both must agree; otherwise the status is 1.
  */
 #define _GNU_SOURCE
 #include <dlfcn.h>
@@ -83,10 +83,10 @@ static const char *const hashes[] = { "XXH32", "XXH64", "XXH3-64", "XXH3-64-seed
 static const char *form_of(struct row r) { return forms[r.form]; }
 static const char *name_of(struct row r) { return hashes[r.which]; }
 
-/* Of 128 bits the sum of the halves is answered. */
+/* For 128 bits it returns the sum of the halves. */
 static uint64_t both(XXH128_hash_t hash) { return hash.low64 + hash.high64; }
 
-/* The sum of the answers of so many one-shots. The choice of the call stands outside the loop. */
+/* The sum of the results of this many one-shots. The call is chosen outside the loop. */
 static uint64_t oneshots(const struct library *l, enum hash hash, size_t n, long times)
 {
     uint64_t sum = 0;
@@ -103,7 +103,7 @@ static uint64_t oneshots(const struct library *l, enum hash hash, size_t n, long
     }
 }
 
-/* The sum of the answers of so many streams. */
+/* The sum of the results of this many streams. */
 static uint64_t streams(const struct library *l, enum hash hash, size_t piece, long times)
 {
     const size_t n = stream_length(piece);

@@ -19,22 +19,22 @@
 #define MIB ((size_t)1 << 20)
 #define SECRET 192
 
-/* A row: its form, which hash or kernel it is of, and the input's length, or of a stream the length of its pieces. */
+/* A row: its form, its hash or kernel, and the length of the input or of a stream's chunks. */
 struct row { int form, which; size_t size; };
 
 static unsigned char *input, secret[SECRET];
 static int quick, words;
 static char *word[100];
 
-/* The sum of the answers of so many calls of a peer. The choice of the function stands outside the loop. */
+/* The sum of the results of this many calls of a peer. The function is chosen outside the loop. */
 static uint64_t called(const void *peer, struct row r, long times);
 static const char *form_of(struct row r);
 static const char *name_of(struct row r);
 
-/* A stream takes 1 MiB in large pieces, and a part of it in small ones, so that a turn is short. */
+/* A stream hashes 1 MiB in large chunks, and a part of it in small ones, so that a turn is short. */
 static size_t stream_length(size_t piece) { return piece < 24 ? MIB / 64 : piece < 1000 ? MIB / 16 : MIB; }
 
-/* The clock that is read the fastest. That a turn may wait for a processor doesn't matter, since the best one counts. */
+/* The fastest clock. That a turn may wait for a processor doesn't matter, since the best one counts. */
 static double now(void)
 {
     struct timespec t;
@@ -63,7 +63,7 @@ static double roughly(const void *peer, struct row r)
     return best;
 }
 
-/* Ends the driver where two peers have other answers to the row. */
+/* Ends the driver if two peers have different results for the row. */
 static void agree(const void *const *those, const char *const *names, size_t count, struct row r)
 {
     for (size_t p = 1; p < count; p++)
@@ -73,7 +73,7 @@ static void agree(const void *const *those, const char *const *names, size_t cou
         }
 }
 
-/* Times these peers on the row, in turns; what each took is told times the scale. */
+/* Times these peers on the row, in turns; prints each time multiplied by the scale. */
 static void measure_each(const void *const *those, const char *const *names, size_t count, struct row r, double scale)
 {
     double best[MOST_PEERS], longest = TURN;
@@ -98,7 +98,7 @@ static void measure_each(const void *const *those, const char *const *names, siz
     fflush(stdout);
 }
 
-/* Whether each word stands in the row's "FORM NAME SIZE". */
+/* Whether each word is in the row's "FORM NAME SIZE". */
 static int wanted(struct row r)
 {
     char line[100];

@@ -1,4 +1,4 @@
-# What build, install, check and bench share: sourced by each, in the folder c.
+# Shared by build, install, check and bench: sourced by each, in the folder c.
 top=$(cd .. && pwd)
 out=$top/c/out
 
@@ -8,14 +8,17 @@ fail() {
     exit 1
 }
 
-# require PACKAGE COMMAND: stops where the command is missing, and names the package that has it.
+# meant NAME: prints the path that the caller means. The caller's folder may be one that cannot be entered.
+meant() { case $1 in /* | '') printf %s "$1" ;; *) printf %s "$folder/$1" ;; esac; }
+
+# require PACKAGE COMMAND: stops if the command is missing, and names its package.
 require() {
     command -v "$2" > /dev/null || fail "no $2: install the package $1"
 }
 
-# read_target WORDS: takes --target NAME off the words, and leaves the others in `words`. `target` is then the
-# processor that is built for, `tools` begins the names of its gcc and binutils, `lib` is where its library goes, `asm`
-# where its text does, and `made` runs make over both.
+# read_target WORDS: removes --target NAME from the arguments, and leaves the others in `words`. `target` is then the
+# processor of the build, `tools` is the prefix of its gcc and binutils, `lib` its library's folder, `asm` its source's
+# folder, and `made` runs make with both.
 read_target() {
     target=x86-64
     if [ "${1:-}" = --target ]; then
@@ -32,9 +35,9 @@ read_target() {
     made=(make -s CC="${tools}gcc" CFLAGS='-O2 -Werror' asm="$asm" out="$out/made/$target" lib="$lib")
 }
 
-# read_cpu WORDS: takes --cpu NAME off the words, and leaves the others in `words`. `cpu` is then the set of
-# instructions that programs are built for, or `both`: without --cpu the larger one where the loader says that the
-# machine has it. What is built is run once, so `both` needs a machine that has the larger one.
+# read_cpu WORDS: removes --cpu NAME from the arguments, and leaves the others in `words`. `cpu` is then the instruction
+# set that programs are built for, or `both`: without --cpu the larger one if the loader reports that the machine has
+# it. What is built is run once, so `both` needs a machine that has the larger one.
 read_cpu() {
     cpu=
     if [ "${1:-}" = --cpu ]; then
@@ -43,7 +46,7 @@ read_cpu() {
         shift $(($# < 2 ? $# : 2))
         case $cpu in
         x86-64-v2 | x86-64-v3) ;;
-        both) [ "$(best_cpu)" = x86-64-v3 ] || fail '--cpu both runs what it builds: this machine has no x86-64-v3' ;;
+        both) [ "$(best_cpu)" = x86-64-v3 ] || fail '--cpu both runs the programs: this machine has no x86-64-v3' ;;
         *) fail "no processor '$cpu': there are x86-64-v2, x86-64-v3 and both" ;;
         esac
     fi

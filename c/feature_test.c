@@ -1,5 +1,5 @@
 /* SPDX-License-Identifier: MIT */
-/* What a program asks who chooses by the processor itself. The calls of this library need no such choice. */
+/* For programs that choose by the processor themselves. The calls of this library need no such choice. */
 #include "processor.h"
 #include "xxh_x86dispatch.h"
 

@@ -1,10 +1,10 @@
 /* SPDX-License-Identifier: MIT */
-/* Null pointers to which the C library answers XXH_ERROR. An export of twox_c speaks of memory that is there, so
- * c/build gives the proved calls names that begin with proved_, and these stand before them. An update has none: the
- * test would cost it a cycle. */
+/* Null pointers for which the C library returns XXH_ERROR. Contracts of twox_c are about existing memory, so c/build
+ * gives the proved calls names that begin with proved_, and these functions wrap them. An update has no guard: the
+ * test would cost a cycle. */
 #include "xxhash.h"
 
-/* The proved call where these pointers are there, and else XXH_ERROR. */
+/* The proved call if these pointers are not null, and otherwise XXH_ERROR. */
 #define WHERE(there, name, parameters, arguments) \
     XXH_errorcode proved_##name parameters;       \
     XXH_errorcode name parameters { return there ? proved_##name arguments : XXH_ERROR; }

@@ -1,6 +1,6 @@
 /* SPDX-License-Identifier: MIT */
-/* Runs the build of PROGRAM that this processor has, with the name and the words that this one was given. The builds lie
- * below BUILDS beside the folder of this program, wherever both were moved. */
+/* Runs the build of PROGRAM for this processor, with the same name and arguments. The builds are below BUILDS, next
+ * to the folder of this program, wherever both were moved. */
 #include <errno.h>
 #include <limits.h>
 #include <stdio.h>
@@ -11,7 +11,7 @@
 #define BUILDS "/libexec/twox-hash/"
 #define ITSELF "/proc/self/exe"
 
-/* Cuts a name off a path: 0 where there is none. */
+/* Removes a name from a path. Returns 0 if there is none. */
 static int cut(char *path)
 {
     char *slash = strrchr(path, '/');
@@ -19,7 +19,7 @@ static int cut(char *path)
     return slash != NULL;
 }
 
-/* The folder above that of this program: 0 where the system doesn't tell it. */
+/* The folder above that of this program: 0 if the system doesn't report it. */
 static int find_folder(char *path, size_t room)
 {
     ssize_t length = readlink(ITSELF, path, room);

@@ -1,12 +1,12 @@
 /* SPDX-License-Identifier: MIT */
-/* What the processor has of x86-64, and the system keeps registers for. No compiler's builtin is asked: clang knows no
- * x86-64-v3 before release 16, and libgcc would be one library more for a static program. */
+/* The x86-64 features of the processor for which the system saves the registers. No compiler builtin is used: clang
+ * has no x86-64-v3 before release 16, and libgcc would be one more library for a static program. */
 #ifndef TWOX_HASH_PROCESSOR_H
 #define TWOX_HASH_PROCESSOR_H
 
 #include <cpuid.h>
 
-/* Bits of the words that cpuid answers, by their leaf, and of those that xgetbv answers. */
+/* Bits of the words that cpuid returns, by leaf, and of those that xgetbv returns. */
 enum {
     LEAF_1_V3 = 1 << 12 | 1 << 22 | 1 << 28 | 1 << 29, /* FMA, MOVBE, AVX, F16C */
     LEAF_1_XSAVE = 1 << 26 | 1 << 27,

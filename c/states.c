@@ -1,11 +1,11 @@
 /* SPDX-License-Identifier: MIT */
-/* Memory for states, which the crate twox_c cannot hand to C: an export of it has no raw pointer. All else is
+/* Memory for states, which the crate twox_c cannot pass to C: an export of it has no raw pointer. Everything else is
  * there, and proved. A state is aligned to 8 bytes, as malloc aligns it. */
 #include <stdlib.h>
 #include "state_sizes.h" /* the sizes that twox_c proves its states to have */
 #include "xxhash.h"
 
-/* The name that TWOX_HASH_REQUIRED demands. */
+/* The name that TWOX_HASH_REQUIRED refers to. */
 const char twox_hash_library = 1;
 
 XXH32_state_t *XXH32_createState(void)
@@ -29,7 +29,7 @@ XXH3_state_t *XXH3_createState(void)
     return state;
 }
 
-/* Calls of twox_c, which take the mark of a reset from a state: memory that comes back from malloc is no state. */
+/* Calls of twox_c that remove the mark of a reset from a state: memory that malloc returns again is no state. */
 void twox_c_forget_xxh32(XXH32_state_t *state);
 void twox_c_forget_xxh64(XXH64_state_t *state);
 void twox_c_forget_xxh3(XXH3_state_t *state);

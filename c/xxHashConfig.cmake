@@ -1,4 +1,4 @@
-# find_package(xxHash) gives the targets xxHash::xxhash, the shared library, and xxHash::xxhash_static. They lie below
+# find_package(xxHash) defines the targets xxHash::xxhash, the shared library, and xxHash::xxhash_static. They are below
 # the folder three above this file, wherever that was moved.
 get_filename_component(_xxHash_prefix "${CMAKE_CURRENT_LIST_DIR}/../../.." ABSOLUTE)
 

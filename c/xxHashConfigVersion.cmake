@@ -1,4 +1,4 @@
-# The release of the C library whose calls these are serves each release up to it.
+# Compatible with each release up to that of the C library that has these calls.
 set(PACKAGE_VERSION 0.8.1)
 if(PACKAGE_FIND_VERSION VERSION_GREATER PACKAGE_VERSION)
   set(PACKAGE_VERSION_COMPATIBLE FALSE)

@@ -1,5 +1,5 @@
-/* Loaded before a program: its clock counts what it reads, a millisecond for each 128 KiB, or fails where CLOCK_FAILS is set. So
-   rates and times are known. */
+/* Loaded before a program: its clock counts the bytes read, a millisecond for each 128 KiB, or fails if CLOCK_FAILS
+   is set. So rates and times are known. */
 #define _GNU_SOURCE
 #include <dlfcn.h>
 #include <errno.h>

@@ -1,4 +1,4 @@
-"""The parts of the gate: each is a command, which ends with the counts of its checks."""
+"""The parts of CI: each is a command that ends with the counts of its checks."""
 import contextlib
 import queue
 import re
@@ -16,8 +16,8 @@ def processor_time():
 
 
 class Part:
-    """A part of the gate that was started: its title, the least number of checks that it has, and its command. Its output,
-    with what it says of errors, waits until the part is followed."""
+    """A part of CI that was started: its title, its minimum number of checks, and its command. Its output, with
+    standard error, is kept until the part is followed."""
 
     def __init__(self, top, title, least, *words):
         self.title, self.least, self.words = title, least, words
@@ -39,8 +39,8 @@ class Part:
             self.process.stdin.flush()
 
     def follow(self, hearer=None):
-        """Prints the output as it comes, and tells it to the part that hears it: what there is to say of the part, and how
-        many checks passed and failed."""
+        """Prints the output as it comes, and passes it to a part that reads it. Returns the summary of the part, and
+        how many checks passed and failed."""
         print(f"== {self.title}: {' '.join(self.words)}", flush=True)
         last, used = "", processor_time()
         for line in iter(self.lines.get, None):
@@ -56,7 +56,7 @@ class Part:
         return f"{self.title}: {passed} passed, {failed} failed; {took}{why and '; ' + why}", passed, failed
 
     def judged(self, status, last):
-        """How many checks passed and failed, and why the part failed where its own counts don't say it."""
+        """How many checks passed and failed, and why the part failed if its own counts don't show it."""
         counts = COUNTS.search(last)
         passed, failed = map(int, counts.groups()) if counts else (0, 0)
         why = ("" if counts else "its last line has no counts: " + (last[:200] or "it printed nothing"),

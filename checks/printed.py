@@ -1,10 +1,11 @@
-"""What the pages have a reader type: the fenced blocks of commands, and how they are run as they are printed.
+"""The commands of the pages: the fenced blocks, and how they are run as they are printed.
 
-A block is fenced as ```sh. What stands behind a command, after two spaces and a #, is a line that the command prints, where
-`..` stands for anything; a remark has a line of its own. All commands of a page are typed into one shell, in their order.
-The packages that they need are named in the text below their heading or above the first one, as Debian: `gcc make` or, of
-one release alone, as Debian 12: `cargo-web`. A block that can't be run has an invisible line above it, which says why:
-<!-- not run: needs rt -->, or of one release alone <!-- not run on Debian 12: its Java lacks the interface -->."""
+A block is fenced as ```sh. The text after a command, after two spaces and a #, is a line that the command prints,
+where `..` matches anything; a remark has a line of its own. All commands of a page are typed into one shell, in
+their order. The packages that they need are listed in the text below their heading or above the first one, as
+Debian: `gcc make` or, for only one release, as Debian 12: `cargo-web`. A block that can't be run has an invisible
+line above it with the reason: <!-- not run: needs rt -->, or for only one release <!-- not run on Debian 12: its
+Java lacks the interface -->."""
 import os
 import re
 import subprocess
@@ -13,7 +14,8 @@ from collections import namedtuple
 from report import Fault, tail, want
 from tools import TOP
 
-# A reader of RELEASES is in the folder of the archives, and of every other page at the top of the repository.
+# The commands of RELEASES run in the folder of the archives, and those of every other page at the top of the
+# repository.
 RELEASES = 'docs/RELEASES.md'
 PAGES = ('README.md', 'python/README.md', 'rust/README.md', 'web/README.md', 'examples/README.md', *sorted(
     os.path.join('docs', name) for name in os.listdir(os.path.join(TOP, 'docs')) if name.endswith('.md')))
@@ -29,7 +31,7 @@ MARK = 'the-status-of-a-printed-command'
 Block = namedtuple('Block', 'line text reason')
 # The blocks below a heading, and the packages that they need.
 Section = namedtuple('Section', 'page heading blocks packages')
-# A command, where it stands, and the line that it is said to print, or None.
+# A command, its location, and its expected output or None.
 Command = namedtuple('Command', 'where text shown')
 
 
@@ -39,7 +41,7 @@ def text_of(page):
 
 
 def sections(page, suite, text=None):
-    """The sections of a page that have commands, as it has them for a release of Debian."""
+    """The sections of a page that have commands, in its form for a release of Debian."""
     text = text_of(page) if text is None else text
     found = [Section(page, '', [], set())]
     for part in PARTS.finditer(text):
@@ -65,7 +67,7 @@ def is_run(section):
 
 
 def is_whole(text):
-    """Whether a shell takes these lines without waiting for more."""
+    """True if a shell accepts these lines without waiting for more."""
     done = subprocess.run(['bash', '-n'], input=text, capture_output=True, text=True)
     return done.returncode == 0 and not text.endswith('\\\n')
 
@@ -85,7 +87,8 @@ def commands(section):
 
 
 def script(typed):
-    """A script of bash that runs the commands as they stand. It ends at the first that fails, and says each one's status."""
+    """A script of bash that runs the commands unchanged. It ends at the first that fails, and prints each one's
+    status."""
     lines = [f"status_of_printed() {{ local status=$?; printf '\\n{MARK} %s\\n' $status; [ $status = 0 ] || exit $status; }}"]
     for it in typed:
         lines += [it.text.rstrip('\n'), 'status_of_printed']
@@ -93,15 +96,15 @@ def script(typed):
 
 
 def is_printed(out, shown):
-    """Whether a line of the output is what the page shows."""
+    """True if a line of the output matches the page."""
     pattern = '.*'.join(map(re.escape, shown.split('..')))
     return any(re.fullmatch(pattern, line.strip()) for line in out.splitlines())
 
 
 def run(sections_of_page, shell, installation=lambda packages: None):
-    """Types sections into a shell, a function that runs a script and answers its status and its output. Answers all that was
-    printed. A command that fails, or prints something else than the page shows, is the fault. The installation is a command
-    that puts the packages of a section in place, or None."""
+    """Types sections into a shell, a function that runs a script and returns its status and its output. Returns the
+    whole output. A command that fails, or prints something else than the page shows, is an error. The installation
+    is a command that installs the packages of a section, or None."""
     typed = []
     for it in sections_of_page:
         first = installation(sorted(it.packages)) if is_run(it) else None

@@ -1,4 +1,4 @@
-"""The ratios of speed in README.md, compared with the tables whose lowest, highest or median values they are."""
+"""Ratios of speed in README.md, compared with the tables of which they are the minimum, maximum or median."""
 import os
 import re
 import sys
@@ -12,8 +12,8 @@ RATIO = r'(?<![\d.])\d+\.\d\d(?![\d.])'
 EACH, PLAIN, PLAIN_BESIDE_XXHASH_RUST = slice(None), *(slice(at, at + 1) for at in range(2))
 # The first ratio of a cell is its median, the others are its range.
 MEDIANS = r'(?<![\d.])\d+\.\d\d(?= \()'
-# A page, a sentence in it, with <> for the lowest and perhaps one for the highest ratio, and where both are: a table, the
-# names of its rows, its columns after the name, and which ratios of a cell.
+# A page, its text, with <> for the minimum and possibly one for the maximum ratio, and their source: a table, the names
+# of its rows, its columns after the name, and which ratios of a cell.
 SAID = [
     ('README.md', r'by input size are <> to <> for one-shots', SUMMARY, 'one-shots', EACH, MEDIANS),
     ('README.md', r'one-shots and <> to <> for streams', SUMMARY, 'streams', EACH, MEDIANS),
@@ -34,7 +34,7 @@ def text_of(path):
 
 
 def rows_of(page, before):
-    """The first table after these words of a page: the cells of each row."""
+    """The first table after this text of a page: the cells of each row."""
     text = text_of(page)
     found = re.search(r'^\|---.*\n((?:\|.*\n)+)', text[text.index(before):], re.M)
     return [[cell.strip() for cell in line.strip('|').split('|')] for line in found[1].splitlines()]
@@ -47,7 +47,7 @@ def ratios(table, names, columns, pattern):
 
 
 def that_differ():
-    """Each ratio that a page says and no table has so, and each that it says and nobody looks at."""
+    """Each ratio of a page that is in no table, and each that no rule covers."""
     seen = {page: set(APART) for page, _ in SECTIONS}
     for page, words, table, names, columns, pattern in SAID:
         found = ratios(table, names, columns, pattern)
@@ -64,7 +64,7 @@ def that_differ():
 
 
 def counts_that_differ():
-    """README.md has how many measurements there are, and how many are below 0.95, of the crate's too."""
+    """README.md has the number of measurements, and of those below 0.95, also for the crate."""
     sys.path.append(os.path.join(TOP, 'bench'))
     import measured
     import page

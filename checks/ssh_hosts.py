@@ -1,5 +1,5 @@
-"""GNU parallel over two ssh servers of this machine, which a check may have die or answer wrong. They listen on loopback,
-with ports, keys and settings in a folder of the check's own."""
+"""GNU parallel over two ssh servers of this machine, which a check can make die or return wrong results. They listen
+on loopback, with ports, keys and settings in a folder of the check's own."""
 import os
 import shutil
 import signal
@@ -14,8 +14,8 @@ from report import Fault, want
 SSHD = '/usr/sbin/sshd'
 PACKAGES = {'parallel': 'parallel', 'ssh': 'openssh-client', 'ssh-keygen': 'openssh-client', SSHD: 'openssh-server'}
 
-# The program as the hosts have it: it notes which host was asked, stops in the middle of its work where it is told to, and
-# answers wrong where it is told to.
+# The program as the hosts have it: it logs which host was used, stops in the middle of its work on request, and returns
+# a wrong result on request.
 OF_HOSTS = '''#!/bin/sh
 host=${SSH_CONNECTION##* }
 echo "$host" >> {room}/asked
@@ -30,14 +30,14 @@ exec {program} "$@"
 
 
 def install_packages():
-    """A server that is installed is started where systemd runs, which is for the machine's owner to do."""
+    """Installing a server starts it if systemd runs, which only the machine's owner should do."""
     if not shutil.which(SSHD) and os.path.isdir('/run/systemd/system'):
         sys.exit('no sshd: install the package openssh-server, which starts a server')
     tools.install_packages(PACKAGES)
 
 
 class RoomOfSshd:
-    """The folder that sshd wants, also where it serves no other user."""
+    """The folder that sshd requires, also if it serves no other user."""
 
     def __enter__(self):
         self.is_made = os.geteuid() == 0 and not os.path.isdir('/run/sshd')
@@ -56,7 +56,7 @@ def free_port():
 
 
 class Server:
-    """An ssh server on loopback, whose files lie in a folder."""
+    """An ssh server on loopback, whose files are in a folder."""
 
     def __init__(self, room):
         self.room, self.port = room, free_port()
@@ -76,7 +76,7 @@ class Server:
         sys.exit(f'no ssh server:\n{open(f"{self.room}/log-{self.port}").read()}')
 
     def die(self):
-        """The server is gone at once, and with it each connection that it serves."""
+        """Kills the server at once, and with it each connection that it serves."""
         if self.process:
             found = subprocess.run(['ps', '-o', 'pid=', '--ppid', str(self.process.pid)], stdout=subprocess.PIPE)
             for process in [self.process.pid, *map(int, found.stdout.split())]:
@@ -112,14 +112,14 @@ class Hosts:
         return path
 
     def forget(self):
-        """What an earlier check told the hosts, and what they noted, is gone."""
+        """Removes what an earlier check requested of the hosts, and what they logged."""
         for name in os.listdir(self.room):
             if name.startswith(('stops-', 'stopped-', 'lies-', 'asked')):
                 os.remove(os.path.join(self.room, name))
 
     def run(self, words, more=(), told='', number=0):
-        """The words over both servers, the first `number` of which do as they are told: to answer wrong, or to stop in the
-        middle of a job, where they then die. Answers how it ended, what it printed and what it said."""
+        """The arguments over both servers; the first `number` jobs are manipulated: they return a wrong result, or
+        stop in the middle and die there. Returns how it ended, its output and its messages."""
         self.forget()
         for server in self.servers:
             if not server.process:

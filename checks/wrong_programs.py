@@ -1,5 +1,5 @@
-"""Wrong bodies of `xxhsum` that the proofs let through, since no clause speaks of what the system gives, of the order of the two
-streams, or of memory: each with its file, what it changes, and the check and the row that have to detect it."""
+"""Mutants of `xxhsum` that the proofs accept, since no clause covers the system's results, the order of the two
+streams, or memory: each with its file, its change, and the check and the test that must detect it."""
 from typing import NamedTuple
 
 
@@ -22,7 +22,7 @@ TELLS_IMPROPER = ('tell_of_line(\n                self.name,\n                nu
 
 
 def turned(file, first, second, indent, check, row):
-    """Two statements, the other way round."""
+    """Two statements in the opposite order."""
     between = '\n' + ' ' * indent
     return Wrong(file, first + between + second, second + between + first, check, row)
 

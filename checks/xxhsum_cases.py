@@ -1,11 +1,11 @@
-"""The cases of checks/xxhsum: the words, the files that lie where it runs, and what standard input holds.
+"""The cases of checks/xxhsum: the arguments, the files in the working directory, and standard input.
 
-The originals decide what is right, so only a case in which ours does something else on purpose has an expected answer
-here; docs/XXHSUM.md gives the reason of each. The digests that stand in lists are those of the files below, as the
-originals printed them."""
+The originals define what is correct, so only a case in which ours intentionally differs has an expected result here;
+docs/XXHSUM.md has the reason of each. The digests in lists are those of the files below, as the originals printed
+them."""
 from typing import NamedTuple, Optional
 
-# What of two runs has to be equal. Help and version carry their maker's name, so of those the text is not compared.
+# The parts of two runs that must be equal. Help and version have their maker's name, so their text is not compared.
 ALL = ('out', 'err', 'status')
 NO_ERROR_TEXT = ('out', 'status')
 
@@ -16,24 +16,24 @@ class Case(NamedTuple):
     given: bytes = b''
     files: dict = {}
     compared: tuple = ALL
-    # By which name the program is called.
+    # The name by which the program is called.
     called: str = 'xxhsum'
-    # A line of sh to run in place of the words. It finds the program as "$X".
+    # A line of sh to run instead of the arguments. It finds the program as "$X".
     shell: str = ''
-    # What ours has to do where it differs from both originals on purpose, which are not run then.
+    # The expected result of ours if it intentionally differs from both originals, which are not run then.
     wanted: Optional[dict] = None
-    # Where the originals tell no more than `Wrong parameters`: the word that ours names behind, by default the first.
+    # If the originals only print `Wrong parameters`: the argument that ours names after that, by default the first.
     wrong: str = ''
 
 
 def one_line(text):
-    """A text that is told, as one line: as names stand in lists, with a backslash before it where it needs one."""
+    """A reported text, as one line: as names are in lists, with a backslash before it if it needs one."""
     escaped = text.replace(b'\\', b'\\\\').replace(b'\n', b'\\n').replace(b'\r', b'\\r')
     return (b'\\' if escaped != text else b'') + escaped + b'\n'
 
 
 def fails(told, out=b''):
-    """Ours tells these lines, and ends with 1."""
+    """Ours reports these lines, and ends with 1."""
     return {'out': out, 'err': b''.join(map(one_line, told)), 'status': 1}
 
 
@@ -47,25 +47,25 @@ X32, X64 = b'fb0077f9', b'26c7827d889f6da3'
 X3, X128 = b'9555e8555c62dcfd', b'b5e9c1ad071b3e7fc779cfaa5e523818'
 X32_LE, X64_LE = b'f97700fb', b'a36d9f887d82c726'
 X3_LE, X128_LE = b'fddc625c55e85595', b'1838525eaacf79c77f3e1b07adc1e9b5'
-# XXH64 of no bytes, and one digit off that of `hello`.
+# XXH64 of no bytes, and one that differs from that of `hello` by one digit.
 EMPTY, WRONG = b'ef46db3751d8e999', b'26c7827d889f6da4'
 GOOD = X64 + b'  a\n'
 GOOD_OUT = b'a: OK\n'
 
 
 def unread(place, name, why=b'a failure occurred reading the input file'):
-    """What is said of a file of a list that could not be read to its end, or opened for another reason."""
+    """The message for a file of a list that could not be read to its end, or not opened for another reason."""
     return place + b": Could not open or read '" + name + b"': " + why + b'.\n'
 
 
 def no_stdin(place):
-    """What is said of the file stdin, which isn't there, as of each missing file."""
+    """The message for the file stdin, which doesn't exist, as for each missing file."""
     return unread(place, b'stdin', b'No such file or directory')
 
 
-# A file that opens, and of which each read fails.
+# A file that opens, and whose reads all fail.
 FAILING = '/proc/self/mem'
-# What is told where `-` would be left unread.
+# The message if `-` would be left unread.
 BESIDE_NAMES = b"Error: '-' is standard input, which is read alone; a file of that name is './-'."
 NOT_READ = b"Error: Could not read '/proc/self/mem': a failure occurred reading the input file. \n"
 
@@ -75,12 +75,12 @@ def gen(count):
     return bytes(i * 7 % 251 for i in range(count))
 
 
-# Lengths at which some hash takes another way, or a buffer is full.
+# Lengths at which some hash takes another path, or a buffer is full.
 LENGTHS = (1, 3, 4, 8, 9, 15, 16, 17, 31, 32, 33, 63, 64, 65, 128, 129, 240, 241, 255, 256, 257, 511, 512, 513, 1023,
            1024, 1025, 1088, 4095, 4096, 4097, 65535, 65536, 65537, 131071, 131072, 131073, 262144, 300001)
 SIZED = {f'length-{count:06}': gen(count) for count in LENGTHS}
 
-# The files that every case finds, besides the folder d and the links of `lay_out` in checks/xxhsum.
+# The files of every case, besides the folder d and the links of `lay_out` in checks/xxhsum.
 FILES = {
     'a': HELLO,
     'b c': b'world',
@@ -104,7 +104,7 @@ FILES = {
 
 
 def names():
-    """Files by their names on the command line."""
+    """Files by their names in the arguments."""
     return [
         Case('one file', ('a',)),
         Case('three files, one with a space', ('a', 'b c', 'e')),
@@ -155,7 +155,7 @@ def names():
 
 
 def kinds():
-    """Which digest is computed."""
+    """The digest that is computed."""
     cases = [Case(f'-H{number}', (f'-H{number}', 'a', 'e')) for number in ('0', '1', '2', '3', '32', '64', '128')]
     cases += [Case(f'every length, -H{number}', (f'-H{number}', *SIZED), files=SIZED) for number in '0123']
     cases += [Case(f'-H{number}, a number that is none', (f'-H{number}', 'a'))
@@ -173,7 +173,7 @@ def kinds():
 
 
 def lines():
-    """How a line is printed."""
+    """The form of a printed line."""
     cases = [Case(f'a tagged line, -H{number}', ('--tag', f'-H{number}', 'a', 'e')) for number in '0123']
     cases += [Case(f'little endian, -H{number}', ('--little-endian', f'-H{number}', 'a', 'e')) for number in '0123']
     cases += [Case(f'little endian and tagged, -H{number}', ('--tag', '--little-endian', f'-H{number}', 'a'))
@@ -185,7 +185,7 @@ def lines():
 
 
 def options():
-    """The words before the names."""
+    """The arguments before the names."""
     bad = ('-x', '-l', '-t', '-v', '-Q', '-C', '-q-', '-q,', '-c=1', '-é', '--', '--nope', '--tag=1', '--Tag', '--ta',
            '--warning', '--checks', '--chec', '--little', '--ignore-missing', '--ignore', '--zer', '--binary', '---', '-- ',
            '--q')
@@ -215,15 +215,15 @@ def options():
 
 
 def input_alone():
-    """Standard input in place of names."""
+    """Standard input instead of names."""
     return [
         Case('input', given=HELLO),
         Case('input with no bytes'),
         Case('input by -', ('-',), given=HELLO),
         Case('input by - twice', ('-', '-'), given=HELLO),
         Case('options after -', ('-', '-H0', '--tag'), given=HELLO),
-        # The originals drop standard input beside a name before it, or open a file of the name `-`: ours never leaves
-        # unread what was asked for, and says so.
+        # The originals ignore standard input if there is a name before it, or open a file of the name `-`: ours never
+        # leaves requested input unread, and reports that.
         *(Case(name, words, given=b'world', files={'-': HELLO}, wanted=fails([BESIDE_NAMES])) for name, words in (
             ('a name after -', ('-', 'a')), ('- after a name', ('a', '-')), ('- after --', ('--', '-')),
             ('- between names', ('-H0', 'a', '-', 'a')), ('names after - and --', ('-', '--', 'a')),
@@ -259,12 +259,12 @@ def program_names():
 
 
 def of_list(name, text, *options, given=b'', wanted=None):
-    """A case that checks the list L of this text."""
+    """A case that checks the list L with this text."""
     return Case(name, (*(options or ('-c',)), 'L'), given=given, files={'L': text}, wanted=wanted)
 
 
 def verdicts():
-    """What is said of a list, by its options."""
+    """The messages about a list, by its options."""
     mixed = b'junk\n' + WRONG + b'  a\n' + X64 + b'  gone\n' + GOOD
     two_of_each = b'x\ny\n' + (WRONG + b'  a\n') * 2 + X64 + b'  gone\n' + X64 + b'  away\n' + GOOD * 2
     cases = []
@@ -299,11 +299,11 @@ def verdicts():
 
 
 def plain_lines():
-    """Lines of a list as xxhsum prints them by itself, and near them."""
+    """Lines of a list in xxhsum's default form, and similar ones."""
     return [
         of_list('three lengths of digits', X32 + b'  a\n' + GOOD + X128 + b'  a\n'),
         of_list('no line feed at the end', X64 + b'  a'),
-        # The originals take a carriage return for a part of the line.
+        # The originals parse a carriage return as a part of the line.
         of_list('carriage returns', X64 + b'  a\r\n' + EMPTY + b'  e\r\n# no\r\n\r\n' + X64 + b'  a\r', '-cw', wanted={
             'out': b'a: OK\ne: OK\na: OK\n1 line is improperly formatted\n',
             'err': b'L:4: Error: Improperly formatted checksum line.\n', 'status': 0}),
@@ -336,28 +336,28 @@ def plain_lines():
 
 
 def line_of(count, end=b'\n'):
-    """A line of so many bytes, with digits and a name that no file has."""
+    """A line of this many bytes, with digits and a name that no file has."""
     return X64 + b'  ' + b'x' * (count - len(X64) - 2) + end
 
 
 def not_opened(count):
-    """What is said of the file of line 2, whose name has so many bytes."""
+    """The message for the file of line 2, whose name has this many bytes."""
     return unread(b'L:2', b'x' * count, b'File name too long')
 
 
 def over_long(*lines, out=GOOD_OUT * 2):
-    """What is said of a list whose lines of these numbers are longer than 32,767 bytes."""
+    """The messages for a list with lines of these numbers longer than 32,767 bytes."""
     count = b'1 line is' if len(lines) == 1 else b'%d lines are' % len(lines)
     return {'out': out and out + count + b' improperly formatted\n', 'status': 1,
             'err': b''.join(b'L:%d: Error: Line too long.\n' % line for line in lines)}
 
 
 def long_lines():
-    """Lists with lines about as long as one that is checked. At a longer one the originals end, ours goes on behind it."""
+    """Lists with lines about as long as the maximum. At a longer one the originals end; ours continues after it."""
     inside = b'x' * 70000 + b'\r' + X64 + b'  a\0' + X64 + b'  a'
     return [
         of_list('a line of 32766 bytes', line_of(32766) + GOOD),
-        # Of a line that ends with a line feed the originals take one byte less.
+        # The limit of the originals for a line that ends with a newline is one byte less.
         of_list('a line of 32767 bytes', GOOD + line_of(32767) + GOOD, wanted={
             'out': GOOD_OUT + not_opened(32749) + GOOD_OUT + b'1 listed file could not be read\n', 'err': b'', 'status': 1}),
         of_list('a line of 32768 bytes', GOOD + line_of(32768) + GOOD, wanted=over_long(2)),
@@ -389,7 +389,7 @@ def long_lines():
 
 
 def tagged_lines():
-    """Lines of a list as --tag prints them, and near them."""
+    """Lines of a list in the form of --tag, and similar ones."""
     tags = ((b'XXH32', X32), (b'XXH64', X64), (b'XXH128', X128), (b'XXH3', X3))
     turned = ((b'XXH32_LE', X32_LE), (b'XXH64_LE', X64_LE), (b'XXH128_LE', X128_LE), (b'XXH3_LE', X3_LE))
 
@@ -422,7 +422,7 @@ def tagged_lines():
 
 
 def missing_files():
-    """--ignore-missing, which 0.8.1 doesn't know. Of 0.8.3 a file that can't be opened is missing, whatever the reason."""
+    """--ignore-missing, which 0.8.1 lacks. For 0.8.3 a file that can't be opened is missing, whatever the reason."""
     gone, missing = X64 + b'  gone\n', ('-c', '--ignore-missing')
     unopened = b"L:1: Could not open or read 'a/b': Not a directory.\n"
     return [
@@ -463,7 +463,7 @@ def missing_files():
 
 
 def lines_with_nuls():
-    """-z, which neither original has: each line as `sha256sum -z` has its own."""
+    """-z, which neither original has: each line as by `sha256sum -z`."""
     odd = ('back\\slash', 'line\nfeed', 'return\r')
 
     def beside(name, option, bare, form):
@@ -529,7 +529,7 @@ def several_lists():
 
 
 def ends():
-    """A full disk and closed ends. The original tells nobody that its output is lost; ours has to."""
+    """A full disk and closed streams. The original doesn't report that its output is lost; ours must."""
     return [
         Case('a full disk', shell='"$X" a >/dev/full', wanted=refused()),
         Case('a full disk, many lines', ('a',) * 3, shell='"$X" a a a >/dev/full', wanted=refused()),
@@ -625,10 +625,10 @@ def trees():
 
 
 def folders():
-    """The files below folders, which neither original reads."""
+    """The files below directories, which neither original reads."""
     tree = ('mkdir -p t/b/deep t/b.x t/none; cp a t/a; cp e t/B; cp a t/b/z; cp e t/b/deep/q; cp a t/b.x/c; ln -s ../a t/b/file; '
             'ln -s ../../d t/b/folder; ln -s .. t/b/up; mkfifo t/pipe; ')
-    # A root of the tests reads all folders, unless it has given that up.
+    # Root in the tests can read all directories, unless it drops that capability.
     bound = '[ "$(id -u)" = 0 ] && run="setpriv --bounding-set=-dac_override,-dac_read_search"; chmod 0 t/b; '
     rows = [(EMPTY, b'B'), (X64, b'a'), (EMPTY, b'b/deep/q'), (X64, b'b/z'), (X64, b'b.x/c')]
     found = b''.join(digits + b'  t/' + name + b'\n' for digits, name in rows)
@@ -679,8 +679,8 @@ def folders():
 
 
 def told_names():
-    """Names that would end a line, where something else than a digest is told of them: one line, as lists have names. The
-    originals print them as they are, so that whoever writes a list or names a file can forge a line."""
+    """Names that would end a line, in messages other than digests: one line, as in lists. The originals print them
+    unchanged, so that the author of a list or of a file's name can forge a line."""
     odd = b'gone\na: OK'
     escaped = b'\\' + X64 + b'  gone\\na: OK\n'
     missing = b'No such file or directory'
@@ -722,8 +722,8 @@ def told_names():
 CASES = (names() + kinds() + lines() + options() + input_alone() + program_names() + verdicts() + plain_lines() + long_lines()
          + tagged_lines() + missing_files() + lines_with_nuls() + several_lists() + ends() + trees() + folders() + told_names())
 
-# The cases in which one of the originals does something else than ours, for the reasons that docs/XXHSUM.md gives: 0.8.1
-# knows no escapes, comments and XXH3 without a tag, and has fewer options.
+# The cases in which one of the originals differs from ours, for the reasons in docs/XXHSUM.md: 0.8.1 has no escapes,
+# comments and XXH3 without a tag, and has fewer options.
 OLDER_DIFFERS = {
     'a backslash in a name', 'a line feed in a name', 'a carriage return in a name', '-H3', 'every length, -H3',
     'little endian, -H3', 'tagged lines of odd names', 'XXH3 of odd names', 'input, XXH3', 'called xxh3sum', 'a comment',

@@ -1,5 +1,5 @@
-"""The options of `xxhsum`, by its help, its page, its manual page and the cases: the manual page and the cases have those of
-the help, the page some of them."""
+"""The options of `xxhsum` in its help, its page, its manual page and the cases: the manual page and the cases have those
+of the help, the page some of them."""
 import os
 import re
 import subprocess
@@ -7,19 +7,19 @@ import subprocess
 from xxhsum_cases import CASES
 
 DOCS = os.path.join(os.path.dirname(os.path.dirname(os.path.abspath(__file__))), 'docs')
-# What the pages have beside the options: standard input, and the end of the options.
+# What the pages have besides the options: standard input, and the end of the options.
 MARKS = {'-', '--'}
 
 
 def section(path, begins, ends):
-    """A section of a page, from the line that begins it to the next one that begins so."""
+    """A section of a page, from the line that begins it to the next one with the same beginning."""
     with open(os.path.join(DOCS, path), encoding='utf-8') as file:
         text = file.read()
     return text.split(begins, 1)[1].split(ends, 1)[0]
 
 
 def of_help(program):
-    """The words that begin lines of the help, the algorithm's without its number."""
+    """The first words of the lines of the help, the algorithm's without its number."""
     text = subprocess.run([program, '--help'], stderr=subprocess.PIPE, text=True, check=True).stderr
     return {word for line in text.splitlines() if line.startswith('  -')
             for word in re.findall(r'(?:^|, )(--?[\w-]+)', line[2:].split('  ')[0].replace('#', ''))}
@@ -38,13 +38,13 @@ def of_manual():
 
 
 def of_cases():
-    """What stands as a word of some case, of letters each."""
+    """The options of the cases' arguments, letter by letter."""
     words = {word for case in CASES for word in case.words if isinstance(word, str) and word.startswith('-')}
     return words | {f'-{letter}' for word in words if re.fullmatch(r'-\w+', word) for letter in word[1:]}
 
 
 def differences(of_program):
-    """Where the options aren't those of the program, and what differs."""
+    """The places whose options differ from the program's, and the differences."""
     of_the_page = of_page()
     for place, found in (('docs/XXHSUM.md', of_the_page and of_the_page | of_program), ('docs/xxhsum.1', of_manual()),
                          ('the cases', of_cases() & of_program)):
@@ -53,7 +53,7 @@ def differences(of_program):
 
 
 def over_pages(program, report):
-    """Compares the three with the help, and with a help that has one option more, which each has to notice."""
+    """Compares the three with the help, and with a help that has one option more, which each must detect."""
     asked = of_help(program)
     wrong = dict(differences(asked))
     for place, words in wrong.items():

@@ -1,14 +1,14 @@
-"""What `xxhsum` writes into pipes: rows of checks/xxhsum.
+"""The writes of `xxhsum` into pipes: tests of checks/xxhsum.
 
-A row is its name, and what is wrong, or nothing. A pipe in packet mode keeps writes apart: each read of it gives one
-write, of at most 4,096 bytes."""
+A test is its name, and its error, or nothing. A pipe in packet mode keeps writes separate: each read of it returns
+one write, of at most 4,096 bytes."""
 import concurrent.futures
 import os
 import subprocess
 import tempfile
 
 SECONDS = 60
-# The most bytes that a write has, if it has more than one line.
+# Maximum length of a write of more than one line.
 MOST = 4096
 FILES = 400
 PROCESSES = 8
@@ -29,7 +29,7 @@ def writes_of(programs, folder):
 
 
 def names_in(folder, count, lengths=(1, 40, 90)):
-    """Makes so many files, whose names have lengths that go round."""
+    """Creates this many files, whose names have these lengths in turn."""
     names = [f'{number:04}-' + 'n' * lengths[number % len(lengths)] for number in range(count)]
     for name in names:
         with open(os.path.join(folder, name), 'w', encoding='ascii') as file:
@@ -38,7 +38,7 @@ def names_in(folder, count, lengths=(1, 40, 90)):
 
 
 def fewest(lines):
-    """How many writes these lines take, where each has as many whole lines as 4,096 bytes hold."""
+    """The number of writes for these lines, if each has as many whole lines as 4,096 bytes hold."""
     count, free = 0, 0
     for line in lines:
         if free < len(line):
@@ -62,7 +62,7 @@ def whole_lines(program, folder):
 
 
 def nul_lines(program, folder):
-    """The same of lines that NULs end, whose names have line feeds."""
+    """The same for lines that end with NULs, whose names have newlines."""
     names = [f'{number:04}\n' + 'n' * 60 for number in range(FILES)]
     for name in names:
         with open(os.path.join(folder, name), 'w', encoding='ascii') as file:
@@ -73,7 +73,7 @@ def nul_lines(program, folder):
 
 
 def checked_lines(program, folder):
-    """The same of a list that is checked, with its counts."""
+    """The same for a list that is checked, with its counts."""
     names = names_in(folder, FILES)
     done = subprocess.run([program, *names], capture_output=True, cwd=folder, env=SETTINGS, check=True)
     with open(os.path.join(folder, 'list'), 'wb') as file:
@@ -83,7 +83,7 @@ def checked_lines(program, folder):
 
 
 def before_messages(program, folder):
-    """What was printed stands before a message that is written after it."""
+    """Output comes before a message that is written after it."""
     names = names_in(folder, 3)
     words = [program, names[0], 'gone', names[1], '.', names[2]]
     parts, (status,) = writes_of([words], folder)
@@ -93,7 +93,7 @@ def before_messages(program, folder):
 
 
 def before_messages_of_lists(program, folder):
-    """The same of messages about lines of a list, and about a list that can't be opened."""
+    """The same for messages about lines of a list, and about a list that can't be opened."""
     name, = names_in(folder, 1)
     line = subprocess.run([program, name], capture_output=True, cwd=folder, env=SETTINGS, check=True).stdout
     with open(os.path.join(folder, 'list'), 'wb') as file:
@@ -106,7 +106,7 @@ def before_messages_of_lists(program, folder):
 
 
 def before_messages_of_empty_lists(program, folder):
-    """The same of the message that a list has no well-formed line."""
+    """The same for the message that a list has no well-formed line."""
     name, = names_in(folder, 1)
     line = subprocess.run([program, name], capture_output=True, cwd=folder, env=SETTINGS, check=True).stdout
     for listed, text in (('list', line), ('none', b'junk\n')):
@@ -132,7 +132,7 @@ def runs_into_one_pipe(program, folder):
 
 
 def long_line(program, folder):
-    """A line longer than that is one write, but for what a pipe's packets hold."""
+    """A line longer than that is one write, except for the limit of a pipe's packets."""
     with open(os.path.join(folder, 'list'), 'wb') as file:
         file.write(b'26c7827d889f6da3  ' + b'x' * 9000 + b'\n')
     parts, _status = writes_of([[program, '-c', 'list']], folder)
@@ -157,13 +157,13 @@ def fault_of(program, row):
 
 
 def rows_on_pipes(program, names=tuple(ROWS)):
-    """The rows, each with what is wrong."""
+    """The tests, each with its error."""
     with concurrent.futures.ThreadPoolExecutor(2) as pool:
         faults = pool.map(lambda name: fault_of(program, ROWS[name]), names)
         yield from zip(names, faults)
 
 
-# Programs that write as they should not, and the rows that have to notice it.
+# Programs that write incorrectly, and the tests that must detect it.
 PLANTED_ON_PIPES = {
     'lines that are cut anywhere': ('"$REAL" "$@" | dd bs=1000 2>/dev/null', ('whole lines', 'several runs into one pipe')),
     'a write for each line': ('"$REAL" "$@" | while IFS= read -r line; do printf "%s\\n" "$line"; done', ('whole lines',)),

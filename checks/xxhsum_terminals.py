@@ -1,8 +1,8 @@
-"""What `xxhsum` does where its streams are terminals: rows of checks/xxhsum.
+"""`xxhsum` with streams that are terminals: tests of checks/xxhsum.
 
-Each row runs the program with some of its streams on pseudo-terminals, which are read to their end, after the program is
-gone. Its clock is that of checks/known_clock.c, so progress is compared byte by byte. A row is its name, and what is wrong,
-or nothing."""
+Each test runs the program with some of its streams on pseudo-terminals, which are read to their end after the
+program has ended. Its clock is that of checks/known_clock.c, so progress is compared byte by byte. A test is its
+name, and its error, or nothing."""
 import concurrent.futures
 import contextlib
 import itertools
@@ -16,18 +16,18 @@ import time
 
 from tools import must
 
-# What ends a program that hangs. Beside much other work a long file takes a minute.
+# The time after which a program that hangs is killed. On a busy machine a long file takes a minute.
 SECONDS = 300
 KIB, MIB = 1 << 10, 1 << 20
 STEP = 64 * MIB
 LONG = 130 * MIB
-# Files with no bytes on the disk: one so long that the rest lasts for many seconds, and one of more than a tebibyte.
+# Files with no bytes on the disk: one so long that the rest takes many seconds, and one of more than a tebibyte.
 VAST = 1 << 38
 TEBIBYTE_AND_MORE = (1 << 40) + (1 << 36)
-# The rate of the known clock in KiB a second, and that of one that fails, which counts as a millisecond.
+# The rate of the known clock in KiB per second, and that of one that fails, which counts as a millisecond.
 RATE, RATE_OF_NO_TIME = 128000, STEP // KIB * 1000
 HERE = os.path.dirname(os.path.abspath(__file__))
-# The line of progress from which on the time that the program takes to start is little beside it.
+# The line of progress from which on the program's start time is negligible.
 SETTLED = 2048
 WIDTHS = (80, 40, 20, 10)
 # A cleared row, no wrapping from here on, and wrapping again.
@@ -36,13 +36,13 @@ SETTINGS = {**os.environ, 'LC_ALL': 'C', 'TERM': 'xterm'}
 
 
 def line_of_progress(count, size, rate=RATE):
-    """What a terminal is sent after so many bytes: of a file of this size, or of one whose size is not known."""
+    """The output to a terminal after this many bytes: for a file of this size, or for one of unknown size."""
     left = b', %d s left' % ((size - count) // KIB // rate) if size else b''
     return EMPTY_ROW + ONE_ROW + b'%d MiB, %d MiB/s' % (count // MIB, rate // KIB) + left + ROW_END
 
 
 def progress_of(length, is_known):
-    """What a terminal is sent of a file of this length, or of an input."""
+    """The output to a terminal for a file of this length, or for an input."""
     lines = [line_of_progress(count, length if is_known else 0) for count in range(STEP, length + 1, STEP)]
     return b''.join([*lines, EMPTY_ROW]) if lines else b''
 
@@ -51,14 +51,14 @@ OF_INPUT, OF_FILE, NOTHING = progress_of(LONG, False), progress_of(LONG, True), 
 
 
 def known_clock(folder):
-    """The clock, compiled, as what is to be loaded before a program."""
+    """The clock, compiled as a library to preload."""
     library = os.path.join(folder, 'clock.so')
     must(['gcc', '-O1', '-shared', '-fPIC', '-o', library, os.path.join(HERE, 'known_clock.c'), '-ldl'])
     return {**SETTINGS, 'LD_PRELOAD': library}
 
 
 def read_to_end(stream):
-    """All that comes from a pipe or a terminal, up to its end, which is an error where no process has the terminal open."""
+    """Everything from a pipe or a terminal, up to its end, which is an error if no process has the terminal open."""
     parts = []
     with contextlib.suppress(OSError):
         while part := os.read(stream, 65536):
@@ -67,7 +67,7 @@ def read_to_end(stream):
 
 
 class Ends:
-    """The two ends of a stream of the program: its own, and ours, which is read to its end while it runs."""
+    """The two sides of a stream of the program: its own, and ours, which is read to its end while it runs."""
 
     def __init__(self, is_terminal):
         self.ours, self.theirs = pty.openpty() if is_terminal else os.pipe()
@@ -75,7 +75,7 @@ class Ends:
         self.all = self.reader.submit(read_to_end, self.ours)
 
     def close(self):
-        """What the program wrote, once it is gone."""
+        """The output of the program, after it has ended."""
         os.close(self.theirs)
         text = self.all.result()
         self.reader.shutdown()
@@ -84,8 +84,8 @@ class Ends:
 
 
 def run(program, words, terminals=('err',), given=os.devnull, settings=SETTINGS):
-    """What the program writes to its output and its errors, and its status, with these streams on terminals. Its input is
-    this file, or a terminal at which nobody types."""
+    """The output and errors of the program, and its status, with these streams on terminals. Its input is this file,
+    or a terminal without input."""
     ends = {name: Ends(name in terminals) for name in ('out', 'err')}
     keyboard = pty.openpty() if 'in' in terminals else (os.open(given, os.O_RDONLY),)
     try:
@@ -102,7 +102,7 @@ def run(program, words, terminals=('err',), given=os.devnull, settings=SETTINGS)
 # ---- progress
 
 class Rows:
-    """A terminal of so many columns: the rows that it shows, as far as it is told to by what `xxhsum` sends."""
+    """A terminal of this many columns: the rows that it shows, as far as the output of `xxhsum` controls them."""
 
     def __init__(self, columns):
         self.columns, self.rows, self.column, self.wraps = columns, [[]], 0, True
@@ -130,7 +130,7 @@ class Rows:
 
 
 def rows_left(sent, columns):
-    """What is wrong on a terminal of so many columns that was sent this: more rows than one, or something left there."""
+    """The error on a terminal of this many columns after this output: more rows than one, or something left there."""
     terminal = Rows(columns)
     terminal.show(sent)
     rows = [''.join(row).rstrip() for row in terminal.rows]
@@ -138,8 +138,8 @@ def rows_left(sent, columns):
 
 
 def shows(program, words, wanted, given, settings):
-    """What is wrong with the progress of a run whose errors are a terminal: with what is sent, with what is left on a
-    terminal of any width, or with the output and the status beside those of a run without."""
+    """The error in the progress of a run whose standard error is a terminal: in the output, in what is left on a
+    terminal of any width, or in the output and the status compared with those of a run without."""
     out, sent, status = run(program, words, given=given, settings=settings)
     silent = run(program, words, terminals=(), given=given)
     if sent != wanted:
@@ -150,7 +150,7 @@ def shows(program, words, wanted, given, settings):
 
 
 def shown_until(program, words, is_enough, settings):
-    """What a terminal is sent by a run, which is ended as soon as that is enough."""
+    """The output of a run to a terminal; the run is ended as soon as that is enough."""
     ours, theirs = pty.openpty()
     sent = b''
     process = subprocess.Popen([program, *words], stdin=subprocess.DEVNULL, stdout=subprocess.DEVNULL, stderr=theirs,
@@ -175,7 +175,7 @@ def settled_line(sent):
 
 
 def begins_with(program, size, lines, settings):
-    """What is wrong with the first lines of progress of a file of this size."""
+    """The error in the first lines of progress of a file of this size."""
     wanted = b''.join(lines)
     with tempfile.NamedTemporaryFile() as file:
         file.truncate(size)
@@ -184,7 +184,7 @@ def begins_with(program, size, lines, settings):
 
 
 def shows_of(program, size, wanted, settings):
-    """What is wrong with the progress of a file of this size, which is read to its end."""
+    """The error in the progress of a file of this size, which is read to its end."""
     with tempfile.NamedTemporaryFile() as file:
         file.truncate(size)
         _, sent, _ = run(program, ['-H3', file.name], settings=settings)
@@ -192,7 +192,7 @@ def shows_of(program, size, wanted, settings):
 
 
 def keeps_time(program):
-    """What is wrong with the rate of a long file and with the time left: beside our clock, and beside its size."""
+    """The error in the rate of a long file and in the time left: compared with our clock, and with its size."""
     began = time.monotonic()
     with tempfile.NamedTemporaryFile() as file:
         file.truncate(VAST)
@@ -212,8 +212,8 @@ def keeps_time(program):
 # ---- which of the streams are terminals
 
 def does(program, words, terminals, given, wanted, settings=SETTINGS):
-    """What is wrong with the output, the errors and the status of a run with these streams on terminals. Of errors that
-    tell how the program is used the first line is compared."""
+    """The error in the output, the errors and the status of a run with these streams on terminals. For a usage error
+    the first line is compared."""
     out, err, status = run(program, words, terminals, given, settings)
     if err.startswith(b'Wrong parameters'):
         err = err.split(b'\n')[0] + b'\n'
@@ -223,20 +223,21 @@ def does(program, words, terminals, given, wanted, settings=SETTINGS):
 
 # ---- control characters
 
-# Names that paint on a terminal: by an escape sequence, a control character of two bytes, and DEL; and one that does not.
+# Names that control a terminal: by an escape sequence, a control character of two bytes, and DEL; and one that does
+# not.
 PAINTING = (b'esc\x1b[2K\x07', b'\xc3\xa9\x1b[1A', b'c1\xc2\x9b2K', b'del\x7f', b'plain \xc3\x80')
 
 
 def visible(name):
-    """A name as a terminal is sent it."""
+    """A name as it is sent to a terminal."""
     if not re.search(rb'[\x00-\x1f\x7f]|\xc2[\x80-\x9f]', name):
         return name
     return re.sub(rb'[^\x20-\x7e]', lambda byte: b'\\x%02x' % byte[0][0], name)
 
 
 def painting_rows(program, room):
-    """Messages on errors, checks and audits on the output, with names that paint: shown on a terminal, and as they are
-    elsewhere."""
+    """Messages on standard error, checks and audits on standard output, with names that control a terminal: made
+    visible on a terminal, and unchanged elsewhere."""
     names = [os.fsencode(room) + b'/' + name for name in PAINTING]
     gone = [name + b'-gone' for name in names]
     for name in names:
@@ -259,7 +260,7 @@ def painting_rows(program, room):
 
 
 def combinations_over(program, long, settings):
-    """Progress on each combination of terminals: on errors alone, and with the same output as without any."""
+    """Progress on each combination of terminals: only on standard error, and with the same output as without any."""
     out, _, status = run(program, ['-H3', long], ())
     for chosen in itertools.product((False, True), repeat=3):
         terminals = tuple(itertools.compress(('in', 'out', 'err'), chosen))
@@ -269,8 +270,8 @@ def combinations_over(program, long, settings):
 
 
 def rows_over(program, short, long, lists, settings):
-    """Each row by its name: what to do, and with what. The files have `hello`, and LONG bytes; of the lists one names the
-    long file, and one says a digest of it that is not its own."""
+    """Each test by its name: its function and arguments. The files have `hello`, and LONG bytes; one of the lists
+    names the long file, and one has a wrong digest for it."""
     (names, digests), folder = lists, os.path.dirname(long)
     failing, tebibyte = {**settings, 'CLOCK_FAILS': '1'}, TEBIBYTE_AND_MORE
     first = [line_of_progress(count, tebibyte) for count in (STEP, 2 * STEP, 3 * STEP)]
@@ -308,7 +309,7 @@ def rows_over(program, short, long, lists, settings):
 
 
 def rows_on_terminals(program, names=None):
-    """The rows, or those of these names: each by its name, with what is wrong, or nothing."""
+    """The tests, or those of these names: each by its name, with its error, or nothing."""
     with tempfile.TemporaryDirectory() as room:
         os.mkdir(os.path.join(room, 'folder'))
         long = os.path.join(room, 'folder', 'long')
@@ -324,7 +325,7 @@ def rows_on_terminals(program, names=None):
                 yield name, check(*given, settings) if check is shows else check(*given)
 
 
-# Programs that do one thing wrong with the real one, and the rows that have to notice it.
+# Programs that do one thing wrong with the real one, and the tests that must detect it.
 PLANTED_ON_TERMINALS = {
     'a line that nobody wants': ('echo seen >&2; exec "$REAL" "$@"', {
         'no progress under -q', 'no progress of a file under -q', 'no progress under --status',

@@ -1,9 +1,10 @@
-"""Changes of one token of the definitions, and whether a row notices them."""
+"""Changes of one token of the definitions, and whether a test case detects them."""
 import os
 import sys
 
 import antt
 import table
+from reasons import Reasons
 
 OTHERS = {word: [other for other in "+ - * / %".split() if other != word] for word in "+ - * / %".split()}
 OTHERS["^"] = ["*"]
@@ -94,7 +95,7 @@ def changes_of(program, reached, definition):
 
 
 def others(program, reached, definition, scope, local, word):
-    """The words that may stand in a word's place: of numbers the next and the one before, of operators other ones,
+    """The words that may replace a word: of numbers the next and the one before, of operators other ones,
     of names those of the same type."""
     if word in OTHERS:
         return OTHERS[word]
@@ -132,13 +133,12 @@ def rows_by_definition(program, rows):
 
 
 def reasons():
-    """The changes that change no value, by words of their texts, each with its reason."""
-    with open(os.path.join(table.FOLDER, "equal_changes.txt"), encoding="utf-8") as file:
-        return dict(line.strip().split(" | ") for line in file if line.strip() and not line.startswith("#"))
+    """The changes that change no value."""
+    return Reasons(os.path.join(table.FOLDER, "equal_changes.txt"))
 
 
 def outcome(program, rows, change):
-    """"noticed", "unnoticed" or "unreadable" of a change."""
+    """Returns `"noticed"`, `"unnoticed"` or `"unreadable"` for a change."""
     definition = program.definitions.modules[change.path].definitions[change.name]
     sides = [[word for word, _ in right] for _, right in definition.clauses]
     sides[change.clause][change.place] = change.word

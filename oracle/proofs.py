@@ -29,7 +29,7 @@ def unfolded(program, row):
 
 
 def imports(definitions):
-    """A line for each module that the definitions stand in."""
+    """A line for each module of the definitions."""
     modules = {}
     for d in definitions:
         modules.setdefault(d.module.path, []).append(d.name)

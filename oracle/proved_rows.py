@@ -14,7 +14,7 @@ FIXED = ["0", "1", "ffffffff", "8000000000000000", "ffffffffffffffff"]
 
 
 # The length that enters a value, of lengths that no input of the table has: the rule of this repository, and no
-# answer of the reference library.
+# value of the reference library.
 COUNTED = [(2 ** 64 + d, 2 ** 64 + min(d, -1)) for d in (-2, -1, 0, 1)] + [(2 ** 65, 2 ** 64 - 1)]
 
 

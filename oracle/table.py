@@ -10,7 +10,7 @@ HASHES = {"32": "xxh32", "64": "xxh64", "3-64": "xxh3_64", "3-128": "xxh3_128"}
 
 
 def drawn(start, length):
-    """The bytes that a row stands for: oracle/vectors.c says which."""
+    """The bytes that a row represents: oracle/vectors.c says which."""
     out, x = bytearray(), start
     for _ in range(length):
         x = (x * 6364136223846793005 + 1442695040888963407) % 2 ** 64
@@ -19,7 +19,7 @@ def drawn(start, length):
 
 
 class Row:
-    """A request and the reference library's answer. `seed` and `secret` are None where the row has none."""
+    """A request and the reference library's value. `seed` and `secret` are None where the row has none."""
 
     def __init__(self, line):
         self.line = line.strip()

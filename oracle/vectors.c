@@ -1,4 +1,4 @@
-/* Writes requests to the reference library and its answers, one a line: the oracle of this repository.
+/* Writes requests to the reference library and its values, one per line: the oracle of this repository.
  *
  *     HASH SEED SECRET LENGTH START ANSWER
  *
@@ -77,7 +77,7 @@ static void seeded_at_random(enum hash hash, size_t length)
     seeded(hash, hash == H32 ? seed & 0xFFFFFFFFu : seed, length, start);
 }
 
-/* A request with a secret: alone, or with a seed. */
+/* A request with only a secret, or with a seed too. */
 static void keyed(enum hash hash, int has_seed, uint64_t seed, size_t secret_length, uint64_t secret_start, size_t length, uint64_t start)
 {
     fill(input, length, start);
@@ -153,7 +153,7 @@ static void all_keyed(enum hash hash)
 }
 
 /* Under secrets of these lengths the inputs of every length to 1,100: up to 240 bytes, where a secret has an
- * effect by itself alone, with no seed, and above with one. */
+ * effect only by itself, with no seed, and above with one. */
 static void every_length(enum hash hash)
 {
     const size_t lengths[] = { 136, 137, 143, 144, 192, 300 };

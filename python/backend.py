@@ -1,8 +1,8 @@
-"""The build of the package, as pip and build ask for it (PEP 517): it takes Python with its headers and a C compiler, so
+"""The build of the package, as pip and build call it (PEP 517). It needs Python with its headers and a C compiler, so
 `pip install .` works without a network.
 
-The proved code is assembly text. In the repository that is c/asm; a source package has copies in its folder proved/.
-CC, CFLAGS and LDFLAGS of the environment are heeded. What CC compiles for is what the wheel is for."""
+The proved code is assembly source. In the repository that is c/asm; a source package has copies in its folder
+proved/. CC, CFLAGS and LDFLAGS of the environment are used. The wheel is for the machine that CC compiles for."""
 import ast
 import base64
 import csv
@@ -20,25 +20,25 @@ import zipfile
 
 HERE = os.path.dirname(os.path.abspath(__file__))
 C = os.path.join(os.path.dirname(HERE), 'c')
-# The instruction sets of each machine, and what is put before a set's names.
+# The instruction sets of each machine, and the prefix of an instruction set's names.
 SETS = {'x86_64': {f'x86-64-v{k}': f'v{k}_' for k in (2, 3, 4)}, 'aarch64': {'aarch64': 'arm_'}}
 PROVED = [*(f'asm/{name}.s' for sets in SETS.values() for name in sets), 'asm/state_sizes.h', 'include/xxhash.h']
 FLAGS = ['-std=c11', '-O2', '-g0', '-fPIC', '-fvisibility=hidden', '-Wall', '-Wextra', '-Wno-cast-function-type',
          '-Wno-missing-field-initializers']
-# The interface of this Python, as tags of wheels name it: cp311, or cp311d of a debug build. And the limited one, by which a
-# file that this Python makes serves each CPython from 3.11 on, more slowly in calls.
+# The interface of this Python, as in tags of wheels: cp311, or cp311d of a debug build. And the limited one: a file
+# built with it serves each CPython from 3.11 on, with slower calls.
 ABI = 'cp' + sysconfig.get_config_var('SOABI').split('-')[1]
 LIMITED, LIMITED_FLAG = 'abi3', '-DPy_LIMITED_API=0x030B0000'
-# A debug build of Python tests in its own macros too.
+# A debug build of Python also tests in its own macros.
 ASSERTIONS = [] if sysconfig.get_config_var('Py_DEBUG') else ['-DNDEBUG']
-# No name or number of the build's own stays in the file, so that one source makes one file.
+# No name or number of the build is in the file, so that one source gives one file.
 LINKS = ['-s', '-Wl,--build-id=none', '-Wl,-z,noexecstack']
 
 
 
 def project():
-    """The table [project] of pyproject.toml, whose values Python writes alike, but for inline tables: Python has tomllib
-    from 3.11 on, and a build takes no other package."""
+    """The table [project] of pyproject.toml, whose values have the same syntax in Python, except inline tables:
+    Python has tomllib from 3.11 on, and a build uses no other package."""
     with open(os.path.join(HERE, 'pyproject.toml'), encoding='utf-8') as file:
         table = file.read().partition('[project]\n')[2].partition('\n[')[0]
     rows = re.findall(r'^([\w-]+) = (\[\n.*?^\]|.*?)$', table, re.M | re.S)
@@ -55,7 +55,7 @@ def read(*path):
 
 
 def proved(path):
-    """Where a file of the proved library is: in a source package, or else in the repository."""
+    """The path of a file of the proved library: in a source package, or otherwise in the repository."""
     packed = os.path.join(HERE, 'proved', os.path.basename(path))
     return packed if os.path.exists(packed) else os.path.join(C, path)
 
@@ -63,9 +63,9 @@ def proved(path):
 # ---- the extension ----
 
 def renamed(text, prefix):
-    """The text with a prefix before each name that the linker sees, so that two sets have their place in one file, and
-    with these names hidden, so that no library in the process meets them. The names that c/guards.c guards lose their
-    mark: the extension hands over no null."""
+    """The source with a prefix before each name that the linker sees, so that two instruction sets fit into one
+    file, and with these names hidden, so that no library in the process sees them. The names that c/guards.c guards
+    lose their mark: the extension passes no null."""
     names = {name: prefix + name.removeprefix('proved_') for name in re.findall(r'^\s*\.globl (\S+)$', text, re.M)}
     text = re.sub(r'(?<![\w.$])[A-Za-z_]\w*(?![\w.$])', lambda word: names.get(word[0], word[0]), text)
     return re.sub(r'^(\s*)\.globl (\S+)$', r'\1.globl \2\n\1.hidden \2', text, flags=re.M)
@@ -76,21 +76,21 @@ def compiler():
 
 
 def machine():
-    """What the compiler compiles for, as Linux names it."""
+    """The machine that the compiler compiles for, by Linux's name."""
     try:
         done = subprocess.run([*compiler(), '-dumpmachine'], stdout=subprocess.PIPE, text=True, check=True)
     except (OSError, subprocess.CalledProcessError) as fault:
-        raise SystemExit(f'twox-hash: a C compiler is needed, as of Debian\'s package gcc: {fault}')
+        raise SystemExit(f'twox-hash: a C compiler is needed, for example Debian\'s package gcc: {fault}')
     name, system = done.stdout.strip().partition('-')[::2]
-    # Android keeps the register x18 for itself, and gnux32 has pointers of 32 bits.
+    # Android reserves the register x18, and gnux32 has pointers of 32 bits.
     if name not in SETS or 'linux' not in system or 'android' in system or 'gnux32' in system:
-        raise SystemExit(f'twox-hash: there is no proved code for {done.stdout.strip()}: there is some for Linux on '
+        raise SystemExit(f'twox-hash: there is no proved code for {done.stdout.strip()}, only for Linux on '
                          f'{" and ".join(SETS)}')
     return name
 
 
 def texts(room, name):
-    """The machine's sets of proved calls, as files of assembly text."""
+    """The machine's instruction sets of the proved calls, as files of assembly source."""
     paths = []
     for instructions, prefix in SETS[name].items():
         paths.append(os.path.join(room, f'{instructions}.s'))
@@ -118,7 +118,7 @@ def compile_extension(path, abi=ABI):
                                *texts(room, name), *LINKS,
                                *shlex.split(os.environ.get('LDFLAGS', '')), '-o', path])
     if done.returncode:
-        raise SystemExit('twox-hash: the extension was not compiled')
+        raise SystemExit('twox-hash: cannot compile the extension')
     return name
 
 
@@ -140,7 +140,7 @@ def sources(folder, name):
 
 
 def documents():
-    """The licence, which in the repository lies above; and what the package was made of, where release/make says it."""
+    """The licence, which in the repository is in the parent folder; and PROVENANCE, if release/make passes it."""
     licence = next(path for path in (os.path.join(HERE, 'LICENSE'), os.path.join(HERE, '..', 'LICENSE'))
                    if os.path.exists(path))
     provenance = os.path.join(HERE, 'PROVENANCE')
@@ -148,7 +148,7 @@ def documents():
 
 
 def write_wheel(folder, name, files, abi=ABI):
-    """A wheel of the files by name, whose bytes depend on theirs alone. Returns its name."""
+    """Writes a wheel of the files by name, whose bytes depend only on theirs. Returns its name."""
     about = f'{STEM}.dist-info'
     tag = f'{"cp311" if abi == LIMITED else ABI.rstrip("dt")}-{abi}-linux_{name}'
     wheel = f'Wheel-Version: 1.0\nGenerator: twox-hash\nRoot-Is-Purelib: false\nTag: {tag}\n'
@@ -170,10 +170,10 @@ def write_wheel(folder, name, files, abi=ABI):
 
 
 def build_wheel(wheel_directory, config_settings=None, metadata_directory=None):
-    """With the setting `abi=abi3` by the limited interface."""
+    """Builds a wheel; with the setting `abi=abi3` by the limited interface."""
     abi = (config_settings or {}).get('abi', ABI)
     if abi not in (ABI, LIMITED):
-        raise SystemExit(f'twox-hash: the interface is {ABI} or {LIMITED}, not {abi}')
+        raise SystemExit(f'twox-hash: the abi must be {ABI} or {LIMITED}, not {abi}')
     with tempfile.TemporaryDirectory() as room:
         path = os.path.join(room, 'library.so')
         name = compile_extension(path, abi)
@@ -192,7 +192,7 @@ def build_sdist(sdist_directory, config_settings=None):
              **sources('native', 'native')}
     files |= {name: read(HERE, name) for name in ('README.md', 'backend.py', 'pyproject.toml')}
     files |= {f'proved/{os.path.basename(path)}': read(proved(path)) for path in PROVED}
-    # No time and no name of the build's own is in the file.
+    # No time and no name of the build is in the file.
     with open(os.path.join(sdist_directory, f'{STEM}.tar.gz'), 'wb') as out, gzip.GzipFile('', 'wb', 9, out, 0) as packed, \
             tarfile.open(fileobj=packed, mode='w', format=tarfile.PAX_FORMAT) as archive:
         for path, text in files.items():

@@ -5,7 +5,7 @@ import { NAMES, copy, copyOf, keyInWords, sizeInWords } from "./words.js";
 
 const OF_ANOTHER_KEY = "Hashed with another seed or secret. Hash again to use this one.";
 
-/** The element is made when it is first shown: of thousands of files most are not. */
+/** Creates the element when it is first shown: of thousands of files most are not. */
 export class Card {
   #item;
   #digests;
@@ -15,9 +15,9 @@ export class Card {
   #judged = "";
 
   /**
-   * `list` is asked to `start` and to `stop` a card, is told by `changed` what may matter to others, and says by
-   * `shownKinds(card)` which digests are shown and by `keyId` which seed and secret the fields hold. `name` is the file's
-   * path as far as the page knows it.
+   * A card of the list. `list` has callbacks: `start` and `stop` a card, and `changed` for changes that affect other
+   * cards; `shownKinds(card)` returns the digests to show, and `keyId` identifies the current seed and secret.
+   * `name` is the file's path as far as the page knows it.
    */
   constructor(list, name, blob) {
     this.list = list;
@@ -27,7 +27,7 @@ export class Card {
     this.#words = "Waiting";
   }
 
-  /** Keeps the blob and its size, since a browser may say 0 of a file that has vanished meanwhile. */
+  /** Keeps the blob and its size, since a browser may report 0 for a file that has vanished meanwhile. */
   hold(blob) {
     this.blob = blob;
     this.size = blob.size;
@@ -56,7 +56,7 @@ export class Card {
     return this.#item.querySelector(selector);
   }
 
-  /** What the card's button does now: it stops what runs or waits, and starts again what doesn't. */
+  /** The action of the card's button: stops what runs or waits, and restarts what doesn't. */
   act() {
     if (this.isBusy()) this.stop();
     else this.wait();
@@ -66,17 +66,17 @@ export class Card {
     return this.state === "waiting" || this.state === "running";
   }
 
-  /** Whether the fields hold another seed or secret than the one that it was started with. */
+  /** True if the fields have another seed or secret than at the start. */
   get isStale() {
     return this.#keyId !== this.list.keyId;
   }
 
-  /** The digests under the seed and secret that the fields hold, if there are any. */
+  /** Returns the digests under the seed and secret in the fields, if there are any. */
   get digests() {
     return this.state === "done" && !this.isStale ? this.#digests : undefined;
   }
 
-  /** The fields hold another seed or secret now. */
+  /** Called when the fields have another seed or secret. */
   keyChanged() {
     if (this.#item && this.state === "done") this.#draw();
   }
@@ -144,7 +144,7 @@ export class Card {
     this.#part(".more").hidden = !this.digests || !this.list.isCompact;
   }
 
-  /** Shows all digests, or the one of the list's choice, where the list is compact. */
+  /** Shows all digests, or only the selected one if the list is compact. */
   open(isOpen) {
     this.isOpen = isOpen;
     this.#part(".more").setAttribute("aria-expanded", String(isOpen));
@@ -166,7 +166,7 @@ export class Card {
     return row;
   }
 
-  /** The line that xxhsum prints of it; empty where there is no such digest. */
+  /** Returns the line that xxhsum prints for it; empty if there is no such digest. */
   line(kind) {
     return this.digests?.[kind] ? lineOf(kind, this.digests[kind], this.name) : "";
   }
@@ -183,7 +183,7 @@ export class Card {
     if (this.#item) this.#part(".state").textContent = this.state === "done" && this.isStale ? OF_ANOTHER_KEY : words;
   }
 
-  /** Shows how it compares: each verdict says whether it is the same, and in words what. */
+  /** Shows the result of the comparison: each verdict has a flag for equality and a text. */
   judge(verdicts) {
     const words = verdicts.map((verdict) => verdict.words).join("\n");
     if (words === this.#judged) return;

@@ -1,22 +1,22 @@
 // SPDX-License-Identifier: MIT
-/** Digests that are expected: the one in the field, and those of checksum files. */
+/** Expected digests: the one in the field, and those of checksum files. */
 import { readField } from "./key.js";
 import { readExpected, readList, sameKind } from "./lines.js";
 import { Rows } from "./rows.js";
 import { $, NAMES, copyOf, counted, inThousands } from "./words.js";
 
-/** The digest in the field, undefined where there is none. */
+/** Returns the digest in the field, or undefined if there is none. */
 function readExpectedField() {
   return readField("expected", () => ($("expected").value.trim() ? readExpected($("expected").value) : undefined)).value;
 }
 
-/** Whether one of these digests is the one in the field. */
+/** True if one of these digests is the one in the field. */
 export function isExpected(digests) {
   const wanted = readExpectedField();
   return wanted !== undefined && sameKind(wanted, digests) !== undefined;
 }
 
-/** Shows how the cards compare with the digest in the field, and gives each card's verdict. */
+/** Compares the cards with the digest in the field, and returns each card's verdict. */
 export function compareWithField(cards) {
   const wanted = readExpectedField();
   const done = wanted ? cards.filter((card) => card.digests) : [];
@@ -47,19 +47,19 @@ function verdictOf(wanted, card, where) {
   return kind ? { isSame: true, words: `Same${where}: ${NAMES[kind]}` } : { isSame: false, words: `Different${where || " from the expected digest"}${card.used}` };
 }
 
-/** What a row of a checksum file says, by its card's state. */
+/** The text of a row of a checksum file, by its card's state. */
 const WITHOUT_DIGEST = { failed: "can't be read", stopped: "stopped", waiting: "waiting", running: "waiting", done: "hash again" };
 
-/** Words of rows that say nothing of the file yet. */
+/** Texts of rows without a result. */
 const OPEN = ["waiting", "hash again"];
 
-/** The order in which the kinds of rows are counted. */
+/** The order in which the results of rows are counted. */
 const COUNTED = ["same", "different", "can't be read", "not here", "stopped", "hash again", "waiting"];
 
-/** From how many lines on those that aren't the same can be shown alone. */
+/** From this many lines on, those that aren't the same can be shown separately. */
 const FILTERED_FROM = 20;
 
-/** A line of a checksum file, with the word that says how it compares. */
+/** A line of a checksum file, with the result of its comparison. */
 class Line {
   #item;
   word = "";
@@ -117,7 +117,7 @@ export class Checklist {
     return this.item.querySelector(selector);
   }
 
-  /** Shows how each line compares, and gives the verdicts by their cards. */
+  /** Shows the result of each line, and returns the verdicts by their cards. */
   compare(cards) {
     const verdicts = new Map();
     const counts = {};
@@ -140,7 +140,7 @@ export class Checklist {
     this.rows.set(areOthersLeftOut ? this.lines.filter(({ word }) => word !== "same") : this.lines);
   }
 
-  /** Says which seed and secret its files were hashed with: the lines of the command have none. */
+  /** Shows the seed and secret that its files were hashed with: xxhsum's lines have none. */
   showKey(used) {
     const words = used && `Hashed ${used.slice(2)}. xxhsum has no seed and no secret: to verify its lines, empty both fields and hash again.`;
     if (this.part(".keyed").textContent !== words) this.part(".keyed").textContent = words;
@@ -158,7 +158,10 @@ export class Checklist {
   }
 }
 
-/** For each entry its card, or undefined. A path beside the checksum file comes first, then one that ends alike. */
+/**
+ * Returns the card of each entry, or undefined. A path relative to the checksum file has priority over one with the
+ * same end.
+ */
 function matched(entries, cards, listName) {
   const byPath = new Map(cards.map((card) => [plain(card.name), card]));
   const folder = plain(listName).replace(/[^/]*$/, "");
@@ -166,7 +169,7 @@ function matched(entries, cards, listName) {
   const taken = new Set(found);
   const byLast = grouped(cards.filter((card) => !taken.has(card)), ({ name }) => lastOf(name));
   const left = grouped(entries.filter((_, i) => !found[i]), ({ name }) => lastOf(name));
-  // Where two files or two lines of other paths have one name, none is guessed.
+  // If two files or two lines of different paths have the same name, none is chosen.
   const isClear = ([last, same]) => byLast.get(last)?.length === 1 && new Set(same.map(({ name }) => plain(name))).size === 1;
   const clear = new Map([...left].filter(isClear).map(([last]) => [last, byLast.get(last)[0]]));
   return found.map((card, i) => {
@@ -198,7 +201,7 @@ function lastOf(path) {
   return plain(path).split("/").at(-1);
 }
 
-/** The lines of the text, where it is a checksum file's; null where it is none, or no text at all. */
+/** Returns the lines of the text if it is a checksum file; null if it is none, or no text at all. */
 export async function readChecklist(blob) {
   try {
     return readList(new TextDecoder("utf-8", { fatal: true }).decode(await blob.arrayBuffer()));

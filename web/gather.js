@@ -1,19 +1,22 @@
 // SPDX-License-Identifier: MIT
-/** The files that a user chose or dropped, those in folders among them, as `{ path, file }` in the order of their paths. */
+/**
+ * Returns the files that a user chose or dropped, including those in folders, as `{ path, file }` in the order of their
+ * paths.
+ */
 
-/** Files of an input, whose folder they have in front of their name where a folder was chosen. */
+/** Files of an input. If a folder was chosen, their names begin with it. */
 export function filesOfInput(input) {
   return byPath([...input.files].map((file) => ({ path: file.webkitRelativePath || file.name, file })));
 }
 
-/** A browser gives those of a folder in any order. */
+/** A browser returns those of a folder in any order. */
 function byPath(found) {
   return found.sort((left, right) => (left.path < right.path ? -1 : 1));
 }
 
-/** Files of a drop. What can't be read has an `error` in place of a file, and what is none of both too. */
+/** Files of a drop. Unreadable items, and items that are neither file nor folder, have an `error` instead of a file. */
 export async function filesOfDrop({ items }) {
-  // What was dropped is gone after the event, so all entries are asked for before the first wait.
+  // The dropped items are gone after the event, so all entries are requested before the first await.
   const entries = [...items].filter(({ kind }) => kind === "file").map((item) => {
     const entry = item.webkitGetAsEntry?.();
     return entry?.isDirectory ? entry : item.getAsFile() ?? entry;
@@ -23,7 +26,7 @@ export async function filesOfDrop({ items }) {
 }
 
 function neither(path) {
-  return { path, error: new Error("It is neither a file nor a folder that this browser can read.") };
+  return { path, error: new Error("This is neither a file nor a folder that this browser can read.") };
 }
 
 async function filesIn(entry) {
@@ -37,7 +40,7 @@ async function filesIn(entry) {
   }
 }
 
-/** A reader gives some at a time, and none at the end. */
+/** A reader returns some at a time, and none at the end. */
 async function childrenOf(folder) {
   const reader = folder.createReader();
   const all = [];

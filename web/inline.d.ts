@@ -1,9 +1,9 @@
 // SPDX-License-Identifier: MIT
-/** Types of inline.js: those of twox_hash.js, and a `load` that has nothing to fetch. */
+/** Types of inline.js: those of twox_hash.js, and a `load` that fetches nothing. */
 export * from "./twox_hash.js";
 
 /**
- * Makes the calls ready.
+ * Loads the module.
  *
  * @throws {TwoxHashError} `unsupported`, `load`
  */

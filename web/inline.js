@@ -5,7 +5,7 @@ import { plain, vectors } from "./out/modules.js";
 
 export * from "./twox_hash.js";
 
-/** As `load` of twox_hash.js, with nothing to fetch. */
+/** The `load` of twox_hash.js without a fetch. */
 export function load() {
   return loadFrom((hasVectors) => bytesOf(hasVectors ? vectors : plain));
 }

@@ -3,24 +3,24 @@
 import { SECRET_MINIMUM_LENGTH } from "./twox_hash.js";
 import { $ } from "./words.js";
 
-/** The seed that is written, undefined where there is none; an error where it is no seed. */
+/** Returns the seed in the field, or undefined if there is none. Throws if it is no seed. */
 function readSeed() {
   const words = $("seed").value.trim();
   if (words === "") return undefined;
   if (!/^(0x[0-9a-f]+|[0-9]+)$/i.test(words) || BigInt(words) >= 2n ** 64n) {
-    throw new Error("This is no whole number from 0 to 18446744073709551615, nor one in hexadecimal after 0x.");
+    throw new Error("The seed must be an integer from 0 to 18446744073709551615, decimal or hexadecimal after 0x.");
   }
   return BigInt(words);
 }
 
-/** The secret that is written, undefined where there is none; an error where it is no secret. */
+/** Returns the secret in the field, or undefined if there is none. Throws if it is no secret. */
 function readSecret() {
   const words = $("secret").value;
   if (words === "") return undefined;
   const isHex = document.querySelector("[name=form]:checked").value === "hex";
   const bytes = isHex ? bytesOfHex(words) : new TextEncoder().encode(words);
   if (bytes.length < SECRET_MINIMUM_LENGTH) {
-    throw new Error(`This secret has ${bytes.length} bytes, and ${SECRET_MINIMUM_LENGTH} are needed.`);
+    throw new Error(`This secret has ${bytes.length} bytes. It needs at least ${SECRET_MINIMUM_LENGTH}.`);
   }
   return bytes;
 }
@@ -28,12 +28,12 @@ function readSecret() {
 function bytesOfHex(words) {
   const digits = words.replace(/[\s:]/g, "");
   const wrong = digits.match(/[^0-9a-f]/i);
-  if (wrong) throw new Error(`"${wrong[0]}" is no hexadecimal digit.`);
-  if (digits.length % 2) throw new Error(`These are ${digits.length} hexadecimal digits, and a byte has two.`);
+  if (wrong) throw new Error(`"${wrong[0]}" is not a hexadecimal digit.`);
+  if (digits.length % 2) throw new Error(`There are ${digits.length} hexadecimal digits. Each byte needs two.`);
   return Uint8Array.from(digits.match(/../g) ?? [], (pair) => parseInt(pair, 16));
 }
 
-/** What a field says, with its error shown: `error` is empty where there is none. */
+/** Returns the value of a field, and shows its error: `error` is empty if there is none. */
 export function readField(field, read) {
   let error = "";
   let value;
@@ -49,8 +49,8 @@ export function readField(field, read) {
 }
 
 /**
- * The seed and the secret. `wrong` names the fields that are wrong, and is empty where none is. `id` is one text for each
- * seed and secret, and undefined where a field is wrong.
+ * Returns the seed and the secret. `wrong` has the names of the invalid fields. `id` is one text for each seed and
+ * secret, and undefined if a field is invalid.
  */
 export function readKey() {
   const seed = readField("seed", readSeed);

@@ -1,34 +1,34 @@
 // SPDX-License-Identifier: MIT
-/** Lines as xxhsum writes and reads them, and digests as people paste them. Nothing here touches the page. */
+/** Lines as xxhsum writes and reads them, and digests as people paste them. Nothing here accesses the page. */
 
-/** The hashes that so many digits may be of. */
+/** The hashes with this number of digits. */
 const KINDS_BY_LENGTH = { 8: ["xxh32"], 16: ["xxh64", "xxh3_64"], 32: ["xxh3_128"] };
 
-/** Other hashes: what so many digits look like or may be, and names that people write before a digest. */
+/** Other hashes: those that this number of digits looks like or may be, and names that people write before a digest. */
 const OTHERS = { 40: "SHA-1", 56: "SHA-224", 64: "SHA-256", 96: "SHA-384", 128: "SHA-512" };
 const MAY_BE = { 8: "a CRC-32", 32: "an MD5" };
 const OTHER_NAME = /^(md5|crc-?32c?|sha-?[0-9]{1,3}|blake[0-9]\w*)$/i;
-const COMPUTED = "this page computes XXH32, XXH64 and XXH3 alone.";
+const COMPUTED = "this page computes only XXH32, XXH64 and XXH3.";
 
-/** The hashes that a name may stand for. */
+/** The hashes that a name may mean. */
 const KINDS_BY_NAME = { XXH32: ["xxh32"], XXH64: ["xxh64"], XXH128: ["xxh3_128"], XXH3: ["xxh3_64", "xxh3_128"] };
 
-/** The hash of a tag, by what it begins with. */
+/** The hash of a tag, by its beginning. */
 const KINDS_BY_TAG = [["XXH32", "xxh32"], ["XXH64", "xxh64"], ["XXH128", "xxh3_128"], ["XXH3", "xxh3_64"]];
 
-/** The hash of digits with no tag, by how many they are: those of XXH3 of 64 bits have a prefix. */
+/** The hash of digits with no tag, by their number: those of XXH3 64-bit have a prefix. */
 const KIND_BY_COUNT = { 8: "xxh32", 16: "xxh64", 32: "xxh3_128" };
 const PREFIX = "XXH3_";
 const DIGITS = { xxh32: 8, xxh64: 16, xxh3_64: 16, xxh3_128: 32 };
 
-/** What the names of files of such lines end with. */
+/** The endings of checksum files' names. */
 export const ENDINGS = { xxh32: "xxh32", xxh64: "xxh64", xxh3_64: "xxh3", xxh3_128: "xxh128" };
 
-/** How a file of lines begins: few enough characters to look at each file that is chosen. */
+/** The beginning of a checksum file: few enough characters to test each chosen file. */
 const BEGINNING = /^\uFEFF?(#|\s|\\?(XXH(32|64|128|3)(_LE)? \(|(XXH3_)?[0-9a-f]{8}))/i;
 export const BEGINNING_BYTES = 16;
 
-/** A longer line says nothing: no file has such a name, and the command refuses it. In bytes of UTF-8. */
+/** The maximum length of a line in bytes of UTF-8. No file has a longer name, and xxhsum refuses it. */
 const LONGEST_LINE = 32767;
 
 function isTooLong(line) {
@@ -36,14 +36,14 @@ function isTooLong(line) {
   return line.length * 3 > LONGEST_LINE && new TextEncoder().encode(line).length > LONGEST_LINE;
 }
 
-/** Whether a line of a checksum file is a comment, which says nothing and isn't meant to. */
+/** True if a line of a checksum file is a comment. */
 export function isComment(line) {
   return line.startsWith("#");
 }
 
 /**
- * What a line says, as the command reads it: lower-case digits, their hash and a file's name; null where it says nothing. A
- * carriage return at its end is no part of it, since lists from Windows have one.
+ * Parses a line as xxhsum does: returns lower-case digits, their hash and a file's name, or null if it is malformed.
+ * Ignores a carriage return at its end, since lists from Windows have one.
  */
 export function readLine(line) {
   if (isComment(line) || isTooLong(line)) return null;
@@ -54,7 +54,7 @@ export function readLine(line) {
   return name === undefined ? null : { ...shown, name };
 }
 
-/** What a text of one of the two forms shows, with the name as it stands there. */
+/** Parses a text of one of the two forms, with the name as it is written. */
 function readText(text) {
   const space = text.indexOf(" ");
   if (space < 0 || space + 1 === text.length) return null;
@@ -80,7 +80,7 @@ function shownBy(kind, written, name) {
   return digits.length === DIGITS[kind] && /^[0-9a-f]+$/i.test(digits) ? { kinds: [kind], digits: digits.toLowerCase(), name } : null;
 }
 
-/** The name that an escaped one means; undefined where a backslash in it has no meaning. */
+/** Unescapes a name. Returns undefined if a backslash in it has no meaning. */
 function unescaped(shown) {
   const meant = { "\\": "\\", n: "\n", r: "\r" };
   const parts = shown.match(/\\?./gsu) ?? [];
@@ -88,14 +88,14 @@ function unescaped(shown) {
   return parts.every(isMeant) ? parts.map((part) => (part[0] === "\\" ? meant[part[1]] : part)).join("") : undefined;
 }
 
-/** The bytes from the last to the first. */
+/** Returns the bytes in reverse order. */
 function turned(digits) {
   return (digits.match(/../g) ?? []).reverse().join("");
 }
 
 /**
- * The digest in what somebody pasted, with or without a name beside it; an error where there is none. `mayBe` says what
- * else it may be, where no name says that it is ours.
+ * Parses a pasted digest, with or without a name. Throws if there is none. `mayBe` has the other possible hashes, if
+ * no name identifies it as ours.
  */
 export function readExpected(words) {
   const expected = readPasted(words);
@@ -104,7 +104,7 @@ export function readExpected(words) {
 
 function readPasted(words) {
   const line = readLine(words.trim());
-  // Who pastes the line of a tool that knows no prefix may mean XXH3.
+  // A line pasted from a tool without the prefix may be XXH3.
   if (line) return line.kinds[0] === "xxh64" && !words.includes("XXH64") ? { ...line, kinds: KINDS_BY_LENGTH[16] } : line;
   const parts = words.split(/[\s:=,()*]+/).filter(Boolean);
   const digits = parts.map((part) => part.replace(/^(0x|XXH3_)/i, "")).find((part) => /^[0-9a-f]{8,}$/i.test(part));
@@ -112,25 +112,25 @@ function readPasted(words) {
   const other = parts.find((part) => OTHER_NAME.test(part));
   if (other && digits) throw new Error(`This is a digest of ${other}; ${COMPUTED}`);
   if (OTHERS[digits?.length]) throw new Error(`${digits.length} digits: this looks like ${OTHERS[digits.length]}; ${COMPUTED}`);
-  if (!KINDS_BY_LENGTH[digits?.length]) throw new Error("This is no digest: one has 8, 16 or 32 hexadecimal digits.");
+  if (!KINDS_BY_LENGTH[digits?.length]) throw new Error("This is not a digest, which has 8, 16 or 32 hexadecimal digits.");
   const kinds = KINDS_BY_LENGTH[digits.length].filter((kind) => KINDS_BY_NAME[name]?.includes(kind) ?? true);
-  if (!kinds.length) throw new Error(`${name} has another number of digits than these ${digits.length}.`);
+  if (!kinds.length) throw new Error(`A digest of ${name} doesn't have ${digits.length} digits.`);
   return { digits: digits.toLowerCase(), kinds };
 }
 
-/** The lines of a checksum file, and how many others it has; null where the text is none. */
+/** Returns the lines of a checksum file, and the number of malformed ones; null if the text is no checksum file. */
 export function readList(text) {
   const lines = text.split("\n").filter((line) => line.trim() && !isComment(line));
   const entries = lines.map(readLine).filter(Boolean);
   return entries.length * 2 > lines.length ? { entries, others: lines.length - entries.length } : null;
 }
 
-/** Whether a file that begins so may be a checksum file. */
+/** True if a file with this beginning may be a checksum file. */
 export function mayBeList(beginning) {
   return BEGINNING.test(beginning);
 }
 
-/** The line that xxhsum prints of a file: of XXH3 of 64 bits the tagged one, which every version reads. */
+/** Returns the line that xxhsum prints for a file: for XXH3 64-bit the tagged one, which every version reads. */
 export function lineOf(kind, digits, name) {
   const isEscaped = /[\n\r]/.test(name);
   const shown = isEscaped ? name.replace(/\\/g, "\\\\").replace(/\n/g, "\\n").replace(/\r/g, "\\r") : name;
@@ -138,7 +138,7 @@ export function lineOf(kind, digits, name) {
   return `${isEscaped ? "\\" : ""}${line}\n`;
 }
 
-/** The hash of which the digests hold what is wanted, or undefined. */
+/** Returns the hash whose digest is the expected one, or undefined. */
 export function sameKind({ kinds, digits }, digests) {
   return kinds.find((kind) => digests[kind] === digits);
 }

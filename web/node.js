@@ -7,10 +7,10 @@ import { load as loadFrom } from "./twox_hash.js";
 export * from "./twox_hash.js";
 export { Hash, createHash } from "./node_hash.js";
 
-/** Where this file is, or the bundle that it is part of: as CommonJS that has no `import.meta.url`. */
+/** The location of this file, or of the bundle with it: as CommonJS that has no `import.meta.url`. */
 const here = import.meta.url ?? pathToFileURL(__filename).href;
 
-/** As `load` of twox_hash.js, and a `file:` address is read. */
+/** The `load` of twox_hash.js, which also reads a `file:` address. */
 export function load(source = besideThisFile) {
   return loadFrom((hasVectors) => read(source, hasVectors));
 }

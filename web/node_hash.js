@@ -1,11 +1,11 @@
 // SPDX-License-Identifier: MIT
-/** A hash with the calls of Node's `crypto.Hash`. */
+/** A hash with the API of Node's `crypto.Hash`. */
 import { Transform } from "node:stream";
 import { Stream, TwoxHashError, toBytes } from "./twox_hash.js";
 
 /**
- * A hash that is updated, or that a stream is piped into. As with `crypto.Hash` its digest ends it. Once a stream that was
- * piped into it has ended, the digest is what can be read of it, and `digest` answers it too.
+ * A hash that is updated, or that a stream is piped into. As with `crypto.Hash` its digest finalizes it. After a
+ * stream that was piped into it has ended, the digest can be read from it, and `digest` also returns it.
  */
 export class Hash extends Transform {
   #stream;
@@ -13,13 +13,13 @@ export class Hash extends Transform {
 
   /** For `createHash` and `copy`. */
   constructor(stream) {
-    if (!(stream instanceof Stream)) throw new TwoxHashError("kind", "A Hash is made by createHash, and not by new.");
+    if (!(stream instanceof Stream)) throw new TwoxHashError("kind", "Use createHash to create a Hash, not new.");
     super();
     this.#stream = stream;
   }
 
   /**
-   * Takes bytes, or text in an encoding of Node's, UTF-8 if it is left out.
+   * Hashes bytes, or text in an encoding of Node's, UTF-8 by default.
    *
    * @returns {this}
    */
@@ -28,20 +28,23 @@ export class Hash extends Transform {
     return this;
   }
 
-  /** The digest, the highest byte first: as text in an encoding such as "hex", or as a Buffer. It ends the hash. */
+  /**
+   * Returns the digest, the highest byte first: as text in an encoding such as "hex", or as a Buffer. Finalizes the
+   * hash.
+   */
   digest(encoding) {
     const bytes = this.#value ?? this.#end();
     this.#value = undefined;
     return encoding === undefined || encoding === "buffer" ? bytes : bytes.toString(encoding);
   }
 
-  /** Another hash that stands where this one does. */
+  /** Returns a copy in the same state. */
   copy() {
     return new Hash(this.#open().copy());
   }
 
   #open() {
-    if (this.#stream === undefined) throw new TwoxHashError("freed", "The digest was taken, which ends the hash.");
+    if (this.#stream === undefined) throw new TwoxHashError("freed", "Digest already called.");
     return this.#stream;
   }
 
@@ -74,17 +77,17 @@ export class Hash extends Transform {
   }
 }
 
-/** Text as it is where it counts in UTF-8, and as the bytes that it stands for in another encoding. */
+/** Returns text unchanged if its encoding is UTF-8, and its bytes in another encoding. */
 function bytesOf(text, encoding) {
   if (!Buffer.isEncoding(encoding) || /^utf-?8$/i.test(encoding)) return text;
   if (/^hex$/i.test(encoding) && text.length % 2) {
-    throw new TwoxHashError("input", `These are ${text.length} hexadecimal digits, and a byte has two.`);
+    throw new TwoxHashError("input", `There are ${text.length} hexadecimal digits. Each byte needs two.`);
   }
   return Buffer.from(text, encoding);
 }
 
 /**
- * A hash as Node's `crypto.createHash` gives one.
+ * Creates a hash as Node's `crypto.createHash` does.
  *
  * @param {"xxh32" | "xxh64" | "xxh3_64" | "xxh3_128"} kind
  * @param {{ seed?: number | bigint, secret?: string | ArrayBufferView }} [options]

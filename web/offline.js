@@ -1,7 +1,7 @@
 // SPDX-License-Identifier: MIT
 /**
- * Keeps the page's files, so that it works without a network once it was loaded. With one, each file is asked for anew and
- * the kept one replaced. page_files.json has their names.
+ * Caches the page's files, so that it works without a network after the first visit. With a network, each file is
+ * requested again and its copy replaced. page_files.json has their names.
  */
 const KEPT = "twox_hash";
 
@@ -20,7 +20,7 @@ async function answer(request) {
     if (older) return older;
     throw error;
   }
-  if (fresh.ok) await renew(request, fresh.clone()).catch(() => {}); // without room the older one stays
+  if (fresh.ok) await renew(request, fresh.clone()).catch(() => {}); // if there is no space, the older one stays
   return fresh;
 }
 

@@ -1,5 +1,5 @@
 // SPDX-License-Identifier: MIT
-/** The page: the list of what is hashed, and what the user does. worker.js does the hashing. */
+/** The page: the list of hashed items, and the user's actions. worker.js does the hashing. */
 import { Card } from "./card.js";
 import { Checklist, compareWithField, isExpected, readChecklist } from "./checksums.js";
 import { filesOfDrop, filesOfInput } from "./gather.js";
@@ -11,23 +11,26 @@ import { $, NAMES, copy, counted, inThousands, keyInWords, say, sizeInWords } fr
 const MILLISECONDS_AFTER_TYPING = 120;
 const MILLISECONDS_BEFORE_COMPARING = 30;
 
-/** Comparing takes no more than this part of the page's time, however many files there are. */
+/** The maximum part of the page's time that comparing takes, however many files there are. */
 const PART_FOR_COMPARING = 0.1;
 
-/** From how many files on the rows are compact. */
+/** From this many files on the rows are compact. */
 const COMPACT_FROM = 4;
 
 /** Longer files are no checksum files. */
 const CHECKLIST_BYTES = 16 * 1024 * 1024;
 
-/** Of more files than these only those are taken for checksum files that are named so: to look into each takes a while. */
+/**
+ * With more files than this, only those with such a name are tested for being checksum files: reading each takes a
+ * while.
+ */
 const FILES_LOOKED_INTO = 200;
 const NAMED_AS_LIST = /sums?\b|digest|check|manifest|\.(xxh\w*|md5|sha\w*|txt)$/i;
 
-/** So many files are added before the page has its turn again. */
+/** This many files are added before the page is updated. */
 const FILES_IN_A_TURN = 200;
 
-/** So many files are handed to the worker at once, as long as they are small: it waits less for the page then. */
+/** This many files are sent to the worker at once, if they are small: it then waits less for the page. */
 const FILES_AT_ONCE = 16;
 const BYTES_AT_ONCE = 8 * 1024 * 1024;
 
@@ -41,7 +44,7 @@ let text = null;
 const checklists = [];
 const rows = new Rows($("list"), $("more-files"));
 
-/** The files to be hashed, first come first served. One that doesn't wait any more is passed over. */
+/** The files to be hashed, in order. A file that no longer waits is skipped. */
 class Queue {
   #cards = [];
   #at = 0;
@@ -50,7 +53,7 @@ class Queue {
     this.#cards.push(card);
   }
 
-  /** The card whose turn it is, undefined where none waits. */
+  /** Returns the next card, or undefined if none waits. */
   get first() {
     while (this.#at < this.#cards.length && this.#cards[this.#at].state !== "waiting") this.#at += 1;
     if (this.#at === this.#cards.length) this.clear();
@@ -65,14 +68,14 @@ class Queue {
 
 const queue = new Queue();
 
-/** The cards of what is being hashed, by the number of the job. */
+/** The cards that are being hashed, by the number of the job. */
 const cards = new Map();
 let jobs = 0;
 
 /** The expected digest that was found among the files. */
 let foundDigest = "";
 
-/** What a card asks of the page. */
+/** The callbacks of a card. */
 const list = {
   isCompact: false,
   keyId: undefined, // of the seed and secret in the fields
@@ -96,27 +99,27 @@ const list = {
     return this.isCompact && !isOpen ? [$("kind").value] : Object.keys(NAMES);
   },
 
-  /** Where another one waits before it, that one's turn says when to start. */
+  /** If another one waits before it, that one's turn determines when to start. */
   enqueue(card) {
     queue.add(card);
     if (queue.first === card) this.startNext();
   },
 
-  /** Starts the next files, as far as there is room. With a wrong seed or secret, none until it is put right. */
+  /** Starts the next files, up to the limit. With an invalid seed or secret, none until it is corrected. */
   startNext() {
     const card = queue.first;
     if (!card || !hasRoomFor(card)) return;
     const key = readKey();
     if (key.wrong) {
       $("key").open = true;
-      card.tell(`Waiting for ${key.wrong} to be right`);
+      card.tell(`Waiting: ${key.wrong} is invalid`);
       return;
     }
     card.start(key);
     this.startNext();
   },
 
-  /** Takes a card or a checksum file out of the list. */
+  /** Removes a card or a checksum file from the list. */
   remove(item) {
     const element = item.view();
     const next = element.nextElementSibling ?? element.previousElementSibling;
@@ -161,7 +164,7 @@ function hasRoomFor({ size }) {
 let comparing;
 let lastComparing = 0;
 
-/** Shows all that depends on more than one card. */
+/** Updates everything that depends on more than one card. */
 function compare() {
   clearTimeout(comparing);
   comparing = undefined;
@@ -176,7 +179,7 @@ function compare() {
   lastComparing = performance.now() - started;
 }
 
-/** Once a file has the expected digest, those that wait aren't hashed, but for those that the user starts again. */
+/** Once a file has the expected digest, those that wait aren't hashed, except those that the user restarts. */
 function stopSearch() {
   if (foundDigest === $("expected").value) return;
   foundDigest = $("expected").value;
@@ -221,9 +224,9 @@ function showChosenKind() {
   for (const card of text ? [text, ...files] : files) card.showDigests();
 }
 
-// ---- what is to be hashed
+// ---- files to hash
 
-/** Adds what was found, checksum files as such, and shows where the results are. */
+/** Adds the files, checksum files as such, and shows the results. */
 async function add(found) {
   const looksInto = ({ path }) => found.length <= FILES_LOOKED_INTO || NAMED_AS_LIST.test(path.split("/").at(-1));
   const checks = await Promise.all(found.map((it) => (looksInto(it) ? checklistIn(it.file) : null)));
@@ -233,7 +236,7 @@ async function add(found) {
     if (i % FILES_IN_A_TURN === FILES_IN_A_TURN - 1) await new Promise((resolve) => setTimeout(resolve));
   }
   if (found.length) say(found.length === 1 ? `${found[0].path} was added` : `${counted(found.length, "file")} were added`);
-  $("files-note").textContent = found.length ? "" : "There is no file in it.";
+  $("files-note").textContent = found.length ? "" : "It contains no file.";
   compare();
   if (found.length) showResults();
 }
@@ -243,7 +246,7 @@ async function checklistIn(file) {
   try {
     if (!mayBeList(await file.slice(0, BEGINNING_BYTES).text())) return null;
   } catch {
-    return null; // what can't be read is told when it is hashed
+    return null; // an unreadable file is reported when it is hashed
   }
   return readChecklist(file);
 }
@@ -263,7 +266,7 @@ function addChecklist(path, file, lines) {
   $("checklists").append(checklist.view());
 }
 
-/** On a small screen what was added stands below what is seen. */
+/** On a small screen the added items are below the visible part. */
 function showResults() {
   const { top } = $("results").getBoundingClientRect();
   if (top >= 0 && top < innerHeight * 0.7) return;
@@ -276,7 +279,7 @@ function hashText() {
   if (text) list.forget(text);
   const words = $("text").value;
   const key = readKey();
-  $("text-error").textContent = words && key.wrong ? `Not hashed: ${key.wrong} must be right first.` : "";
+  $("text-error").textContent = words && key.wrong ? `Not hashed: ${key.wrong} is invalid.` : "";
   if (words === "") {
     removeText();
     return;
@@ -288,7 +291,7 @@ function hashText() {
     return;
   }
   text.state = "waiting";
-  text.show(`Waiting for ${key.wrong} to be right`);
+  text.show(`Waiting: ${key.wrong} is invalid`);
 }
 
 function addText() {
@@ -332,7 +335,7 @@ function clear() {
   $("files").focus();
 }
 
-/** What xxhsum would print of the files, under the hash of the choice. */
+/** Returns what xxhsum would print for the files, with the selected hash. */
 function lines() {
   return files.map((card) => card.line($("kind").value)).join("");
 }
@@ -346,10 +349,10 @@ function save() {
   say(`${link.download} is saved`);
 }
 
-// ---- what the worker says
+// ---- messages of the worker
 
-const WITH_VECTORS = "The fast module runs here: this browser has the vectors of WebAssembly (SIMD).";
-const WITHOUT_VECTORS = "The plain module runs here: this browser has no vectors of WebAssembly (SIMD), with which XXH3 is about twice as fast.";
+const WITH_VECTORS = "The fast module is in use: this browser supports WebAssembly SIMD.";
+const WITHOUT_VECTORS = "The plain module is in use: this browser lacks WebAssembly SIMD, with which XXH3 is about twice as fast.";
 
 const ANSWERS = {
   ready: ({ hasVectors }) => {
@@ -393,7 +396,7 @@ function showUnsupported(message) {
   for (const field of document.querySelectorAll("main input, main textarea")) field.disabled = true;
 }
 
-// ---- what the user does
+// ---- actions of the user
 
 for (const field of [$("files"), $("folder")]) {
   field.addEventListener("change", () => {
@@ -410,7 +413,7 @@ $("save").addEventListener("click", save);
 $("stop-all").addEventListener("click", stopAll);
 $("expected").addEventListener("input", compare);
 
-/** Notes which seed and secret the fields hold. Digests of others are none to compare with: their cards say so. */
+/** Updates the current seed and secret. Digests of others can't be compared: their cards show that. */
 function takeKey() {
   const key = readKey();
   const used = keyInWords(key.seed, key.secret);
@@ -428,7 +431,7 @@ for (const field of [$("text"), $("seed"), $("secret"), ...document.querySelecto
     typing = setTimeout(() => { takeKey(); hashText(); list.startNext(); }, MILLISECONDS_AFTER_TYPING);
   });
 }
-takeKey(); // a browser may keep what the fields held
+takeKey(); // a browser may restore the fields
 
 addEventListener("dragover", (event) => {
   event.preventDefault();
@@ -443,7 +446,7 @@ addEventListener("drop", async (event) => {
   if (!$("files").disabled) add(await filesOfDrop(event.dataTransfer));
 });
 
-// What was loaded once is there without a network too, where the browser has workers for that.
+// After the first visit the page is also available without a network, if the browser has service workers.
 navigator.serviceWorker?.register("offline.js").catch(() => {});
 
 $("asleep").remove();

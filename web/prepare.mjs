@@ -1,7 +1,7 @@
 // SPDX-License-Identifier: MIT
 /**
- * Writes out/, what the package has beside the files of this folder: the modules' bytes as text, for inline.js, and each
- * script as CommonJS with its types, beside copies of the modules. npm runs it before it packs, and where it installs this
+ * Writes out/, the generated part of the package: the modules' bytes as text, for inline.js, and each script as
+ * CommonJS with its types, with copies of the modules. npm runs it before it packs, and when it installs this
  * folder.
  */
 import { copyFile, mkdir, readFile, writeFile } from "node:fs/promises";
@@ -12,10 +12,10 @@ const MODULES = { plain: "twox_hash.wasm", vectors: "twox_hash_simd.wasm" };
 const at = (name) => new URL(name, import.meta.url);
 const textOf = (name) => readFile(at(name), "utf8");
 
-/** "./node_hash.js" and "./out/modules.js" as they lie in out/; the names of Node's own modules stay. */
+/** The paths "./node_hash.js" and "./out/modules.js" relative to out/; the names of Node's own modules stay. */
 const required = (from) => from.replace(/^\.\/(?:out\/)?(\w+)\.js$/, "./$1.cjs");
 
-/** The forms of a line that has to do with other files, and what CommonJS has in their place. */
+/** The forms of a line that refers to other files, and their replacements in CommonJS. */
 const FORMS = [
   [/^import \{ (.*) \} from "(.*)";$/gm, (_, names, from) => `const { ${names.replaceAll(" as ", ": ")} } = require("${required(from)}");`],
   [/^export \* from "(.*)";$/gm, (_, from) => `Object.assign(exports, require("${required(from)}"));`],

@@ -1,15 +1,15 @@
 // SPDX-License-Identifier: MIT
 /**
- * Reads pieces of files away from the thread that hashes them. A browser copies what it has read on the thread that asked
- * for it, so one that reads and hashes does neither while it does the other.
+ * Reads chunks of files on another thread than the one that hashes them. A browser copies what it has read on the
+ * requesting thread, so a thread that reads and hashes does neither during the other.
  */
 
-/** The bytes of a blob from one place to another, as a promise, read on this thread. */
+/** Returns the bytes of a blob in a range, as a promise, read on this thread. */
 export function readPiece(blob, from, to) {
   return blob.slice(from, to).arrayBuffer();
 }
 
-/** A thread that reads. Where a worker can't have one of its own, what is asked for is read on the asking thread. */
+/** A thread that reads. If a worker can't have one of its own, the requesting thread reads. */
 export class Reader {
   #worker = null;
   #asked = new Map();
@@ -22,7 +22,7 @@ export class Reader {
     this.#worker.onerror = () => this.#readHere();
   }
 
-  /** The bytes of a blob from one place to another, as a promise. */
+  /** Returns the bytes of a blob in a range, as a promise. */
   read(blob, from, to) {
     if (this.#worker === null) return readPiece(blob, from, to);
     const number = ++this.#count;
@@ -37,7 +37,7 @@ export class Reader {
     else reject(new DOMException(message, name));
   }
 
-  /** Goes on without the thread, which couldn't be started. */
+  /** Continues without the thread, which couldn't be started. */
   #readHere() {
     this.#worker = null;
     for (const { blob, from, to, resolve } of this.#asked.values()) resolve(readPiece(blob, from, to));

@@ -1,5 +1,8 @@
 // SPDX-License-Identifier: MIT
-/** The thread of reader.js: it is sent { number, blob, from, to }, and answers { number, bytes } or the error's name and message. */
+/**
+ * The thread of reader.js: receives { number, blob, from, to }, and replies { number, bytes } or the error's name and
+ * message.
+ */
 import { readPiece } from "./reader.js";
 
 onmessage = async ({ data: { number, blob, from, to } }) => {

@@ -1,14 +1,14 @@
 // SPDX-License-Identifier: MIT
 import { inThousands } from "./words.js";
 
-/** A long list, of which the first rows stand on the page, and more as the user comes to their end. */
+/** A long list, of which the first rows are on the page, and more as the user scrolls to their end. */
 
 const ROWS_AT_ONCE = 200;
 
 export class Rows {
   /**
    * `place` gets the element that each item's `view()` makes. `more` is a button after it that shows further rows,
-   * also without a press once it comes into view.
+   * also automatically when it comes into view.
    */
   constructor(place, more) {
     this.place = place;
@@ -37,7 +37,7 @@ export class Rows {
     this.fill();
   }
 
-  /** Has these items in place of those that it had. */
+  /** Replaces the items. */
   set(items) {
     if (items.length === this.items.length && items.every((item, i) => item === this.items[i])) return;
     this.items = [...items];

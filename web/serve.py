@@ -1,5 +1,5 @@
 #!/usr/bin/env python3
-"""Serves the page and the repository's pages that it links to, on this machine alone.
+"""Serves the page and the repository's pages that it links to, only on this machine.
 
     web/serve.py [PORT] [--open]
 
@@ -16,7 +16,7 @@ PUBLIC = ("/web/", "/docs/", "/crates/", "/README.md", "/CALLING.md", "/CONTRIBU
 
 
 def is_public(path):
-    """Whether a whole path is one of `PUBLIC`, or lies below one that ends with a slash."""
+    """True if a whole path is in `PUBLIC`, or below one that ends with a slash."""
     return any(path + "/" == TOP + it or path.startswith(TOP + it) if it.endswith("/") else path == TOP + it for it in PUBLIC)
 
 
@@ -63,7 +63,7 @@ def main(words):
     try:
         serving = server(int(numbers[0]) if numbers else PORT)
     except OSError as error:
-        sys.exit(f"web/serve.py: {error.strerror}: give another port, as web/serve.py 8001")
+        sys.exit(f"web/serve.py: {error.strerror}: use another port, for example web/serve.py 8001")
     address = f"http://127.0.0.1:{serving.server_address[1]}/web/"
     print(f"{address} (Ctrl-C ends it)", flush=True)
     if "--open" in words:

@@ -1,11 +1,11 @@
 // SPDX-License-Identifier: MIT
 /**
- * Types of streams.js: a stream that hashes what it passes on, and blobs. What is a browser's stands here by what is used of
- * it, so that a program needs no types of a browser.
+ * Types of streams.js: a stream that hashes what passes through it, and blobs. The browser's types are declared here
+ * as far as they are used, so that a program needs no types of a browser.
  */
 import type { Input, Key, Kind, Stream, ValueOf } from "./twox_hash.js";
 
-/** The ends of a `TransformStream`, where a program has the types of streams. */
+/** The two sides of a `TransformStream`, if a program has the types of streams. */
 type Ends = typeof globalThis extends { TransformStream: { prototype: { readable: infer R; writable: infer W } } }
   ? { readable: R; writable: W } : { readable: unknown; writable: unknown };
 
@@ -22,7 +22,7 @@ export interface SignalLike {
   throwIfAborted(): void;
 }
 
-/** A `TransformStream` that passes bytes or text on as they are, and answers the hash of what has passed. */
+/** A `TransformStream` that passes bytes or text through unchanged, and returns their hash. */
 export class HashingStream<K extends Kind = Kind> {
   constructor(kind: K, options?: Key);
   readonly readable: Ends["readable"];
@@ -32,21 +32,21 @@ export class HashingStream<K extends Kind = Kind> {
 }
 
 export interface Reading {
-  /** Called after each piece. */
+  /** Called after each chunk. */
   progress?: (done: number, size: number) => void;
-  /** One that is aborted ends the reading, with its reason. */
+  /** If it is aborted, the reading ends with its reason. */
   signal?: SignalLike;
 }
 
-/** The hash of a file or another blob, which is read in pieces. */
+/** Returns the hash of a file or another blob, which is read in chunks. */
 export function hashBlob<K extends Kind>(kind: K, blob: BlobLike, options?: Key & Reading): Promise<ValueOf<K>>;
 
 export interface Taking<B extends BlobLike = BlobLike> extends Reading {
-  /** What the blob had when it was chosen: one that has another size by now fails with a `NotReadableError`. */
+  /** The size of the blob when it was chosen: if it is different now, it fails with a `NotReadableError`. */
   size?: number;
-  /** Reads the pieces of a blob that has several, as on another thread. */
+  /** Reads the chunks of a blob that has several, for example on another thread. */
   read?: (blob: B, from: number, to: number) => Promise<ArrayBuffer>;
 }
 
-/** Has streams take a blob, which is read once. */
+/** Hashes a blob with several streams, reading it once. */
 export function takeBlob<B extends BlobLike>(streams: Iterable<Stream>, blob: B, options?: Taking<B>): Promise<void>;

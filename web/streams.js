@@ -1,12 +1,12 @@
 // SPDX-License-Identifier: MIT
-/** Streams and files by their hash: what of the web's own kinds of input twox_hash.js can take. */
+/** Streams and files by their hash: the web's own types of input for twox_hash.js. */
 import { Stream, updateAll } from "./twox_hash.js";
 
 const PIECE_BYTES = 8 * 1024 * 1024;
 const READS_AHEAD = 4;
 
 /**
- * Passes bytes or text on as they are, and answers the hash of what has passed:
+ * Passes bytes or text through unchanged, and returns their hash:
  *
  *     const hashing = new HashingStream("xxh3_64");
  *     await response.body.pipeThrough(hashing).pipeTo(file);
@@ -15,7 +15,7 @@ const READS_AHEAD = 4;
 export class HashingStream extends TransformStream {
   #stream;
 
-  /** As a `Stream` is made. */
+  /** Has the arguments of `Stream`. */
   constructor(kind, options) {
     const stream = new Stream(kind, options);
     super({
@@ -27,19 +27,19 @@ export class HashingStream extends TransformStream {
     this.#stream = stream;
   }
 
-  /** The hash of what has passed so far, as `digest` of a `Stream`. */
+  /** Returns the hash of what has passed so far, as `digest` of a `Stream`. */
   digest(kind) {
     return this.#stream.digest(kind);
   }
 }
 
 /**
- * The hash of a file or another blob, which is read in pieces.
+ * Returns the hash of a file or another blob, which is read in chunks.
  *
  * @param {"xxh32" | "xxh64" | "xxh3_64" | "xxh3_128"} kind
  * @param {Blob} blob
  * @param {{ seed?: number | bigint, secret?: string | BufferSource, progress?: (done: number, size: number) => void,
- *     signal?: AbortSignal }} [options] `progress` is called after each piece, and a signal that is aborted ends it
+ *     signal?: AbortSignal }} [options] `progress` is called after each chunk, and a signal that is aborted ends it
  *     with the signal's reason
  * @returns {Promise<number | bigint>}
  */
@@ -54,9 +54,9 @@ export async function hashBlob(kind, blob, { progress, signal, ...key } = {}) {
 }
 
 /**
- * Has streams take a blob, which is read once, under the same options but for seed and secret. `size` is what the blob
- * had when it was chosen: one that has another by now fails with a `NotReadableError`. `read` reads the pieces of one that
- * has several, as on another thread; left out, this thread does.
+ * Hashes a blob with several streams, reading it once, with the same options except seed and secret. `size` is the
+ * blob's size when it was chosen: if it is different now, it fails with a `NotReadableError`. `read` reads the
+ * chunks of a blob that has several, for example on another thread; by default, this thread does.
  */
 export async function takeBlob(streams, blob, { progress, signal, size = blob.size, read = readHere } = {}) {
   const all = [...streams]; // once, since an iterable may have them only once
@@ -70,14 +70,14 @@ export async function takeBlob(streams, blob, { progress, signal, size = blob.si
   }
 }
 
-/** The blob's bytes in pieces, of which the next ones are read while one is hashed. */
+/** The blob's bytes in chunks. The next ones are read while one is hashed. */
 async function* piecesOf(blob, size, read) {
   const reads = [];
   let at = 0;
   const readOn = () => {
     if (at >= size) return;
     const next = readWhole(read, blob, at, Math.min(at + PIECE_BYTES, size));
-    next.catch(() => {}); // a failure is met where the piece is awaited, if it still is
+    next.catch(() => {}); // a failure is handled where the chunk is awaited, if it still is
     reads.push(next);
     at += PIECE_BYTES;
   };

@@ -7,32 +7,32 @@ export type Kind = "xxh32" | "xxh64" | "xxh3_64" | "xxh3_128";
 /** The hashes, in the order in which the page shows them. */
 export const KINDS: readonly Kind[];
 
-/** The least length of a secret, in bytes. */
+/** Minimum length of a secret, in bytes. */
 export const SECRET_MINIMUM_LENGTH: 136;
 
-/** What a call is handed as bytes. */
+/** Bytes as an argument. */
 export type Bytes = ArrayBuffer | SharedArrayBuffer | ArrayBufferView;
 
-/** What is hashed: bytes, or text, which is taken as UTF-8. */
+/** The input: bytes, or text, which is hashed as UTF-8. */
 export type Input = string | Bytes;
 
-/** A whole number from 0 to 2^32 - 1 for XXH32, and to 2^64 - 1 for the others: from 2^53 on a bigint. */
+/** An integer from 0 to 2^32 - 1 for XXH32, and to 2^64 - 1 for the others: from 2^53 on a bigint. */
 export type Seed = number | bigint;
 
-/** What a hash answers: of 32 bits a number, and of more a bigint. */
+/** The value of a hash: of 32 bits a number, and of more a bigint. */
 export type ValueOf<K extends Kind> = K extends "xxh32" ? number : bigint;
 
 /**
- * Which seed and secret take effect: with both, the seed up to 240 bytes of input and the secret above; a secret
- * alone at every length; the default secret with the seed 0 where there is neither.
+ * The seed and secret in effect: with both, the seed up to 240 bytes of input and the secret above; with only a
+ * secret, the secret at every length; with neither, the default secret with the seed 0.
  */
 export interface Key {
   seed?: Seed;
-  /** 136 bytes or more; text is taken as UTF-8. */
+  /** 136 bytes or more; text is used as UTF-8. */
   secret?: Input;
 }
 
-/** Which refusal an error is. */
+/** The code of an error. */
 export type ErrorCode =
   | "unsupported"
   | "load"
@@ -47,37 +47,37 @@ export type ErrorCode =
   | "freed"
   | "memory";
 
-/** Every refusal of these calls. */
+/** The error that these calls throw. */
 export class TwoxHashError extends Error {
   constructor(code: ErrorCode, message: string, options?: { cause?: unknown });
   readonly name: "TwoxHashError";
   readonly code: ErrorCode;
 }
 
-/** Whether WebAssembly runs here. */
+/** True if WebAssembly is available. */
 export function isSupported(): boolean;
 
-/** Whether WebAssembly has vectors of 128 bits here, so that `load()` takes the faster of the two modules. */
+/** True if WebAssembly has vectors of 128 bits, so that `load()` uses the faster of the two modules. */
 export function hasVectors(): boolean;
 
-/** What a class of the program's surroundings makes, where they have it: a program needs no types of a browser. */
+/** The instance of a class of the environment, if it has that class: a program needs no types of a browser. */
 type Made<Name extends string> = typeof globalThis extends { [K in Name]: { prototype: infer T } } ? T : never;
 type Compiled = typeof globalThis extends { WebAssembly: { Module: { prototype: infer T } } } ? T : never;
 
-/** The WebAssembly module, or where it is. */
+/** The WebAssembly module, or its location. */
 export type Source = string | Bytes | Made<"URL"> | Made<"Response"> | Compiled;
 
 /**
- * Makes the calls ready. A second call waits for the first one and reads nothing.
+ * Loads the module. A second call waits for the first one and reads nothing.
  *
- * @param source the module, or a function that gives it, told whether there are vectors here; left out, it is
- *     `twox_hash_simd.wasm` or `twox_hash.wasm` beside this file
+ * @param source the module, or a function that returns it, with a flag for vectors as argument; by default,
+ *     `twox_hash_simd.wasm` or `twox_hash.wasm` next to this file
  * @throws {TwoxHashError} `unsupported`, `load`
  */
 export function load(source?: Source | ((hasVectors: boolean) => Source | Promise<Source>)): Promise<void>;
 
 /**
- * The value with all digits of its hash, zeros in front among them: 8, 16 or 32.
+ * Returns the value with all digits of its hash, including leading zeros: 8, 16 or 32.
  *
  * @throws {TwoxHashError} `value`, `kind`
  */
@@ -85,7 +85,7 @@ export function toHex(value: bigint, kind: Kind): string;
 export function toHex(value: number, kind: "xxh32"): string;
 
 /**
- * The value as 4, 8 or 16 bytes, the highest first, as its digits stand.
+ * Returns the value as 4, 8 or 16 bytes, the highest first, in the order of its digits.
  *
  * @throws {TwoxHashError} `value`, `kind`
  */
@@ -98,36 +98,42 @@ export function xxh32(input: Input, seed?: Seed): number;
 /** XXH64, below 2^64. */
 export function xxh64(input: Input, seed?: Seed): bigint;
 
-/** XXH3 of 64 bits, below 2^64. */
+/** XXH3 64-bit, below 2^64. */
 export function xxh3_64(input: Input, options?: Key): bigint;
 
-/** XXH3 of 128 bits, below 2^128. */
+/** XXH3 128-bit, below 2^128. */
 export function xxh3_128(input: Input, options?: Key): bigint;
 
-/** Bytes or text that come in pieces. */
+/** Bytes or text that come in chunks. */
 export class Stream<K extends Kind = Kind> {
-  /** A stream of no bytes yet. XXH32 and XXH64 take no secret. */
+  /** Creates a stream of no bytes. XXH32 and XXH64 take no secret. */
   constructor(kind: K, options?: Key);
-  /** The hash that `digest()` answers. */
+  /** The hash that `digest()` returns. */
   readonly kind: K;
-  /** Takes a piece after those taken before. Text is taken as UTF-8, each piece by itself. */
+  /** Hashes a chunk after those before. Text is hashed as UTF-8, each chunk by itself. */
   update(piece: Input): this;
-  /** The hash of what was taken so far; more may follow. A stream of XXH3 answers both widths. */
+  /** Returns the hash of the bytes so far; more may follow. A stream of XXH3 has both widths. */
   digest(): ValueOf<K>;
   digest<L extends Kind>(kind: L): ValueOf<L>;
-  /** The stream's state as bytes, from which `Stream.load` goes on. A secret that was handed over isn't among them. */
+  /**
+   * Returns the stream's state as bytes, from which `Stream.load` continues. They don't contain a secret that was
+   * passed in.
+   */
   save(): Uint8Array;
-  /** Another stream that has taken the same bytes. */
+  /** Returns a copy of the stream. */
   copy(): Stream<K>;
   /**
-   * A stream that goes on from where another was saved, with the secret that it was started with, if there was one.
+   * Creates a stream that continues from a saved state, with the secret that the stream was started with, if there was
+   * one.
    *
-   * @throws {TwoxHashError} `state` where no stream leads to these bytes, `secret` where it is another one
+   * @throws {TwoxHashError} `state` if no stream leads to these bytes, `secret` if it is another one
    */
   static load(saved: Bytes, options?: { secret?: Input }): Stream;
-  /** Lets go what the stream holds, as is done too when it is collected. Later calls of it are refused. */
+  /** Frees the stream, as garbage collection also does. Later calls of it are refused. */
   free(): void;
 }
 
-/** Has several streams take the same piece, which is carried to the module once. If one of them was freed, none takes it. */
+/**
+ * Hashes the same chunk with several streams, copying it to the module once. If one of them was freed, none hashes it.
+ */
 export function updateAll(streams: Iterable<Stream>, piece: Input): void;

@@ -1,44 +1,44 @@
 // SPDX-License-Identifier: MIT
 /**
- * XXH32, XXH64 and XXH3 of 64 and 128 bits by the WebAssembly module that is built of the proved crate `twox_web`.
- * This file only carries bytes to the module and values back: it is tested, not proved. It asks for nothing but what
- * browsers have; node.js and inline.js load the module in other ways.
+ * XXH32, XXH64 and XXH3 of 64 and 128 bits by the WebAssembly module that is built from the proved crate `twox_web`.
+ * This file only copies bytes to the module and values back: it is tested, not proved. It uses only what browsers have;
+ * node.js and inline.js load the module in other ways.
  *
  *     import { load, toHex, xxh64 } from "./twox_hash.js";
  *     await load();
  *     toHex(xxh64("some bytes", 1234n), "xxh64"); // eab55659a496d78b
  */
 
-/** What a call of the module answers, as the crate `twox_web` names it. */
+/** The codes that calls of the module return, by their names in the crate `twox_web`. */
 const DONE = 0;
 const SECRET_TOO_SHORT = 1;
 const NOT_A_STREAM = 2;
 
-/** The least length of a secret, in bytes. */
+/** Minimum length of a secret, in bytes. */
 export const SECRET_MINIMUM_LENGTH = 136;
 
-/** The length of a secret that a seed derives. */
+/** The length of a secret derived from a seed. */
 const DERIVED_SECRET_LENGTH = 192;
 
-/** How many bytes are carried to the module at a time: few enough to stay in a cache of the second level. */
+/** Number of bytes copied to the module at a time: few enough to stay in a second-level cache. */
 const CHUNK_BYTES = 128 * 1024;
 
 /** The unit in which the module's memory grows. */
 const PAGE_BYTES = 65536;
 
-/** What addresses are multiples of. */
+/** The alignment of addresses. */
 const ALIGNMENT = 256;
 
-/** How many streams of a family lie in the module's memory. */
+/** Number of streams of a family in the module's memory. */
 const PLACES = 64;
 
-/** A secret of at most as many bytes lies beside its stream. */
+/** A secret of at most this many bytes is stored next to its stream. */
 const SHORT_SECRET_LENGTH = 256;
 
 /** The hashes. */
 export const KINDS = Object.freeze(["xxh32", "xxh64", "xxh3_64", "xxh3_128"]);
 
-/** The stream that computes a hash: one of XXH3 answers both widths. */
+/** The stream that computes a hash: one of XXH3 has both widths. */
 const FAMILY = { xxh32: "xxh32", xxh64: "xxh64", xxh3_64: "xxh3", xxh3_128: "xxh3" };
 
 /** Bits of each hash's value and of its seed. */
@@ -46,20 +46,20 @@ const VALUE_BITS = { xxh32: 32, xxh64: 64, xxh3_64: 64, xxh3_128: 128 };
 const SEED_BITS = { xxh32: 32, xxh64: 64, xxh3_64: 64, xxh3_128: 64 };
 
 /**
- * Every refusal of this file. `code` says which:
+ * Every error of this file. `code` is its kind:
  *
  * - `"unsupported"`: there is no WebAssembly here.
  * - `"load"`: the module couldn't be read, or isn't the one of `twox_web`.
  * - `"not-loaded"`: `load()` hasn't been awaited.
- * - `"kind"`: the name is none of `KINDS`, or the stream is of another hash.
+ * - `"kind"`: the name isn't in `KINDS`, or the stream is of another hash.
  * - `"input"`: the input is neither text nor an `ArrayBuffer` or a view of one.
- * - `"seed"`: the seed isn't a whole number of the hash's range.
+ * - `"seed"`: the seed isn't an integer in the hash's range.
  * - `"secret"`: the secret is neither text nor bytes, has fewer than 136 of them, or the hash takes none.
- * - `"options"`: the options aren't an object, or have a name that is not known.
+ * - `"options"`: the options aren't an object, or have an unknown name.
  * - `"value"`: the value isn't one of the hash.
  * - `"state"`: the bytes aren't a stream's saved state.
  * - `"freed"`: the stream was freed.
- * - `"memory"`: there is no more memory.
+ * - `"memory"`: out of memory.
  */
 export class TwoxHashError extends Error {
   constructor(code, message, options) {
@@ -75,12 +75,12 @@ const VECTORS = Uint8Array.of(
   0x62, 0x0b,
 );
 
-/** Whether WebAssembly runs here. */
+/** True if WebAssembly is available. */
 export function isSupported() {
   return typeof WebAssembly === "object";
 }
 
-/** Whether WebAssembly has vectors of 128 bits here, so that `load()` takes the faster of the two modules. */
+/** True if WebAssembly has vectors of 128 bits, so that `load()` uses the faster of the two modules. */
 export function hasVectors() {
   return isSupported() && WebAssembly.validate(VECTORS);
 }
@@ -89,16 +89,16 @@ let loaded = null;
 let loading = null;
 
 /**
- * Makes the calls of this file ready. A second call waits for the first one and reads nothing.
+ * Loads the module. A second call waits for the first one and reads nothing.
  *
- * @param {Source | ((hasVectors: boolean) => Source | Promise<Source>)} [source] the module, where `Source` is
- *     `URL | string | Response | BufferSource | WebAssembly.Module`, or what gives it, told whether there are vectors
- *     here; left out, `twox_hash_simd.wasm` or `twox_hash.wasm` beside this file is fetched
+ * @param {Source | ((hasVectors: boolean) => Source | Promise<Source>)} [source] the module, where `Source` is `URL |
+ *     string | Response | BufferSource | WebAssembly.Module`, or a function that returns it, with a flag for vectors as
+ *     argument; by default, `twox_hash_simd.wasm` or `twox_hash.wasm` next to this file is fetched
  * @returns {Promise<void>}
  */
 export async function load(source = besideThisFile) {
   if (loaded) return;
-  if (!isSupported()) throw new TwoxHashError("unsupported", "There is no WebAssembly here, which the proved module is.");
+  if (!isSupported()) throw new TwoxHashError("unsupported", "WebAssembly is not available here.");
   loading ??= instantiate(source).then((exports) => { loaded = new Room(exports); });
   try {
     await loading;
@@ -109,10 +109,12 @@ export async function load(source = besideThisFile) {
   }
 }
 
-/** Where this file is: as a module it knows, and in a bundle that is a classic script it is where that is, or the page. */
+/**
+ * The location of this file: a module knows it; in a bundle that is a classic script it is the bundle's, or the page's.
+ */
 const here = import.meta.url ?? globalThis.document?.currentScript?.src ?? globalThis.location?.href;
 
-/** Bundlers find the modules by these very expressions, and put them beside what they write. */
+/** Bundlers find the modules by exactly these expressions, and copy them next to their output. */
 function besideThisFile(withVectors) {
   if (import.meta.url === undefined) return withVectors ? "twox_hash_simd.wasm" : "twox_hash.wasm";
   return withVectors ? new URL("twox_hash_simd.wasm", import.meta.url) : new URL("twox_hash.wasm", import.meta.url);
@@ -132,7 +134,7 @@ async function bytesOf(source) {
   if (isBytes(source)) return ownView(source);
   if (typeof Response === "function" && source instanceof Response) return fetched(source);
   const url = addressOf(source);
-  if (url.protocol === "file:") throw new Error(`${url} is a file, which node.js reads and a page can't`);
+  if (url.protocol === "file:") throw new Error(`${url} is a file: only node.js can read it`);
   return fetched(await fetch(url));
 }
 
@@ -140,18 +142,18 @@ function addressOf(source) {
   try {
     return new URL(source, here);
   } catch (error) {
-    throw new Error(`${wordOr(source, nameOf(source))} is no address here: hand load() the module's bytes, or take twox_hash/inline`, { cause: error });
+    throw new Error(`${wordOr(source, nameOf(source))} is not a URL here: pass the module's bytes to load(), or use twox_hash/inline`, { cause: error });
   }
 }
 
 async function fetched(response) {
-  if (!response.ok) throw new Error(`${response.url} answered ${response.status}`);
+  if (!response.ok) throw new Error(`${response.url}: HTTP status ${response.status}`);
   return response.arrayBuffer();
 }
 
 const encoder = new TextEncoder();
 
-/** Where the streams of a family lie that are used. The others keep their bytes themselves, so none has to be freed. */
+/** The places of a family's active streams. The others keep their bytes themselves, so none has to be freed. */
 class Places {
   constructor(memory, family) {
     this.length = Number(memory.exports[`twox_${family}_stream_size`]());
@@ -161,7 +163,7 @@ class Places {
     this.freed = null;
   }
 
-  /** The place that was freed last, or that whose turn it is. */
+  /** Returns the place that was freed last, or the next one in turn. */
   take() {
     const place = this.freed ?? this.all[this.next];
     if (this.freed === null) this.next = (this.next + 1) % PLACES;
@@ -175,7 +177,9 @@ class Places {
   }
 }
 
-/** The module's memory: a value, a chunk of input, the places of streams, and at its end a secret, with which it grows. */
+/**
+ * The module's memory: a value, a chunk of input, the places of streams, and at its end a secret, with which it grows.
+ */
 class Room {
   constructor(exports) {
     this.exports = exports;
@@ -189,13 +193,13 @@ class Room {
     this.look();
   }
 
-  /** The bytes of the memory, of which a larger view is needed where it has grown. */
+  /** The bytes of the memory. After it has grown, a larger view is needed. */
   get bytes() {
     if (this.view.buffer !== this.exports.memory.buffer) this.look();
     return this.view;
   }
 
-  /** The chunk's bytes, over whose end nothing can be put. */
+  /** The chunk's bytes: nothing can be written past its end. */
   get chunkBytes() {
     if (this.view.buffer !== this.exports.memory.buffer) this.look();
     return this.chunkView;
@@ -206,7 +210,7 @@ class Room {
     this.chunkView = this.view.subarray(this.chunk, this.chunk + CHUNK_BYTES);
   }
 
-  /** The address of that many bytes, a multiple of 256. */
+  /** Returns the address of that many bytes, a multiple of 256. */
   take(length) {
     const start = Math.ceil(this.end / ALIGNMENT) * ALIGNMENT;
     this.end = start + length;
@@ -214,7 +218,7 @@ class Room {
     return start;
   }
 
-  /** Makes the memory at least that long: by half of what there is, so that growing in small steps takes no longer. */
+  /** Makes the memory at least that long: grows by at least half, so that growing in small steps takes no longer. */
   grow(length) {
     if (length <= this.size) return;
     const { memory } = this.exports;
@@ -223,19 +227,19 @@ class Room {
     this.size = memory.buffer.byteLength;
   }
 
-  /** Puts bytes at an address. */
+  /** Writes bytes at an address. */
   put(start, bytes) {
     this.bytes.set(bytes, start);
   }
 
-  /** Puts a secret at the end. */
+  /** Writes a secret at the end. */
   putSecret(secret) {
     this.secretThere = null;
     this.grow(this.secret + lengthOf(secret));
     this.put(this.secret, secret);
   }
 
-  /** Has a stream's secret at the end, which stays as it is. */
+  /** Puts a stream's secret at the end, unchanged. */
   holdSecret(secret) {
     if (this.secretThere === secret) return;
     this.putSecret(secret);
@@ -243,8 +247,8 @@ class Room {
   }
 
   /**
-   * Puts text or bytes of that length into the chunk, from `from` on and as far as there is room: up to where that goes,
-   * counted as `from` is, and how many bytes it makes.
+   * Writes text or bytes of that length into the chunk, from `from` on and as far as they fit. Returns the end,
+   * counted as `from` is, and the number of bytes.
    */
   putPiece(input, whole, from) {
     if (typeof input === "string") {
@@ -256,7 +260,7 @@ class Room {
     return { end: from + length, length };
   }
 
-  /** The value of so many bits that a call wrote. */
+  /** Returns the value of this many bits that a call wrote. */
   written(bits) {
     const view = new DataView(this.exports.memory.buffer, this.value);
     if (bits === 32) return view.getUint32(0, true);
@@ -265,7 +269,10 @@ class Room {
   }
 }
 
-/** Text from there on, of no more units than the chunk has bytes, which ends with no half of a pair. */
+/**
+ * Returns text from there on, of at most as many units as the chunk has bytes, which doesn't end within a surrogate
+ * pair.
+ */
 function partOf(text, from) {
   const to = from + CHUNK_BYTES;
   if (to >= text.length) return from === 0 ? text : text.slice(from);
@@ -273,13 +280,13 @@ function partOf(text, from) {
   return text.slice(from, isFirstOfPair ? to - 1 : to);
 }
 
-/** Has the memory grow by so many pages, or where there are no more by fewer. */
+/** Grows the memory by this many pages, or by fewer if there are no more. */
 function growBy(memory, pages, least) {
   try {
     memory.grow(pages);
   } catch (error) {
     if (pages > least) return growBy(memory, least, least);
-    throw new TwoxHashError("memory", "The WebAssembly module can't have more memory.", { cause: error });
+    throw new TwoxHashError("memory", "Out of memory in the WebAssembly module.", { cause: error });
   }
 }
 
@@ -288,7 +295,7 @@ function room() {
   return loaded;
 }
 
-/** A getter of every object of a kind, whatever a class that extends it or the object itself says. */
+/** A getter of every object of a kind, whatever a subclass or the object itself defines. */
 function getterOf(kind, name) {
   return Object.getOwnPropertyDescriptor(kind.prototype, name).get;
 }
@@ -304,28 +311,28 @@ function lengthOf(input) {
   return typeof input === "string" ? input.length : lengthOfArray.call(input);
 }
 
-/** The input as it is, where it is text, and as bytes otherwise. */
+/** Returns text unchanged, and other input as bytes. */
 function asInput(input) {
   return typeof input === "string" ? input : asBytes(input);
 }
 
-/** Bytes as they are, where they fit into the chunk, and otherwise as an array of this file's own. */
+/** Returns bytes unchanged if they fit into the chunk, and otherwise as an array of this file's own. */
 function asBytes(input, code = "input", what = "The input", wanted = "text or bytes") {
   if (tagOfArray.call(input) === "Uint8Array") {
     const length = lengthOfArray.call(input);
     if (length > 0 && length <= CHUNK_BYTES) return input;
   }
   if (!isBytes(input)) {
-    throw new TwoxHashError(code, `${what} must be ${wanted}, an ArrayBuffer or a view of one, and not ${nameOf(input)}.`);
+    throw new TwoxHashError(code, `${what} must be ${wanted}, an ArrayBuffer or a view of one. Received ${nameOf(input)}.`);
   }
   try {
     return ownView(input);
   } catch (error) {
-    throw new TwoxHashError(code, `${what} has no bytes any more: its buffer was handed on, or is too short.`, { cause: error });
+    throw new TwoxHashError(code, `${what} has no bytes: its buffer is detached or too short.`, { cause: error });
   }
 }
 
-/** Whether it is a buffer or a view of one, of this page or of another. */
+/** True if it is a buffer or a view of one, of this page or of another. */
 function isBytes(given) {
   return ArrayBuffer.isView(given) || lengthsOfBuffers.some((lengthOfBuffer) => {
     try {
@@ -337,7 +344,7 @@ function isBytes(given) {
   });
 }
 
-/** The bytes of a view or a buffer, as an array that nothing was added to; an error where they are gone. */
+/** Returns the bytes of a view or a buffer, as an array without added properties. Throws if they are detached. */
 function ownView(given) {
   if (!ArrayBuffer.isView(given)) return new Uint8Array(given);
   const isArray = tagOfArray.call(given) !== undefined;
@@ -355,18 +362,18 @@ function wordOr(value, otherwise) {
   return typeof value === "string" ? value : otherwise;
 }
 
-/** The seed as a BigInt of the hash's range. */
+/** Returns the seed as a BigInt in the hash's range. */
 function asSeed(seed, bits) {
   if (seed === 0 || seed === 0n) return 0n;
   if (typeof seed !== "bigint" && !Number.isInteger(seed)) {
-    throw new TwoxHashError("seed", `The seed must be a BigInt or a whole number, and not ${shown(seed)}.`);
+    throw new TwoxHashError("seed", `The seed must be a BigInt or an integer. Received ${shown(seed)}.`);
   }
   if (seed > Number.MAX_SAFE_INTEGER && typeof seed === "number") {
-    throw new TwoxHashError("seed", `The seed ${seed} may be a rounded number: one of 2^53 or more must be a BigInt.`);
+    throw new TwoxHashError("seed", `The seed ${seed} may be rounded: from 2^53 on it must be a BigInt.`);
   }
   const value = BigInt(seed);
   if (value < 0n || value >> BigInt(bits)) {
-    throw new TwoxHashError("seed", `The seed ${value} isn't from 0 to 2^${bits} - 1.`);
+    throw new TwoxHashError("seed", `The seed ${value} is out of range: it must be from 0 to 2^${bits} - 1.`);
   }
   return value;
 }
@@ -378,23 +385,23 @@ function shown(value) {
 function asSecret(secret) {
   const bytes = typeof secret === "string" ? encoder.encode(secret) : asBytes(secret, "secret", "The secret");
   if (lengthOf(bytes) < SECRET_MINIMUM_LENGTH) {
-    throw new TwoxHashError("secret", `The secret has ${lengthOf(bytes)} bytes, and ${SECRET_MINIMUM_LENGTH} are needed.`);
+    throw new TwoxHashError("secret", `The secret has ${lengthOf(bytes)} bytes. It needs at least ${SECRET_MINIMUM_LENGTH}.`);
   }
   return bytes;
 }
 
 function asKind(kind) {
   if (KINDS.includes(kind)) return kind;
-  throw new TwoxHashError("kind", `The kind must be one of ${KINDS.join(", ")}, and not ${wordOr(kind, nameOf(kind))}.`);
+  throw new TwoxHashError("kind", `The kind must be one of ${KINDS.join(", ")}. Received ${wordOr(kind, nameOf(kind))}.`);
 }
 
-/** The seed and the secret of the options, each undefined where it isn't given. */
+/** Returns the seed and the secret of the options, each undefined if it isn't given. */
 function asKey(kind, options) {
   if (options === null || typeof options !== "object") {
-    throw new TwoxHashError("options", `The options must be an object, and not ${nameOf(options)}.`);
+    throw new TwoxHashError("options", `The options must be an object. Received ${nameOf(options)}.`);
   }
   for (const name of Object.keys(options)) {
-    if (name !== "seed" && name !== "secret") throw new TwoxHashError("options", `There is no option ${name}.`);
+    if (name !== "seed" && name !== "secret") throw new TwoxHashError("options", `Unknown option ${name}.`);
   }
   const { seed, secret } = options;
   if (secret !== undefined && !isXxh3(kind)) throw new TwoxHashError("secret", `${kind} takes no secret.`);
@@ -408,38 +415,38 @@ function isXxh3(kind) {
   return FAMILY[kind] === "xxh3";
 }
 
-/** Turns a code of the module into an error. This file tests all before it calls, so none is met. */
+/** Converts a code of the module to an error. This file tests everything before it calls, so none occurs. */
 function refuse(code) {
   if (code === DONE) return;
-  if (code === SECRET_TOO_SHORT) throw new TwoxHashError("secret", "The module refused the secret as too short.");
+  if (code === SECRET_TOO_SHORT) throw new TwoxHashError("secret", "The module refused the secret: it is too short.");
   if (code === NOT_A_STREAM) throw new TwoxHashError("kind", "The module found no stream there.");
-  throw new TwoxHashError("load", `The module answered the unknown code ${code}.`);
+  throw new TwoxHashError("load", `The module returned the unknown code ${code}.`);
 }
 
 /**
- * The value with all digits of its hash, zeros in front among them.
+ * Returns the value with all digits of its hash, including leading zeros.
  *
- * @param {number | bigint} value what a call answered
- * @param {"xxh32" | "xxh64" | "xxh3_64" | "xxh3_128"} kind the hash that it is of
+ * @param {number | bigint} value the result of a call
+ * @param {"xxh32" | "xxh64" | "xxh3_64" | "xxh3_128"} kind the hash of the value
  * @returns {string} 8, 16 or 32 digits
  */
 export function toHex(value, kind) {
   const bits = VALUE_BITS[asKind(kind)];
   if (typeof value !== "bigint" && !(bits === 32 && Number.isInteger(value))) {
     const wanted = bits === 32 ? "a whole number" : "a BigInt";
-    throw new TwoxHashError("value", `The value must be ${wanted}, and not ${shown(value)}.`);
+    throw new TwoxHashError("value", `The value must be ${wanted}. Received ${shown(value)}.`);
   }
   if (value < 0 || BigInt(value) >> BigInt(bits)) {
-    throw new TwoxHashError("value", `The value ${value} isn't from 0 to 2^${bits} - 1, as those of ${kind} are.`);
+    throw new TwoxHashError("value", `The value ${value} is out of range for ${kind}: it must be from 0 to 2^${bits} - 1.`);
   }
   return value.toString(16).padStart(bits / 4, "0");
 }
 
 /**
- * The value as 4, 8 or 16 bytes, the highest first, as its digits stand.
+ * Returns the value as 4, 8 or 16 bytes, the highest first, in the order of its digits.
  *
- * @param {number | bigint} value what a call answered
- * @param {"xxh32" | "xxh64" | "xxh3_64" | "xxh3_128"} kind the hash that it is of
+ * @param {number | bigint} value the result of a call
+ * @param {"xxh32" | "xxh64" | "xxh3_64" | "xxh3_128"} kind the hash of the value
  * @returns {Uint8Array}
  */
 export function toBytes(value, kind) {
@@ -471,12 +478,12 @@ export function xxh64(input, seed = 0) {
 }
 
 /**
- * XXH3 of 64 bits of bytes, or of text as UTF-8. With a seed and a secret the seed has an effect up to 240 bytes, and
- * the secret above; a secret alone has one at every length.
+ * XXH3 64-bit of bytes, or of text as UTF-8. With a seed and a secret the seed has an effect up to 240 bytes, and the
+ * secret above; with only a secret, it has one at every length.
  *
  * @param {string | BufferSource} input
- * @param {{ seed?: number | bigint, secret?: string | BufferSource }} [options] the seed from 0 to 2^64 - 1, the
- *     secret of 136 bytes or more
+ * @param {{ seed?: number | bigint, secret?: string | BufferSource }} [options] the seed from 0 to 2^64 - 1, the secret
+ *     of 136 bytes or more
  * @returns {bigint} below 2^64
  */
 export function xxh3_64(input, options = {}) {
@@ -484,7 +491,7 @@ export function xxh3_64(input, options = {}) {
 }
 
 /**
- * XXH3 of 128 bits, under the same options.
+ * XXH3 128-bit, with the same options.
  *
  * @param {string | BufferSource} input
  * @param {{ seed?: number | bigint, secret?: string | BufferSource }} [options]
@@ -508,7 +515,7 @@ function hashInPieces(kind, input, options) {
   return new Stream(kind, options).update(input).digest();
 }
 
-/** The hash of the bytes in the chunk. */
+/** Returns the hash of the bytes in the chunk. */
 function hashAtOnce(memory, kind, length, { seed, secret }) {
   if (secret === undefined) return oneshot(memory, kind, seed ?? 0n, length);
   memory.putSecret(secret);
@@ -541,32 +548,32 @@ function oneshotWithSecret(memory, kind, seed, secret, length) {
 
 // ---- streams
 
-/** Has a stream take bytes that lie in the module's memory; no method, so that callers don't. */
+/** Hashes bytes in the module's memory with a stream. Not a method, so that callers don't use it. */
 let updateFromMemory;
 
-/** Refuses what is no stream, and a stream that was freed. */
+/** Refuses other objects, and a stream that was freed. */
 let refuseUnlessOpen;
 
-/** Bytes or text that come in pieces. `update` takes a piece, and `digest` answers the hash of all so far. */
+/** Bytes or text that come in chunks. `update` hashes a chunk, and `digest` returns the hash of all so far. */
 export class Stream {
   #kind;
   #places;
-  #place = null; // where it lies, or lay before another took the place
+  #place = null; // its place, or its last one before another stream took it
   #record = null; // its bytes, once another has taken the place
-  #secret = null; // that with which it was started, or was derived, once another has taken the place
+  #secret = null; // the secret that was passed in or derived, once another has taken the place
   #secretLength = 0;
   #hasOwnSecret = false;
 
   static {
     updateFromMemory = (stream, start, length) => stream.#updateFrom(start, length);
     refuseUnlessOpen = (stream) => {
-      if (Object(stream) !== stream || !(#places in stream)) throw new TwoxHashError("input", `A Stream is needed, and not ${nameOf(stream)}.`);
+      if (Object(stream) !== stream || !(#places in stream)) throw new TwoxHashError("input", `Not a Stream. Received ${nameOf(stream)}.`);
       if (stream.#places === null) throw new TwoxHashError("freed", "The stream was freed.");
     };
   }
 
   /**
-   * A stream of no bytes yet.
+   * Creates a stream of no bytes.
    *
    * @param {"xxh32" | "xxh64" | "xxh3_64" | "xxh3_128"} kind
    * @param {{ seed?: number | bigint, secret?: string | BufferSource }} [options] as for the one-shots; XXH32 and
@@ -582,13 +589,13 @@ export class Stream {
     else this.#startPlain(memory, key);
   }
 
-  /** The hash that `digest()` answers. */
+  /** The hash that `digest()` returns. */
   get kind() {
     return this.#kind;
   }
 
   /**
-   * Takes a piece after those taken before. Text is taken as UTF-8, each piece by itself.
+   * Hashes a chunk after those before. Text is hashed as UTF-8, each chunk by itself.
    *
    * @param {string | BufferSource} piece
    * @returns {this}
@@ -599,22 +606,23 @@ export class Stream {
   }
 
   /**
-   * The hash of the bytes taken so far. More may be taken afterwards. A stream of XXH3 answers both widths.
+   * Returns the hash of the bytes so far. More may be hashed afterwards. A stream of XXH3 has both widths.
    *
-   * @param {"xxh32" | "xxh64" | "xxh3_64" | "xxh3_128"} [kind] the stream's own, if it is left out
+   * @param {"xxh32" | "xxh64" | "xxh3_64" | "xxh3_128"} [kind] the stream's own by default
    * @returns {number | bigint} a number of XXH32, and a BigInt of the others
    */
   digest(kind = this.#kind) {
     const memory = this.#enter();
     if (FAMILY[asKind(kind)] !== FAMILY[this.#kind]) {
-      throw new TwoxHashError("kind", `A stream of ${this.#kind} answers no ${kind}.`);
+      throw new TwoxHashError("kind", `A stream of ${this.#kind} has no digest of ${kind}.`);
     }
     refuse(this.#digestCode(memory, kind));
     return memory.written(VALUE_BITS[kind]);
   }
 
   /**
-   * The stream's state as bytes, from which `Stream.load` goes on. A secret that was handed over isn't among them.
+   * Returns the stream's state as bytes, from which `Stream.load` continues. They don't contain a secret that was
+   * passed in.
    *
    * @returns {Uint8Array}
    */
@@ -624,10 +632,10 @@ export class Stream {
   }
 
   /**
-   * A stream that goes on from where another was saved.
+   * Creates a stream that continues from a saved state.
    *
-   * @param {BufferSource} saved what `save` gave
-   * @param {{ secret?: string | BufferSource }} [options] the secret that the stream was started with, where one was
+   * @param {BufferSource} saved the result of `save`
+   * @param {{ secret?: string | BufferSource }} [options] the secret that the stream was started with, if there was one
    * @returns {Stream}
    */
   static load(saved, options = {}) {
@@ -652,7 +660,7 @@ export class Stream {
     return BigInt.asUintN(64, memory.exports.twox_xxh64(0n, this.#secretAt(memory), this.#secretLength));
   }
 
-  // What the module says of the record, with the digest at the value's place.
+  // The module's code for the record; its digest is written to the value's place.
   #digestCode(memory, kind = this.#kind) {
     const digest = memory.exports[`twox_${kind}_digest`];
     const { record } = this.#place;
@@ -660,7 +668,7 @@ export class Stream {
       : digest(record, this.#secretAt(memory), this.#secretLength, memory.value);
   }
 
-  /** Another stream that has taken the same bytes. */
+  /** Returns a copy of the stream. */
   copy() {
     const memory = this.#enter();
     const [record, secret] = [this.#recordThere(memory), this.#secretThere(memory)]; // before the other takes the place
@@ -671,7 +679,7 @@ export class Stream {
     return other;
   }
 
-  /** Lets go what the stream holds. Later calls of it are refused. */
+  /** Frees the stream. Later calls of it are refused. */
   free() {
     if (this.#isThere()) this.#places.free(this.#place);
     this.#places = this.#place = this.#record = this.#secret = null;
@@ -710,7 +718,7 @@ export class Stream {
     return this.#place?.stream === this;
   }
 
-  /** The memory, in which the stream lies with its secret. */
+  /** Returns the memory, in which the stream is with its secret. */
   #enter() {
     if (this.#places === null) throw new TwoxHashError("freed", "The stream was freed.");
     const memory = room();
@@ -722,7 +730,7 @@ export class Stream {
     return memory;
   }
 
-  /** Takes a place. The stream that lies there keeps its bytes itself from now on. */
+  /** Takes a place. The stream that was there keeps its bytes itself from now on. */
   #takePlace(memory) {
     const place = this.#places.take();
     if (place.stream !== null) place.stream.#leave(memory);
@@ -740,7 +748,7 @@ export class Stream {
     return memory.bytes.slice(record, record + this.#places.length);
   }
 
-  /** Keeps bytes that nobody else changes as the secret, and puts them beside the stream where there is room for them. */
+  /** Keeps bytes that nobody else changes as the secret, and copies them next to the stream if they fit there. */
   #keepSecret(memory, secret) {
     this.#secret = secret;
     this.#secretLength = secret.length;
@@ -751,7 +759,7 @@ export class Stream {
     return this.#secret ?? memory.bytes.slice(this.#place.secret, this.#place.secret + this.#secretLength);
   }
 
-  /** The address of the secret: a long one is put there anew where another was. */
+  /** Returns the address of the secret: a long one is written there again after another one was. */
   #secretAt(memory) {
     if (this.#secretLength <= SHORT_SECRET_LENGTH) return this.#place.secret;
     memory.holdSecret(this.#secret);
@@ -760,21 +768,21 @@ export class Stream {
 }
 
 /**
- * Has several streams take the same piece, which is carried to the module once. If one of them was freed, none takes it.
+ * Hashes the same chunk with several streams, copying it to the module once. If one of them was freed, none hashes it.
  *
  * @param {Iterable<Stream>} streams
  * @param {string | BufferSource} piece
  */
 export function updateAll(streams, piece) {
   if (typeof streams?.[Symbol.iterator] !== "function") {
-    throw new TwoxHashError("input", `The streams must be iterable, and not ${nameOf(streams)}.`);
+    throw new TwoxHashError("input", `The streams must be iterable. Received ${nameOf(streams)}.`);
   }
   const all = [...streams];
   all.forEach(refuseUnlessOpen);
   takePiece(all, piece);
 }
 
-/** Has streams take a piece. No code of a caller's runs meanwhile, so that the piece keeps its length. */
+/** Hashes a chunk with streams. No code of a caller runs meanwhile, so that the chunk keeps its length. */
 function takePiece(streams, piece) {
   const memory = room();
   const input = asInput(piece);
@@ -789,9 +797,9 @@ function takePiece(streams, piece) {
 
 // ---- saved states
 
-// A state is a head, the stream's record as it lies in the module's memory, and the XXH64 of both. The head is the
-// mark with the format's version, the number of the hash among KINDS, whether an own secret is needed, six zeros, and
-// the XXH64 of that secret. Numbers are little-endian.
+// A state is a head, the stream's record as in the module's memory, and the XXH64 of both. The head is the mark with
+// the format's version, the number of the hash among KINDS, whether the caller's secret is needed, six zeros, and the
+// XXH64 of that secret. Numbers are little-endian.
 const MARK = encoder.encode("twoxhsh1");
 const HEAD_BYTES = 24;
 const KIND_AT = 8;
@@ -799,11 +807,11 @@ const NEEDS_SECRET_AT = 9;
 const DIGEST_OF_SECRET_AT = 16;
 const CHECK_BYTES = 8;
 
-/** Where the number of seeds and the seed lie in a record of XXH3: 1 and a seed, or 0 for the secret alone. */
+/** The offsets of the number of seeds and of the seed in a record of XXH3: 1 and a seed, or 0 for only a secret. */
 const SEEDS_AT = 0;
 const SEED_AT = 8;
 
-/** The bytes of a record that belong to none of its fields. */
+/** The padding bytes of a record. */
 const PADDING = { xxh32: [44, 48] };
 
 function savedOf(kind, record, digestOfSecret) {
@@ -821,21 +829,21 @@ function savedOf(kind, record, digestOfSecret) {
   return saved;
 }
 
-/** What a saved state says, where its form is right. Whether bytes lead to its record is asked of the module. */
+/** Parses a saved state, if its form is valid. The module tests whether bytes lead to its record. */
 function readSaved(memory, saved) {
   const view = new DataView(saved.buffer, saved.byteOffset, saved.byteLength);
-  if (saved.length < HEAD_BYTES || MARK.some((byte, i) => saved[i] !== byte)) throw notAState("its mark isn't there");
+  if (saved.length < HEAD_BYTES || MARK.some((byte, i) => saved[i] !== byte)) throw notAState("it lacks the mark");
   const kind = KINDS[saved[KIND_AT]];
-  if (kind === undefined) throw notAState("its hash is none of the four");
+  if (kind === undefined) throw notAState("its hash is unknown");
   const length = HEAD_BYTES + memory.places[FAMILY[kind]].length + CHECK_BYTES;
-  if (saved.length !== length) throw notAState(`it has ${saved.length} bytes, and one of ${kind} has ${length}`);
+  if (saved.length !== length) throw notAState(`it has ${saved.length} bytes, not the ${length} of ${kind}`);
   const record = new Uint8Array(saved.subarray(HEAD_BYTES, length - CHECK_BYTES));
   const digestOfSecret = saved[NEEDS_SECRET_AT] ? view.getBigUint64(DIGEST_OF_SECRET_AT, true) : undefined;
   if (!sameBytes(savedOf(kind, record, digestOfSecret), saved)) throw notAState("it was changed");
   return { kind, record, digestOfSecret, seed: seedIn(kind, record, digestOfSecret) };
 }
 
-/** The seed from which the secret of a stream of XXH3 is derived anew; undefined where there is no need. */
+/** Returns the seed from which the secret of a stream of XXH3 is derived again; undefined if there is no need. */
 function seedIn(kind, record, digestOfSecret) {
   if (!isXxh3(kind)) {
     if (digestOfSecret !== undefined) throw notAState(`${kind} takes no secret`);
@@ -854,11 +862,11 @@ function sameBytes(left, right) {
 }
 
 function notAState(why) {
-  return new TwoxHashError("state", `These bytes are no saved state: ${why}.`);
+  return new TwoxHashError("state", `Not a saved state: ${why}.`);
 }
 
 function secretInWords(given, needed) {
-  if (needed === undefined) return "The saved stream has no secret of its own, and one was given.";
-  if (given === undefined) return "The saved stream goes on with the secret alone that it was started with.";
+  if (needed === undefined) return "The saved stream has no secret, but one was passed.";
+  if (given === undefined) return "The saved stream needs the secret that it was started with.";
   return "The saved stream was started with another secret.";
 }

@@ -1,12 +1,12 @@
 // SPDX-License-Identifier: MIT
-/** What the page says, in words. */
+/** The page's texts. */
 
 /** The names of the digests, in the order in which they are shown. */
 export const NAMES = { xxh32: "XXH32", xxh64: "XXH64", xxh3_64: "XXH3, 64 bits", xxh3_128: "XXH3, 128 bits" };
 
 export const $ = (id) => document.getElementById(id);
 
-/** A copy of what the template holds. */
+/** Returns a copy of the template's content. */
 export function copyOf(template) {
   return $(template).content.firstElementChild.cloneNode(true);
 }
@@ -40,12 +40,12 @@ export function counted(number, word) {
   return `${inThousands(number)} ${word}${number === 1 ? "" : "s"}`;
 }
 
-/** Has a screen reader say it. */
+/** Announces it to a screen reader. */
 export function say(words) {
   $("status").textContent = words;
 }
 
-/** Puts a text into the clipboard, and says on the button that it is there. */
+/** Copies a text to the clipboard, and shows that on the button. */
 export async function copy(text, button, what) {
   const word = button.dataset.word ??= button.textContent;
   try {

@@ -1,13 +1,13 @@
 // SPDX-License-Identifier: MIT
 /**
- * Hashes what the page hands it, away from the page's own thread. It is sent
+ * Hashes what the page sends it, on another thread than the page's. It receives
  *
  *     { type: "hash", job, blob, size, seed, secret }    seed a BigInt or undefined, secret bytes or undefined
  *     { type: "stop", job }
  *
- * and answers, for a job, any number of `progress` and then one of `done`, `stopped` and `failed`. Jobs run side by
- * side, one piece of each in turn. Once, before all else, it says `ready`, with the module that runs, or `unsupported`.
- * The size is what the blob had when it was chosen: one that has another size by now fails.
+ * and replies, for a job, with any number of `progress` and then one of `done`, `stopped` and `failed`. Jobs run
+ * concurrently, one chunk of each in turn. First of all it sends `ready`, with the name of the module, or
+ * `unsupported`. The size is the blob's size when it was chosen: if it is different now, the job fails.
  */
 import { Reader } from "./reader.js";
 import { takeBlob } from "./streams.js";
@@ -18,7 +18,7 @@ const MILLISECONDS_BETWEEN_REPORTS = 80;
 const reader = new Reader();
 const read = (...piece) => reader.read(...piece);
 
-/** What stops a job, by its number. */
+/** Aborts a job, by its number. */
 const stops = new Map();
 const ready = load().then(
   () => postMessage({ type: "ready", hasVectors: hasVectors() }),
@@ -50,7 +50,7 @@ async function run({ job, blob, size, seed, secret }) {
   }
 }
 
-/** One stream for each hash that takes the seed; that of XXH3 answers both widths. */
+/** One stream for each hash that takes the seed; that of XXH3 has both widths. */
 function streamsFor(seed, secret) {
   const streams = { xxh64: new Stream("xxh64", { seed }), xxh3: new Stream("xxh3_64", { seed, secret }) };
   if (seed === undefined || seed < 2n ** 32n) streams.xxh32 = new Stream("xxh32", { seed });
@@ -66,7 +66,7 @@ function digestsOf({ xxh32, xxh64, xxh3 }) {
   };
 }
 
-/** Tells the page how far a job is, and not too often. */
+/** Reports the progress of a job to the page, not too often. */
 function reportsOf(job) {
   let reported = performance.now();
   return (done) => {

@@ -2,10 +2,10 @@
 /** Types of xxhash_wasm.js, which has the names of the package xxhash-wasm 1.1. */
 import type { Input } from "./twox_hash.js";
 
-/** The bytes of a stream that was saved. */
+/** The bytes of a saved stream. */
 export type XXHashState = Uint8Array;
 
-/** Bytes or text that come in pieces. */
+/** Bytes or text that come in chunks. */
 export interface XXHash<T> {
   update(input: Input): XXHash<T>;
   digest(): T;
@@ -25,5 +25,5 @@ export interface XXHashAPI {
   load64(state: XXHashState): XXHash<bigint>;
 }
 
-/** Makes the calls ready, and gives them. */
+/** Loads the module, and returns the calls. */
 export default function xxhash(): Promise<XXHashAPI>;

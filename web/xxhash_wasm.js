@@ -2,13 +2,13 @@
 /** The names of the package xxhash-wasm 1.1, so that a program that uses it changes one import. */
 import { Stream, TwoxHashError, load, toHex, xxh32, xxh64 } from "./inline.js";
 
-/** Makes the calls ready, and gives them. */
+/** Loads the module, and returns the calls. */
 export default async function xxhash() {
   await load();
   return CALLS;
 }
 
-// A seed beyond its range is taken modulo 2^32 or 2^64 there too.
+// There too a seed out of range is taken modulo 2^32 or 2^64.
 const h32 = (input, seed = 0) => xxh32(input, seed >>> 0);
 const h64 = (input, seed = 0n) => xxh64(input, BigInt.asUintN(64, seed));
 
@@ -28,5 +28,5 @@ const CALLS = Object.freeze({
 function goingOn(state, kind) {
   const stream = Stream.load(state);
   if (stream.kind === kind) return stream;
-  throw new TwoxHashError("state", `This is the state of a stream of ${stream.kind}, and not of ${kind}.`);
+  throw new TwoxHashError("state", `The state is of a stream of ${stream.kind}, not of ${kind}.`);
 }

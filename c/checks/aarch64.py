@@ -26,7 +26,7 @@ RIGHT, WRONG = '#define XXH_PRIME32_1  0x9E3779B1U', '#define XXH_PRIME32_1  0x9
 
 
 def reference(built, name, change=('', ''), flags=('-O2',)):
-    """The reference's header alone as a shared library, with a text of it changed."""
+    """Builds only the reference's header as a shared library, with one change."""
     folder = os.path.join(built.room, name)
     os.mkdir(folder)
     with open(HEADER) as file:
@@ -43,13 +43,13 @@ def reference(built, name, change=('', ''), flags=('-O2',)):
 
 
 def wrong_reference_differs(built, qemu, program, count):
-    """Each hash of a reference with a wrong constant is another."""
+    """Each hash of a reference with a wrong constant is different."""
     wrong = reference(built, 'wrong-reference', (RIGHT, WRONG))
     return values.calls_notice([*qemu, program], wrong, built.plain, count)
 
 
 def table_agrees(built, qemu):
-    """The oracle's table, written by our static library."""
+    """The oracle's table, with our static library."""
     program = built.program('table', os.path.join(TOP, 'oracle', 'vectors.c'), built.archive, '-static')
     done = subprocess.run([*qemu, program], stdout=subprocess.PIPE, timeout=300)
     with open(os.path.join(TOP, 'oracle', 'vectors.txt'), 'rb') as file:
@@ -64,7 +64,7 @@ def loads(side):
 
 
 def package_serves(built, sides, root):
-    """Debian's python3-xxhash runs on the library of the package for arm64, where it is told to."""
+    """Debian's python3-xxhash loads the library of the package for arm64, if the environment requests it."""
     folder = os.path.join(built.room, 'package')
     os.mkdir(folder)
     must([os.path.join(C, 'package'), '--target', 'aarch64', folder])

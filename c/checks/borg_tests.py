@@ -1,4 +1,4 @@
-"""Runs the tests of Debian's borgbackup that speak of these checksums, on one library or another."""
+"""Runs the tests of Debian's borgbackup that cover these checksums, on one library or another."""
 import sys
 
 import pytest

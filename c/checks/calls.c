@@ -1,13 +1,13 @@
-/* Compares two libraries of these calls in one process, on calls and streams drawn at random:
+/* Compares two libraries with this API in one process, on random calls and streams:
  *
  *     calls REFERENCE OURS COUNT [--limits | --freed]
  *
- * Each input ends where memory that nobody may read begins, and so does each secret. Of streams each digest on the
- * way is compared, with cuts, copies and resets. What the reference leaves undefined is asked of ours alone:
- * secrets that are too short, states that were never reset. --limits adds inputs and streams of more than 4 GiB, and
- * states where no memory is left. --freed asks in place of all that for memory which held a state and was freed; it is
- * not for valgrind, since nobody has written to such memory.
- * It prints a line for each group and the first differences, and answers 1 where there is one.
+ * Each input, and each secret, ends right before memory that may not be read. Each intermediate digest of a stream is
+ * compared, with splits, copies and resets. What the reference leaves undefined is tested only for ours: secrets that
+ * are too short, and states that were never reset. --limits adds inputs and streams of more than 4 GiB, and states with
+ * no memory left. --freed instead tests only memory that held a state and was freed; don't use it with valgrind, since
+ * nothing has written to such memory.
+ * Prints a line for each group and the first differences. The exit status is 1 if there are any.
  */
 #define _GNU_SOURCE
 #include <dlfcn.h>
@@ -42,7 +42,7 @@
     X(XXH3_generateSecret) X(XXH3_generateSecret_fromSeed) \
     EACH_DISPATCHED_CALL(X)
 
-/* The C library has these on x86-64 alone. */
+/* The C library has these only on x86-64. */
 #ifdef __x86_64__
 #define EACH_DISPATCHED_CALL(X) \
     X(XXH3_64bits_dispatch) X(XXH3_64bits_withSeed_dispatch) X(XXH3_64bits_withSecret_dispatch) \
@@ -85,7 +85,7 @@ static void load(struct library *library, const char *path)
     EACH_CALL(LOAD)
 }
 
-/* ---- What is compared ---- */
+/* ---- The libraries ---- */
 
 static long compared, differing;
 
@@ -141,7 +141,7 @@ static uint64_t random_seed(void)
 
 #define ROOM ((size_t)1 << 17)
 
-/* A room that ends at memory which may not be read, full of random bytes. */
+/* A buffer of random bytes that ends right before memory that may not be read. */
 static unsigned char *guarded(void)
 {
     unsigned char *room = mmap(0, ROOM + 4096, PROT_READ | PROT_WRITE, MAP_PRIVATE | MAP_ANONYMOUS, -1, 0);
@@ -152,7 +152,7 @@ static unsigned char *guarded(void)
 
 static unsigned char *input_room, *secret_room;
 
-/* An input or a secret of so many bytes, right before the end of its room. */
+/* An input or a secret of this many bytes, at the end of its buffer. */
 static const unsigned char *input_of(size_t length)
 {
     input_room[ROOM - 1 - below(64)] = (unsigned char)random_word();
@@ -165,7 +165,7 @@ static const unsigned char *secret_of(size_t length)
     return secret_room + ROOM - length;
 }
 
-/* A length: most often near the limits of the ranges and of the buffers, seldom long. */
+/* A length: most often near the limits of the ranges and of the buffers, rarely long. */
 static size_t random_length(void)
 {
     switch (below(8)) {
@@ -214,7 +214,7 @@ static void random_oneshots(void)
     oneshots(input_of(n), n, random_seed(), secret_of(m), m);
 }
 
-/* ---- Streams: a state of each library, which take the same. The arguments of BOTH are used twice. ---- */
+/* ---- Streams: a state of each library, with the same calls. The arguments of BOTH are used twice. ---- */
 
 struct pair_32 { XXH32_state_t *ours, *reference; };
 struct pair_64 { XXH64_state_t *ours, *reference; };
@@ -276,8 +276,8 @@ static void stream_64(void)
     BOTH(b, XXH64_freeState);
 }
 
-/* Resets by one of the calls of a width. The reference reads the secret as long as the state is used, so it stays. The
- * last call gets no seed 0 here: see seed_0_and_secret. */
+/* Resets by one of the calls of a width. The reference reads the secret as long as the state is used, so it stays.
+ * The last call gets no seed 0 here: see seed_0_and_secret. */
 static void reset_3(struct pair_3 a, int wide, const void *secret, size_t m, uint64_t seed)
 {
     switch (below(4) + (wide ? 4 : 0)) {
@@ -375,8 +375,8 @@ static void secrets_of_seeds(void)
     tell(!memcmp(a, b, sizeof a), "XXH3_generateSecret_fromSeed");
 }
 
-/* A secret of a custom seed, in a room that ends at memory which may not be read, and too short for one in ten. The
- * bytes before the room stay as they are. */
+/* A secret from a custom seed, in a buffer that ends right before memory that may not be read, and too short in one
+ * case of ten. The bytes before the buffer stay as they are. */
 static void generated_secrets(void)
 {
     static unsigned char theirs[16 + 1000];
@@ -404,7 +404,7 @@ static void every_secret_length(void)
     }
 }
 
-/* Ours refuses a secret that is too short, and in a stream one that is too long: the stream goes on as it was. */
+/* Ours refuses a secret that is too short, and in a stream one that is too long: the stream continues unchanged. */
 static void refused_secrets(void)
 {
     XXH3_state_t *state = ours.XXH3_createState();
@@ -430,8 +430,8 @@ static void refused_secrets(void)
     ours.XXH3_freeState(state);
 }
 
-/* A secret and the seed 0, of 128 bits: the reference's one-shot takes the default secret for up to 240 bytes, and its
- * digest the secret given, whichever call reset the stream. Ours takes the default secret in both. */
+/* A secret and the seed 0, 128-bit: the reference's one-shot uses the default secret for up to 240 bytes, and its
+ * digest the given secret, whichever call reset the stream. Ours uses the default secret in both. */
 static void seed_0_and_secret(void)
 {
     XXH3_state_t *state = ours.XXH3_createState();
@@ -479,7 +479,7 @@ static void null_inputs(void)
     BOTH(no_3, XXH3_freeState);
 }
 
-/* A null state or secret that the reference refuses. A state of ours stays as it was, and so does a room. */
+/* A null state or secret that the reference refuses. A state of ours stays unchanged, and so does a buffer. */
 static void null_refused(void)
 {
     struct pair_3 none = { NULL, NULL }, a = CREATE(XXH3);
@@ -508,7 +508,7 @@ static void null_refused(void)
     tell(!memcmp(room[0], room[1], 192), "XXH3_generateSecret of a null seed writes");
 }
 
-/* ---- States of ours: of each kind, with the value that the reference has for the same bytes ---- */
+/* ---- States of ours: of each kind, with the reference's value for the same bytes ---- */
 
 enum kind { KIND_32, KIND_64, KIND_3_64, KIND_3_128, KINDS };
 
@@ -570,7 +570,7 @@ static XXH128_hash_t value(enum kind kind, const void *p, size_t n, uint32_t see
     }
 }
 
-/* A state that was just created stands for no bytes and the seed 0. */
+/* A state that was just created represents no bytes and the seed 0. */
 static void created_state(enum kind kind)
 {
     void *state = created(kind);
@@ -582,7 +582,7 @@ static void created_state(enum kind kind)
     freed(kind, state);
 }
 
-/* Lets a state hold what another program left there: all zero, all ones, any bytes. */
+/* Fills a state with what another program could have left there: all zero, all ones, any bytes. */
 static void overwrite(unsigned char *state, size_t size)
 {
     switch (below(3)) {
@@ -599,8 +599,8 @@ static void spoil(unsigned char *state, size_t size)
         state[below(size)] = below(2) ? (unsigned char)random_word() : 255;
 }
 
-/* Memory that no reset has written is refused, and stays as it is. A state in which bytes were changed may be refused
- * or not: then too a call answers, and reads and writes nothing else. A reset makes either good. */
+/* Memory that no reset has written is refused and unchanged. A state with changed bytes may or may not be refused:
+ * in both cases a call returns, and reads and writes nothing else. A reset makes either valid. */
 static void state_never_reset(enum kind kind)
 {
     static const size_t lengths[] = { 0, 1, 31, 64, 255, 256, 257, 512, 513, 1500 };
@@ -627,8 +627,8 @@ static void state_never_reset(enum kind kind)
 
 /* ---- Memory of a state that was freed ---- */
 
-/* malloc gives the memory of a state that was just freed, whose rest is what free left of it: it is no state. Answers
- * whether it was that memory. */
+/* malloc returns the memory of a state that was just freed, with the content that free left in it: it is no state.
+ * Returns whether it was that memory. */
 static int freed_memory(enum kind kind)
 {
     void *state = created(kind);
@@ -666,8 +666,8 @@ static void stream_in_pieces(enum kind kind, size_t n, size_t piece)
     freed(kind, state);
 }
 
-/* One-shots beside the reference's, where the input begins at one of four alignments; streams of ours in pieces of one
- * length, or whole, beside the reference's one-shots. */
+/* One-shots against the reference's, with inputs at four alignments; streams of ours in chunks of one length, or
+ * whole, against the reference's one-shots. */
 static void every_length(void)
 {
     static const size_t places[] = { 0, 1, 6, 12 }, pieces[] = { 1, 7, 64, 255, 256, 257, 1024, 5000 };
@@ -686,7 +686,7 @@ static void every_length(void)
 #define THREADS 8
 #define STREAMS 1000
 
-/* Streams of ours in pieces of 100 bytes, each kind in turn. Answers how many differ from the reference's one-shots. */
+/* Streams of ours in chunks of 100 bytes, each kind in turn. Returns how many differ from the reference's one-shots. */
 static void *streams_of_a_thread(void *first)
 {
     long differ = 0;
@@ -716,7 +716,7 @@ static void threads(void)
 
 /* ---- No memory ---- */
 
-/* Where memory runs out, createState answers null. What is left is taken first, in pieces of each size. */
+/* If memory runs out, createState returns null. All remaining memory is allocated first, in blocks of each size. */
 static void no_memory(void)
 {
     struct piece { struct piece *next; } *pieces = NULL, *piece;
@@ -737,7 +737,7 @@ static void no_memory(void)
 #define PART ((size_t)64 << 20)
 #define PARTS 66
 
-/* One part of random bytes, mapped so many times in a row. */
+/* One part of random bytes, mapped this many times in a row. */
 static const unsigned char *huge_input(void)
 {
     int file = memfd_create("huge", 0);

@@ -1,5 +1,5 @@
-"""Debian's own programs on our library beside the original. Each check runs a program on both sides, and on a wrong
-library, where it has to notice. Everything happens in folders of the check's own."""
+"""Debian's own programs on our library, compared with the original. Each check runs a program on both, and on a
+wrong library, which it must detect. Everything is done in folders of the check's own."""
 import os
 import shutil
 import signal
@@ -16,7 +16,7 @@ PYTHON = '/usr/bin/python3'
 
 
 class Sides:
-    """The original, ours, ours with changed answers, and ours where each hash ends the process."""
+    """The original, ours, ours with changed results, and ours with hashes that end the process."""
 
     def __init__(self, theirs, ours, wrong, stopping):
         self.theirs, self.ours, self.wrong, self.stopping = theirs, ours, wrong, stopping
@@ -41,7 +41,7 @@ def python_hashes(sides):
 # ---- rsync ----
 
 def rsync_source(folder):
-    """Files of several lengths, and where they go: older copies of them with some bytes changed."""
+    """Files of several lengths, and their destinations: older copies of them with some bytes changed."""
     source, target = os.path.join(folder, 'source'), os.path.join(folder, 'target')
     os.mkdir(source)
     for length in (0, 1, 700, 5000, 300000, 3000000):
@@ -61,8 +61,8 @@ def rsync_source(folder):
 
 
 def rsync_run(folder, choice, sender, receiver):
-    """Sends with the one library and receives with the other. Answers how the sender ended,
-    whether all files are equal, and what the receiver loaded."""
+    """Sends with one library and receives with the other. Returns how the sender ended, whether all files are equal,
+    and what the receiver loaded."""
     source, target, shell = rsync_source(folder)
     logs = os.path.join(folder, 'receiver')
     set_here = ' '.join(f"{name}='{value}'" for name, value in receiver.variables(logs).items())
@@ -110,7 +110,7 @@ def borg_archive(folder, writer):
 
 
 def borg_pair(writer, reader):
-    """One side writes an archive, the other checks it, adds to it and takes it out again."""
+    """One side writes an archive; the other checks it, adds to it and extracts it."""
     with tempfile.TemporaryDirectory() as folder:
         borg_archive(folder, writer)
         os.mkdir(os.path.join(folder, 'out'))
@@ -145,7 +145,7 @@ def borg_tests(sides):
 # ---- apt ----
 
 def apt_root(folder):
-    """A root of apt's own with a repository of made-up packages. Answers the environment variable that names it."""
+    """A root for apt with a repository of test packages. Returns the environment variable with its path."""
     for part in ('etc/apt.conf.d', 'etc/preferences.d', 'repository', 'lists/partial', 'cache/archives/partial'):
         os.makedirs(os.path.join(folder, part))
     write(os.path.join(folder, 'repository/Packages'), ''.join(
@@ -161,14 +161,14 @@ def apt_root(folder):
 
 
 def apt_accepts(side, conf):
-    """Whether apt finds the cache that lies there valid, by the hash that it holds."""
+    """True if apt accepts the existing cache, by the hash in it."""
     done = run(side, ['apt-cache', 'depends', 'made-up-7'], APT_CONFIG=conf)
     want(done.status == 0 and 'Depends: made-up-4' in done.out, tail(done.out))
     return 'pkgcache.bin is valid' in done.out
 
 
 def apt_pair(sides, writer, reader):
-    """One side reads the lists and writes the cache, the other finds it valid, and a wrong library doesn't."""
+    """One side reads the lists and writes the cache; the other accepts it, and a wrong library doesn't."""
     with tempfile.TemporaryDirectory() as folder:
         conf = apt_root(folder)
         done = run(writer, ['apt-get', 'update'], APT_CONFIG=conf)
@@ -231,8 +231,8 @@ def start_lighttpd(side, folder, port):
 
 
 def lighttpd_answer(side, folder, *headers):
-    """Asks a server on this side for a page by HTTP/2, whose headers lighttpd packs by XXH32. Answers the lines of the
-    status and the ETag."""
+    """Requests a page from a server on this side by HTTP/2, whose headers lighttpd packs by XXH32. Returns the lines
+    of the status and the ETag."""
     port = free_port()
     server = start_lighttpd(side, folder, port)
     page = f'http://127.0.0.1:{port}/page.txt'

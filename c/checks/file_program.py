@@ -1,4 +1,4 @@
-"""The program xxhsum, installed, beside Debian's."""
+"""The installed program xxhsum, compared with Debian's."""
 import os
 import tempfile
 
@@ -7,8 +7,8 @@ from tools import TOP, must
 
 
 def file_program_agrees(prefix):
-    """The xxhsum below this folder by each of its names beside Debian's, lists that one makes and the other checks, and
-    its manual page."""
+    """Compares the xxhsum below this folder by each of its names with Debian's, with lists that one writes and the
+    other checks, and tests its manual page."""
     file = os.path.join(TOP, 'LICENSE')
     for name in ('xxhsum', 'xxh32sum', 'xxh64sum', 'xxh128sum'):
         own, theirs = os.path.join(prefix, 'bin', name), f'/usr/bin/{name}'

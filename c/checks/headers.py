@@ -1,4 +1,4 @@
-"""How the installed files serve programs that are built with them: the headers, pkg-config with -static, CMake."""
+"""Programs that are built with the installed files: the headers, pkg-config with -static, CMake."""
 import os
 import subprocess
 
@@ -9,7 +9,7 @@ STATE_ON_THE_STACK = '#include <xxhash.h>\nint main(void) { XXH3_state_t s; retu
 DISPATCHED = ('#include <xxh_x86dispatch.h>\n'
               'int main(void) { return XXH3_64bits_dispatch("", 0) != XXH3_64bits("", 0); }\n')
 EXAMPLE_C = os.path.join(TOP, 'examples', 'c', 'hash-file.c')
-# A name inside twox_c that stands in each program which holds its code.
+# A name inside twox_c that is in each program which contains its code.
 MARK = 'twox_c'
 
 
@@ -18,7 +18,7 @@ def package_path(built):
 
 
 def compiled(built, text, compiler, *flags):
-    """Compiles a text, and answers the status, the lines with an error, and all that the compiler says."""
+    """Compiles a source, and returns the status, the lines with an error, and the whole output."""
     language = 'c++' if compiler == 'g++' else 'c'
     words = [built.tools + compiler, *flags, '-I', built.include, '-fsyntax-only', '-x', language, '-']
     done = subprocess.run(words, input=text, stdout=subprocess.PIPE, stderr=subprocess.STDOUT, text=True)
@@ -26,7 +26,7 @@ def compiled(built, text, compiler, *flags):
 
 
 def refuses(built, text, word, compiler, *flags):
-    """The compiler refuses a text with one error, and what it says has the word."""
+    """The compiler refuses a source with one error, whose message has the word."""
     status, errors, said = compiled(built, text, compiler, *flags)
     want(status != 0, 'it is compiled')
     want(len(errors) == 1, f'{len(errors)} errors')
@@ -54,8 +54,8 @@ def holds(built, program):
 
 
 def static_by_pkg_config(built):
-    """A program that is linked with -static by pkg-config holds our code, also where Debian's archive is installed. With
-    Debian's own pkg-config file it doesn't."""
+    """A program that is linked with -static by pkg-config contains our code, also if Debian's archive is installed.
+    With Debian's own pkg-config file it doesn't."""
     flags = must(['pkg-config', '--cflags', '--libs', '--static', 'libxxhash'], env=package_path(built)).split()
     path = os.path.join(built.room, 'hash-file-static')
     must(['gcc', '-static', EXAMPLE_C, *flags, '-o', path])
@@ -67,7 +67,7 @@ def static_by_pkg_config(built):
 
 
 def by_cmake(built):
-    """examples/cmake, which finds the package xxHash. Answers its two programs."""
+    """examples/cmake, which finds the package xxHash. Returns its two programs."""
     folder = os.path.join(built.room, 'example-cmake')
     must(['cmake', '-S', os.path.join(TOP, 'examples', 'cmake'), '-B', folder, f'-DCMAKE_PREFIX_PATH={built.prefix}'])
     must(['cmake', '--build', folder])

@@ -1,4 +1,4 @@
-"""What c/launch.c makes of a program that is built twice: the build that the processor has, called as it was."""
+"""c/launch.c with a program that is built twice: it runs the processor's build, with the same arguments."""
 import os
 import subprocess
 
@@ -17,15 +17,15 @@ int main(int count, char **words)
 '''
 SETS = ('x86-64-v2', 'x86-64-v3')
 BUILDS = 'libexec/twox-hash'
-# A processor without AVX2, one with all that qemu has, and what x86-64-v3 asks for.
+# A processor without AVX2, one with everything that qemu has, and the requirements of x86-64-v3.
 OLD = ['qemu-x86_64', '-cpu', 'Nehalem']
 FULL = ['qemu-x86_64', '-cpu', 'max']
 OF_V3 = ('avx2', 'bmi1', 'bmi2', 'f16c', 'fma', 'abm', 'movbe', 'xsave')
 
 
 def lay_out(room, compiler):
-    """Two builds that print which one they are and their words, a launcher, and a link of another name to it, in a
-    folder that was moved since. Its name has what a shell or C would take for something else."""
+    """Two builds that print which one they are and their arguments, a launcher, and a link to it with another name,
+    in a folder that was moved since. Its name has characters that are special in a shell or C."""
     first, folder = os.path.join(room, 'first'), os.path.join(room, compiler, 'launched "$(here)\\')
     os.mkdir(os.path.dirname(folder))
     source = os.path.join(room, 'shows.c')
@@ -49,7 +49,8 @@ def runs(words, told=b'', **more):
 
 
 def launches(room, v3, compiler):
-    """Name, words, answer and standard streams are those of the build; where that is missing, one line says so."""
+    """Name, arguments, exit status and standard streams are those of the build; if that is missing, it prints a
+    one-line error."""
     folder = lay_out(room, compiler)
     launcher = os.path.join(folder, 'bin', 'launcher')
     best, plain = SETS[v3].encode(), SETS[0].encode()

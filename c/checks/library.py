@@ -1,4 +1,4 @@
-"""The library for C as c/install puts it, for each set of instructions, and copies of it that are wrong."""
+"""The library for C as c/install installs it, for each instruction set, and copies of it that are wrong."""
 import os
 import shutil
 import subprocess
@@ -9,19 +9,19 @@ C = os.path.join(TOP, 'c')
 
 
 def sets_of_library():
-    """The sets of instructions that the library is made for on x86-64, the one for every processor first."""
+    """The instruction sets that the library is built for on x86-64, the one for every processor first."""
     return must(['make', '-s', '-C', C, 'sets']).split()
 
 
 def sets_here():
-    """Those of them that the loader takes on this machine."""
+    """Those of them that the loader uses on this machine."""
     told = subprocess.run(['/lib64/ld-linux-x86-64.so.2', '--help'], stdout=subprocess.PIPE, text=True).stdout
     first, *above = sets_of_library()
     return [first, *(name for name in above if f'{name} (supported' in told)]
 
 
 class Built:
-    """What is checked: the installed library of a processor, and copies of it that are wrong."""
+    """The library under test: the installed library of a processor, and copies of it that are wrong."""
 
     def __init__(self, room, target='x86-64', tools=''):
         self.room, self.tools = room, tools
@@ -35,12 +35,12 @@ class Built:
         self.plain = os.path.join(self.folder, 'libxxhash.so.0')
 
     def shared(self, instructions):
-        """The shared library for a set of instructions."""
+        """The shared library for an instruction set."""
         above = [] if instructions == sets_of_library()[0] else ['glibc-hwcaps', instructions]
         return os.path.join(self.folder, *above, 'libxxhash.so.0')
 
     def libraries(self):
-        """The shared library of each set, and of those that the loader takes here."""
+        """The shared library of each instruction set, and of those that the loader uses here."""
         return [self.shared(name) for name in sets_of_library()], [self.shared(name) for name in sets_here()]
 
     def tool(self, name, *words):
@@ -58,7 +58,7 @@ class Built:
         return path
 
     def link(self, name, archive, *words):
-        """A shared library of the archive and other objects, in a folder of its own."""
+        """Links the archive and other objects to a shared library, in a folder of its own."""
         os.makedirs(os.path.join(self.room, name), exist_ok=True)
         path = os.path.join(self.room, name, 'libxxhash.so.0')
         names = '-Wl,--version-script=' + os.path.join(C, 'libxxhash.map')
@@ -67,7 +67,7 @@ class Built:
         return path
 
     def wrong(self, name, *flags):
-        """The library with each hash changed, as checks/wrong.c has it."""
+        """The library with each hash changed, by checks/wrong.c."""
         changed = self.object(name, os.path.join(C, 'checks', 'wrong.c'), *flags)
         names = [line.split()[-1] for line in self.tool('nm', '-u', changed).splitlines() if ' right_' in line]
         archive = os.path.join(self.room, name + '.a')

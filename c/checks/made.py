@@ -1,4 +1,4 @@
-"""What programs make of the installed library by themselves: states that they lay out, a choice by the processor."""
+"""Programs with the installed library: states of their own, and a choice by the processor."""
 import os
 import shutil
 import subprocess
@@ -9,7 +9,7 @@ from library import C
 from tools import must
 
 HEADER = '/usr/include/xxhash.h'
-# The word comes after the header was included once, as where another header includes it.
+# The word comes after the header was included once, for example by another header.
 IN_CPP = '''#include <xxhash.h>
 #define XXH_STATIC_LINKING_ONLY
 #include <xxhash.h>
@@ -22,7 +22,7 @@ int main()
     return XXH32_digest(&first) != XXH32("", 0, 7) || XXH64_digest(&second) != XXH64("", 0, 7);
 }
 '''
-# Both libraries have other results for it: the C library reads the secret as it is at the digest.
+# Both libraries have other results for it: the C library reads the secret at the digest.
 CHANGES_ITS_SECRET = '''#include <stdio.h>
 #include <string.h>
 #include <xxhash.h>
@@ -45,7 +45,7 @@ ASKS = '#include <xxh_x86dispatch.h>\nint main(void) { return XXH_featureTest();
 
 
 def own_states_agree(built, theirs, paths, compiler, folder, run=()):
-    """States by a header, between bytes that have to stay, and memory that was never reset."""
+    """States by a header, between bytes that must not change, and memory that was never reset."""
     program = os.path.join(built.room, 'own-states')
     must([compiler, '-O2', '-Wall', '-Wextra', '-I', folder, os.path.join(C, 'checks', 'own_states.c'), '-o', program])
     found = []
@@ -58,7 +58,7 @@ def own_states_agree(built, theirs, paths, compiler, folder, run=()):
 
 
 def their_header(room):
-    """Debian's header in a folder of its own, so that none of another folder is taken for it."""
+    """Debian's header in a folder of its own, so that none of another folder is used instead."""
     folder = os.path.join(room, 'their-header')
     os.makedirs(folder)
     shutil.copy(HEADER, folder)
@@ -72,7 +72,7 @@ def states_in_cpp(built, compiler):
 
 
 def features_are_known(built):
-    """XXH_featureTest beside what the system says of its processor, and on others that qemu plays."""
+    """XXH_featureTest, compared with what the system reports of its processor, and on others that qemu emulates."""
     path = os.path.join(built.room, 'asks')
     must(['gcc', '-x', 'c', '-', '-I', built.include, '-x', 'none', built.archive, '-o', path], input=ASKS)
     with open('/proc/cpuinfo') as file:
@@ -86,7 +86,8 @@ def features_are_known(built):
 
 
 def demands_this_library(built, compiler, *flags):
-    """With TWOX_HASH_REQUIRED a program stops at its start on the C library. Without it, it prints another digest there."""
+    """With TWOX_HASH_REQUIRED a program stops at its start on the C library. Without it, it prints another digest
+    there."""
     found = []
     for line in ('', 'TWOX_HASH_REQUIRED;'):
         path = os.path.join(built.room, f'changes-its-secret-{len(line)}')

@@ -1,8 +1,8 @@
 /* SPDX-License-Identifier: MIT */
-/* Calls each name of the headers, whatever library it is linked with, and prints those that it called, in their order.
- * The one-shots are compared with nothing here: the oracle's table has them. All else is compared with one-shots:
- * streams cut in pieces, copies, other names of one call, secrets. It says the first thing that differs, and then
- * answers 1. */
+/* Calls each name of the headers, whatever library it is linked with, and prints the names that it called, in their
+ * order. The one-shots are not compared here: they are in the oracle's table. Everything else is compared with
+ * one-shots: streams in chunks, copies, other names of one call, secrets. At the first difference it prints an error
+ * and returns 1. */
 #include <stdio.h>
 #include <stdlib.h>
 #include <string.h>
@@ -61,7 +61,7 @@ static int same(XXH128_hash_t one, XXH128_hash_t other)
 static unsigned char input[3000], secret[XXH3_SECRET_DEFAULT_SIZE];
 static const XXH64_hash_t seed = 0x9e3779b97f4a7c15;
 
-/* Hands the first bytes of the input to an update, in pieces that grow from 1 byte on. */
+/* Passes the first bytes of the input to an update, in chunks that grow from 1 byte on. */
 #define IN_PIECES(name, state, length) \
     do { \
         size_t piece_ = 1; \
@@ -71,7 +71,7 @@ static const XXH64_hash_t seed = 0x9e3779b97f4a7c15;
         } \
     } while (0)
 
-/* Streams of XXH32 and of XXH64: cut in pieces, copied on the way, and the copy goes on. */
+/* Streams of XXH32 and of XXH64: in chunks, copied on the way, and the copy continues. */
 #define PLAIN(bits) \
     static void plain_##bits(size_t length) \
     { \
@@ -154,7 +154,7 @@ static void streams_of_xxh3(size_t length)
     XXH3_freeState(copy);
 }
 
-/* 128 bits as a value: the order and the bytes of it. */
+/* 128-bit values: their order and their bytes. */
 static void values_of_128(size_t length)
 {
     XXH128_hash_t one = THE(XXH128)(input, length, seed), other = one;
@@ -170,7 +170,7 @@ static void values_of_128(size_t length)
     want(same(THE(XXH128_hashFromCanonical)(&bytes), one), "XXH128_hashFromCanonical", length);
 }
 
-/* The secret of a seed gives the values of the seed where the secret is in use alone. */
+/* The secret of a seed gives the values of the seed if only the secret is used. */
 static void secrets(void)
 {
     want(THE(XXH3_generateSecret)(secret, sizeof secret, "custom", 6) == XXH_OK, "XXH3_generateSecret", 6);

@@ -1,11 +1,12 @@
-"""Debian's own programs on fresh roots of its releases, each on Debian's libxxhash0 and on ours: the scripts of programs/.
+"""Debian's own programs on fresh roots of its releases, each on Debian's libxxhash0 and on ours: the scripts of
+programs/.
 
-A script's first lines say what it does, of which releases it is, and which packages it needs. It runs in an empty folder on
-each library and has to print the same, where the loader took the library that is meant. On a library that stops at a hash it
-has to end or print otherwise. What c/suits says of the program is compared with what happened.
+A script's first lines state what it does, its releases, and the packages that it needs. It runs in an empty folder on
+each library and must print the same, with the loader loading the intended library. On a library that stops at a hash it
+must fail or print something else. The verdict of c/suits on the program is compared with what happened.
 
-A script that names a source builds that, once with Debian's header and library and once with ours where Debian's header is
-gone. The program's own tests have to print the same on both, and something else on a library that stops."""
+A script that names a source builds that, once with Debian's header and library and once with ours, with Debian's
+header removed. The program's own tests must print the same on both, and something else on a library that stops."""
 import glob
 import os
 import re
@@ -30,7 +31,7 @@ Script = namedtuple('Script', 'name releases packages source')
 
 
 def scripts():
-    """The scripts, by what their first lines say."""
+    """The scripts, by their first lines."""
     for path in sorted(glob.glob(os.path.join(CHECKS, 'programs', '*.sh'))):
         with open(path) as file:
             said = dict(re.findall(r'^# (Debian|packages|source): *(.*)$', file.read(), re.M))
@@ -39,19 +40,19 @@ def scripts():
 
 
 class Library:
-    """A library of the root: the folder that the loader is told of, or none."""
+    """A library of the root: its folder in the loader's path, or none."""
 
     def __init__(self, root, folder=None):
         self.root, self.folder = root, folder
 
     def run(self, script):
-        """How a script ends on this library in an empty folder, what it prints, and which library was loaded."""
+        """Runs a script on this library in an empty folder. Returns its status, its output, and the loaded library."""
         self.root.must('rm -rf work; mkdir work')
         return self.followed(script, 'work')
 
     def followed(self, script, folder, then=':'):
-        """How a script ends on this library in a folder, and what follows it there, what both print, and which library was
-        loaded."""
+        """Runs a script on this library in a folder, and then a further command there. Returns the status, the
+        output of both, and the loaded library."""
         variables = {'PROGRAMS': f'{TAKEN}/programs', 'LD_DEBUG': 'libs', 'LD_DEBUG_OUTPUT': f'{TAKEN}/logs/log',
                      **({'LD_LIBRARY_PATH': self.folder} if self.folder else {})}
         told = ' '.join(f'{name}={value}' for name, value in variables.items())
@@ -61,7 +62,7 @@ class Library:
         return status, out, self.root.run('grep -rhoE "calling init: .*libxxhash.so.*" logs | sort -u')[1]
 
     def build(self, script, folder):
-        """Builds a source in a folder with this library, and its header where that isn't Debian's."""
+        """Builds a source in a folder with this library, and its header unless that is Debian's."""
         prefix = os.path.dirname(self.folder) if self.folder else ''
         told = f'export CPATH={prefix}/include LIBRARY_PATH={self.folder} LD_LIBRARY_PATH={self.folder}' if prefix else ':'
         return self.root.must(f'cd {folder}; {told}\nsource {TAKEN}/programs/{script.name}.sh\nbuild')
@@ -77,8 +78,8 @@ def same_on_both(theirs, ours, stopping, script):
 
 
 def built_on_both(theirs, ours, stopping, script):
-    """Both builds, and the program's own tests on each. Debian's header is gone before the second build, and the first may
-    have taken its calls inlined."""
+    """Runs both builds, and the program's own tests on each. Debian's header is removed before the second build; the
+    first may have inlined its calls."""
     root, of_theirs, of_ours = ours.root, f'{script.source}-theirs', f'{script.source}-ours'
     root.must(f'apt-get source -qq {script.source}; mv {script.source}-*/ {of_theirs}; cp -r {of_theirs} {of_ours}')
     theirs.build(script, of_theirs)
@@ -93,7 +94,7 @@ def built_on_both(theirs, ours, stopping, script):
 
 
 def compared(wanted, found, stopped, ours):
-    """How many lines are the same on both, where each ran on its library and the one that stops was noticed."""
+    """The number of lines that are the same on both, if each ran on its library and the one that stops was detected."""
     want(wanted[0] == 0, f"on Debian's library: {wanted[1][-300:]}")
     want(ours.folder in found[2] and DEBIANS not in found[2], f'on ours {found[2]} is loaded')
     want(found[:2] == wanted[:2], f'status {found[0]}: {found[1][-300:]}')
@@ -102,8 +103,8 @@ def compared(wanted, found, stopped, ours):
 
 
 def judged(root, script):
-    """What c/suits says of the files of the script's first package that load the library: not no, where all ran as it should,
-    and not that its states are unknown, since the programs that were tried are those that it knows."""
+    """The verdict of c/suits on the files of the script's first package that load the library: not no, if all ran as
+    expected, and not that its states are unknown, since it knows the programs that were tested."""
     files = root.run(f'for file in $(dpkg -L {script.packages[0]} | grep -E "/s?bin/|[.]so"); do '
                      'ldd "$file" 2> /dev/null | grep -q libxxhash && echo "$file"; done')[1].split()
     lines = {line for file in files for line in root.run(f'c/suits {file}')[1].splitlines()}
@@ -114,7 +115,7 @@ def judged(root, script):
 
 
 class Made(Built):
-    """The library that make installs from a clean copy."""
+    """The library installed by make from a clean copy."""
 
     def __init__(self, room):
         self.room, self.tools = room, ''
@@ -125,7 +126,7 @@ class Made(Built):
 
 
 def laid_out(room):
-    """A folder of what goes into the root: the scripts, c/suits, the library with its headers, and one that stops."""
+    """A folder of the files for the root: the scripts, c/suits, the library with its headers, and one that stops."""
     built, taken = Made(room), os.path.join(room, 'taken')
     shutil.copytree(os.path.join(CHECKS, 'programs'), os.path.join(taken, 'programs'))
     shutil.copy(os.path.join(CHECKS, 'python_hashes.py'), os.path.join(taken, 'programs'))

@@ -1,13 +1,13 @@
 /* SPDX-License-Identifier: MIT */
-/* States that a program lays out itself, by the header that this is compiled with: the C library's or ours.
+/* States that a program allocates itself, by the header that this is compiled with: the C library's or ours.
  *
  *     own_states REFERENCE OURS
  *
- * Each state of XXH32 and of XXH64 lies between bytes that have to stay, at every place of its alignment. Its digests
- * are compared with the reference's one-shots, with cuts and copies. Of memory that was never reset ours is asked: what
- * debuggers and allocators leave is refused, and so is a word beside the mark. Memory whose word passes by chance gives
- * some value, and nothing beside it is read or written: it lies beside memory that nobody may read too. It prints how
- * much was compared, and answers 1 where something differs. */
+ * Each state of XXH32 and of XXH64 is placed between bytes that must not change, at every place of its alignment.
+ * Its digests are compared with the reference's one-shots, with splits and copies. Memory that was never reset is
+ * tested only with ours: what debuggers and allocators leave is refused, and so is a value adjacent to a valid mark.
+ * Memory whose mark passes by chance has some value, and nothing outside it is read or written: it is also placed
+ * next to memory that may not be read. Prints how much was compared, and returns 1 if something differs. */
 #define XXH_STATIC_LINKING_ONLY
 #include <dlfcn.h>
 #include <stdalign.h>
@@ -23,7 +23,7 @@ _Static_assert(sizeof(XXH32_state_t) == 48 && alignof(XXH32_state_t) == 4, "XXH3
 _Static_assert(sizeof(XXH64_state_t) == 88 && alignof(XXH64_state_t) == 8, "XXH64_state_t");
 
 #define BESIDE 64    /* bytes on each side of a state */
-#define STAYS 0xa5   /* what they are */
+#define STAYS 0xa5   /* their value */
 #define MARK_32 0x32335858u
 #define MARK_64 0x34365858u
 
@@ -53,7 +53,7 @@ static void *symbol(const char *path, const char *name)
     exit(2);
 }
 
-/* A room with a state in it, and whether the bytes on both sides of it are as they were. */
+/* A buffer with a state in it, and whether the bytes on both sides of it are unchanged. */
 struct room {
     alignas(64) unsigned char bytes[BESIDE + 64 + 88 + BESIDE];
 };
@@ -68,7 +68,7 @@ static int stays(const struct room *room, const void *state, size_t size)
     return 1;
 }
 
-/* A page between two that nobody may read. */
+/* A page between two that may not be read. */
 static unsigned char *lone_page(size_t size)
 {
     unsigned char *pages = mmap(0, 3 * size, PROT_NONE, MAP_PRIVATE | MAP_ANONYMOUS, -1, 0);
@@ -79,7 +79,7 @@ static unsigned char *lone_page(size_t size)
     return pages + size;
 }
 
-/* The calls of a kind, and what is tried of them. `place` is where its word of the mark lies. */
+/* The calls of a kind, and its tests. `place` is the offset of its mark. */
 #define KIND(bits, stripe, place, mark) \
     struct calls_##bits { \
         __typeof__(&XXH##bits) whole; \
@@ -149,7 +149,7 @@ static unsigned char *lone_page(size_t size)
         by.digest((void *)state); \
         want(stays(room, state, sizeof(XXH##bits##_state_t)), "what lies beside XXH" #bits " of a word that passes"); \
     } \
-    /* Such memory at both ends of a page, by which other memory can't be read. */ \
+    /* Such memory at both ends of a page, next to memory that can't be read. */ \
     static void lone_##bits(struct calls_##bits by) \
     { \
         size_t size = (size_t)sysconf(_SC_PAGESIZE); \
@@ -177,7 +177,7 @@ static unsigned char *lone_page(size_t size)
 KIND(32, 16, 12, MARK_32)
 KIND(64, 32, 40, MARK_64)
 
-/* Variables on the stack, one beside the other, as most programs have them. */
+/* Variables on the stack, next to each other, as in most programs. */
 static void on_the_stack(const char *reference, const char *ours)
 {
     struct calls_32 by_32 = calls_of_32(reference, ours);

@@ -1,4 +1,4 @@
-"""The Debian package of c/package: made, judged by lintian, installed on this machine, used, and removed again."""
+"""The Debian package of c/package: built, checked by lintian, installed on this machine, used, and removed again."""
 import glob
 import hashlib
 import os
@@ -26,7 +26,7 @@ EXAMPLE = os.path.join(TOP, 'examples', 'c', 'hash-file.c')
 
 
 class Package:
-    """The package file, and what the machine's own library was before."""
+    """The package file, and the machine's own library before."""
 
     def __init__(self, room):
         self.room, self.ours = room, library(sets_here()[-1])
@@ -44,7 +44,7 @@ def library(instructions):
 
 
 def their_state():
-    """Debian's library: its bytes, what dpkg finds changed in its package, and what the loader knows by its name."""
+    """Debian's library: its bytes, what dpkg finds changed in its package, and what the loader has under its name."""
     with open(THEIRS, 'rb') as file:
         digest = hashlib.sha256(file.read()).hexdigest()
     known = [line for line in must(['ldconfig', '-p']).splitlines() if 'libxxhash' in line]
@@ -58,7 +58,7 @@ def is_installed():
 
 
 def lintian_is_silent(package):
-    """But for a warning and three hints: see LEFT."""
+    """Except a warning and three hints: see LEFT."""
     said = must(['lintian', '--fail-on', 'none', '--display-info', '--pedantic', '--suppress-tags', ','.join(LEFT),
                  package.file])
     tags = [line for line in said.splitlines() if re.match('[EWIP]: ', line)]
@@ -67,7 +67,7 @@ def lintian_is_silent(package):
 
 
 def installs(package):
-    """dpkg installs it. It lists what the package file has, and finds nothing changed."""
+    """dpkg installs it, lists what the package file has, and finds nothing changed."""
     must(['dpkg', '-i', package.file])
     want(not must(['dpkg', '-V', NAME]), 'dpkg -V finds a change')
     listed = {path for path in must(['dpkg', '-L', NAME]).splitlines() if path != '/.'}
@@ -82,7 +82,7 @@ def installs(package):
 
 
 def hashes_file(side, words):
-    """A program of examples/c hashes a file on this library, as xxhsum does."""
+    """A program of examples/c hashes a file on this library, with xxhsum's result."""
     done = run(side, [*words, EXAMPLE])
     want(done.status == 0, tail(done.out))
     digest = must(['xxhsum', '-H2', EXAMPLE]).split()[0]
@@ -90,7 +90,7 @@ def hashes_file(side, words):
 
 
 def builds_by_pkg_config(package):
-    """With the folder of pkg-config named, and a place for the loader in the program."""
+    """With pkg-config's folder in the environment, and a path for the loader in the program."""
     flags = must(['pkg-config', '--cflags', '--libs', 'libxxhash'],
                  env={**os.environ, 'PKG_CONFIG_PATH': os.path.join(FOLDER, 'pkgconfig')}).split()
     folders = [os.path.normpath(flag[2:]) for flag in flags if flag.startswith('-I')]
@@ -108,7 +108,7 @@ def builds_by_cmake(package):
 
 
 def runs_where_told(package, sides):
-    """Debian's python3-xxhash runs on Debian's library, and on ours where LD_LIBRARY_PATH names its folder."""
+    """Debian's python3-xxhash loads Debian's library, and ours if LD_LIBRARY_PATH has its folder."""
     return clients.python_hashes(clients.Sides(sides.theirs, package.side(), sides.wrong, sides.stopping))
 
 
@@ -137,8 +137,8 @@ def library_in(root):
 
 
 def serves_a_machine(package):
-    """A line for the loader, written by hand, makes the library that of a whole machine: in a root of the check's own.
-    Without the package the line does no harm."""
+    """A line for the loader, written by hand, makes the library that of a whole machine: in a root of the check's
+    own. Without the package the line does no harm."""
     root = copied_root(package)
     must(['dpkg-deb', '-x', package.file, root])
     must(['ldconfig', '-r', root])
@@ -154,7 +154,7 @@ def serves_a_machine(package):
 
 
 def commands_are_there(package):
-    """xxh answers as xxhsum does, and its manual page can be read."""
+    """xxh prints what xxhsum prints, and its manual page can be read."""
     with open(EXAMPLE, 'rb') as file:
         printed = must(['/usr/bin/xxh', 'hash', '3-128'], stdin=file).strip()
     want(printed == must(['xxhsum', '-H2', EXAMPLE]).split()[0], 'the hash differs')
@@ -162,7 +162,7 @@ def commands_are_there(package):
 
 
 def both_builds_run(package, v3):
-    """xxhsum by its four names beside Debian's; and what is called runs the build that the processor has."""
+    """xxhsum by its four names against Debian's; and each command runs the build for the processor."""
     note = file_program_agrees(PREFIX)
     if not v3:
         return note
@@ -179,7 +179,7 @@ def both_builds_run(package, v3):
 
 
 def change_is_told(package):
-    """dpkg -V names a file that somebody changed."""
+    """dpkg -V reports a changed file."""
     path = os.path.join(PREFIX, 'include', 'xxhash.h')
     with open(path, 'a') as file:
         file.write('\n')
@@ -188,8 +188,8 @@ def change_is_told(package):
 
 
 def leaves_nothing(package):
-    """After the removal no path of the package is there but folders that others have, and Debian's library is as it
-    was."""
+    """After the removal no path of the package exists except folders that others have, and Debian's library is as
+    before."""
     listed = [path for path in must(['dpkg', '-L', NAME]).splitlines() if NAME in path or not os.path.isdir(path)]
     must(['dpkg', '-r', NAME])
     left = [path for path in listed if os.path.lexists(path)] + glob.glob(f'/var/lib/dpkg/info/{NAME}.*')

@@ -1,4 +1,4 @@
-"""Prints hashes of the module xxhash over inputs of many lengths: at once, in pieces, of copies, after a reset.
+"""Prints hashes of the module xxhash over inputs of many lengths: at once, in chunks, of copies, after a reset.
 Debian's python3 runs it, on one library or another."""
 import random
 import xxhash

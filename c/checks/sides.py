@@ -1,4 +1,4 @@
-"""Programs on one library or another: which one the loader took is read from what it tells."""
+"""Programs on one library or another: the loader's log shows which one it loaded."""
 import glob
 import os
 import re
@@ -11,13 +11,13 @@ THEIRS = '/usr/lib/x86_64-linux-gnu/libxxhash.so.0'
 
 
 class Side:
-    """A library that programs run on: `folder` goes into LD_LIBRARY_PATH, `file` is what the loader has to take."""
+    """A library that programs run on: `folder` goes into LD_LIBRARY_PATH, `file` is what the loader must load."""
 
     def __init__(self, name, folder, file, tunables=''):
         self.name, self.folder, self.file, self.tunables = name, folder, file, tunables
 
     def variables(self, logs):
-        """The environment variables of a program on this side, whose loader writes files with this beginning."""
+        """The environment variables of a program on this side, whose loader writes files with this prefix."""
         found = {'LD_DEBUG': 'libs', 'LD_DEBUG_OUTPUT': logs}
         if self.folder:
             found['LD_LIBRARY_PATH'] = self.folder
@@ -29,13 +29,13 @@ class Side:
         return {**others(), **self.variables(logs), **more}
 
     def command(self, words, logs):
-        """How a program is called whose loader writes files with this beginning."""
+        """The command line of a program whose loader writes files with this prefix."""
         return words
 
 
 class EmulatedSide(Side):
-    """A library for AArch64, on which programs run under qemu. These lie below a folder of packages for arm64, as does
-    all that they read."""
+    """A library for AArch64, on which programs run under qemu. They are in a folder of packages for arm64, with
+    everything that they read."""
 
     def __init__(self, name, folder, file, root):
         super().__init__(name, folder, file)
@@ -50,12 +50,12 @@ class EmulatedSide(Side):
 
 
 def others():
-    """The environment without what says how the loader works."""
+    """The environment without the loader's variables."""
     return {name: value for name, value in os.environ.items() if not name.startswith(('LD_', 'GLIBC_'))}
 
 
 def loaded(logs):
-    """The files of libxxhash that the loader set to work, over all processes whose log begins so."""
+    """The files of libxxhash that the loader initialized, over all processes whose log has this prefix."""
     files = set()
     for log in glob.glob(logs + '.*'):
         with open(log, errors='replace') as lines:
@@ -74,7 +74,7 @@ class Done:
 
 
 def run(side, words, want_loaded=True, folder=None, **more):
-    """Runs a program on a side. It has to load that side's library, and no other."""
+    """Runs a program on a side. It must load that side's library, and no other."""
     with tempfile.TemporaryDirectory() as room:
         logs = os.path.join(room, 'log')
         done = subprocess.run(side.command(words, logs), env=side.environment(logs, **more), cwd=folder,

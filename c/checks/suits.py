@@ -1,4 +1,4 @@
-"""What c/suits says of programs: of Debian's, and of some that are made here."""
+"""The verdicts of c/suits on programs: Debian's, and some that are built here."""
 import os
 import re
 import shutil
@@ -27,11 +27,11 @@ int main(void)
     return dlopen("libxxhash.so.0", RTLD_NOW) == 0;
 }
 '''
-# Programs of Debian that load nothing by themselves or all they like, and what is said of them.
+# Programs of Debian that load nothing by themselves or anything, and their verdict.
 LISTED = {'/usr/bin/gdb': 'unknown', '/usr/sbin/lighttpd': 'unknown', '/usr/bin/python3': 'unknown',
           '/usr/bin/perl': 'unknown', '/bin/true': 'yes'}
 STATUS = {'yes': 0, 'no': 1, 'unknown': 3}
-# What dpkg-query answers in a room where rsync is of some release.
+# dpkg-query's output in a test folder with a given release of rsync.
 DPKG = '''#!/bin/sh
 case $1 in -S) case $2 in *'*'*) echo "rsync: /usr/bin/rsync" ;; */rsync) echo "rsync: $2" ;; *) exec /usr/bin/dpkg-query "$@" ;; esac ;;
 *) case $4 in rsync) echo RELEASE ;; *) exec /usr/bin/dpkg-query "$@" ;; esac ;; esac
@@ -45,15 +45,15 @@ def said_of(path, folder='/', **variables):
 
 
 def verdict_is(words, path, of=None, **more):
-    """The verdict on a program, whose line is of the program itself or of a library."""
+    """The verdict on a program, whose line is for the program itself or for a library."""
     status, out = said_of(path, **more)
     want(f'{of or path}: {words}: ' in out and status == STATUS[words],
          f'{path}: not "{words}" with status {STATUS[words]}: {tail(out)}, {status}')
 
 
 class Programs:
-    """Programs that are made here, with Debian's own header: it is copied to a folder of its own, so that none of another
-    folder is taken for it."""
+    """Programs that are built here, with Debian's own header: it is copied to a folder of its own, so that none of
+    another folder is used instead."""
 
     def __init__(self, room):
         self.room, self.headers = room, os.path.join(room, 'genuine')
@@ -86,13 +86,13 @@ class Programs:
 
 
 def own_states(room):
-    """States of its own are the library's business only where they are of XXH3."""
+    """A program's own states matter only if they are of XXH3."""
     programs = Programs(room)
     verdict_is('yes', programs.with_states('XXH32', '', 'XXH32_reset(&state, 0)'))
     verdict_is('yes', programs.with_states('XXH64', '', 'XXH64_reset(&state, 0)'))
     verdict_is('no', programs.with_states('XXH3', '_64bits', 'XXH3_64bits_reset(&state)'))
     verdict_is('no', programs.with_states('XXH3', '_128bits', 'XXH3_128bits_reset(&state)'))
-    # Named by its path, which has a blank, the library gets no arrow in ldd's line.
+    # Found by its path, which has a blank, the library gets no arrow in ldd's line.
     library = programs.library('a folder/lib inner.so')
     verdict_is('no', programs.of_library('by path', library), of=library)
     nobody = programs.compiled('libnobody.so', 'void XXH_nobody(void) {}\n', '-shared', '-fPIC')
@@ -102,7 +102,8 @@ def own_states(room):
 
 
 def by_relative_paths(room):
-    """A library that the loader finds from the current folder: what it is there is judged, and elsewhere it is another."""
+    """A library that the loader finds from the current folder: the one that is there is judged, and in another
+    folder it is another."""
     programs = Programs(room)
     folder = os.path.dirname(programs.library('lib/libinner.so'))
     flags = ['-L', folder, '-linner']
@@ -118,7 +119,8 @@ def by_relative_paths(room):
 
 
 def unreadable(room):
-    """A program whose libraries or names can't be read, and one that isn't there. Those named beside it are judged too."""
+    """A program whose libraries or names can't be read, and a missing one. Other programs of the same call are
+    judged too."""
     programs, empty = Programs(room), 'int main(void) { return 0; }\n'
     verdict_is('unknown', programs.compiled('static', empty, '-static'))
     verdict_is('unknown', programs.compiled('for another loader', empty, '-Wl,--dynamic-linker=/lib/ld-musl-x86_64.so.1'))
@@ -139,7 +141,7 @@ def unreadable(room):
 
 
 def loading(room):
-    """What comes by dlopen can't be seen, and neither what a script starts."""
+    """What is loaded by dlopen can't be seen, nor what a script starts."""
     program = Programs(room).compiled('loads', LOADS)
     script = os.path.join(room, 'a script')
     for first, runs in ((f'{shutil.which("env")} python3', shutil.which('python3')), ('/bin/sh', '/bin/sh')):
@@ -153,7 +155,7 @@ def loading(room):
 
 
 def of_known_source(room):
-    """The release of a package decides where its source was read: rsync's was, a later one's not."""
+    """A known source is decided by the package's release: rsync's was read, a later one's not."""
     program = Programs(room).with_states('XXH3', '_64bits', '(void)XXH3_createState(), XXH3_64bits_reset(&state)',
                                          name='rsync')
     tools = os.path.join(room, 'tools')
@@ -164,7 +166,7 @@ def of_known_source(room):
         os.chmod(file.name, 0o755)
         verdict_is(words, program, PATH=f'{tools}:{os.environ["PATH"]}')
     verdict_is('unknown', program)
-    # A name that dpkg-query takes for a pattern, of a file of no package.
+    # A name that dpkg-query reads as a pattern, of a file of no package.
     folder = os.path.join(room, '*bin')
     os.mkdir(folder)
     shutil.copy(program, folder)
@@ -182,7 +184,7 @@ def of_debian(_room):
 
 
 def tried(release):
-    """The programs that were run on a release as they are, and those that were built there, as the page has them."""
+    """The programs that were run on a release unchanged, and those that were built there, as on the page."""
     with open(os.path.join(TOP, 'docs', 'C.md'), encoding='utf-8') as file:
         row, = re.findall(rf'^\| {release} \| (.*) \| (.*) \|$', file.read(), re.M)
     return tuple(cell.split(', ') for cell in row)

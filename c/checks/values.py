@@ -1,4 +1,4 @@
-"""The library's names and values beside those of another: Debian's, or the reference's header."""
+"""The library's names and values, compared with another's: Debian's, or the reference's header."""
 import os
 import subprocess
 
@@ -6,7 +6,8 @@ from report import want
 from library import C
 from tools import must
 
-# What release 0.8.3 has beside the names of 0.8.1, on x86-64, and the name by which a program demands this library.
+# What release 0.8.3 has in addition to the names of 0.8.1, on x86-64, and the name by which a program requires this
+# library.
 NEWER, OWN = {'XXH_featureTest'}, {'twox_hash_library'}
 
 
@@ -42,7 +43,7 @@ def calls_agree(program, their_path, path, count, *words, **variables):
 
 
 def freed_states_are_refused(program, their_path, path, count):
-    """Memory that held a state and was freed is no state, as free leaves it and as it overwrites it."""
+    """Memory that held a state and was freed is no state, with the content that free leaves or overwrites."""
     return '; '.join(calls_agree(program, their_path, path, count, '--freed', **variables)
                      for variables in ({}, {'MALLOC_PERTURB_': '170'}))
 

@@ -1,5 +1,5 @@
-"""Checks the library for C as whoever has no toolchain makes it: from a clean copy of the repository, by make alone,
-with rt hidden. `c/check --without-rt` runs this."""
+"""Checks the library for C without a toolchain: from a clean copy of the repository, only by make, with rt hidden.
+`c/check --without-rt` runs this."""
 import os
 import re
 import shutil
@@ -24,11 +24,11 @@ PACKAGES = {'gcc': 'gcc', 'g++': 'g++', '/usr/include/stdio.h': 'libc6-dev', 'nm
             '/usr/lib/x86_64-linux-gnu/libxxhash.a': 'libxxhash-dev'}
 ARM_PACKAGES = {**aarch64.PACKAGES, 'gcc': 'gcc', 'make': 'make', 'python3': 'python3'}
 ARM_GCC, ON_ARM = 'aarch64-linux-gnu-gcc', 'run=qemu-aarch64 -L /usr/aarch64-linux-gnu'
-# A function, what stands in its text in place of a constant, the goal that notices, and a word of what that says.
+# A function, the text in its source in place of a constant, the goal that detects it, and a word of its message.
 WRONG_TEXTS = (('XXH64', '$0x9e3779b185ebca87', '$0x9e3779b185ebca89', 'check-values', 'differ'),
                ('XXH64_reset', '$0x60ea27eeadc0b5d6', '$0x60ea27eeadc0b5d7', 'check-names', 'a stream of XXH64'))
-# What isn't a function's bytes: a word of the text, another in its place, and the part that then differs, or the section that the
-# word lies in.
+# What isn't a function's bytes: a word of the source, another in its place, and the part that then differs, or the
+# section of the word.
 OTHER_TEXTS = {
     'a place in a mergeable section': (r'\.L90_10\(%rip\)', '.L90_0+0x10(%rip)', None),
     'a function that chooses another': (r'(\.type \S+\.products_of_block),@function', r'\1,@gnu_indirect_function',
@@ -41,7 +41,7 @@ COMPILERS = ('clang', 'g++', 'clang++', 'gcc -flto', 'clang -flto=thin', 'gcc -s
 
 
 class Made(Built):
-    """The library that make installed, in place of c/install."""
+    """The library installed by make, instead of c/install."""
 
     def __init__(self, room, copy):
         self.room, self.tools, self.copy = room, '', copy
@@ -69,7 +69,7 @@ def is_made(copy):
 
 
 def passes_make_check(copy, compiler, out, *words):
-    """make check ends well, having compared each text and called each name."""
+    """make check succeeds, having compared each source and called each name."""
     said = make(copy, f'CC={compiler}', f'out={out}', *words, 'check')
     same, names = re.findall(r'^same: .*', said, re.M), re.findall(r'^all \d+ names', said, re.M)
     want('all values' in said and same and names, f'it says {tail(said)}')
@@ -78,22 +78,22 @@ def passes_make_check(copy, compiler, out, *words):
 
 
 def passes_in_a_folder(copy, folder):
-    """make check where the path has characters that make and the shell split words at."""
+    """make check with a path that has characters at which make and the shell split words."""
     shutil.copytree(copy, folder, ignore=shutil.ignore_patterns('out'))
     return passes_make_check(folder, 'cc', 'out')
 
 
 def is_refused(copy, word, *words, **variables):
-    """make ends with one line that says why."""
+    """make stops with one line that states the reason."""
     done = run_make(copy, *words, **variables)
     want(done.returncode != 0 and word in done.stdout, f'status {done.returncode}: {tail(done.stdout)}')
     return word
 
 
-# ---- what is wrong ----
+# ---- wrong copies ----
 
 class Changed:
-    """A file of the copy with another text in it, for as long as something is tried."""
+    """A file of the copy with another text in it, during a test."""
 
     def __init__(self, copy, name, change):
         self.path = os.path.join(copy, 'c', name)
@@ -113,7 +113,7 @@ class Changed:
 
 
 def wrong_text_is_noticed(copy, function, right, wrong, goal, word):
-    """A wrong constant in the text: what the function answers is wrong, and the sums name its section."""
+    """A wrong constant in the source: the function's result is wrong, and the sums name its section."""
     sections = []
 
     def change(text):
@@ -127,7 +127,7 @@ def wrong_text_is_noticed(copy, function, right, wrong, goal, word):
 
 
 def other_text_is_noticed(copy, right, wrong, part):
-    """A text whose functions have the same bytes, and of which a linker makes another program."""
+    """A source whose functions have the same bytes, and from which a linker makes another program."""
     sections = []
 
     def change(text):
@@ -139,7 +139,7 @@ def other_text_is_noticed(copy, right, wrong, part):
 
 
 def uncalled_name_is_noticed(copy):
-    """A program that leaves out a call prints other names than the library has."""
+    """A program that omits a call prints other names than the library has."""
     def change(text):
         return text.replace('        values_of_128(lengths[i]);\n', '').replace('static void values', 'void values')
     with Changed(copy, 'checks/names.c', change):
@@ -147,7 +147,7 @@ def uncalled_name_is_noticed(copy):
 
 
 def foreign_compiler(room, machine):
-    """A compiler for another machine, which answers for which."""
+    """A compiler for another machine, which reports that machine."""
     path = os.path.join(room, 'cc-' + machine)
     with open(path, 'w') as file:
         file.write(f'#!/bin/sh\necho {machine}\n')
@@ -157,18 +157,18 @@ def foreign_compiler(room, machine):
 
 def check_refusals(report, copy, room):
     for machine in ('riscv64-linux-gnu', 'aarch64-linux-android', 'x86_64-linux-gnux32', 'arm64-apple-darwin22'):
-        said = f'there is no text for {machine}: there is for Linux on'
+        said = f'no assembly source for {machine}, only for Linux on'
         report.attempt(f'{machine} is refused', is_refused, copy, said, f'CC={foreign_compiler(room, machine)}')
     report.attempt('no compiler', is_refused, copy, "no C compiler: CC is '/nowhere/cc'", 'CC=/nowhere/cc')
-    report.attempt('gcc -m32', is_refused, copy, 'there is no text for pointers of 32 bits', 'CC=gcc -m32')
-    report.attempt('a PREFIX that is no whole path', is_refused, copy, 'PREFIX has to begin with /', 'install',
+    report.attempt('gcc -m32', is_refused, copy, 'no assembly source for pointers of 32 bits', 'CC=gcc -m32')
+    report.attempt('a PREFIX that is no whole path', is_refused, copy, 'PREFIX must begin with /', 'install',
                    'PREFIX=here')
     for goal in ('install', 'uninstall'):
         report.attempt(f'{goal} without PREFIX', is_refused, copy,
-                       f'it needs a folder: make -C c {goal} PREFIX=/opt/twox_hash', goal, f'DESTDIR={room}/nowhere')
+                       f'PREFIX is required: make -C c {goal} PREFIX=/opt/twox_hash', goal, f'DESTDIR={room}/nowhere')
     report.attempt('uninstall of another library', other_library_stays, copy, room)
     report.attempt('make check without python3', lambda: is_refused(
-        copy, 'no python3, which compares', 'out=out/no-python', 'check-bytes', PATH=path_without(room, 'python3')))
+        copy, 'python3 not found', 'out=out/no-python', 'check-bytes', PATH=path_without(room, 'python3')))
 
 
 # ---- folders ----
@@ -178,7 +178,8 @@ def names_of(copy, lib):
 
 
 def folders_stay_apart(copy):
-    """The library is whole where its folder has the name of a set, or of any other in which something is made."""
+    """The library is complete even if its folder has the name of an instruction set, or of any other folder of the
+    build."""
     places = ('x86-64-v2', '.', 'made/x86_64-linux-gnu', 'made/x86_64-linux-gnu/x86-64-v2')
     for number, place in enumerate(places):
         out = f'out/apart-{number}'
@@ -189,7 +190,7 @@ def folders_stay_apart(copy):
 
 
 def processors_stay_apart(copy):
-    """Two processors in one tree, in any order and by one folder: each library has the names of its processor."""
+    """Two processors in one tree, in any order and with one folder: each library has the names of its processor."""
     arm = f'CC={ARM_GCC}'
     for words, names in (([arm], 50), ([], 59), ([arm], 50), ([arm, 'lib=out/arm'], 50), (['lib=out/other'], 59),
                          (['lib=out/arm'], 59), ([arm, 'lib=out/arm'], 50)):
@@ -205,7 +206,7 @@ def files_below(folder):
 
 
 def is_taken_away(copy, room):
-    """What install puts somewhere uninstall takes away, and nothing else. install says where, and what runs on it."""
+    """uninstall removes exactly what install creates. install prints where that is, and which programs load it."""
     root = os.path.join(room, 'destination')
     place = os.path.join(root, 'opt/twox_hash')
     said = make(copy, 'install', 'PREFIX=/opt/twox_hash', f'DESTDIR={root}')
@@ -224,7 +225,7 @@ def is_taken_away(copy, room):
 
 
 def other_library_stays(copy, room):
-    """uninstall takes nothing away where the header is another library's."""
+    """uninstall removes nothing if the header is another library's."""
     include = os.path.join(room, 'theirs/opt/include')
     os.makedirs(include)
     shutil.copy('/usr/include/xxhash.h', include)
@@ -236,7 +237,7 @@ def other_library_stays(copy, room):
 # ---- all ----
 
 def static_table_agrees(copy, room, compiler, out, run=()):
-    """The oracle's table by a static program, as musl's loader or none has it."""
+    """The oracle's table by a static program, with musl's loader or none."""
     make(copy, f'CC={compiler}', f'out={out}')
     program = os.path.join(room, f'table-{os.path.basename(out)}')
     source, library = os.path.join(copy, 'oracle', 'vectors.c'), os.path.join(copy, 'c', out, 'lib', 'libtwox_hash.a')

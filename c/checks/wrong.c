@@ -1,5 +1,5 @@
-/* A wrong library, so that it is seen that the checks notice one: the hashes of libxxhash under names that begin with
- * right_, with the lowest bit changed. With STOPS each hash ends the process instead. */
+/* A wrong library, to show that the checks detect one: the hashes of libxxhash under names that begin with right_,
+ * with the lowest bit changed. With STOPS each hash ends the process instead. */
 #include <stdlib.h>
 #include "xxhash.h"
 

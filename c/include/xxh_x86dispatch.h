@@ -1,11 +1,11 @@
 /* SPDX-License-Identifier: MIT */
-/* Other names of the calls of XXH3, which the C library has for a choice of the processor's instructions at run time.
- * Here the dynamic loader chooses, and each of these is the call without _dispatch. They are there on x86-64 alone. */
+/* Other names of the calls of XXH3, which choose the instruction set at run time in the C library. Here the dynamic
+ * loader chooses, and each of these is the call without _dispatch. Only on x86-64. */
 #ifndef XXH_X86DISPATCH_H_TWOX_HASH
 #define XXH_X86DISPATCH_H_TWOX_HASH
 
 #ifndef __x86_64__
-#error "xxh_x86dispatch.h is for x86-64 alone: include xxhash.h, and call without _dispatch"
+#error "xxh_x86dispatch.h is only for x86-64: include xxhash.h, and call without _dispatch"
 #endif
 
 #include "xxhash.h"
@@ -14,8 +14,8 @@
 extern "C" {
 #endif
 
-/* The widest vectors for which release 0.8.3 has code that this processor and system take, by its numbers. A program
- * may choose by it. The calls here don't. */
+/* The widest vectors of this processor and system for which release 0.8.3 has code, by its numbers. A program may
+ * choose by it. The calls here don't. */
 #ifndef XXH_SSE2
 #define XXH_SCALAR 0
 #define XXH_SSE2 1

@@ -1,13 +1,13 @@
 /* SPDX-License-Identifier: MIT */
-/* XXH32, XXH64, XXH3 of 64 bits and XXH3 of 128 bits: the calls of libxxhash 0.8.1, proved equal to the xxHash
- * definition. Programs written for <xxhash.h> compile with this header as they stand, if they make their states
- * of XXH3 by createState. docs/C.md says how to link, and what differs from the C library.
+/* XXH32, XXH64, XXH3 64-bit and XXH3 128-bit: the API of libxxhash 0.8.1, proved equal to the xxHash definition.
+ * Programs written for <xxhash.h> compile with this header unchanged, if they create their states of XXH3 with
+ * createState. docs/C.md explains how to link, and the differences from the C library.
  *
- * Of every call:
- * - A length counts bytes. An input of length 0 may be null.
- * - A pointer and a length name memory that the caller owns, and that stays as it is during the call. No call keeps
- *   a pointer. What a call writes to overlaps nothing else that it is handed.
- * - Calls on different states may run at once in several threads. Two calls on one state may not, unless both only
+ * For every call:
+ * - A length is in bytes. An input of length 0 may be null.
+ * - A pointer and a length refer to memory of the caller that doesn't change during the call. No call keeps a pointer.
+ *   The memory that a call writes to overlaps no other argument.
+ * - Calls on different states may run concurrently in several threads. Two calls on one state may not, unless both only
  *   read it.
  * - None of these hashes is safe against attackers.
  */
@@ -25,19 +25,19 @@
 extern "C" {
 #endif
 
-/* The release of the C library whose calls these are: 0.8.1. */
+/* The release of the C library that has these calls: 0.8.1. */
 #define XXH_VERSION_MAJOR 0
 #define XXH_VERSION_MINOR 8
 #define XXH_VERSION_RELEASE 1
 #define XXH_VERSION_NUMBER (XXH_VERSION_MAJOR * 10000 + XXH_VERSION_MINOR * 100 + XXH_VERSION_RELEASE)
 
-/* XXH_VERSION_NUMBER of the library that runs. */
+/* XXH_VERSION_NUMBER of the library at run time. */
 unsigned XXH_versionNumber(void);
 
-/* At file scope, followed by a semicolon: the program starts only on this library. Programs that are linked with it may be
- * loaded with the C library, which has the same file name: set an rpath, or write this line if they need what differs
- * (docs/C.md#what-differs-from-the-c-library). The C library lacks the symbol twox_hash_library, so the loader stops the
- * program with the name of that symbol. */
+/* At file scope, followed by a semicolon: the program starts only with this library. Programs that are linked with
+ * it may be loaded with the C library, which has the same file name: set an rpath, or write this line if they depend
+ * on the differences (docs/C.md#what-differs-from-the-c-library). The C library lacks the symbol twox_hash_library,
+ * so the loader stops the program with the name of that symbol. */
 extern const char twox_hash_library;
 #ifdef __GNUC__
 #define TWOX_HASH_REQUIRED                                                      \
@@ -51,7 +51,7 @@ extern const char twox_hash_library;
 typedef uint32_t XXH32_hash_t;
 typedef uint64_t XXH64_hash_t;
 
-/* The 128 bits of a hash as two halves. */
+/* A 128-bit hash as two halves. */
 typedef struct {
     XXH64_hash_t low64;
     XXH64_hash_t high64;
@@ -68,7 +68,7 @@ typedef struct {
     unsigned char digest[16];
 } XXH128_canonical_t;
 
-/* What a call that can fail answers. */
+/* The result of a call that can fail. */
 typedef enum {
     XXH_OK = 0,
     XXH_ERROR = 1
@@ -77,45 +77,44 @@ typedef enum {
 /* States of streams. */
 typedef struct XXH32_state_s XXH32_state_t;
 typedef struct XXH64_state_s XXH64_state_t;
-typedef struct XXH3_state_s XXH3_state_t; /* a state of XXH3 comes from XXH3_createState alone */
+typedef struct XXH3_state_s XXH3_state_t; /* only XXH3_createState creates a state of XXH3 */
 
-/* The bytes of the shortest secret that XXH3 takes. */
+/* Minimum length of a secret of XXH3, in bytes. */
 #define XXH3_SECRET_SIZE_MIN 136
-/* The bytes of the longest secret that a stream takes. One-shots take longer ones too. */
+/* Maximum length of a stream's secret, in bytes. One-shots also accept longer ones. */
 #define XXH3_STREAM_SECRET_SIZE_MAX 256
-/* The bytes of the secret that a seed derives. */
+/* Length of the secret derived from a seed, in bytes. */
 #define XXH3_SECRET_DEFAULT_SIZE 192
 
 /* ---- XXH32 ---- */
 
-/* The hash of the whole input. */
+/* Returns the hash of the whole input. */
 XXH32_hash_t XXH32(const void *input, size_t length, XXH32_hash_t seed);
 
-/* A state, or null where there is no memory. It stands for no bytes and the seed 0. The caller owns it and frees
- * it by XXH32_freeState, which takes null too and always answers XXH_OK. */
+/* Allocates a state of no bytes and the seed 0, or returns null if out of memory. The caller owns it and frees it
+ * with XXH32_freeState, which also accepts null and always returns XXH_OK. */
 XXH32_state_t *XXH32_createState(void);
 XXH_errorcode XXH32_freeState(XXH32_state_t *state);
 
-/* Makes `to` equal to `from`: both go on alone. */
+/* Copies `from` to `to`. The two states are then independent. */
 void XXH32_copyState(XXH32_state_t *to, const XXH32_state_t *from);
 
-/* Lets the state stand for no bytes and the seed. XXH_OK. */
+/* Resets the state to no bytes and the seed. Returns XXH_OK. */
 XXH_errorcode XXH32_reset(XXH32_state_t *state, XXH32_hash_t seed);
 
-/* Lets the state stand for its bytes and these after them: XXH_OK. The state was reset, as createState does. Memory
- * without the mark of a reset is refused by XXH_ERROR and stays as it is: one word, of which 16 values of 2^32 pass, and
- * with XXH64 32. What passes by chance gives some value, and nothing beside the state is written. */
+/* Hashes these bytes after those before. Returns XXH_OK. The state must have been reset, as createState does. For
+ * memory without the mark of a reset, changes nothing and returns XXH_ERROR. The mark is one word: 16 values of 2^32
+ * pass, with XXH64 32. If memory passes by chance, the value is arbitrary, and nothing outside the state is written. */
 XXH_errorcode XXH32_update(XXH32_state_t *state, const void *input, size_t length);
 
-/* The hash of the bytes that the state stands for, which may take more bytes afterwards. 0 of memory that update
- * refuses. */
+/* Returns the hash of the state's bytes; more may be hashed afterwards. Returns 0 for memory that update refuses. */
 XXH32_hash_t XXH32_digest(const XXH32_state_t *state);
 
-/* A hash as bytes, and back. */
+/* Convert a hash to bytes, and back. */
 void XXH32_canonicalFromHash(XXH32_canonical_t *bytes, XXH32_hash_t hash);
 XXH32_hash_t XXH32_hashFromCanonical(const XXH32_canonical_t *bytes);
 
-/* ---- XXH64: each call as that of XXH32 ---- */
+/* ---- XXH64: each call works as that of XXH32 ---- */
 
 XXH64_hash_t XXH64(const void *input, size_t length, XXH64_hash_t seed);
 XXH64_state_t *XXH64_createState(void);
@@ -127,45 +126,45 @@ XXH64_hash_t XXH64_digest(const XXH64_state_t *state);
 void XXH64_canonicalFromHash(XXH64_canonical_t *bytes, XXH64_hash_t hash);
 XXH64_hash_t XXH64_hashFromCanonical(const XXH64_canonical_t *bytes);
 
-/* ---- XXH3 of 64 bits ---- */
+/* ---- XXH3 64-bit ---- */
 
-/* The hash of the whole input: with the seed 0, with a seed, with a secret, or with both. With both, an input of up
- * to 240 bytes is hashed with the seed alone, and a longer one with the secret alone. A secret of fewer than
- * XXH3_SECRET_SIZE_MIN bytes, where it is needed, gives no hash: the answer is 0. */
+/* Return the hash of the whole input: with the seed 0, with a seed, with a secret, or with both. With both, an input
+ * of up to 240 bytes is hashed with only the seed, and a longer one with only the secret. If a secret is needed and
+ * has fewer than XXH3_SECRET_SIZE_MIN bytes, the result is 0. */
 XXH64_hash_t XXH3_64bits(const void *input, size_t length);
 XXH64_hash_t XXH3_64bits_withSeed(const void *input, size_t length, XXH64_hash_t seed);
 XXH64_hash_t XXH3_64bits_withSecret(const void *input, size_t length, const void *secret, size_t secret_length);
 XXH64_hash_t XXH3_64bits_withSecretandSeed(const void *input, size_t length, const void *secret, size_t secret_length,
                                            XXH64_hash_t seed);
 
-/* A state for either width of XXH3, as XXH32_createState says. */
+/* Allocates a state for both widths of XXH3. See XXH32_createState. */
 XXH3_state_t *XXH3_createState(void);
 XXH_errorcode XXH3_freeState(XXH3_state_t *state);
 void XXH3_copyState(XXH3_state_t *to, const XXH3_state_t *from);
 
-/* Let the state stand for no bytes, with the seed 0, with a seed, with a secret, or with both as above: XXH_OK. The
- * state keeps a copy of the secret. The C library's state keeps the pointer, and reads the secret until the digest: if a
- * program changes or frees a secret before that, and may be loaded with the C library, it needs TWOX_HASH_REQUIRED. A secret of fewer than XXH3_SECRET_SIZE_MIN bytes or of more than
- * XXH3_STREAM_SECRET_SIZE_MAX, and a null one, are refused by XXH_ERROR, and the state stays as it is. A null state is
- * refused by XXH_ERROR too. */
+/* Reset the state to no bytes, with the seed 0, with a seed, with a secret, or with both as above. Return XXH_OK.
+ * The state keeps a copy of the secret. The C library's state keeps the pointer, and reads the secret until the
+ * digest: a program that changes or frees a secret before that, and may be loaded with the C library, needs
+ * TWOX_HASH_REQUIRED. For a secret of fewer than XXH3_SECRET_SIZE_MIN bytes or of more than
+ * XXH3_STREAM_SECRET_SIZE_MAX, a null secret, or a null state, these change nothing and return XXH_ERROR. */
 XXH_errorcode XXH3_64bits_reset(XXH3_state_t *state);
 XXH_errorcode XXH3_64bits_reset_withSeed(XXH3_state_t *state, XXH64_hash_t seed);
 XXH_errorcode XXH3_64bits_reset_withSecret(XXH3_state_t *state, const void *secret, size_t secret_length);
 XXH_errorcode XXH3_64bits_reset_withSecretandSeed(XXH3_state_t *state, const void *secret, size_t secret_length,
                                                   XXH64_hash_t seed);
 
-/* As XXH32_update and XXH32_digest. */
+/* See XXH32_update and XXH32_digest. */
 XXH_errorcode XXH3_64bits_update(XXH3_state_t *state, const void *input, size_t length);
 XXH64_hash_t XXH3_64bits_digest(const XXH3_state_t *state);
 
-/* ---- XXH3 of 128 bits: each call as that of 64 bits ---- */
+/* ---- XXH3 128-bit: each call works as the 64-bit one ---- */
 
 XXH128_hash_t XXH3_128bits(const void *input, size_t length);
 XXH128_hash_t XXH3_128bits_withSeed(const void *input, size_t length, XXH64_hash_t seed);
 XXH128_hash_t XXH3_128bits_withSecret(const void *input, size_t length, const void *secret, size_t secret_length);
 XXH128_hash_t XXH3_128bits_withSecretandSeed(const void *input, size_t length, const void *secret,
                                              size_t secret_length, XXH64_hash_t seed);
-/* XXH3_128bits_withSeed by another name. */
+/* Another name of XXH3_128bits_withSeed. */
 XXH128_hash_t XXH128(const void *input, size_t length, XXH64_hash_t seed);
 
 XXH_errorcode XXH3_128bits_reset(XXH3_state_t *state);
@@ -176,10 +175,10 @@ XXH_errorcode XXH3_128bits_reset_withSecretandSeed(XXH3_state_t *state, const vo
 XXH_errorcode XXH3_128bits_update(XXH3_state_t *state, const void *input, size_t length);
 XXH128_hash_t XXH3_128bits_digest(const XXH3_state_t *state);
 
-/* 1 where both hashes are the same, else 0. */
+/* Returns 1 if both hashes are the same, and 0 otherwise. */
 int XXH128_isEqual(XXH128_hash_t one, XXH128_hash_t other);
 
-/* The order of two hashes as numbers, each behind a pointer to an XXH128_hash_t, as qsort wants it: below, at or
+/* Compares two hashes as numbers, each behind a pointer to an XXH128_hash_t, for qsort: returns a value below, at or
  * above 0. */
 int XXH128_cmp(const void *one, const void *other);
 
@@ -188,13 +187,13 @@ XXH128_hash_t XXH128_hashFromCanonical(const XXH128_canonical_t *bytes);
 
 /* ---- Secrets ---- */
 
-/* Writes a secret of so many bytes that is made of a custom seed of any length: XXH_OK. The default secret stands for
- * an empty one. Fewer than XXH3_SECRET_SIZE_MIN bytes are refused by XXH_ERROR, and stay as they are. So is a null
- * room, and a null seed of more than 0 bytes. */
+/* Writes a secret of this many bytes derived from a custom seed of any length. Returns XXH_OK. An empty seed means
+ * the default secret. For fewer than XXH3_SECRET_SIZE_MIN bytes, a null buffer, or a null seed of more than 0 bytes,
+ * writes nothing and returns XXH_ERROR. */
 XXH_errorcode XXH3_generateSecret(void *secret, size_t secret_length, const void *custom_seed,
                                   size_t custom_seed_length);
 
-/* Writes the XXH3_SECRET_DEFAULT_SIZE bytes of the secret that the seed derives. */
+/* Writes the XXH3_SECRET_DEFAULT_SIZE bytes of the secret derived from the seed. */
 void XXH3_generateSecret_fromSeed(void *secret, XXH64_hash_t seed);
 
 #ifdef __cplusplus
@@ -202,10 +201,10 @@ void XXH3_generateSecret_fromSeed(void *secret, XXH64_hash_t seed);
 #endif
 #endif
 
-/* For whoever lays a state on the stack or in a struct, also after this header was included without the word: states
- * with the sizes and the alignments of the C library's, and members that are the library's own affair. Such a state is
- * reset before its first use. One of XXH3 is larger here than in the C library, so it has no size: where one is asked
- * for, clang shows the line of its type, and gcc the message. */
+/* For states on the stack or in a struct, also if this header was included before without the word: states with the
+ * sizes and the alignments of the C library's, and private members. Such a state must be reset before its first use.
+ * A state of XXH3 is larger here than in the C library, so it has no size: if one is needed, clang shows the line of
+ * its type, and gcc the message. */
 #if defined(XXH_STATIC_LINKING_ONLY) && !defined(XXHASH_H_TWOX_HASH_STATES)
 #define XXHASH_H_TWOX_HASH_STATES
 struct XXH32_state_s {
@@ -215,6 +214,6 @@ struct XXH64_state_s {
     uint64_t reserved[11];
 };
 #if defined(__GNUC__) && !defined(__clang__)
-#pragma message "a state of XXH3 comes from XXH3_createState alone: it has no size here"
+#pragma message "only XXH3_createState creates a state of XXH3: it has no size here"
 #endif
 #endif

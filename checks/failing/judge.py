@@ -1,9 +1,9 @@
-"""What has to come of a run in which one system call fails."""
+"""The expected result of a run in which one system call fails."""
 from .scenarios import INPUT
 from .traces import BY_NAME, FOR_MEMORY
 from .worlds import NO_MEMORY, WRITE_FAILED, Fault, Outcome
 
-# What each call is made to fail with. Linux returns each of these for some file system or device.
+# The errors of each call. Linux returns each of these for some file system or device.
 ERRORS = {
     'open': ('EIO', 'EACCES', 'EMFILE', 'EINTR'), 'openat': ('EIO', 'EACCES', 'EMFILE', 'EINTR'),
     'read': ('EIO', 'EACCES', 'EINTR'), 'write': ('EIO', 'ENOSPC', 'EINTR'), 'getdents64': ('EIO', 'EACCES', 'EINTR'),
@@ -18,9 +18,9 @@ WRITES = ('write', 'writev')
 
 
 def errors_of(call):
-    """The errors that this call is made to fail with: all of one class alike."""
+    """The errors for this call: all of one class alike."""
     if call.name in FOR_MEMORY:
-        # Without an address, `brk` only asks where the memory ends.
+        # Without an address, `brk` only returns the end of the memory.
         return () if (call.name, call.target) == ('brk', 'NULL') else ('ENOMEM',)
     like = 'read' if call.name in READS else 'write' if call.name in WRITES else call.name
     return ERRORS.get(like, ('EIO',))
@@ -33,7 +33,7 @@ def opened_as(calls, at):
 
 
 def name_of(calls, at):
-    """The name that this call is about, as the program was given it."""
+    """The name of the file of this call, as it was passed to the program."""
     call = calls[at]
     if call.name in BY_NAME:
         return call.target
@@ -42,14 +42,15 @@ def name_of(calls, at):
 
 
 def given_before(calls, at):
-    """How many bytes the reads of the same file gave before this one."""
+    """The number of bytes that the reads of the same file returned before this one."""
     opened = opened_as(calls, at) or 0
     return sum(call.result for call in calls[opened:at]
                if call.name in READS and call.target == calls[at].target and call.result > 0)
 
 
 def faults_of(calls, at, error):
-    """What the failing call may mean to the program: a fault of some name, or None, where it has another way."""
+    """The possible meanings of the failing call for the program: an error with a name, or None if it has an
+    alternative."""
     call, name, why = calls[at], name_of(calls, at), WHYS[error]
     bare = name[:-1] if name.endswith('/') else name
     if call.name in OPENS:
@@ -65,25 +66,25 @@ def faults_of(calls, at, error):
 
 
 def is_tried(scenario, calls, at):
-    """Whether this call is made to fail: of runs into one pipe those for memory, and the reads of the lists."""
+    """True if this call is made to fail: in runs into one pipe those for memory, and the reads of the lists."""
     if scenario.out != 'merged' or calls[at].name in FOR_MEMORY:
         return True
     return calls[at].name in READS and name_of(calls, at) in scenario.words
 
 
-# ---- whether a run is as it has to be
+# ---- whether a run is as expected
 
 def text(outcome):
     return outcome.out.encode(), outcome.err.encode(), outcome.status
 
 
 def written(calls, at):
-    """How many bytes the output took before this call."""
+    """The number of bytes that the output took before this call."""
     return sum(call.result for call in calls[:at] if call.name in WRITES and call.target == '1' and call.result > 0)
 
 
 def after_failed_write(scenario, right, calls, at, done):
-    """What is wrong after a failed write: output is reported as lost, a message that is lost changes nothing."""
+    """The error after a failed write: output must be reported as lost; a message that is lost changes nothing."""
     out, err = right.out.encode(), right.err.encode()
     if calls[at].target == '2':
         is_well = (done.out, done.status) == (out, right.status) and err.startswith(done.err)
@@ -97,7 +98,7 @@ def after_failed_write(scenario, right, calls, at, done):
 
 
 def after_no_memory(scenario, right, done):
-    """What is wrong where memory runs out: the run is as ever, or stops with a message."""
+    """The error of a run out of memory: it must be unchanged, or stop with a message."""
     if (done.out, done.err, done.status) == text(right):
         return ''
     told, status = (NO_MEMORY.encode(), 1) if scenario.program == 'xxhsum' else (b'xxh: out of memory\n', 3)
@@ -111,12 +112,12 @@ def after_no_memory(scenario, right, done):
 
 
 def is_repeated(scenario, call, error):
-    """Whether an interrupted read is repeated: `xxh` reports each as failed."""
+    """True if an interrupted read is repeated: `xxh` reports each as failed."""
     return error == 'EINTR' and call.name in (*READS, 'getdents64') and scenario.program == 'xxhsum'
 
 
 def fault_in(scenario, right, planned, at, error, done):
-    """What is wrong with a run in which the call of this index failed, or nothing."""
+    """The error of a run in which the call of this index failed, or nothing."""
     if not any(call.is_failed for call in done.calls) or any(call.is_failed for call in done.before):
         return 'the call did not fail'
     if isinstance(done.status, str):
@@ -134,7 +135,7 @@ def fault_in(scenario, right, planned, at, error, done):
 
 
 def right_of(scenario, done):
-    """What is right where nothing fails. Help and version are compared elsewhere."""
+    """The expected result without a failure. Help and version are compared elsewhere."""
     if scenario.outcome is None or scenario.out not in ('pipe', 'merged'):
         return Outcome(done.out.decode(), done.err.decode(), done.status)
     return scenario.outcome(None)

@@ -1,4 +1,4 @@
-"""Wrong results, as wrong programs have them, which the check of failing calls has to detect."""
+"""Wrong results of wrong programs, which the check of failing calls must detect."""
 
 
 def told_twice(done):
@@ -14,7 +14,7 @@ def well(done):
 
 
 def passed_over(done):
-    """As if there were no such name or folder."""
+    """As if there were no such name or directory."""
     return done._replace(out=b'', err=b'', status=0)
 
 
@@ -35,7 +35,7 @@ def failed(done):
 
 
 def message_first(done):
-    """The message on memory before the last line that waited."""
+    """The message about memory before the last buffered line."""
     *lines, last, empty, told = done.out.splitlines(keepends=True)
     return done._replace(out=b''.join([*lines, empty, told, last]))
 
@@ -44,7 +44,7 @@ def hanging(done):
     return done._replace(status='not ended')
 
 
-# What is wrong, and in which scenario, with which call and error, it is put in place of the result.
+# The mistake, and the scenario, call and error whose result it replaces.
 PLANTED = {
     'a status of 0 after a failed read': ('one file', 'read', 'EIO', well),
     'a failed read that is not reported': ('one file', 'read', 'EIO', silent),
@@ -70,8 +70,8 @@ PLANTED = {
 
 
 def failing_call(calls, name, error, errors_of):
-    """The index of the first call of this name; of look-ups that below a folder, which nothing makes good; of those for
-    memory the last, so that some output waits."""
+    """The index of the first call of this name; for look-ups the one below a directory, which has no alternative;
+    for memory the last one, so that some output is buffered."""
     at = [it for it, call in enumerate(calls) if call.name == name and error in errors_of(call)]
     if name == 'brk':
         return at[-1]

@@ -1,4 +1,5 @@
-"""The scenarios of checks/failing_calls: the words of a run, its streams, and what has to come of it where one step fails."""
+"""The scenarios of checks/failing_calls: the arguments of a run, its streams, and the expected result if one step
+fails."""
 import os
 from typing import Callable, NamedTuple
 
@@ -7,7 +8,7 @@ from .worlds import COMMENT, JUNK, Outcome, good, wrong
 
 INPUT = 'standard input'
 GREETING = b'Hello, world!\0'
-# XXH64 of the greeting: up to 31 bytes wait, the accumulators are those of the seed 0.
+# XXH64 of the greeting: up to 31 bytes are buffered, the accumulators are those of the seed 0.
 SAVED = ('{"buffer":[72,101,108,108,111,44,32,119,111,114,108,100,33' + ',0' * 19 + '],"buffer_usage":14,'
          '"core":{"v1":6983438078262162902,"v2":14029467366897019727,"v3":0,"v4":7046029288634856825},'
          '"seed":0,"total_len":14}')
@@ -17,8 +18,8 @@ MANY = ['d/' + './' * count + 'inner' for count in range(120)]
 
 
 class Scenario(NamedTuple):
-    """A run, and its outcome, given what failed. `given` is the file that is its input, or `pipe`, `closed` or nothing. `out` is
-    what its output is: a pipe of its own, one for both streams, or one that can't be written."""
+    """A run, and its outcome by what failed. `given` is the file that is its input, or `pipe`, `closed` or nothing.
+    `out` is its output: a pipe of its own, one for both streams, or one that can't be written."""
     name: str
     words: tuple
     outcome: Callable
@@ -100,7 +101,7 @@ def of_checks(world):
         return worlds.all_checked(world, {'good': lists['good']}, fault)._replace(out='')
 
     def missing_aside(fault):
-        """A list of which no file was verified says so."""
+        """A list of which no file was verified has a message."""
         found = worlds.checked(world, 'good', lists['good'], fault)
         is_opened = not fault or (fault.step, fault.name) != ('open', 'good')
         return found if 'OK' in found.out or not is_opened else found._replace(out=found.out + 'good: no file was verified\n')
@@ -119,7 +120,7 @@ def of_checks(world):
 
 
 def of_one_pipe(world):
-    """Both streams are one pipe: output that waits comes out before any message, also where a list breaks off or memory runs
+    """Both streams are one pipe: buffered output comes before any message, also if a list ends early or memory runs
     out. The options take most of the memory that a program begins with, and the long name more than is left."""
     words = ('-w',) * 250 + ('-c',)
     lists = {
@@ -236,7 +237,7 @@ def all_scenarios(world):
 
 
 def input_of(scenario, world):
-    """What the run gets as standard input: a file, or a pipe that has its bytes before the run begins, so that each run has the
+    """The run's standard input: a file, or a pipe that has its bytes before the run begins, so that each run has the
     same reads."""
     if scenario.given != 'pipe':
         return open(world.path(scenario.given) if scenario.given not in ('', 'closed') else os.devnull, 'rb')

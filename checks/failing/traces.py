@@ -5,11 +5,11 @@ import signal
 import subprocess
 from typing import NamedTuple
 
-# The calls that are made to fail: those that take a name, those that take a descriptor, and those for memory.
+# The calls that are made to fail: those with a name, those with a descriptor, and those for memory.
 BY_NAME = ('open', 'openat', 'stat', 'lstat', 'statx', 'newfstatat', 'readlink', 'readlinkat')
 BY_DESCRIPTOR = ('read', 'readv', 'pread64', 'write', 'writev', 'fstat', 'getdents64', 'close', 'ioctl', 'lseek')
 FOR_MEMORY = ('brk', 'mmap', 'mremap')
-# Both kinds of programs ignore SIGPIPE first thing in `main`: what the loader calls comes before that.
+# Both kinds of programs ignore SIGPIPE first in `main`: the loader's calls come before that.
 MAIN = ('rt_sigaction', 'SIGPIPE')
 SECONDS = 20
 CALL = re.compile(r'^(\w+)\((.*)\) += (\S+)(.*)$')
@@ -17,8 +17,8 @@ SETTINGS = {**os.environ, 'LC_ALL': 'C'}
 
 
 class Call(NamedTuple):
-    """A system call: what it is, the file name or descriptor that it is about, whether it wants a folder, what it returned,
-    and whether it was made to fail."""
+    """A system call: its name, its file name or descriptor, whether it needs a directory, its result, and whether it
+    was made to fail."""
     name: str
     target: str
     is_folder: bool
@@ -27,7 +27,7 @@ class Call(NamedTuple):
 
 
 class Done(NamedTuple):
-    """What a run wrote, how it ended, and its calls: those before `main`, and those from there on."""
+    """The output of a run, how it ended, and its calls: those before `main`, and those from there on."""
     out: bytes
     err: bytes
     status: object
@@ -58,7 +58,7 @@ def calls_of(path):
 
 
 def ended(process):
-    """What the process wrote, and its status. One that does not end is killed, with all that it started."""
+    """The output of the process, and its status. One that does not end is killed, with everything that it started."""
     try:
         out, err = process.communicate(timeout=SECONDS)
         return out or b'', err or b'', process.returncode
@@ -69,7 +69,7 @@ def ended(process):
 
 
 def traced(words, injections, streams, folder, trace):
-    """Runs these words with these faults, and over these streams."""
+    """Runs these arguments with these faults, and over these streams."""
     names = ','.join(f'?{name}' for name in (*BY_NAME, *BY_DESCRIPTOR, *FOR_MEMORY, MAIN[0]))
     strace = ['strace', '-qq', '-s', '0', '-o', trace, '-e', f'trace={names}', '-e', 'signal=none']
     faults = [word for fault in injections for word in ('-e', f'inject={fault}')]
@@ -86,8 +86,8 @@ def injection(before, calls, at, error):
 
 
 def memory_injections(before, calls, at):
-    """Makes the call of this index fail, and each one for memory after it. The system's `brk` fails without an error, by
-    returning less than it was asked for."""
+    """Makes the call of this index fail, and each one for memory after it. The system's `brk` fails without an
+    error, by returning less than was requested."""
     earlier = [*before, *calls[:at]]
     counts = {name: sum(call.name == name for call in earlier) for name in FOR_MEMORY}
     ways = {name: 'retval=0' if name == 'brk' else 'error=ENOMEM' for name in FOR_MEMORY}

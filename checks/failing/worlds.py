@@ -1,6 +1,7 @@
-"""The files that the scenarios of checks/failing_calls read, and what is right to print of them.
+"""The files that the scenarios of checks/failing_calls read, and the correct output for them.
 
-What is right is worked out from docs/XXHSUM.md and the digests of Debian's xxhsum: none of it is our program's output."""
+The correct output is derived from docs/XXHSUM.md and the digests of Debian's xxhsum: none of it is our program's
+output."""
 import os
 import re
 import subprocess
@@ -19,8 +20,8 @@ NO_MEMORY = '\nError: Out of memory.\n'
 
 
 class Fault(NamedTuple):
-    """What the system refuses: `open` or `read` of a file, `folder` for its names, or `look-up` of a name; of which name, why,
-    and how many bytes of the file the reads before gave."""
+    """What the system refuses: `open` or `read` of a file, `folder` for its names, or `look-up` of a name; with the
+    name, the reason, and how many bytes of the file the reads before returned."""
     step: str
     name: str
     why: str
@@ -34,7 +35,7 @@ class Outcome(NamedTuple):
 
 
 class World:
-    """A folder with the files, and two names below `d` that are passed over: a link, and a pipe that nobody writes to."""
+    """A folder with the files, and two names below `d` that are skipped: a link, and a pipe without a writer."""
 
     def __init__(self, folder):
         self.folder, self.known = folder, {}
@@ -65,13 +66,13 @@ class World:
 # ---- digests of names
 
 def refusal(name, fault):
-    """What is reported of a file that could not be opened or read, or of a folder."""
+    """The message for a file or a directory that could not be opened or read."""
     step, why = ('read', UNREAD) if fault.step == 'read' else ('open', fault.why)
     return f"Error: Could not {step} '{name}': {why}. \n"
 
 
 def trouble(world, name, fault):
-    """What is reported of a name that has no digest, or nothing."""
+    """The message for a name that has no digest, or nothing."""
     if fault and fault.name == name:
         return refusal(name, fault)
     if os.path.isdir(world.path(name)):
@@ -98,7 +99,7 @@ def of_input(world, name, fault, algorithm='64'):
 # ---- folders
 
 def walked(world, names, fault):
-    """The files below these names, in order, and what is reported on the way."""
+    """The files below these names, in order, and the messages on the way."""
     files, told = [], ''
     for name in names:
         if fault and fault.step in ('folder', 'look-up') and fault.name in (name, name + '/'):
@@ -122,7 +123,7 @@ def digests_below(world, names, fault=None):
 # ---- checks of lists
 
 class Line(NamedTuple):
-    """A line of a list: its text, the file that it names, if any, and whether that has the value."""
+    """A line of a list: its text, its file, if any, and whether that has the value."""
     text: str
     name: str = ''
     is_good: bool = True
@@ -137,12 +138,12 @@ def wrong(name):
 
 
 JUNK = Line('junk\n')
-# Some of them are more than the buffer that lists are read into.
+# Some of them are longer than the read buffer of lists.
 COMMENT = Line('#' + 'x' * 20_000 + '\n')
 
 
 def verdict(world, listed, number, line, fault):
-    """What is printed of a well-formed line."""
+    """The output for a well-formed line."""
     why = ''
     if fault and fault.name == line.name:
         why = UNREAD if fault.step == 'read' else fault.why
@@ -183,8 +184,8 @@ def checked(world, listed, lines, fault=None, warns=False):
 
 
 def merged_check(world, listed, lines, fault=None):
-    """What one pipe gets of both streams, where every malformed line is reported: each message where it belongs, and the counts
-    behind the last line."""
+    """The content of one pipe of both streams, if every malformed line is reported: each message at its place, and
+    the counts after the last line."""
     given = lines[:''.join(line.text for line in lines)[:fault.given].count('\n')] if fault else lines
     both = [verdict(world, listed, number, line, None) if line.name else
             f'{listed}:{number}: Error: Improperly formatted checksum line.\n' for number, line in enumerate(given, 1)]
@@ -210,7 +211,7 @@ def digests_listed(world, lists, fault=None):
 
 
 def unread_list(lists, fault):
-    """What is reported of a list of names, or of one to audit, that could not be opened or read."""
+    """The message for a list of names, or one to audit, that could not be opened or read."""
     if not fault or fault.name not in lists:
         return ''
     if fault.step == 'open':
@@ -221,7 +222,7 @@ def unread_list(lists, fault):
 # ---- audits
 
 def classes(entries, found):
-    """The class of each line and name, in the order of the report: (what is printed, its class)."""
+    """The class of each line and name, in the order of the report: (the output, its class)."""
     by_name = sorted(set(entries) & set(found), key=os.fsencode)
     settled = [(name, 'same' if entries[name] == found[name] else 'changed') for name in by_name]
     gone = sorted(((entries[name], name) for name in set(entries) - set(found)))
@@ -242,7 +243,7 @@ def classes(entries, found):
 
 
 def audited(world, listed, entries, names, fault=None, before=''):
-    """The audit of names against a list, which says these digests. A name with no digest is left out, with its line."""
+    """The audit of names against a list with these digests. A name with no digest is left out, with its line."""
     told = unread_list({listed: []}, fault)
     if told:
         return Outcome('', before + told, 1)
@@ -257,6 +258,6 @@ def audited(world, listed, entries, names, fault=None, before=''):
 
 
 def audited_below(world, listed, entries, names, fault=None):
-    """The audit of the files below folders: none where one of them can't be read."""
+    """The audit of the files below directories: none if one of them can't be read."""
     files, told = walked(world, names, fault)
     return Outcome('', told, 1) if told else audited(world, listed, entries, files, fault)

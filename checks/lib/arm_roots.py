@@ -7,8 +7,8 @@ TOOLS = 'aarch64-linux-gnu-'
 
 
 def debian_root(folder, *packages):
-    """Debian's packages for arm64 and all that they need, unpacked below a folder. apt works on lists and a cache of
-    its own there, so that the machine's own packages stay as they are."""
+    """Debian's packages for arm64 and everything that they need, unpacked below a folder. apt works on lists and a
+    cache of its own there, so that the machine's own packages stay unchanged."""
     for part in ('state/lists/partial', 'cache/archives/partial', 'root'):
         os.makedirs(os.path.join(folder, part))
     status = os.path.join(folder, 'status')

@@ -1,4 +1,4 @@
-"""One line a check, and the counts at the end."""
+"""One line per check, and the counts at the end."""
 import subprocess
 
 
@@ -7,7 +7,7 @@ class Report:
         self.passed, self.failed = 0, 0
 
     def row(self, name, fault=None, note=''):
-        """A check that passed, or what is at fault with it."""
+        """A check that passed, or its error."""
         if fault:
             self.failed += 1
             print(f'FAILED  {name}: {fault}', flush=True)
@@ -16,7 +16,7 @@ class Report:
             print(f'passed  {name}' + (f' ({note})' if note else ''), flush=True)
 
     def attempt(self, name, check, *words):
-        """A check that answers a note, or raises what is at fault."""
+        """A check that returns a note, or raises its error."""
         try:
             self.row(name, None, check(*words) or '')
         except Exception as fault:
@@ -25,25 +25,25 @@ class Report:
             self.row(name, said or 'it failed, and printed nothing')
 
     def count(self, passed, failed):
-        """Checks that have no row each."""
+        """Checks without a line of their own."""
         self.passed += passed
         self.failed += failed
 
     def repeat(self, line):
-        """A row of another program's report, which is counted here too."""
+        """A line of another program's report, which is also counted here."""
         if line.startswith(('passed  ', 'FAILED  ')):
             self.passed += line.startswith('passed  ')
             self.failed += line.startswith('FAILED  ')
             print(line, end='', flush=True)
 
     def end(self):
-        """Says the counts, and answers the program's status. A run without a check is none that passed."""
+        """Prints the counts, and returns the program's status. A run without a check fails."""
         print(f'{self.passed} passed, {self.failed} failed')
         return 0 if self.passed and not self.failed else 1
 
 
 class Fault(Exception):
-    """What is at fault, in one line."""
+    """An error, in one line."""
 
 
 def want(holds, fault):
@@ -52,6 +52,6 @@ def want(holds, fault):
 
 
 def tail(text):
-    """The last line of a program's output, for a fault."""
+    """The last line of a program's output, for an error."""
     lines = text.strip().splitlines()
     return lines[-1][:300] if lines else 'no output'

@@ -1,4 +1,4 @@
-"""What all checks work with: packages, tools, programs of crates/, and copies of the repository."""
+"""Shared by all checks: packages, tools, programs of crates/, and copies of the repository."""
 import fcntl
 import os
 import shutil
@@ -7,14 +7,14 @@ import sys
 import time
 
 TOP = os.path.dirname(os.path.dirname(os.path.dirname(os.path.abspath(__file__))))
-# So that what apt-get says is looked for in English.
+# So that apt-get's messages are in English.
 QUIET = {**os.environ, 'DEBIAN_FRONTEND': 'noninteractive', 'LC_ALL': 'C.UTF-8'}
 # How many seconds an installation waits for another one.
 PATIENCE = 900
 
 
 def must(words, **more):
-    """Runs a tool of the check itself, which has to work."""
+    """Runs a tool of the check itself, which must succeed."""
     done = subprocess.run(words, stdout=subprocess.PIPE, stderr=subprocess.STDOUT, text=True, **more)
     if done.returncode:
         sys.exit(f'{os.path.relpath(sys.argv[0], TOP)}: {" ".join(words)}:\n{done.stdout[-2000:]}')
@@ -22,7 +22,7 @@ def must(words, **more):
 
 
 def four_hashes(file):
-    """The lines that each example prints, of Debian's xxhsum."""
+    """The lines that each example prints, by Debian's xxhsum."""
     flags = {'32': '-H0', '64': '-H1', '3-64': '-H3', '3-128': '-H2'}
     hashes = {kind: must(['xxhsum', flag, '-'], stdin=open(file, 'rb')).split() for kind, flag in flags.items()}
     return ''.join(f'{kind} {words[0] if kind != "3-64" else words[-1]}\n' for kind, words in hashes.items())
@@ -34,12 +34,12 @@ def missing_packages(packages):
 
 
 def install_packages(packages):
-    """Installs those that are missing."""
+    """Installs the missing ones."""
     install(missing_packages(packages))
 
 
 def install(packages):
-    """Installs packages. Checks that run beside one another take turns, and wait for whoever else installs."""
+    """Installs packages. Concurrent checks take turns, and wait for other installations."""
     if packages:
         with open('/var/lock/twox-hash-packages', 'w') as turn:
             fcntl.flock(turn, fcntl.LOCK_EX)
@@ -48,7 +48,7 @@ def install(packages):
 
 
 def apt_get(*words):
-    """Runs apt-get, again while another holds a lock: `update` has no way to wait for one."""
+    """Runs apt-get, again while another process holds a lock: `update` can't wait for one."""
     until = time.monotonic() + PATIENCE
     command = ['apt-get', '-qq', '-o', f'DPkg::Lock::Timeout={PATIENCE}', *words]
     while True:
@@ -61,7 +61,8 @@ def apt_get(*words):
 
 
 def proved_program(name, *flags):
-    """A program of crates/, which rt proves and builds anew. Run with no words, as here, it may answer any status."""
+    """A program of crates/, which rt proves and builds again. Run with no arguments, as here, it may return any
+    status."""
     crate = os.path.join(TOP, 'crates', name)
     program = os.path.join(crate, 'out', name)
     if os.path.exists(program):
@@ -74,7 +75,7 @@ def proved_program(name, *flags):
 
 
 def path_without(room, hidden):
-    """PATH without a command: a folder that holds it gives way to one with links to all else in it."""
+    """PATH without a command: a folder that contains it is replaced by one with links to everything else in it."""
     folders = []
     for number, folder in enumerate(os.environ['PATH'].split(':')):
         if os.path.lexists(os.path.join(folder, hidden)):
@@ -89,15 +90,15 @@ def path_without(room, hidden):
 
 
 def hide_rt(room):
-    """Takes rt off PATH."""
+    """Removes rt from PATH."""
     os.environ['PATH'] = path_without(room, 'rt')
     if shutil.which('rt'):
         sys.exit('rt is on PATH still')
 
 
 def clean_copy(folder):
-    """Copies the repository without what was built in it, and without what rt alone reads: the files that git knows, or
-    where there is no git all."""
+    """Copies the repository without build output, and without the files that only rt reads: the files in git, or
+    without git all."""
     if not os.path.exists(os.path.join(TOP, '.git')):
         ignored = shutil.ignore_patterns('out', 'target', '__pycache__', 'crates')
         shutil.copytree(TOP, folder, symlinks=True, ignore=ignored)

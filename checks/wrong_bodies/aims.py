@@ -1,4 +1,4 @@
-"""The public functions whose clauses no edit is aimed at."""
+"""The public functions without a mutant for their clauses."""
 import glob
 import os
 import re
@@ -21,7 +21,7 @@ def main(files):
 
 
 def public_functions(crate):
-    """The functions with a body that callers may name and that promise something: file, function, names of its clauses."""
+    """The functions with a body that callers may call and that have clauses: file, function, names of its clauses."""
     for file in sorted(glob.glob(f"{crate.folder}/src/**/*.rt", recursive=True)):
         path, lines = os.path.relpath(file, crate.folder), kit.read(file).split("\n")
         for it in source.functions(path, lines):

@@ -1,6 +1,6 @@
-"""A crate with copies of its functions: an edit of a copy leaves the function as it is, so one check may try all edits of a
-function, and those of the functions that call it. A copy has the function's contract and its answers, under another name,
-and nothing calls it."""
+"""A crate with copies of its functions: an edit of a copy leaves the function unchanged, so one check may try all
+edits of a function, and those of the functions that call it. A copy has the function's contract and its proof
+answers, under another name, and nothing calls it."""
 import copy
 import os
 import re
@@ -10,9 +10,9 @@ from . import edits, kit
 
 
 def with_copies(crate, tried, folder):
-    """The crate, written to the folder with its copies, and the functions that other changed ones may call. The further edits
-    of a function now change its copies, and the first too where it may be called, since what calls a refused function may
-    have no line of its own."""
+    """The crate, written to the folder with its copies, and the functions that other changed ones may call. The
+    further edits of a function now change its copies, and the first too if it may be called, since callers of a
+    refused function may have no line of their own."""
     for part in kit.rt.rtlib.PARTS:
         if os.path.isdir(f"{crate.folder}/{part}"):
             shutil.copytree(f"{crate.folder}/{part}", f"{folder}/{part}")
@@ -30,7 +30,7 @@ def with_copies(crate, tried, folder):
 
 
 def is_called(function, name, bodies):
-    """Whether another of these bodies may call the function."""
+    """True if another of these bodies may call the function."""
     word = re.compile(rf"\b{name}\b")
     return any(word.search(text) for other, text in bodies.items() if other != function)
 
@@ -41,8 +41,8 @@ def text_of_body(crate, edit):
 
 
 def give_copies(folder, its, first):
-    """Has each of these edits of one function, from the first on, change a copy of its own, where the function can have
-    copies. One more stays as it is: their control."""
+    """Makes each of these edits of one function, from the first on, change a copy of its own, if the function can
+    have copies. One more copy stays unchanged: their control."""
     control, *others = (add_copy(folder, its[0], number) for number in range(len(its) - first + 1))
     if control:
         for edit, (name, body, by) in zip(its[first:], others):
@@ -50,7 +50,8 @@ def give_copies(folder, its, first):
 
 
 def add_copy(folder, edit, number):
-    """Adds a copy of the function that the edit changes: its name, where it stands, and how many characters below. Or None."""
+    """Adds a copy of the function that the edit changes: its name, its position, and its offset in characters. Or
+    None."""
     name = f"{edit.body.name}_copy_{number}"
     found = edit.body.copied(kit.read(f"{folder}/{edit.path}").rstrip("\n").split("\n"), name)
     if not found:
@@ -59,7 +60,7 @@ def add_copy(folder, edit, number):
     kit.write(f"{folder}/{edit.path}", "\n".join(lines) + "\n")
     name = f"{edit.function.rpartition('::')[0]}::{name}"
     copy_answers(folder, edit.function, name)
-    # The brace may stand on the line of `fn`, which the copy's longer name makes longer.
+    # The brace may be on the line of `fn`, which the copy's longer name makes longer.
     return name, body, start_of(lines, body.first + 1) - start_of(lines, edit.body.first + 1)
 
 

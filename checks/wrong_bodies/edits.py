@@ -1,4 +1,4 @@
-"""An edit: what stands where in the source, and the one function whose body alone it changes, if there is one."""
+"""An edit: the position of each change in the source, and the only function whose body it changes, if there is one."""
 import glob
 import os
 import re
@@ -12,9 +12,9 @@ class Edit:
         self.file, self.name, self.function, self.body, self.spots = file, os.path.basename(file), None, None, []
         named = re.search(r"^refused by: (\S+)$", kit.read(file), re.M)
         self.refused_by = named and f"{crate.name}::{named[1]}"
-        # Functions whose edits hid this one in a check: it isn't tried beside them again.
+        # Functions whose edits hid this one in a check: it isn't tried together with them again.
         self.apart = set()
-        # Where it changes a copy of its function, another copy, which no edit changes.
+        # If it changes a copy of its function, another copy, which no edit changes.
         self.control = None
         self.path, pairs = parsed(kit.read(file))
         if kit.rt.read_edit(file, crate.folder)[1] or not self.path or not self.path.startswith("src/"):
@@ -30,28 +30,28 @@ class Edit:
             self.refused_by = self.refused_by or self.function
 
     def fits_beside(self, chosen):
-        """Whether it and none of those chosen, by their functions, hid one another before."""
+        """True if it and none of those chosen, by their functions, hid one another before."""
         return not self.apart & chosen.keys() and not any(self.function in it.apart for it in chosen.values())
 
     def turn_to(self, copy, body, by, control):
-        """Has the edit change a copy of the function, so many characters below."""
+        """Makes the edit change a copy of the function, at this offset in characters."""
         self.function, self.body, self.control = copy, body, control
         self.spots = [(at + by, old, new) for at, old, new in self.spots]
 
 
 def proof_module(function):
-    """What the names of a function's proofs begin with."""
+    """The prefix of the names of a function's proofs."""
     crate, *path = function.split("::")
     return f"Rattle.{crate}.proofs.{'.'.join(path)}."
 
 
 def proof_folder(function):
-    """Where the answers of a function stand, as a check names it."""
+    """The folder of a function's proof answers, as a check names it."""
     return f"proofs/{'/'.join(function.split('::')[1:])}/"
 
 
 def parsed(text):
-    """The one file that an edit names, or None, and its pairs of old and new texts."""
+    """The only file of an edit, or None, and its pairs of old and new texts."""
     lines = text.split("\n")
     paths = {it[len("file: "):].strip() for it in lines if it.startswith("file: ")}
     olds = [it[len("old: "):] for it in lines if it.startswith("old: ")]
@@ -60,12 +60,12 @@ def parsed(text):
 
 
 def files_of(crate, room):
-    """The blocks of the crate's wrong-bodies.edits, each written to the room as a file that `rt must-fail` takes."""
+    """The blocks of the crate's wrong-bodies.edits, each written to a folder as a file for `rt must-fail`."""
     return sorted(written(f"{crate.folder}/wrong-bodies.edits", f"{room}/{crate.name}"), key=os.path.basename)
 
 
 def written(path, folder):
-    """The blocks of a file, each as a file of the folder, which is made."""
+    """The blocks of a file, each as a file of the folder, which is created."""
     os.makedirs(folder)
     for name, text in blocks_of(path):
         kit.write(f"{folder}/{name}.edit", text)
@@ -73,20 +73,28 @@ def written(path, folder):
 
 
 def blocks_of(path):
-    """The edits of a file, by name: each begins with a line `== NAME`."""
-    heads = re.split(r"^== (\S+)\n", kit.read(path), flags=re.M) if os.path.exists(path) else [""]
-    names = heads[1::2]
-    twice = sorted({it for it in names if names.count(it) > 1})
-    if heads[0].strip() or twice:
-        sys.exit(f"wrong-bodies: {path} {f'has {twice[0]} twice' if twice else 'begins with no line == NAME'}")
-    return zip(names, heads[2::2])
+    """The edits of a file, by name. A line `= PATH` begins those of a source file, and `== NAME` each of these."""
+    blocks, source_file, lines = {}, None, None
+    for line in kit.read(path).rstrip("\n").split("\n") if os.path.exists(path) else ():
+        if line.startswith("= "):
+            source_file, lines = line[2:], None
+        elif line.startswith("== ") and source_file:
+            name = line[3:]
+            if name in blocks:
+                sys.exit(f"wrong-bodies: {path} has {name} twice")
+            lines = blocks[name] = [f"file: {source_file}"]
+        elif lines:
+            lines.append(line)
+        else:
+            sys.exit(f"wrong-bodies: {path}: a line outside of any mutant: {line}")
+    return [(name, "\n".join([*lines, ""])) for name, lines in blocks.items()]
 
 
 def texts_with(crate, edits):
     """The texts of the changed files with all these edits, each of a function of its own."""
     texts = {it.path: kit.read(f"{crate.folder}/{it.path}") for it in edits}
     spots = sorted(((*spot, it.path) for it in edits for spot in it.spots), reverse=True)
-    # From the end of each file on, so that each place is still where it was.
+    # From the end of each file on, so that each position stays valid.
     for at, old, new, path in spots:
         texts[path] = texts[path][:at] + new + texts[path][at + len(old):]
     return texts

@@ -1,5 +1,5 @@
-"""Mutants that are refused only because an answer no longer fits, tried again without the answers of their function: one that
-the automatic search then proves was never refused by the contract."""
+"""Mutants that are refused only because a proof answer no longer fits, tried again without the proof answers of
+their function: a mutant that the automatic search then proves was never refused by the contract."""
 import glob
 import os
 import re
@@ -34,12 +34,12 @@ def edit_name(path):
 
 
 def names_of_weak():
-    """The edits of which the repository remembers such a refusal."""
+    """The edits with such a refusal in the repository's list."""
     return set(re.findall(rf"^(\S+) [0-9a-f]{{32}} {re.escape(BY_ANSWERS)}", kit.read(memory.WRITTEN), re.M))
 
 
 def tried(crate, chosen):
-    """What became of a crate's edits, by name."""
+    """The results of a crate's edits, by name."""
     found = {f"{crate.name}/{it.name}": NOTHING for it in chosen if not it.function}
     waiting = [it for it in chosen if it.function]
     with tempfile.TemporaryDirectory(prefix="wrong-bodies-hard-") as room:
@@ -58,7 +58,7 @@ def tried(crate, chosen):
 
 
 def said_of(crate, batch, kept):
-    """What a check says of these edits, one of a function; where it has no verdict, a check of each alone."""
+    """A check's results for these edits, one of a function; without a verdict, those of a check of each separately."""
     texts = {**edits.texts_with(crate, batch), **{path: NO_ANSWERS for it in batch for path in answers_of(crate, it.function)}}
     with kit.no_file_written(), kit.copy_of(kept) as copy:
         status, lines = kit.check(crate, texts, copy, [it.function for it in batch])
@@ -71,7 +71,8 @@ def said_of(crate, batch, kept):
 
 
 def answers_of(crate, function):
-    """The files of a function's answers, as the crate names them; those of a function that calls itself lie behind a `+`."""
+    """The files of a function's proof answers, as the crate names them; those of a function that calls itself are
+    after a `+`."""
     folder, name = os.path.split(edits.proof_folder(function).rstrip("/"))
     found = [path for mark in ("", "+") for path in glob.glob(glob.escape(f"{crate.folder}/{folder}/{mark}{name}") + "/Answers.antt")]
     return [os.path.relpath(path, crate.folder) for path in found]

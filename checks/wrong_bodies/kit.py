@@ -1,4 +1,4 @@
-"""The toolchain's program `rt` as a module: it knows how a crate is checked, and how an edit is tried alone."""
+"""The toolchain's program `rt` as a module: it knows how to check a crate, and how to try an edit separately."""
 import contextlib
 import glob
 import importlib.machinery
@@ -14,9 +14,9 @@ import threading
 from . import source
 
 TOP = os.path.dirname(os.path.dirname(os.path.dirname(os.path.abspath(__file__))))
-# What rt says of an edit at which the prover came to a limit of its own.
+# rt's message for an edit at which the prover reached a limit of its own.
 BY_LIMIT = "only by a limit of the prover"
-# What this program calls of rt. A new kit may name these otherwise.
+# The functions of rt that this program calls. A new release may name these differently.
 USED = ("checked", "must_fail", "read_edit", "unread", "rtlib")
 
 
@@ -28,27 +28,27 @@ def load():
     lost = [name for name in USED if not hasattr(module, name)]
     if lost:
         sys.exit(f"wrong-bodies: this kit's rt has no {', '.join(lost)}")
-    # Its first call sets a signal's handler, which only the main thread may.
+    # Its first call sets a signal's handler, which only the main thread may do.
     module.rtlib.guarded()
     module.rtlib.guarded = with_closed_files(module.rtlib.guarded)
     module.checked = with_whole_messages(module.checked)
     return module
 
 
-# Whether what this thread starts may write no file.
+# Whether the children of this thread may write no file.
 CLOSED = threading.local()
-# Runs a command that may write no file, and is told so by an error, not killed.
+# Runs a command that may write no file: it gets an error and is not killed.
 WRITES_NO_FILE = ["sh", "-c", 'trap "" XFSZ; ulimit -f 0; exec "$@"', "sh"]
 
 
 def with_closed_files(guarded):
-    """The words before each command that rt starts, and after them those that let it write no file."""
+    """The arguments before each command that rt starts, and after them those that stop it from writing files."""
     return lambda: [*guarded(), *(WRITES_NO_FILE if getattr(CLOSED, "is_closed", False) else ())]
 
 
 @contextlib.contextmanager
 def no_file_written():
-    """Meanwhile a check writes no file. What it proves is not kept; and where it can't keep that, rattle doesn't load all
+    """Meanwhile a check writes no file. Its proofs are not kept; and if it can't keep them, rattle doesn't load all
     modules a second time, which it does to print the file that each refused function wants."""
     CLOSED.is_closed = True
     try:
@@ -58,8 +58,8 @@ def no_file_written():
 
 
 def with_whole_messages(checked):
-    """A check whose output has each message on one line. The prover goes on in a further line, which begins with a space,
-    where a message has a long name; rt reads line by line, and so does all that is here."""
+    """A check whose output has each message on one line. The prover continues in a further line, which begins with a
+    space, if a message has a long name; rt reads line by line, and so does everything here."""
     def check(*words):
         ran = checked(*words)
         ran.stdout = re.sub(r"\n +", " ", ran.stdout)
@@ -71,7 +71,8 @@ rt = load()
 
 
 def identity():
-    """What tells this kit's prover from others: its logic's sum, and its size. Kits of other names may have the same."""
+    """Identifies this toolchain's prover: its logic's checksum, and its size. Releases of other names may have the
+    same."""
     return f"{re.search('logic .*', read(f'{rt.rtlib.KIT}/KIT-ID'))[0]}, {os.path.getsize(rt.rtlib.RATTLE)} bytes"
 
 
@@ -95,10 +96,11 @@ def write(path, text):
 
 
 def check(crate, texts, kept, only=()):
-    """Checks the crate with these texts in place of its own, over the kept work, if there is any: its status and its lines."""
+    """Checks the crate with these texts in place of its own, over the kept work, if there is any: its status and its
+    lines."""
     words = [*one_job(), *(word for name in only for word in ("--only", name))]
     ran = rt.checked(crate, texts, words, kept)
-    # An error of the machine's own is no refusal of anything.
+    # An error of the machine is no refusal.
     if unusable := UNUSABLE.search(ran.stdout):
         sys.exit(f"wrong-bodies: {crate.name}: a library that was built can't be used, so nothing is known: {unusable[0][:200]}")
     return ran.returncode, ran.stdout.rstrip("\n").split("\n")
@@ -106,8 +108,8 @@ def check(crate, texts, kept, only=()):
 
 @contextlib.contextmanager
 def copy_of(kept):
-    """A copy of kept work, or None where there is none. What was proved is linked: a check replaces such a file, and
-    writes into none."""
+    """A copy of kept work, or None if there is none. Proofs are linked: a check replaces such a file, and writes
+    into none."""
     if not os.path.isdir(kept):
         yield None
         return
@@ -123,13 +125,13 @@ def linked_or_copied(file, to):
 
 
 def listing(folder):
-    """What tells whether a file of the folder was changed, lost or added."""
+    """Shows whether a file of the folder was changed, lost or added."""
     files = [f"{at}/{name}" for at, _, names in os.walk(folder) for name in names]
     return {it: (found.st_ino, found.st_size, found.st_mtime_ns) for it in files for found in [os.lstat(it)]}
 
 
 def try_alone(crate, edit_file, kept):
-    """Whether the prover refuses the edit, and what to say: over kept work, if there is any, and what passes there from
+    """True if the prover refuses the edit, with a message: over kept work, if there is any, and if that passes from
     nothing."""
     came_to, said = rt.must_fail(crate, edit_file, one_job(), kept)
     if kept and not is_refusal(came_to):
@@ -138,14 +140,14 @@ def try_alone(crate, edit_file, kept):
 
 
 def is_refusal(came_to):
-    """What rt answers of an edit: kit 13b says yes or no, and kit 13f what the edit came to."""
+    """rt's result for an edit: release 13b returns a flag, and release 13f a result."""
     return came_to if isinstance(came_to, bool) else came_to in (rt.REFUSED, rt.AT_LIMIT)
 
 
 def is_built(crate):
-    """Whether the library's build is of what its files say now. A library is built only if it is proved."""
-    # `rt ci` leaves a library with no stamp, so its folder's time says whether it is up to date. The files inside may be
-    # older, of an earlier run that proved the same.
+    """True if the library's build is up to date. A library is built only if it is proved."""
+    # `rt ci` leaves a library with no stamp, so its folder's time determines whether it is up to date. The files inside
+    # may be older, of an earlier run that proved the same.
     if not os.path.isdir(crate.rlib) or os.path.exists(f"{os.path.dirname(crate.rlib)}/stamp"):
         return crate.is_built()
     files = [file for it in [crate, *crate.below()] for file in rt.rtlib.files_of(it.folder)]
@@ -153,7 +155,7 @@ def is_built(crate):
 
 
 def build_library(crate):
-    """Has a library built, unless `rt ci` or an earlier run has built it."""
+    """Builds a library, unless `rt ci` or an earlier run has built it."""
     if not is_built(crate) and crate.build_rlib(one_job(), anew=False):
         sys.exit(f"wrong-bodies: {crate.name} is not proved")
 
@@ -163,7 +165,7 @@ def is_library(crate):
 
 
 def names_of_functions(crate):
-    """The functions of a crate, named as a check names them: of a library from its build, else from its source, since
+    """The functions of a crate, named as in a check: for a library from its build, otherwise from its source, since
     programs and static libraries have no methods of a type with parameters."""
     if is_library(crate):
         return {name for name, _ in json.loads(read(f"{crate.rlib}/toolchain/mir.json")) if not name.endswith("+decl")}
@@ -176,7 +178,7 @@ def is_front_end_error(line, texts):
     return rt.unread(line, texts)
 
 
-# What a check says where it can't take what was built of a library.
+# A check's message if it can't use the build of a library.
 UNUSABLE = re.compile(rf"{rt.rtlib.STALE.pattern}|checked file .* cannot be used.*")
 LINE = re.compile(r"(fn|impl|closure|struct|enum|trait) (\S+): (.*)")
 PLACE = re.compile(r"(?:\./)?(\S+?):(\d+):\d+: error(.*)")

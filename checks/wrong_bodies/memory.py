@@ -1,7 +1,8 @@
-"""Refusals that are remembered: each under a sum of all that it stands on. A run of `rt ci` keeps proofs in the same way.
-This machine remembers in a folder what it has seen refused. The repository remembers in refused.txt what a run with --write
-has, for machines that remember nothing; of that, each run tries a part anew which is drawn by lot. Whoever can write there
-can have an edit pass for refused until it's drawn: `--anew` looks at nothing that was kept."""
+"""Refusals that are remembered: each under a checksum of everything that it depends on. A run of `rt ci` keeps
+proofs in the same way. This machine remembers in a folder what it has seen refused. The repository remembers in
+refused.txt the refusals of a run with --write, for machines that remember nothing; each run tries a random part of
+them again. A user with write access can make an edit pass as refused until it is drawn: `--anew` uses nothing that
+was kept."""
 import glob
 import hashlib
 import os
@@ -15,26 +16,26 @@ HERE = os.path.dirname(os.path.abspath(__file__))
 FOLDER = os.path.join(os.environ.get("XDG_CACHE_HOME") or os.path.expanduser("~/.cache"), "twox_hash", "wrong-bodies")
 WRITTEN = os.path.join(HERE, "refused.txt")
 HEAD = "# Refused by `checks/wrong-bodies --write`: an edit, half of the sum of all that its refusal stands on, and why.\n"
-# The part of what the repository remembers that is tried anew.
+# The part of the repository's list that is tried again.
 DRAWN = 0.1
-# What decides whether an edit is refused. What chooses and tells doesn't.
+# The modules that determine whether an edit is refused. Those that choose edits and print results don't.
 JUDGES = ("copies", "edits", "kit", "proofs", "source", "trial")
 
 
 def half(its_sum):
-    """As much of a sum as no two texts share by chance."""
+    """As much of a checksum as no two texts share by chance."""
     return its_sum[:32]
 
 
 class Memory:
-    """What was refused before, which a run anew doesn't look at, and for planted edits keeps nothing either."""
+    """Earlier refusals, which a run with --anew doesn't use, and doesn't keep for planted edits."""
 
     def __init__(self, is_anew=False, keeps=True):
         self.is_anew, self.keeps, self.sums = is_anew, keeps, {}
         self.written = {} if is_anew else drawn_out(refusals_written())
 
     def recall(self, its_sum):
-        """What was said of the edit of this sum when it was refused, or None."""
+        """The message for the edit of this checksum when it was refused, or None."""
         path = os.path.join(FOLDER, its_sum)
         if not self.is_anew and os.path.exists(path):
             return kit.read(path)
@@ -48,56 +49,67 @@ class Memory:
             os.replace(file.name, os.path.join(FOLDER, its_sum))
 
     def sum_of(self, edit, crate):
-        """The sum of the edit, of the kit and of this program, of what the crate and those below it state, and of the one body
-        that the edit changes with its answers, or where it changes none alone, of all bodies and answers of the crate."""
+        """The checksum of the edit, of the toolchain and of this program, of the statements of the crate and those
+        below, and of the one body that the edit changes with its proof answers, or if it changes no single one, of
+        all bodies and proof answers of the crate. Comment lines are left out."""
         text = kit.read(f"{crate.folder}/{edit.path}").split("\n") if edit.function else []
-        own = text[edit.body.head:edit.body.last + 1] if edit.function else [self.bodies(crate)]
+        own = code_of("\n".join(text[edit.body.head:edit.body.last + 1])) if edit.function else self.bodies(crate)
         answers = self.answers(crate, edit.function.split("::")[-1] if edit.function else "")
         stated = map(self.stated, [crate, *crate.below()])
-        return sum_of([self.machinery(), edit.name, kit.read(edit.file), *own, answers, *stated])
+        return sum_of([self.machinery(), edit.name, kit.read(edit.file), own, answers, *stated])
 
     def machinery(self):
         judges = [f"{HERE}/{name}.py" for name in JUDGES]
         return self.known("the kit and this program", lambda: [kit.identity(), *map(kit.read, judges)])
 
     def bodies(self, crate):
-        return self.known(f"bodies of {crate.name}", lambda: [kit.read(it) for it in files_of(crate, "src", "rt")])
+        return self.known(f"bodies of {crate.name}", lambda: map(code_in, files_of(crate, "src", "rt")))
 
     def answers(self, crate, function):
-        """What lies in the folders of a function's name, and of cycles; without a name in those of all."""
+        """The content of the folders of a function's name, and of cycles; without a name in those of all."""
         folders = {it: os.path.basename(os.path.dirname(it)) for it in files_of(crate, "proofs", "antt") if not is_lemmas(crate, it)}
         own = [it for it, folder in folders.items() if folder.startswith("+") or function in ("", folder)]
-        return self.known(f"answers of {crate.name} {function}", lambda: map(kit.read, own))
+        return self.known(f"answers of {crate.name} {function}", lambda: map(code_in, own))
 
     def stated(self, crate):
         """The contracts, the definitions and the lemmas."""
         def texts():
             for path in files_of(crate, "src", "rt"):
-                yield source.without_bodies(os.path.relpath(path, crate.folder), kit.read(path))
-            yield from map(kit.read, files_of(crate, "specs", "antt"))
-            yield from (kit.read(it) for it in files_of(crate, "proofs", "antt") if is_lemmas(crate, it))
+                yield code_of(source.without_bodies(os.path.relpath(path, crate.folder), kit.read(path)))
+            yield from map(code_in, files_of(crate, "specs", "antt"))
+            yield from (code_in(it) for it in files_of(crate, "proofs", "antt") if is_lemmas(crate, it))
         return self.known(f"statements of {crate.name}", texts)
 
     def known(self, name, texts):
-        """A sum that many edits share."""
+        """A checksum that many edits share."""
         if name not in self.sums:
             self.sums[name] = sum_of(texts())
         return self.sums[name]
 
 
+def code_in(path):
+    return code_of(kit.read(path))
+
+
+def code_of(text):
+    """The text without its comment lines, or the whole text if a string may span lines."""
+    lines = [it for it in text.split("\n") if not it.lstrip().startswith(("//", "--"))]
+    return text if any(it.count('"') % 2 for it in lines) else "\n".join(lines)
+
+
 def refusals_written():
-    """What the repository remembers: why each edit was refused, by half of its sum. What is no such line says nothing."""
+    """The repository's list: the reason of each refusal, by half of its checksum. Other lines are ignored."""
     return dict(re.findall(r"^\S+ ([0-9a-f]{32}) (.+)$", kit.read(WRITTEN), re.M))
 
 
 def drawn_out(refusals):
-    """The refusals but for those that this run tries anew."""
+    """The refusals except those that this run tries again."""
     lot = random.SystemRandom()
     return {its_sum: why for its_sum, why in refusals.items() if lot.random() >= DRAWN}
 
 
 def write(rows):
-    """Has the repository remember refusals: (edit, its sum, why)."""
+    """Adds refusals to the repository's list: (edit, its checksum, reason)."""
     kit.write(WRITTEN, HEAD + "".join(f"{name} {half(its_sum)} {why}\n" for name, its_sum, why in sorted(rows)))
 
 
@@ -106,10 +118,11 @@ def files_of(crate, part, ending):
 
 
 def is_lemmas(crate, path):
-    """Whether others may cite a file of proofs/: what lies deeper answers the goals of one function."""
+    """True if others may cite a file of proofs/: files in subfolders are proof answers for the goals of one
+    function."""
     return os.path.dirname(path) == f"{crate.folder}/proofs"
 
 
 def sum_of(texts):
-    """A sum of texts, and of where each of them ends."""
+    """A checksum of texts, and of their ends."""
     return hashlib.sha256("".join(f"{len(it)}:{it}" for it in texts).encode()).hexdigest()

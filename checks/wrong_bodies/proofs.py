@@ -1,4 +1,4 @@
-"""Which crates are proved, so that their edits may be tried, and how many checks may run at a time."""
+"""The crates that are proved, so that their edits may be tried, and the number of concurrent checks."""
 import os
 import re
 import sys
@@ -6,7 +6,7 @@ import threading
 
 from . import kit
 
-# What rt ci says of a crate that it has proved, now or in an earlier run on this machine.
+# rt ci's message for a crate that it has proved, now or in an earlier run on this machine.
 PROVED = re.compile(r"rt: (\w+) (?:proved$|is kept:)")
 
 
@@ -21,20 +21,20 @@ class Built:
             kit.build_library(it)
 
     def at_a_time(self):
-        """How many checks may run."""
+        """The number of checks that may run."""
         return self.jobs
 
     def has(self, crate):
-        """Whether the edits of the crate may be tried."""
+        """True if the edits of the crate may be tried."""
         return True
 
     def stands_for(self, crate):
-        """Whether the crate as it stands is proved, or has to be at the end."""
+        """True if the unchanged crate is proved, or must be at the end."""
         return kit.is_library(crate)
 
 
 class Heard:
-    """What `rt ci` says on standard input. It comes first: while it runs, half as many checks do."""
+    """The output of `rt ci` on standard input. It has priority: while it runs, half as many checks do."""
 
     def __init__(self, jobs):
         os.nice(19)

@@ -1,4 +1,4 @@
-"""Tries the edits of the crates side by side, and tells what became of them."""
+"""Tries the edits of the crates in parallel, and prints the results."""
 import concurrent.futures
 import functools
 import os
@@ -12,7 +12,7 @@ from . import aims, edits, hard, kit, memory, source
 from .proofs import Built, Heard
 from .trial import BY_ANSWERS, BY_NAMES, Trial
 
-# Refusals that say little of a contract.
+# Refusals that show little of a contract.
 WEAK = (BY_ANSWERS, BY_NAMES, kit.BY_LIMIT)
 
 
@@ -39,7 +39,7 @@ def main(given):
 
 
 def refusals(trials):
-    """(edit, its sum, why) of each that was refused."""
+    """(edit, its checksum, reason) of each that was refused."""
     return [(f"{trial.crate.name}/{edit.name.removesuffix('.edit')}", trial.sums[edit], reason(said))
             for trial in trials for edit, (well, said) in trial.said.items() if well]
 
@@ -58,7 +58,7 @@ def chosen_crates(given):
 
 
 def tell(trial, is_told_all):
-    """Says what became of a crate's edits."""
+    """Prints the results of a crate's edits."""
     told = sorted(trial.said.items(), key=lambda of: of[0].name)
     for edit, (well, said) in told:
         if is_told_all or not well:
@@ -77,9 +77,9 @@ def tell(trial, is_told_all):
 
 
 def try_all(files, proofs, jobs, tell_end, remembered):
-    """Tries the edits of each crate that is proved, as many checks at a time as there is room. Of those that are ready, a
-    crate's first check comes before all others, since its edits wait for it; then those of crates that took the longest,
-    so that none is left for the end."""
+    """Tries the edits of each crate that is proved, with as many concurrent checks as fit. Of those that are ready,
+    a crate's first check comes before all others, since its edits wait for it; then those of crates that took the
+    longest, so that none is left for the end."""
     with tempfile.TemporaryDirectory(prefix="wrong-bodies-") as room, concurrent.futures.ThreadPoolExecutor(jobs) as pool:
         ordered = sorted(files, key=lambda it: -it.count(rb"\n"))
         trials = [Trial(it, f"{room}/{it.name}", files[it], proofs.stands_for(it), remembered) for it in ordered]
@@ -108,8 +108,8 @@ def try_all(files, proofs, jobs, tell_end, remembered):
 
 
 def next_checks(trial, at_work):
-    """The trial's next checks. Where many are to come, first, by itself, that of what they have in common, since they begin
-    with what it keeps; then those that go alone, each of which may take minutes, and the batches; at last the end."""
+    """The trial's next checks. If there will be many, first, by itself, that of their common part, since they begin
+    with what it keeps; then the separate ones, each of which may take minutes, and the batches; finally the end."""
     if trial.is_ended or at_work and trial.kept_files is None:
         return []
     if trial.kept_files is None and trial.is_shared():
@@ -128,7 +128,7 @@ def tell_progress(trials):
 
 
 def has_changed(crate, since):
-    """Whether the crate's own files, or what it may rest on of its libraries, have changed since the revision."""
+    """True if the crate's own files, or what it may depend on in its libraries, have changed since the revision."""
     own = os.path.relpath(crate.folder, kit.TOP)
     if git("diff", "--name-only", since, "--", own) or git("ls-files", "-o", "--exclude-standard", "--", own):
         return True

@@ -1,7 +1,7 @@
-"""Tries planted edits whose verdicts are known: the blocks of planted/CRATE.edits, each with a line `expected: refused`,
+"""Tries planted edits with known verdicts: the blocks of planted/CRATE.edits, each with a line `expected: refused`,
 `expected: not refused`, `expected: bad edit`, `expected: refused by a name alone` or `expected: refused by an answer
-alone`, or with two of these and `or` between them. They are tried as other edits are, those of one crate among one another.
-Then the places of edits in copies of functions are looked at."""
+alone`, or with two of these and `or` between them. They are tried as other edits are, those of one crate together.
+Then it checks the places of edits in copies of functions."""
 import os
 import re
 import tempfile
@@ -15,7 +15,7 @@ PLANTED = os.path.join(os.path.dirname(os.path.abspath(__file__)), "planted")
 REFUSED = "refused, as it must be"
 SAYS = {"refused by a name alone": BY_NAMES, "refused by an answer alone": BY_ANSWERS, "not refused": "NOT REFUSED",
         "bad edit": "BAD EDIT"}
-# A function whose brace stands on the line of `fn`, and one whose clauses stand between.
+# A function whose brace is on the line of `fn`, and one with clauses between.
 FUNCTIONS = """fn first(a: u64) -> u64 {
     a + 1
 }
@@ -41,18 +41,19 @@ def main(jobs, chosen):
 
 
 def verdict(refused, said):
-    """What was found of an edit."""
+    """The verdict on an edit."""
     return next((name for name, words in SAYS.items() if words in said), "refused" if refused else said[:100])
 
 
 def tried(files, jobs):
-    """Tries the edits of each crate, says which have another verdict than they should: how many passed and failed."""
+    """Tries the edits of each crate, and prints those with another verdict than expected: how many passed and
+    failed."""
     passed = failed = in_batches = 0
     for trial in run.try_all(files, proofs.Built(files, jobs), jobs, lambda it: None, Memory(is_anew=True, keeps=False)):
         for edit, (refused, said) in trial.said.items():
             expected = re.search(r"^expected: (.*)$", kit.read(edit.file), re.M)[1].split(" or ")
             found = verdict(refused, said)
-            # What a batch refused has its function's own words; all else is in rt's words.
+            # A refusal of a batch has its function's own words; everything else has rt's words.
             in_batches += found == "refused" and REFUSED not in said
             passed, failed = passed + (found in expected), failed + (found not in expected)
             if found not in expected:
@@ -63,7 +64,7 @@ def tried(files, jobs):
 
 
 def places_lost():
-    """The functions of whose copies an edit changes another place than it should."""
+    """The functions in whose copies an edit changes another place than it should."""
     lost = []
     for number, it in enumerate(source.functions("src/lib.rt", FUNCTIONS.rstrip("\n").split("\n")), 1):
         with tempfile.TemporaryDirectory() as room:

@@ -1,6 +1,6 @@
-"""The functions of a source file: where their bodies stand, and how a check names them.
+"""The functions of a source file: the positions of their bodies, and their names in a check.
 
-It reads files as `rt fmt` lays them out, where an item ends with the brace in the column in which it starts."""
+It reads files in the layout of `rt fmt`, in which an item ends with the brace in the column in which it starts."""
 import itertools
 import re
 
@@ -18,8 +18,8 @@ class Function:
         return self.first < line < self.last
 
     def copied(self, lines, name):
-        """The function under another name at the end of its file's lines, and these with it. Or None: the methods of a trait
-        stand in one block, and a symbol is exported once."""
+        """The function under another name at the end of its file's lines, with these. Or None: the methods of a
+        trait are in one block, and a symbol is exported once."""
         attributes = list(itertools.takewhile(lambda it: it.lstrip().startswith(("#[", "//")), reversed(lines[:self.head])))
         if not all(it.header for it in self.owners) or len(self.owners) > 1 or "no_mangle" in "".join(attributes):
             return None
@@ -31,7 +31,7 @@ class Function:
         return copy, [*before, head, *lines[self.head + 1:self.last + 1], *after]
 
     def checked_name(self, names):
-        """Its name in a check, if one alone of `names` fits. A method stands in the module of its type, maybe above."""
+        """Its name in a check, if only one of `names` fits. A method is in the module of its type, possibly above."""
         shortest = len(self.module) if not self.owner else 0
         for end in range(len(self.module), shortest - 1, -1):
             path = "::".join([*self.module[:end], self.owner])
@@ -44,8 +44,9 @@ class Function:
 
 
 def name_of_type(type_, variables, has_arguments=True):
-    """A type as a check names its methods: `&mut [u8; N]` is RefMutArrayU8, and `RawHasher<DefaultSecret>` with
-    its arguments RawHasherDefaultSecret, where variables of the impl are left out."""
+    """A type as in the names of its methods in a check: `&mut [u8; N]` is RefMutArrayU8, and
+    `RawHasher<DefaultSecret>` with its arguments RawHasherDefaultSecret, in which variables of the impl are left
+    out."""
     type_ = re.sub(r"'\w+\s*", "", type_).strip()
     for start, word in (("&mut ", "RefMut"), ("&", "Ref")):
         if type_.startswith(start):
@@ -60,7 +61,7 @@ def name_of_type(type_, variables, has_arguments=True):
 
 
 def owner_of_impl(text):
-    """What stands before a method's name: `SavedState::`, or with a trait `SavedStateDebug::`."""
+    """The prefix of a method's name: `SavedState::`, or with a trait `SavedStateDebug::`."""
     generics = re.match(r"<((?:[^<>]|<[^<>]*>)*)>", text)
     variables = re.findall(r"(?:^|,)\s*(?:const )?(\w+)", re.sub(r"<[^<>]*>", "", generics[1])) if generics else []
     text = text[generics.end():] if generics else text
@@ -69,7 +70,7 @@ def owner_of_impl(text):
 
 
 class Owner:
-    """A block around functions: what stands for it in their names, its last line, and its first lines where it is that of a
+    """A block around functions: its part of their names, its last line, and its first lines if it is that of a
     type's own methods."""
 
     def __init__(self, name, last, header=()):
@@ -93,7 +94,7 @@ def functions(path, lines):
             yield Function(module, owners, word, at, opening, last)
         elif head[2] == "impl":
             opening = next(i for i in range(at, last) if lines[i].endswith("{"))
-            # What the block brings into scope stands first in it.
+            # What the block brings into scope is at its beginning.
             inside = itertools.takewhile(lambda it: it.startswith(head[1] + "    ghost use "), lines[opening + 1:])
             header = [*lines[at:opening + 1], *inside]
             is_of_trait = re.search(r" for \S", " ".join(header).partition(" where ")[0])
@@ -104,7 +105,7 @@ def functions(path, lines):
 
 
 def without_bodies(path, text):
-    """The text with no function's body: what other crates may rest on."""
+    """The text without function bodies: what other crates may depend on."""
     lines = text.split("\n")
     hidden = {i for it in functions(path, lines) for i in range(it.first + 1, it.last)}
     return "\n".join(it for i, it in enumerate(lines) if i not in hidden)

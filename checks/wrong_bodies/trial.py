@@ -1,4 +1,4 @@
-"""A crate's edits while they are tried: what waits, and what was said of each."""
+"""A crate's edits while they are tried: those that wait, and the messages of each."""
 import contextlib
 import math
 import os
@@ -10,19 +10,20 @@ import time
 from . import edits, kit
 from .copies import with_copies
 
-# The most edits that share a check: a long batch fills one processor while others idle.
+# Maximum number of edits that share a check: a long batch fills one processor while others idle.
 MOST = 120
-# So many checks of a crate begin with nothing. For more than that, what they have in common is proved first.
+# This many checks of a crate begin with nothing. For more than that, their common part is proved first.
 FEW = 3
-# An error of a proof file that names what the edit took away, which says little of the contract.
+# An error of a proof file that names what the edit removed, which shows little of the contract.
 GONE = re.compile(r"has no field|is not in scope|has no `|was not admitted")
-# What is said of an edit that no other error refuses, here and by rt.
+# The message for an edit that no other error refuses, here and by rt.
 BY_NAMES = "only because a proof file names what the edit took away"
-# What is said of one whose function has answers that no longer fit its goals: a right body falls so, too.
+# The message for an edit of a function whose proof answers no longer fit its goals: that can also happen to a correct
+# body.
 BY_ANSWERS = "only because an answer no longer fits"
-# What rt says first of an edit at which an answer no longer fits.
+# rt's first message for an edit at which a proof answer no longer fits.
 OF_AN_ANSWER = re.compile(r": (?:\./)?proofs/\S+: error")
-# What a function's line says of its own goals. What it says of its callees, as `it calls`, comes behind.
+# A function's line about its own goals. The part about its callees, as `it calls`, comes after it.
 OWN_GOALS = re.compile(r"no proof: expected .*`search` did not prove ")
 
 
@@ -34,11 +35,11 @@ class Trial:
         self.twin, self.called = None, []
         self.lock = threading.Lock()
         self.waiting, self.alone, self.said, self.is_ended = [], [], {}, False
-        # The edits whose refusal was remembered, and under which sum that of each other one will be.
+        # The edits with a remembered refusal, and the checksum under which that of each other one will be stored.
         self.remembered, self.sums = set(), {}
-        # What the check of the crate as it stands has kept, once it has ended, where there is one.
+        # What the check of the unchanged crate has kept, once it has ended, if there is one.
         self.kept_files = None
-        # Each check: how long it took, and what it tried.
+        # Each check: its time, and its edits.
         self.checks = []
 
     def begin(self):
@@ -56,12 +57,12 @@ class Trial:
         self.twin, self.called = with_copies(self.crate, self.waiting, f"{self.room}/crate")
 
     def give_up(self):
-        """Says that none was tried, where the crate isn't proved."""
+        """Reports that none was tried, if the crate isn't proved."""
         self.said = {edits.Edit(it, self.crate, set()): (False, "the crate is not proved") for it in self.files}
         self.is_ended = True
 
     def is_shared(self):
-        """Whether so many checks are to come that what they have in common is proved first."""
+        """True if there will be so many checks that their common part is proved first."""
         functions = [it.function for it in self.waiting]
         turns = max(map(functions.count, functions), default=0)
         return max(self.batches(), turns) + len(self.alone) > FEW
@@ -70,14 +71,15 @@ class Trial:
         return math.ceil(len(self.waiting) / MOST)
 
     def prove(self):
-        """Proves, as they stand, the functions that edits change and others may call, those that edits name, a copy of each
-        that has any, and all that they rest on. Each edit is then tried over a copy of what this check keeps."""
+        """Proves the unchanged functions that edits change and others may call, those that edits name, a copy of
+        each that has any, and everything that they depend on. Each edit is then tried over a copy of what this check
+        keeps."""
         named = [it.refused_by for it, _ in self.alone if it.refused_by]
         self.check_as_it_stands(self.twin, dict.fromkeys([*self.called, *named, *self.controls(self.waiting)]))
         self.kept_files = kit.listing(self.kept)
 
     def controls(self, batch):
-        """The copies that show that those of these edits are proved where no edit changes them."""
+        """The copies that show that those of these edits are proved if no edit changes them."""
         return list(dict.fromkeys(it.control for it in batch if it.control))
 
     def check_as_it_stands(self, crate, only):
@@ -103,8 +105,8 @@ class Trial:
         return sum(took for took, _ in self.checks)
 
     def end(self):
-        """Sees that no check of an edit has changed the kept work, and proves the whole crate over it where nothing else
-        has."""
+        """Checks that no check of an edit has changed the kept work, and proves the whole crate over it if nothing
+        else has."""
         if kit.listing(self.kept) != (self.kept_files or {}):
             sys.exit(f"wrong-bodies: {self.crate.name}: a check of an edit has changed the work that others begin with")
         if not self.is_proved:
@@ -115,13 +117,13 @@ class Trial:
         self.is_ended = True
 
     def batch(self):
-        """The next edits to try together: one of a function, first those of functions that have the most left, and none
-        beside an edit that hid it before."""
+        """The next edits to try together: one of a function, first those of functions that have the most left, and
+        none together with an edit that hid it before."""
         with self.lock:
             left = {}
             for it in self.waiting:
                 left.setdefault(it.function, []).append(it)
-            # As few batches as hold them all, of equal size.
+            # The fewest batches that hold them all, of equal size.
             most = math.ceil(len(self.waiting) / max(1, self.batches()))
             chosen = {}
             for its in sorted(left.values(), key=len, reverse=True):
@@ -131,8 +133,9 @@ class Trial:
             return [*chosen.values()]
 
     def taken_alone(self):
-        """The edits that have to go alone and weren't tried yet, each with the reason. One that others hid, and that would
-        be a batch by itself, is among them: its function's own check says as much, and is the last that it may need."""
+        """The edits that must be tried separately and weren't tried yet, each with the reason. One that others hid,
+        and that would be a batch by itself, is among them: its function's own check shows as much, and is the last
+        that it may need."""
         with self.lock:
             if len(self.waiting) == 1 and self.waiting[0].apart:
                 self.alone.append((self.waiting.pop(), "another edit of its check hid it"))
@@ -140,7 +143,7 @@ class Trial:
             return taken
 
     def try_batch(self, batch):
-        """Tries these edits in one check. What it can't judge waits again, or waits to be tried alone."""
+        """Tries these edits in one check. What it can't judge waits again, or waits to be tried separately."""
         texts = edits.texts_with(self.twin, batch)
         controls = self.controls(batch) if self.kept_files is None else []
         status, lines = self.check(f"{len(batch)} edits", self.twin, texts, [*(it.function for it in batch), *controls])
@@ -151,7 +154,8 @@ class Trial:
                 self.judge(batch, lines)
 
     def without_verdict(self, batch, lines):
-        """The check says nothing of any edit. Those at whose places it has errors are tried alone, the others again."""
+        """The check has no verdict on any edit. Those at whose places it has errors are tried separately, the others
+        again."""
         places = [(it[1], int(it[2]) - 1) for it in map(kit.PLACE.match, lines) if it]
         named = [it for it in batch if any(it.path == path and it.body.has_inside(line) for path, line in places)]
         self.alone += [(it, "a check with it has no verdict") for it in named or batch]
@@ -162,7 +166,7 @@ class Trial:
         functions = {it.function for it in batch}
         errors = [it for it in map(kit.PLACE.match, lines) if it]
         goals = [it for it in map(kit.OPEN_GOAL.match, lines) if it]
-        # Each function that no edit changes is a control: it is proved, or would be but for what it calls.
+        # Each function that no edit changes is a control: it is proved, or would be except for its callees.
         of_values = [it for it in errors if not GONE.search(it[3])]
         loose = [name for name, said in says.items() if name not in functions and not is_well(name, said, of_values)]
         if loose:
@@ -195,7 +199,8 @@ class Trial:
             self.said[edit] = refused, f"{said} ({why})"
 
     def by_one(self, edit, why):
-        """The status of a check of the edit's function alone, or of the one that it names, and what refuses the edit there."""
+        """The status of a check of only the edit's function, or of the one that it names, and what refuses the edit
+        there."""
         texts, _ = kit.rt.read_edit(edit.file, self.crate.folder)
         if not texts:
             return None, None
@@ -206,14 +211,16 @@ class Trial:
             return status, None
         errors = [it for it in map(kit.PLACE.match, lines) if it]
         why = refusal(said, errors, [it[0] for it in map(kit.OPEN_GOAL.match, lines) if it])
-        # A check of the whole crate has this error too, so `rt must-fail` would call the edit refused, with these words.
+        # A check of the whole crate has this error too, so `rt must-fail` would report the edit as refused, with this
+        # message.
         by_names = [f"{BY_NAMES}: {it[0]}" for it in errors if said.startswith("not proved")]
         return status, why or next(iter(by_names), None)
 
 
 def refusal(said, errors, open_goals):
-    """Why a function is refused, by its line in a check, the errors of its answers, and its goals that are open; or None. A
-    goal tells only where every answer still fits: another shape of a body gives goals other names, and answers other goals."""
+    """Why a function is refused, by its line in a check, the errors of its proof answers, and its open goals; or
+    None. A goal counts only if every proof answer still fits: another shape of a body gives goals other names, and
+    proof answers other goals."""
     of_values = [it[0] for it in errors if not GONE.search(it[3])]
     is_open = OWN_GOALS.match(said) or said.startswith("not proved") and open_goals
     if is_open and not errors:
@@ -234,7 +241,8 @@ def called(name, says):
 
 
 def is_well(name, said, errors):
-    """Whether a function is proved, or would be but for what it calls: its line names no goal, and its folder has no error."""
+    """True if a function is proved, or would be except for its callees: its line names no goal, and its folder has
+    no error."""
     if said.startswith(("proved", "assumed")):
         return True
     return "it calls" in said and not OWN_GOALS.match(said) and not any(it[1].startswith(edits.proof_folder(name)) for it in errors)

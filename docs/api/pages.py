@@ -20,7 +20,7 @@ def page_of(path):
     return path.replace('::', '.') + '.html'
 
 
-# ---- where words lead ----
+# ---- links of words ----
 
 def definitions(crate):
     """The words of a crate's specs, by file: each with its comment and its text."""
@@ -63,7 +63,7 @@ class Places:
         return places.get(crate) or next(iter(places.values()), None)
 
     def linked(self, text, crate, words, own=''):
-        """A text in which each word leads to its definition, but for the one that it defines."""
+        """A text in which each word links to its definition, except the one that it defines."""
         def link(match):
             word = match[0]
             place = None if word == own else words.get(word) or (self.item(word, crate) if word[0].isupper() else None)
@@ -164,7 +164,7 @@ class Pages:
         return page(path, body + '\n'.join(self.item(crate, name) for name in own))
 
     def other(self, target):
-        """What a name of another crate leads to: a module or an item."""
+        """The target of a name of another crate: a module or an item."""
         modules = {path for each in self.crates for path in each.public_modules}
         parts = target.split('::')
         place = page_of(target) if target in modules else self.places.item(parts[-1], parts[0])
@@ -197,12 +197,12 @@ def list_of(links):
 
 
 def first(crate):
-    """The first sentence that a crate says of itself."""
+    """The first sentence of a crate's description."""
     return ' '.join(crate.modules[crate.name].docs).split('. ')[0].rstrip('.')
 
 
 def write(crates, folder):
-    """Writes all pages, and answers how many there are."""
+    """Writes all pages, and returns their number."""
     pages = Pages(crates)
     made = {page_of(path): pages.module(crate, path) for crate in crates for path in crate.public_modules}
     made |= {f'specs.{crate}.{file}.html': pages.spec(crate, file, words)

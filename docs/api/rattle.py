@@ -45,7 +45,7 @@ def header_end(lines, start):
 
 
 def closing(lines, start, at):
-    """The line behind an item that opens a brace in its head."""
+    """The line after an item that opens a brace in its head."""
     if not lines[at].rstrip().endswith('{'):
         return at + 1
     end = ' ' * depth(lines[start]) + '}'
@@ -134,7 +134,7 @@ class Crate:
 
     def __init__(self, name):
         self.name, self.modules = name, modules_of(name)
-        # The items, with the modules they stand in; and the re-exports of other crates.
+        # The items, with their modules; and the re-exports of other crates.
         self.items, self.others, self.public_modules = {}, {}, {}
         self.walk(name, name)
         self.add_exports()
@@ -153,7 +153,7 @@ class Crate:
                 self.items[f'{path}::{item.name}'] = (item, module)
 
     def add_exports(self):
-        """What a linker sees is public in whatever module it stands."""
+        """Exported symbols are public in any module."""
         for module, source in self.modules.items():
             for item in source.items:
                 if item.is_public and 'extern "C"' in item.signature:

@@ -4,7 +4,7 @@ const MOST = 30;
 const search = document.getElementById("search");
 const found = document.getElementById("found");
 
-/** How far a name is from what was typed: the less, the higher it stands. Infinity where it has not all words. */
+/** The distance of a name from the query: the smaller, the higher it is listed. Infinity if it lacks a word. */
 function distance(name, words) {
   const lower = name.toLowerCase();
   if (!words.every((word) => lower.includes(word))) return Infinity;

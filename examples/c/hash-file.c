@@ -1,4 +1,4 @@
-/* Hashes a file by XXH32, XXH64, XXH3 of 64 bits and XXH3 of 128 bits, and prints a line for each:
+/* Hashes a file with XXH32, XXH64, XXH3 64-bit and XXH3 128-bit, and prints a line for each:
  *
  *     hash-file FILE
  */
@@ -7,14 +7,14 @@
 #include <stdlib.h>
 #include <xxhash.h>
 
-/* A state of each hash. XXH3 takes one for each width. */
+/* A state of each hash. XXH3 needs one for each width. */
 struct hashers {
     XXH32_state_t *xxh32;
     XXH64_state_t *xxh64;
     XXH3_state_t *xxh3_64, *xxh3_128;
 };
 
-/* States of no bytes with the seed 0: 0 where there is no memory. */
+/* Creates states of no bytes with the seed 0. Returns 0 if out of memory. */
 static int create(struct hashers *hashers)
 {
     hashers->xxh32 = XXH32_createState();
@@ -37,7 +37,7 @@ static void release(struct hashers *hashers)
     XXH3_freeState(hashers->xxh3_128);
 }
 
-/* Feeds the whole file: 0 where reading fails. */
+/* Hashes the whole file. Returns 0 if a read fails. */
 static int feed(struct hashers *hashers, FILE *file)
 {
     static unsigned char piece[65536];
@@ -51,7 +51,7 @@ static int feed(struct hashers *hashers, FILE *file)
     return !ferror(file);
 }
 
-/* Prints the hashes: 0 where writing fails. */
+/* Prints the hashes. Returns 0 if a write fails. */
 static int print(const struct hashers *hashers)
 {
     XXH128_hash_t wide = XXH3_128bits_digest(hashers->xxh3_128);

@@ -1,4 +1,4 @@
-/* Hashes all bytes at once, in pieces, and with a secret of one's own. docs/C.md quotes it. */
+/* Hashes all bytes at once, in chunks, and with a custom secret. docs/C.md quotes it. */
 #include <stdio.h>
 #include <xxhash.h>
 

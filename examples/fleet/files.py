@@ -1,7 +1,7 @@
-"""The files of a tree, and what is known of them: a file is an entry, and entries that were hashed stand as records.
+"""The files of a tree, and their known state: a file is an entry, and entries that were hashed are stored as records.
 
-A record is a line of `xxhsum -H2` with three numbers before it, which say of which state of the file it is: its length,
-its time of change in nanoseconds and its inode. Files of records have the order of the names' bytes, as the walk has."""
+A record is a line of `xxhsum -H2` with three numbers before it, the state of the file: its length, its time of
+change in nanoseconds and its inode. Files of records are in the order of the names' bytes, like the walk."""
 import heapq
 import itertools
 import os
@@ -12,7 +12,7 @@ from typing import NamedTuple
 ESCAPES = {b'\\': b'\\\\', b'\n': b'\\n', b'\r': b'\\r'}
 MEANT = {escape: byte for byte, escape in ESCAPES.items()}
 RECORD = re.compile(rb'(\d+) (\d+) (\d+) (\\?)([0-9a-f]{32})  \./(.*)\n', re.S)
-# A file that changed so shortly before it was looked at may change again and keep its time.
+# A file that changed so shortly before its state was read may change again and keep its time.
 SETTLED_NANOSECONDS = 1_000_000_000
 
 
@@ -25,11 +25,11 @@ class Entry(NamedTuple):
     digest: str = ''
 
     def is_as(self, other):
-        """Whether both are of one state. A file that had changed just before says 0, which is no state."""
+        """True if both have the same state. A file that had changed just before has 0, which is no state."""
         return self[:4] == other[:4] and self.changed != 0
 
     def line(self):
-        """The line of `xxhsum -H2`: with a backslash before it where a byte of the name is escaped."""
+        """The line of `xxhsum -H2`: with a backslash before it if a byte of the name is escaped."""
         name = re.sub(rb'[\\\n\r]', lambda byte: ESCAPES[byte[0]], self.name)
         return (b'\\' if name != self.name else b'') + self.digest.encode() + b'  ./' + name + b'\n'
 
@@ -38,7 +38,7 @@ class Entry(NamedTuple):
 
 
 def entry_of(record):
-    """The entry of a record, or ValueError where it is none."""
+    """The entry of a record, or ValueError if it is none."""
     found = RECORD.fullmatch(record)
     if not found:
         raise ValueError(f'{record[:80]!r} is no record of a file')
@@ -49,7 +49,7 @@ def entry_of(record):
 
 
 def records_of(path):
-    """The entries of a file of records, one after another; none where there is no such file."""
+    """The entries of a file of records, one after another; none if there is no such file."""
     if not os.path.exists(path):
         return
     with open(path, 'rb') as file:
@@ -57,7 +57,7 @@ def records_of(path):
 
 
 def newest(*streams):
-    """The entries of several streams in the order of their names. Of one name the last stream's counts."""
+    """The entries of several streams in the order of their names. For one name the last stream's is used."""
     for _, same in itertools.groupby(heapq.merge(*streams, key=name_of), key=name_of):
         *_, last = same
         yield last
@@ -68,8 +68,8 @@ def name_of(entry):
 
 
 def walk(tree, fail):
-    """The regular files below a tree, in the order of their names' bytes. Of a folder that can't be read, `fail` is told.
-    It holds the names of the folders that lead to a file, and no others."""
+    """The regular files below a tree, in the order of their names' bytes. Calls `fail` for a directory that can't be
+    read. Keeps the names of the directories on the path to a file, and no others."""
     folders = [iter(listing(tree, b'', fail))]
     while folders:
         found = next(folders[-1], None)
@@ -82,7 +82,8 @@ def walk(tree, fail):
 
 
 def listing(tree, folder, fail):
-    """What a folder has. A folder's name comes where the names of its files do, which go on with a slash."""
+    """The content of a directory. A directory's name is sorted as the names of its files, which continue with a
+    slash."""
     try:
         with os.scandir(os.path.join(os.fsencode(tree), folder)) as found:
             return sorted(found, key=lambda it: it.name + b'/' * it.is_dir(follow_symlinks=False))
@@ -96,7 +97,7 @@ def name_below(tree, found):
 
 
 def state_of(name, found):
-    """An entry with the file's state. One that is gone by now has none: its worker tells."""
+    """An entry with the file's state. A file that has vanished has none: its worker reports it."""
     try:
         state = found.stat(follow_symlinks=False)
     except OSError:
@@ -106,7 +107,7 @@ def state_of(name, found):
 
 
 class Known:
-    """Entries in the order of their names, which a walk in that order asks for one after another."""
+    """Entries in the order of their names, for a walk in that order."""
 
     def __init__(self, entries):
         self.entries = iter(entries)

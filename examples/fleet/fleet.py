@@ -3,23 +3,24 @@
 
     fleet.py [options] SCHEDULER TREE MANIFEST
 
-MANIFEST gets a line for each regular file below TREE, as our `xxhsum -H2` prints it, in the order of their names' bytes:
-`cd TREE && xxhsum -c MANIFEST` checks them. MANIFEST.files has the same lines with the length, the time of change and the
-inode of each file. With --since OLDER files that are as OLDER.files says aren't read again, and keep their lines.
+MANIFEST gets a line for each regular file below TREE, as our `xxhsum -H2` prints it, in the order of their names'
+bytes: `cd TREE && xxhsum -c MANIFEST` checks them. MANIFEST.files has the same lines with the length, the time of
+change and the inode of each file. With --since OLDER files whose state is in OLDER.files aren't read again, and keep
+their lines.
 
-Lines are written as they come, to MANIFEST.parts. A run that was killed leaves that folder, and the next one goes on from
-it: files that are as they were when they were hashed aren't read again.
+Lines are written as they come, to MANIFEST.parts. A run that was killed leaves that folder, and the next one continues
+from it: files that haven't changed since they were hashed aren't read again.
 
-A write through a shared mapping (mmap) may leave the time of change as it was. The digest is then of bytes that are gone,
-also in later runs with --since. With --anew every file is read, whatever OLDER.files and MANIFEST.parts say.
+A write through a shared mapping (mmap) may leave the time of change unchanged. The digest is then of old bytes, also in
+later runs with --since. With --anew every file is read, whatever OLDER.files and MANIFEST.parts contain.
 
-With --indexes FOLDER each file of at least --large bytes also gets a file FOLDER/NAME.blocks, with the lines of
-`xxh blocks SIZE`, and FOLDER/NAME.state beside it, which says of what: SIZE, and the file's length, time of change and
-inode. An index of another state, of blocks of another size or of another number of lines is rebuilt.
+With --indexes FOLDER each file of at least --large bytes also gets a file FOLDER/NAME.blocks, with the lines of `xxh
+blocks SIZE`, and a file FOLDER/NAME.state with its origin: SIZE, and the file's length, time of change and inode. An
+index of another state, of blocks of another size or of another number of lines is rebuilt.
 
-A file that can't be hashed has no line; standard error names it and says why, and so of an index that can't be written.
-The status is 0 where each file has its line and its index, 1 where one has none, or where there is no manifest, and 2 where
-the words are at fault."""
+A file that can't be hashed has no line; standard error has its name and the reason, and so for an index that can't
+be written. The status is 0 if each file has its line and its index, 1 if one has none or there is no manifest, and 2
+for wrong arguments."""
 import argparse
 import contextlib
 import logging
@@ -31,22 +32,22 @@ from files import Known, walk
 from parts import Parts, write
 
 PIECE = 1 << 20
-# The bytes of a line of an index: an offset, a space, a digest and a line feed.
+# Length of a line of an index: an offset, a space, a digest and a newline.
 INDEX_LINE = 16 + 1 + 32 + 1
-# What one task hashes: enough that its way to a worker and back costs little.
+# The files of one task: enough that its way to a worker and back costs little.
 FILES, BYTES = 200, 32 << 20
-# How many tasks are under way: a few for each thread of a worker, and some before there is one.
+# Number of concurrent tasks: a few for each thread of a worker, and some before there is one.
 FOR_A_THREAD, AT_LEAST = 4, 16
 
 
 class WrongLibrary(Exception):
-    """A worker's python3-xxhash runs on another library."""
+    """A worker's python3-xxhash uses another library."""
 
 
-# ---- What a worker does. It is handed over by value, and names no other file of this folder. ----
+# ---- The worker's code. It is pickled by value, and uses no other file of this folder. ----
 
 def hashing(library):
-    """The module xxhash, which has to run on the libxxhash of this folder."""
+    """The module xxhash, which must use the libxxhash of this folder."""
     import xxhash
     with open('/proc/self/maps') as maps:
         loaded = {line.split(maxsplit=5)[5].strip() for line in maps if '/libxxhash.so' in line}
@@ -58,7 +59,7 @@ def hashing(library):
 
 
 def fingerprint(xxhash, path, block):
-    """The digest of a file, the lines of its blocks where a block has a size, and how many bytes it had."""
+    """The digest of a file, the lines of its blocks if there is a block size, and its length."""
     whole, lines, offset = xxhash.xxh3_128(), [], 0
     with open(path, 'rb') as file:
         while piece := file.read(block or PIECE):
@@ -70,7 +71,7 @@ def fingerprint(xxhash, path, block):
 
 
 def fingerprints(library, tree, names, block):
-    """Of each name its digest, lines and length, or why there is none."""
+    """For each name its digest, lines and length, or the reason for none."""
     xxhash, found = hashing(library), []
     for name in names:
         try:
@@ -80,11 +81,11 @@ def fingerprints(library, tree, names, block):
     return found
 
 
-# ---- What the driver does ----
+# ---- The driver's code ----
 
 class Task:
-    """Files that one call hashes, at most so many and so many bytes. A file with an index is a task of its own, whose
-    block has a size."""
+    """Files that one call hashes, up to a number of files and bytes. A file with an index is a task of its own, with
+    a block size."""
 
     def __init__(self, number, block=0):
         self.number, self.block, self.entries, self.bytes = number, block, [], 0
@@ -98,7 +99,7 @@ class Task:
 
 
 class Run:
-    """One run: how far it is, and what failed."""
+    """One run: its progress, and what failed."""
 
     def __init__(self, words, parts):
         self.words, self.parts = words, parts
@@ -128,7 +129,7 @@ class Run:
             yield task
 
     def changed(self):
-        """The files that have to be read. Those that are as they were in an earlier run are kept."""
+        """The files that must be read. Those that haven't changed since an earlier run are kept."""
         known = Known(self.parts.before())
         for entry in walk(self.words.tree, self.fail):
             older = known.of(entry.name)
@@ -139,18 +140,18 @@ class Run:
                 yield entry
 
     def block_of(self, entry):
-        """The bytes of a block of a file that gets an index, or 0."""
+        """The block size of a file that gets an index, or 0."""
         return self.words.block if self.words.indexes and entry.length >= self.words.large else 0
 
     def index_of(self, entry, end='.blocks'):
         return os.path.join(self.words.indexes, os.fsdecode(entry.name) + end)
 
     def state_of_index(self, entry):
-        """What stands beside the file's index: the bytes of a block, and the file's state."""
+        """The content of the state file of an index: the block size, and the file's state."""
         return b'%d %d %d %d\n' % (self.words.block, entry.length, entry.changed, entry.inode)
 
     def has_index(self, entry):
-        """Whether the file has the index that it should have: of its bytes and of blocks of this size, or none."""
+        """True if the file has the correct index: of its bytes and of blocks of this size, or none."""
         if not self.words.indexes:
             return True
         if not self.block_of(entry):
@@ -163,13 +164,13 @@ class Run:
             return False
 
     def remove_index(self, entry):
-        """The state goes first, so that none stands beside an index of another one."""
+        """The state is removed first, so that none remains with an index of another one."""
         for end in ('.state', '.blocks'):
             with contextlib.suppress(FileNotFoundError, NotADirectoryError):
                 os.remove(self.index_of(entry, end))
 
     def renew_index(self, entry, lines):
-        """Writes the index of a file that was hashed, or removes that of one which should have none."""
+        """Writes the index of a file that was hashed, or removes that of one without."""
         try:
             self.remove_index(entry)
             if lines is not None:
@@ -181,7 +182,7 @@ class Run:
                 self.fail(entry.name, f'its index: {fault.strerror}')
 
     def take(self, task, answer):
-        """What one task answered: what a worker found, or the error that ended it."""
+        """Takes the result of a task: the worker's, or the error that ended it."""
         if not isinstance(answer, list):
             if isinstance(answer[1], WrongLibrary):
                 sys.exit(f'fleet: {answer[1]}')
@@ -195,15 +196,15 @@ class Run:
         self.parts.add(task.number, hashed)
 
     def taken(self, entry, block, digest, lines, length):
-        """The entry with its digest. Its index is there before its line is."""
+        """The entry with its digest. Its index is written before its line."""
         if self.words.indexes:
             self.renew_index(entry, lines if block else None)
         self.hashed, self.bytes = self.hashed + 1, self.bytes + length
         return entry._replace(digest=digest)
 
     def hash_all(self, client):
-        """Hands tasks to Dask, a bounded number at a time, and takes what they answer. Dask gives those of a lost worker
-        to another one."""
+        """Submits tasks to Dask, a limited number at a time, and takes their results. Dask gives those of a lost
+        worker to another one."""
         from distributed import as_completed
         coming, waiting, seen = self.tasks(), {}, time.monotonic()
         ended = as_completed([], with_results=True, raise_errors=False)
@@ -213,7 +214,7 @@ class Run:
                     sys.exit(f'fleet: the scheduler {self.words.scheduler} is gone')
                 if isinstance(answer, list) or future.status == 'error':
                     self.take(waiting.pop(future), answer)
-                else:  # The worker is gone that had the answer: Dask asks another one.
+                else:  # The worker with the result is gone: Dask runs it on another one.
                     ended.add(future)
             if client.scheduler_info()['workers']:
                 seen = time.monotonic()
@@ -224,7 +225,7 @@ class Run:
         self.clear()
 
     def hand_out(self, client, coming, waiting, ended):
-        """Submits tasks until enough are under way. Whether there was one."""
+        """Submits tasks until enough are running. Returns whether there was one."""
         workers = client.scheduler_info()['workers'].values()
         most, before = max(AT_LEAST, FOR_A_THREAD * sum(it['nthreads'] for it in workers)), len(waiting)
         while len(waiting) < most and (task := next(coming, None)):
@@ -239,7 +240,7 @@ class Run:
         return f'{self.hashed / took:.0f} files and {self.bytes / took / 1e6:.0f} MB a second'
 
     def show(self):
-        """How far it is, on a terminal, twice a second."""
+        """Shows the progress, on a terminal, twice a second."""
         if sys.stderr.isatty() and time.monotonic() - self.shown > 0.5:
             self.shown = time.monotonic()
             print(f'\r{self.hashed} files hashed, {self.kept} kept; {self.rates()} \x1b[K', end='', file=sys.stderr, flush=True)
@@ -282,7 +283,7 @@ def read_words():
 def main():
     from distributed import Client
     words = read_words()
-    # What Dask has to say of workers that are gone is no fault of this run.
+    # Dask's messages about lost workers are no errors of this run.
     logging.disable(logging.CRITICAL)
     try:
         run = Run(words, Parts(words.manifest, words.tree, words.since, words.anew))

@@ -1,13 +1,13 @@
-"""A run that isn't over, as it stands on disk: the folder MANIFEST.parts.
+"""An unfinished run on disk: the folder MANIFEST.parts.
 
-    tree     which tree the run is of
-    lock     held while a run is at work
+    tree     the tree of the run
+    lock     held while a run is active
     before   records of earlier runs
-    kept     records of `before` whose files are as they were, in this run
+    kept     records of `before` whose files haven't changed, in this run
     0, 1 ..  records of this run, a file for each task, in the order of the names
 
-Each file but `kept` is written beside and renamed, so it is whole or not there. A run that finds the folder goes on
-from it, and the folder goes when the manifest is there."""
+Each file except `kept` is written under another name and renamed, so it is complete or missing. A run that finds the
+folder continues from it, and the folder is removed when the manifest is there."""
 import fcntl
 import os
 import shutil
@@ -17,8 +17,8 @@ from files import newest, records_of
 
 class Parts:
     def __init__(self, manifest, tree, since, is_anew=False):
-        """Begins a run, or goes on with one. `since` is the manifest of an earlier run, whose records count too. If it
-        `is_anew`, no earlier record counts."""
+        """Begins a run, or continues one. `since` is the manifest of an earlier run, whose records are also used. If
+        it `is_anew`, no earlier record is used."""
         self.manifest, self.folder = manifest, manifest + '.parts'
         self.is_resumed = os.path.isdir(self.folder)
         os.makedirs(self.folder, exist_ok=True)
@@ -36,7 +36,7 @@ class Parts:
         return os.path.join(self.folder, str(name))
 
     def hold_to(self, tree):
-        """Refuses to go on with a run of another tree."""
+        """Refuses to continue a run of another tree."""
         if not os.path.exists(self.path('tree')):
             write(self.path('tree'), [os.fsencode(tree)])
         with open(self.path('tree'), 'rb') as file:
@@ -56,16 +56,16 @@ class Parts:
         return records_of(self.path('before'))
 
     def keep(self, entry):
-        """An entry of an earlier run, whose file is as it was."""
+        """An entry of an earlier run whose file hasn't changed."""
         self.kept.write(entry.record())
 
     def add(self, number, entries):
-        """What the task of this number has hashed."""
+        """The results of the task of this number."""
         if entries:
             write(self.path(number), (it.record() for it in entries))
 
     def join(self):
-        """Writes the manifest, and beside it the records, of all that was kept and added."""
+        """Writes the manifest, and the records, of everything that was kept and added."""
         self.kept.close()
         found = newest(records_of(self.path('kept')), self.in_parts())
         files = self.manifest + '.files'
@@ -81,7 +81,7 @@ class Parts:
 
 
 def write(path, lines, is_lasting=False):
-    """The file is there when it is whole. One that `is_lasting` is whole also after a loss of power."""
+    """The file appears when it is complete. One that `is_lasting` is complete also after a loss of power."""
     os.makedirs(os.path.dirname(path), exist_ok=True)
     with open(path + '.part', 'wb') as file:
         file.writelines(lines)

@@ -45,7 +45,7 @@ func (h *hashers) release() {
 	C.XXH3_freeState(h.xxh3x128)
 }
 
-// Write gives a piece to each stream.
+// Write hashes a chunk with each stream.
 func (h *hashers) Write(piece []byte) (int, error) {
 	if len(piece) > 0 {
 		bytes, length := unsafe.Pointer(&piece[0]), C.size_t(len(piece))

@@ -13,13 +13,13 @@ import java.nio.file.Files;
 import java.nio.file.Path;
 
 /**
- * Hashes a file by XXH32, XXH64, XXH3 of 64 bits and XXH3 of 128 bits, and prints a line for each, by Java's
- * foreign-function interface alone:
+ * Hashes a file with XXH32, XXH64, XXH3 64-bit and XXH3 128-bit, and prints a line for each, using only Java's
+ * foreign-function interface:
  *
  * <pre>java --enable-native-access=ALL-UNNAMED HashFile.java LIBRARY FILE</pre>
  *
- * LIBRARY is the shared library, as PREFIX/lib/libxxhash.so.0. It needs Java 22 or later; Java 21 has the interface as
- * a preview, and takes {@code --enable-preview --source 21} before the rest.
+ * LIBRARY is the shared library, as PREFIX/lib/libxxhash.so.0. It needs Java 22 or later; Java 21 has the interface
+ * as a preview, and needs {@code --enable-preview --source 21} before the rest.
  */
 public final class HashFile {
     private static final int PIECE = 65536;
@@ -43,7 +43,7 @@ public final class HashFile {
         private final MethodHandle free;
         private final MemorySegment state;
 
-        /** `kind` is what the state is of, `name` what the calls begin with, `seed` the type of a seed, or null. */
+        /** `kind` is the type of the state, `name` the prefix of the calls, `seed` the type of a seed, or null. */
         Hasher(Library library, String kind, String name, MemoryLayout result, MemoryLayout seed) throws Throwable {
             update = library.call(name + "_update", ValueLayout.JAVA_INT,
                     ValueLayout.ADDRESS, ValueLayout.ADDRESS, ValueLayout.JAVA_LONG);

@@ -1,11 +1,10 @@
 #!/usr/bin/env python3
-"""Hashes a file by XXH32, XXH64, XXH3 of 64 bits and XXH3 of 128 bits, and prints a line for each, with the
-standard library of Python alone:
+"""Hashes a file with XXH32, XXH64, XXH3 64-bit and XXH3 128-bit, and prints a line for each, using only Python's
+standard library:
 
     hash_file.py LIBRARY FILE
 
-LIBRARY is the shared library, as PREFIX/lib/libxxhash.so.0, or libxxhash.so.0 for the one that the loader finds.
-"""
+LIBRARY is the shared library, as PREFIX/lib/libxxhash.so.0, or libxxhash.so.0 for the one that the loader finds."""
 import ctypes
 import sys
 
@@ -13,13 +12,13 @@ PIECE = 65536
 
 
 class Hash128(ctypes.Structure):
-    """The 128 bits of a hash as two halves."""
+    """A 128-bit hash as two halves."""
     _fields_ = [('low64', ctypes.c_uint64), ('high64', ctypes.c_uint64)]
 
 
 class Hasher:
-    """A stream of one hash. `kind` is what its state is of, `name` the calls' prefix, `seed` the type of a seed
-    that reset takes, if it takes one."""
+    """A stream of one hash. `kind` is the type of its state, `name` the calls' prefix, `seed` the type of a seed for
+    reset, if it takes one."""
 
     def __init__(self, library, kind, name, result, seed=None):
         self._free = self._call(library, kind + '_freeState', ctypes.c_int, ctypes.c_void_p)

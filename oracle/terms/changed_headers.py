@@ -1,5 +1,5 @@
 """Headers that are wrong on purpose, and some that aren't: each a change of the header's text, which the induction
-has to refuse, or show. Many of them differ at lengths alone that no table of answers can have."""
+has to refuse, or show. Many of them differ only at lengths that no table of values can have."""
 import os
 import tempfile
 
@@ -15,7 +15,7 @@ SECOND_ROUND = "v2 = XXH64_round(v2, XXH_get64bits(input)); input+=8;"
 ONCE, STREAM, STREAM_3 = every_length.show, plain_streams.show, xxh3_streams.show
 BY_SECRET = "3-64:secret", "3-128:both"
 
-# how to show, the kinds to show, the function, the text there, what stands there instead, whether the value stays the
+# how to show, the kinds to show, the function, the text there, its replacement, whether the value stays the
 # same
 CHANGES = [
     (ONCE, ["64"], LOOP_64, "input<limit", "input<=limit", False),

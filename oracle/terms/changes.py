@@ -1,10 +1,10 @@
-"""Changes of either side, each of which has to be noticed: a comparison that no change fails would say nothing.
+"""Changes of either side, each of which must be detected: a comparison that no change fails would show nothing.
 
     of one token of the definition's text     mutants.py's; those that change no value are in equal_changes.txt
     of LLVM's text of the reference           another operation, or a number that is one more or one less
     by hand                                   of the definition's text, that differ on one input in 2 ^ 32 or fewer
 
-A change is noticed where the terms differ and a point is known at which their values do; where the terms differ and
+A change is detected where the terms differ and a point is known at which their values do; where the terms differ and
 none is known, it is refused. A crash of this program is neither."""
 import collections
 import contextlib
@@ -18,6 +18,7 @@ import sys
 import antt
 import mutants
 import proved_rows
+from reasons import CRASH, UNNOTICED, WRONG_RULE
 
 from . import definition, every_length, nodes, sides
 from .refusals import REFUSALS, Undecided
@@ -30,7 +31,7 @@ EQUAL_LINES = os.path.join(os.path.dirname(os.path.abspath(__file__)), "equal_li
 RECURSION, MEMORY = 8000, 6 << 30
 NO_NUMBER = (antt.Unreadable, TypeError, AttributeError, IndexError, OverflowError, ValueError, RecursionError,
              NameError, MemoryError, KeyError)
-NOTICED, REFUSED, UNNOTICED = "differs at a point", "another term, no point found", "unnoticed"
+NOTICED, REFUSED = "differs at a point", "another term, no point found"
 NOTICED_BY_NUMBERS, REFUSED_WITHOUT_TERM = "no term, differs at a point", "no term, no point found"
 
 
@@ -81,7 +82,7 @@ def difference(request, a, b):
 # ---- the definition's text
 
 class Asked:
-    """A request with the reference's term, as mutants.py asks a row of the table: `outcome` says what it told last."""
+    """A request with the reference's term, as mutants.py asks a row of the table: `outcome` is its last result."""
 
     def __init__(self, request, module):
         self.request, self.length, self.outcome = request, request.length, None
@@ -99,7 +100,7 @@ class Asked:
         except Slow:
             self.outcome = "doesn't end"
         except WrongRule as error:
-            self.outcome = f"A RULE IS WRONG: {error}"
+            self.outcome = f"{WRONG_RULE}: {error}"
         except NO_NUMBER as error:
             self.outcome = self.by_numbers(entries, error)
         return self.outcome in (None, REFUSED, REFUSED_WITHOUT_TERM)
@@ -114,7 +115,7 @@ class Asked:
             return "no number"
         except Slow:
             return "doesn't end"
-        return NOTICED_BY_NUMBERS if differs else f"A CRASH: {error!r}" if error else REFUSED_WITHOUT_TERM
+        return NOTICED_BY_NUMBERS if differs else f"{CRASH}: {error!r}" if error else REFUSED_WITHOUT_TERM
 
 
 class CountedLength:
@@ -129,7 +130,7 @@ class CountedLength:
 
 
 def of_text(module, part, parts):
-    """Tells of each change of one token, of a part of them: (outcome, the change's text)."""
+    """Yields for each change of one token, or a part of them: (outcome, the change's text)."""
     nodes.forget()
     program = definition.program()
     rows = [Asked(request, module) for request in asked()]
@@ -214,7 +215,7 @@ def reaching(module, requests):
 
 
 def of_reference(module, sample, part, parts):
-    """Tells of a sample of the changes of LLVM's text: (outcome, what was changed)."""
+    """Yields for a sample of the changes of LLVM's text: (outcome, what was changed)."""
     nodes.forget()
     requests, entries = asked(), definition.program().run()
     answers = {id(request): request.of_definition(entries) for request in requests}
@@ -227,13 +228,6 @@ def of_reference(module, sample, part, parts):
         out.append((what, f"{name} line {k + 1}: {module.lines[k].strip()}  ->  {other.strip()}"))
         nodes.release(known)
     return out
-
-
-def is_equal_line(text):
-    """Whether a change of LLVM's text is known to change nothing: equal_lines.txt has the words and the reasons."""
-    with open(EQUAL_LINES, encoding="utf-8") as file:
-        known = [line.split(" | ")[0] for line in file if line.strip() and not line.startswith("#")]
-    return any(all(word in text for word in words.split(" & ")) for words in known)
 
 
 def changed_outcome(module, change, requests, answers):
@@ -252,9 +246,9 @@ def changed_outcome(module, change, requests, answers):
     except Slow:
         return "doesn't end"
     except WrongRule as error:
-        return f"A RULE IS WRONG: {error}"
+        return f"{WRONG_RULE}: {error}"
     except NO_NUMBER as error:
-        return f"A CRASH: {error!r}"
+        return f"{CRASH}: {error!r}"
     return what
 
 
@@ -291,7 +285,7 @@ BY_HAND = [
 HAND_LENGTHS = {"64": [32, 64], **dict.fromkeys(XXH3, [9, 16, 17, 128, 240, 241, 1089])}
 
 
-# Changes of one token that differ from 2 ^ 31 or 2 ^ 32 bytes on alone: words of the change as mutants.py prints it,
+# Changes of one token that differ only from 2 ^ 31 or 2 ^ 32 bytes on: words of the change as mutants.py prints it,
 # the file, old text, new text, and the kind that the induction is asked
 AT_LARGE_LENGTHS = [
     ("% [2 -> 3] ^ 32", "twox_plain.specs.Xxh32", "(counted (length m) % 2 ^ 32)", "(counted (length m) % 3 ^ 32)",
@@ -306,7 +300,7 @@ AT_LARGE_LENGTHS = [
 
 
 def by_induction(module):
-    """Tells of each of these: whether the induction refuses it, and a line."""
+    """Yields for each of these: whether the induction refuses it, and a line."""
     out = []
     for words, path, old, new, kind in AT_LARGE_LENGTHS:
         program = definition.read()
@@ -336,7 +330,7 @@ def with_text(program, path, old, new):
 
 
 def by_hand(module):
-    """Tells of each change by hand: (as it should be, what was found)."""
+    """Yields for each change by hand: (as expected, what was found)."""
     out = []
     for path, old, new, hashes, is_equal in BY_HAND:
         nodes.forget()

@@ -59,7 +59,7 @@ def complaint(request, name, ours, theirs):
 
 
 def compare(sides, asked):
-    """Compares requests: how many answers of the other sides, name -> a function of a request, came to the definition's
+    """Compares requests: how many values of the other sides, name -> a function of a request, are the definition's
     term, and what there is to say of those that didn't."""
     texts, equal, complaints = {}, 0, []
     nodes.forget()
@@ -79,7 +79,7 @@ def compare(sides, asked):
 
 
 def difference(request, name, ours, ask):
-    """What there is to say of a side's answer, or None where it is the definition's term."""
+    """The message on a side's value, or None if it is the definition's term."""
     try:
         theirs = ask(request)
     except (*REFUSALS, WrongRule) as error:

@@ -168,7 +168,7 @@ class Named(antt.Definitions):
 
 
 def read(crates=(), entries=()):
-    """The definitions, with those of further crates: whoever changes their text reads them himself."""
+    """The definitions, with those of further crates: a caller that changes their text reads them itself."""
     return antt.Program(Named(table.TOP, [*table.CRATES, *crates]), [*ENTRIES, *entries])
 
 

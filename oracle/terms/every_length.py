@@ -27,7 +27,7 @@ def shortest(kind):
 
 
 class Proof:
-    """A run of the induction over a module: what it told of the loops, and how many cases it had."""
+    """A run of the induction over a module: its report on the loops, and the number of its cases."""
 
     def __init__(self, module, program=None):
         self.module, self.told, self.cases = module, [], 0
@@ -42,7 +42,7 @@ class Proof:
         self.module.live[:] = [*self.module.globals.values(), *memories]
 
     def lines(self):
-        """What was told of the loops, each once, under one name of the turns."""
+        """The report on the loops, each once, under one name of the turns."""
         return list(dict.fromkeys(self.told))
 
     # ---- XXH32 and XXH64
@@ -119,7 +119,7 @@ class Proof:
         self.cases += 1
 
     def expect_internal(self, hash_name, message, n, secret, length, value):
-        """That the library's function for long inputs was called with these, and its value is the answer."""
+        """That the library's function for long inputs was called with these, and its value is the result."""
         *arguments, answer = self.called
         asked = [(message, 0), n, secret, length]
         if not all(agree(a, b) for a, b in zip(arguments[:4], asked, strict=True)) or not nodes.is_same(answer, value):

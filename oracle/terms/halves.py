@@ -17,7 +17,7 @@ givers = memo()      # number of a node -> the operations on words of 64 bits th
 
 
 def noted(name, a, b, answer):
-    """The answer of an operation on words of 64 bits: add, mul, and, or, shl, lshr. Where it is the last step of such a
+    """The result of an operation on words of 64 bits: add, mul, and, or, shl, lshr. Where it is the last step of such a
     product, it becomes a term with that product."""
     if not isinstance(answer, Node):
         return answer
@@ -60,7 +60,7 @@ def joined(low, high):
 
 
 def same(answer, other):
-    """The answer, which is to have the values of the other."""
+    """The result, which must have the values of the other."""
     use("product_by_halves")
     if isinstance(answer, Node) and answer.values != other.values:
         raise WrongRule("a product by halves")

@@ -281,7 +281,7 @@ class Function:
 
     def walk(self, registers, before, block, body=None, stop=None):
         """Runs from a block to the function's end, and gives its value. With `body`, the blocks of a loop whose head
-        it is, it runs to the block `stop` or out of the loop; then the answer is (before, block)."""
+        it is, it runs to the block `stop` or out of the loop; then the result is (before, block)."""
         is_first = True
         while True:
             if body is None or not is_first:

@@ -162,7 +162,7 @@ DEEPEST = 6
 
 
 class Solver:
-    """Asks z3 whether an answer is the operation on its arguments, for all values. The parts of the terms below some
+    """Asks z3 whether a result is the operation on its arguments, for all values. The parts of the terms below some
     depth are variables: what holds for any values of these holds for theirs."""
 
     def __init__(self):
@@ -249,7 +249,7 @@ class Solver:
         return operations_of_two[name]()
 
     def holds(self, name, answer, arguments):
-        """Whether the answer is right for all values, or None where that isn't decided in time."""
+        """True if the result is correct for all values, or None if that isn't decided in time."""
         numbers = [x for x in [answer, *arguments] if isinstance(x, (int, Node))]
         widths = [x.width if isinstance(x, Node) else x.bit_length() for x in numbers]
         width = sum(widths[1:]) if name == "multiply" else max(widths) + 1

@@ -178,7 +178,7 @@ class Memory:
                    for other in self.runs())
 
     def put_run(self, at, n, source, place):
-        """Makes the n bytes at an offset those of an input at a place. Whatever can't be told apart from them is given
+        """Makes the n bytes at an offset those of an input at a place. Whatever can't be distinguished from them is given
         up: a load of it is an error."""
         self.check(at, n)
         end = plus(at, n)

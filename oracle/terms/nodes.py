@@ -9,7 +9,7 @@ A value is a Python int or a Node. Each node has a width, and its value is below
     PRODUCT  the product of two or more nodes mod 2 ^ width
     OPAQUE   any other operation on naturals, by its name and arguments; honest sides never come to one
 
-Each node has its values at POINTS points, computed from its own structure alone. Each operation compares its answer at
+Each node has its values at POINTS points, computed only from its own structure. Each operation compares its result at
 these points with the operation on its arguments (operations.py), so that each use of each rule is tested there.
 """
 import random

@@ -12,7 +12,7 @@ from .polynomials import lifted
 from .rules import bits_of, from_segments, narrow, places, product_at, segments_of, sum_at, xor_segments, zeros_below
 
 CHECKED = True
-watching = []        # asked with each operation that is done: its name, its answer and its arguments
+watching = []        # called with each operation that is done: its name, its result and its arguments
 
 # What each operation means on numbers.
 MEANINGS = {
@@ -34,7 +34,7 @@ def joined(widths, values):
 
 
 def checked(name, answer, *arguments):
-    """The answer, after a comparison with the operation on numbers."""
+    """The result, after a comparison with the operation on numbers."""
     if CHECKED:
         for k in range(nodes.POINTS):
             numbers = [x.values[k] if isinstance(x, Node) else x for x in arguments]
@@ -46,7 +46,7 @@ def checked(name, answer, *arguments):
 
 
 def once(operation):
-    """An operation that remembers its answers, until the nodes are forgotten. Two arguments are one where they are the same
+    """An operation that remembers its results, until the nodes are forgotten. Two arguments are one where they are the same
     node or the same number."""
     known = memo()
 

@@ -1,8 +1,8 @@
 """The streams of XXH32 and XXH64: reset, any number of updates of any lengths, digest, by induction over the updates.
 
-A state stands for the first N bytes of a message when its total is N, its accumulators are the definition's after
+A state represents the first N bytes of a message when its total is N, its accumulators are the definition's after
 N / stripe stripes, its memsize is N % stripe, and its buffer begins with these bytes. A reset gives a state that
-stands for no byte; each update leads from one that stands for N = stripe * a + r bytes to one for stripe * b + s; and
+represents no byte; each update leads from one that represents N = stripe * a + r bytes to one for stripe * b + s; and
 a digest of one is the definition's value, and changes nothing."""
 from .definition import Bytes, suppositions
 from .every_length import Proof, plain_loop
@@ -41,7 +41,7 @@ class PlainStreams(Proof):
         return n if self.width == 64 or is_natural(at_most(n, (1 << 32) - 1)) else as_word(n, 32)
 
     def numbers(self, a, r, accumulators):
-        """What a state holds that stands for stripe * a + r bytes, but for the buffer: (offset, size, value)."""
+        """The content of a state that represents stripe * a + r bytes, except the buffer: (offset, size, value)."""
         n = plus(times(self.stripe, a), r)
         out = [(self.at["total"], self.word, self.total(n)), (self.at["memsize"], 4, r)]
         if self.width == 32:
@@ -89,7 +89,7 @@ class PlainStreams(Proof):
         return given(at_most(self.whole, LONGEST), minus(self.whole, n), *more)
 
     def updates(self):
-        """From stripe * a + r bytes: pieces that complete no stripe, one that completes one, and those that complete
+        """From stripe * a + r bytes: chunks that complete no stripe, one that completes one, and those that complete
         more."""
         r, t, d = variable("r"), variable("t"), variable("d")
         some = [minus(r, 1), at_most(r, self.stripe - 1)]
@@ -103,7 +103,7 @@ class PlainStreams(Proof):
             self.update(a, r, plus(a, 1), t, [*some, at_most(t, self.stripe - 1), minus(t, r)])   # here t is 1 or more
 
     def update(self, a, r, b, s, facts):
-        """From stripe * a + r bytes by one piece to stripe * b + s."""
+        """From stripe * a + r bytes by one chunk to stripe * b + s."""
         begun, ended = plus(times(self.stripe, a), r), plus(times(self.stripe, b), s)
         first = plus(a, int(not is_same(r, 0)))     # the stripe behind the one that the buffer is part of
         with self.up_to(ended, *facts, *at_least_one(a)):
@@ -123,7 +123,7 @@ class PlainStreams(Proof):
             self.expect_state("update", memory, b, s)
 
     def update_of_nothing(self):
-        """A null piece changes nothing."""
+        """A null chunk changes nothing."""
         with self.up_to(3):
             memory = self.state(0, 3)
             kept = dict(memory.cells)

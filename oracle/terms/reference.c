@@ -1,5 +1,5 @@
 /* The reference library's one-shots and streams as functions of one form, for clang to turn into LLVM's text. A stream
-   takes pieces that end at `cuts`, and the rest. */
+   takes chunks that end at `cuts`, and the rest. */
 #define XXH_INLINE_ALL
 #define XXH_STATIC_LINKING_ONLY
 #include <xxhash.h>

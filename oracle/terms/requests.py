@@ -17,7 +17,7 @@ def seed_symbol(hash_name):
 
 class Request:
     """A hash, a kind of call (seed, default, secret, both), a length, for some kinds the secret's length; `seed` is a
-    number where it isn't a symbol, and `cuts` are the ends of a stream's pieces but the last."""
+    number where it isn't a symbol, and `cuts` are the ends of a stream's chunks but the last."""
 
     def __init__(self, hash_name, kind, length, secret_length=None, seed=None, cuts=None):
         self.hash_name, self.kind, self.length, self.secret_length = hash_name, kind, length, secret_length

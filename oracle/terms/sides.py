@@ -19,7 +19,7 @@ HEADERS = "/usr/include"          # where Debian's libxxhash-dev puts xxhash.h
 VECTORS = {"scalar": ["-DXXH_VECTOR=0"], "sse2": ["-DXXH_VECTOR=1"], "avx2": ["-DXXH_VECTOR=2", "-mavx2"]}
 CLANG = "clang-14"
 DEBIAN_PYTHON = "/usr/lib/python3/dist-packages"
-BESIDE = 512                      # bytes beside a piece that a stream compares addresses in
+BESIDE = 512                      # bytes around a chunk in which a stream compares addresses
 
 
 def install(headers, with_solver):

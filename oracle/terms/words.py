@@ -10,7 +10,7 @@ from .rules import ones
 
 
 def words(on_numbers, on_terms, on_polynomials=None):
-    """An operation of a width. Where a polynomial has no answer as one, it becomes a term."""
+    """An operation of a width. If a polynomial's result is none, it becomes a term."""
     def operation(width, a, b):
         if isinstance(a, int) and isinstance(b, int):
             return on_numbers(width, a, b) % (1 << width)

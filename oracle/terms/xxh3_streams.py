@@ -1,7 +1,7 @@
 """The streams of XXH3: reset, any number of updates of any lengths, digests of 64 and 128 bits, by induction over the
 updates.
 
-A state stands for the first N = 64 K + f bytes of a message, K = q b + j stripes, j < q: q is the number of stripes
+A state represents the first N = 64 K + f bytes of a message, K = q b + j stripes, j < q: q is the number of stripes
 in a block, f <= 256 the bytes in the buffer, f = 0 only where N = 0, and K is 0 or at least 4. Its accumulators are
 the definition's after K stripes, its counters j, f and N; its buffer begins with the f bytes behind the stripes, and
 where K > 0 the buffer's bytes from 192 on that aren't among these are those of the last stripe.
@@ -64,7 +64,7 @@ class Xxh3Streams(Proof):
         return plus(times(STRIPE, self.stripes(b, j)), f)
 
     def numbers(self, b, j, f):
-        """What a state holds but for accumulators and buffer: (offset, size, value)."""
+        """The content of a state except accumulators and buffer: (offset, size, value)."""
         values = {"buffered": (4, f), "so_far": (8, j), "total": (8, self.bytes_of(b, j, f)), "per_block": (8, self.q),
                   "uses_seed": (4, self.uses_seed), "seed": (8, self.seed),
                   "limit": (8, minus(self.secret_length, STRIPE)),
@@ -127,7 +127,7 @@ class Xxh3Streams(Proof):
             raise NotShown("two updates")
 
     def update(self, start, end, runs, expected, facts, blocks=None):
-        """By one piece from (b, j, f) to (b, j, f). `blocks` gives what there is to say of the loop over blocks."""
+        """By one chunk from (b, j, f) to (b, j, f). `blocks` returns the message on the loop over blocks."""
         begun, ended = self.bytes_of(*start), self.bytes_of(*end)
         length, rest = minus(ended, begun), variable("rest")
         self.source.length = self.message.end = plus(ended, rest)
@@ -196,7 +196,7 @@ class Xxh3Streams(Proof):
             self.by_buffers_over_an_end()
 
     def small_pieces(self):
-        """Pieces that the buffer takes."""
+        """Chunks that the buffer takes."""
         b, j, f, L = (variable(name) for name in "bjfL")
         after = plus(f, L)
         fits = at_most(after, BUFFER)
@@ -218,13 +218,13 @@ class Xxh3Streams(Proof):
             yield (b, minus(self.q, i), f), there, plus(b, 1), 4 - i
 
     def rest_in_buffer(self, start, facts, b, j):
-        """The buffer's stripes are taken, and the rest of the piece goes there."""
+        """The buffer's stripes are taken, and the rest of the chunk goes there."""
         R = variable("R")
         if not is_same(start[2], 0):
             self.update(start, (b, j, R), self.buffered(*start), self.ends(b, j, R),
                         [*facts, minus(R, 1), at_most(R, BUFFER)])
 
-    # ---- pieces after which more is left than the buffer takes: release 0.8.3
+    # ---- chunks after which more is left than the buffer takes: release 0.8.3
 
     def within_a_block(self, start, facts, b, j):
         """S stripes behind the buffer, which end within the block, and 1 + h bytes."""
@@ -300,7 +300,7 @@ class Xxh3Streams(Proof):
     # ---- reset and digest
 
     def update_of_nothing(self):
-        """A null piece changes nothing."""
+        """A null chunk changes nothing."""
         self.source.length = self.message.end = 3
         for width in WIDTHS:
             with given(*self.facts):
@@ -354,7 +354,7 @@ class Xxh3Streams(Proof):
         return self.texts["effective_secret"](self.secret, self.message)
 
     def resets(self):
-        """Each way to reset gives a state that stands for no byte. A seed's secret is derived, but from a state that
+        """Each way to reset gives a state that represents no byte. A seed's secret is derived, but from a state that
         has it; and the seed 0 is no seed."""
         seed, default = seed_symbol("3-64"), (self.module.globals["@XXH3_kSecret"], 0)
         if [default[0].load(k, 1) for k in range(DEFAULT_SECRET)] != list(self.texts["default_secret"]()) \
@@ -395,7 +395,7 @@ class Xxh3Streams(Proof):
         self.cases += 1
 
     def reset_numbers(self, outside, secret_length):
-        """What a state holds that stands for no byte, with a secret that lies outside, or inside where that is 0."""
+        """The content of a state that represents no byte, with a secret that lies outside, or inside where that is 0."""
         others = {"outside": outside, "limit": minus(secret_length, STRIPE),
                   "per_block": divided(minus(secret_length, STRIPE), 8)[0]}
         kept = [cell for cell in self.numbers(0, 0, 0) if cell[0] not in [self.at[name] for name in others]]

@@ -1,16 +1,17 @@
 """The streams of XXH32 and XXH64 of a text: reset, any number of updates of any lengths, digest, by induction over the
 updates, as terms/plain_streams.py does it for the reference.
 
-A state stands for the first N bytes of a message, N = stripe * a + r, when its total is N, its accumulators are the
+A state represents the first N bytes of a message, N = stripe * a + r, when its total is N, its accumulators are the
 definition's after a stripes, its marked word is the mark and r, and its buffer begins with the r bytes behind the
-stripes; all else in it may be anything. A reset gives a state that stands for no byte. An update leads from one that
-stands for stripe * a + r bytes to one for so many more, where r, the bytes that are left and the stripes mod those
+stripes; all else in it may be anything. A reset gives a state that represents no byte. An update leads from one that
+represents stripe * a + r bytes to one for so many more, where r, the bytes that are left and the stripes mod those
 that a text takes at once are numbers, and all else may be any. A digest of one is the definition's value, and changes
 nothing."""
 import collections
 
 from terms import definition, nodes
 from terms.definition import Bytes, suppositions
+from terms.induction import same
 from terms.refusals import REFUSALS, NotShown
 from terms.requests import LONGEST, Request, seed_symbol
 from terms.memory import Input, Piece
@@ -20,7 +21,7 @@ from terms.polynomials import is_same as is_same_number
 
 from . import streams
 from .every_length import LIMIT, UNROLLED
-from .induction import Family, Loops, same
+from .induction import Family, Loops
 from .memory import Words
 
 # Where the parts of a state lie: the accumulators, the seed, the marked word, the total, the buffer; and the mark.
@@ -43,14 +44,14 @@ def updates(hash_name):
 
 
 def length_of(one, hash_name, turns):
-    """The bytes of an update's piece."""
+    """The bytes of an update's chunk."""
     stripe = int(hash_name) // 2
     whole = int(one.fills) + one.further + (UNROLLED[hash_name] * turns if one.more else 0)
     return stripe * whole + one.s - one.r
 
 
 def left_out(hash_name):
-    """The pieces (r, length) that no update has: of the first lengths, to which each turn more adds as much."""
+    """The chunks (r, length) that no update has: of the first lengths, to which each turn more adds as much."""
     most = int(hash_name) // 2 * UNROLLED[hash_name]
     found = {(one.r, length_of(one, hash_name, turns)) for one in updates(hash_name) for turns in range(1, 4)}
     return sorted({(r, length) for r in range(int(hash_name) // 2) for length in range(3 * most)} - found)
@@ -83,7 +84,7 @@ class AnyUpdates:
         return self.texts[f"Xxh{self.width}.accumulator"](self.seed, self.message, j, k)
 
     def parts(self, a, r, accumulators):
-        """What a state holds that stands for stripe * a + r bytes: (offset, size, value)."""
+        """The content of a state that represents stripe * a + r bytes: (offset, size, value)."""
         word, n = self.width // 8, plus(times(self.stripe, a), r)
         yield from ((at, word, x) for at, x in zip(self.at.accumulators, accumulators, strict=True))
         yield from ((self.at.seed, word, self.seed), (self.at.marked, 4, self.at.mark + r), (self.at.total, 8, n))
@@ -91,7 +92,7 @@ class AnyUpdates:
             yield self.at.buffer + k, 1, self.source.load(plus(times(self.stripe, a), k), 1)
 
     def state(self, a, r):
-        """One that stands for stripe * a + r bytes, whose accumulators are symbols, unless there was no stripe."""
+        """One that represents stripe * a + r bytes, whose accumulators are symbols, unless there was no stripe."""
         suppositions.clear()
         accumulators = [self.accumulator(j, 0) for j in range(4)]
         if not is_same_number(a, 0):
@@ -126,7 +127,7 @@ class AnyUpdates:
             self.expect_state("a reset", state, 0, 0)
 
     def update(self, one):
-        """From stripe * a + r bytes, a any number, by one piece."""
+        """From stripe * a + r bytes, a any number, by one chunk."""
         a = variable("a")
         further = plus(one.further, times(UNROLLED[self.hash_name], variable("d")) if one.more else 0)
         b = plus(a, int(one.fills), further)
@@ -153,7 +154,7 @@ class AnyUpdates:
                       lambda k, values: suppositions.suppose(after(k), values))
 
     def digest(self, a, r):
-        """Of a state that stands for the whole message."""
+        """Of a state that represents the whole message."""
         n = plus(times(self.stripe, a), r)
         self.source = Input("m", n)
         self.message = Bytes(self.source, 0, n)

@@ -122,7 +122,7 @@ def copies(cpu):
 
 
 def marked(cpu, hash_name):
-    """A state that `forget` has taken the mark from: the state, the places of what was taken, and what stood there."""
+    """A state that `forget` has taken the mark from: the state, the places of what was taken, and what was there."""
     state = new_state(cpu, hash_name)
     expect_answer(reset(cpu, Request(hash_name, "seed" if one_shots.is_plain(hash_name) else "default", 0), state), OK)
     before = contents(state, 4)
@@ -274,7 +274,7 @@ def in_one_place(cpu):
 
 
 def updates_of_nothing(cpu):
-    """A null piece of no bytes, before, between and after others, leaves what a state answers."""
+    """A null chunk of no bytes, before, between and after others, leaves a state's value unchanged."""
     entries, count = definition.program().run(), 0
     for hash_name, kind in (("32", "seed"), ("64", "seed"), ("3-64", "default"), ("3-128", "default")):
         for n in (0, 5, 33, 300, 700):

@@ -1,5 +1,5 @@
 """The texts below the cargo crate, rust/asm, and how their exports are called, as rust/src/kernels/assembly.rs does it. The
-names of a text have the number of the interface and the set of instructions in them: here they are without.
+names of a text have the number of the interface and the instruction set in them: here they are without.
 
 A stream of XXH3 is given its secret by each call. It begins with the accumulators, as a state of the library for C does."""
 import os
@@ -33,7 +33,7 @@ class CargoProgram(Program):
         super().__init__(path)
 
     def all_names(self):
-        """The names as they stand in the text."""
+        """The names as they are in the source."""
         return {symbol.name for symbol in self.object.symbols}
 
     def names(self):

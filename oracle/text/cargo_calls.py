@@ -1,4 +1,4 @@
-"""What of the exports below the cargo crate is neither a long input nor a piece that is taken: refusals. As calls.py has it for
+"""What of the exports below the cargo crate is neither a long input nor a chunk that is taken: refusals. As calls.py has it for
 the library for C."""
 import re
 
@@ -51,7 +51,7 @@ def secrets_of_long_inputs(cpu):
     return len(HASHES) * SHORTEST
 
 
-# ---- pieces that are refused
+# ---- chunks that are refused
 
 def refused(cpu, hash_name, state, code, secret=()):
     """A write: a code, with nothing written."""

@@ -42,7 +42,7 @@ def any_update(cpu):
 
 
 def piece_of_32(cpu):
-    """A piece that takes stripes."""
+    """A chunk that takes stripes."""
     any_updates.AnyUpdates(cpu, "32").update(any_updates.Update(0, 3, False, 1, False))
 
 

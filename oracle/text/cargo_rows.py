@@ -57,7 +57,7 @@ def long_input_rows(texts, is_all):
 
 
 def piece_rows(made, is_all, some=rows.SOME_UPDATES):
-    """Pieces of XXH32 of any lengths: all cases, in parts, or some."""
+    """Chunks of XXH32 of any lengths: all cases, in parts, or some."""
     count = len(list(any_updates.updates("32")))
     yield rows.counted("each update of XXH32 and XXH64 has its row", 2, rows.updates_left_out)
     for name, make in made.items():

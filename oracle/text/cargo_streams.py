@@ -1,4 +1,4 @@
-"""The pieces of streams of XXH3 of a text below the cargo crate, by induction over the updates, as xxh3_updates.py has them for
+"""The chunks of streams of XXH3 of a text below the cargo crate, by induction over the updates, as xxh3_updates.py has them for
 the library for C. A stream has no mark, no seed and no secret: each call is given that."""
 from terms.polynomials import at_most, given, is_natural, minus, plus, variable
 from terms.polynomials import is_same as is_same_number
@@ -7,7 +7,7 @@ from terms.requests import LONGEST_SECRET
 from .whole_blocks import with_value
 from .xxh3_updates import ROOM, STRIPES, UPDATES, Xxh3Updates
 
-FEW = 64                                      # bytes of a piece up to which a write has a way of its own
+FEW = 64                                      # bytes of a chunk up to which a write has a way of its own
 
 
 class CargoUpdates(Xxh3Updates):
@@ -26,7 +26,7 @@ class CargoUpdates(Xxh3Updates):
         """Both widths have one export."""
 
     def all_updates(self):
-        """Where the length of a piece may be on both sides of what has a way of its own, these are two cases."""
+        """Where the length of a chunk may be on both sides of what has a way of its own, these are two cases."""
         for (place, f), (to, left), length, facts, *rest in super().all_updates():
             few, more = at_most(length, FEW), minus(length, FEW + 1)
             with given(*self.facts, *facts):
@@ -34,13 +34,13 @@ class CargoUpdates(Xxh3Updates):
                 name = "left" if is_natural(minus(left, minus(length, left))) else "r"
             yield (place, f), (to, left), length, facts if is_known else [*facts, few], *rest
             if not is_known:
-                # So long is a piece of 65 + w bytes, of which the greater part is what the other one leaves.
+                # So long is a chunk of 65 + w bytes, of which the greater part is what the other one leaves.
                 value = minus(plus(FEW + 1, variable("w")), minus(length, variable(name)))
                 f, left, length, *facts = (with_value(x, name, value) for x in (f, left, length, *facts))
                 yield (place, f), (to, left), length, facts, *rest
 
     def small_pieces(self):
-        """A piece of no bytes, where the buffer is full, is a case of its own."""
+        """A chunk of no bytes, where the buffer is full, is a case of its own."""
         for (place, f), end, length, facts in super().small_pieces():
             if is_same_number(length, 0) and not is_same_number(f, 0):
                 yield (place, ROOM), (place, ROOM), length, facts

@@ -1,4 +1,4 @@
-"""That the cases of the streams of XXH3 are all of them: for each of many points, which are a state and a piece as
+"""That the cases of the streams of XXH3 are all of them: for each of many points, which are a state and a chunk as
 numbers, there is a case that has it. Of a case nothing is taken but the polynomials and the facts that its proof has."""
 import random
 

@@ -12,7 +12,7 @@ from terms.refusals import Unsupported
 from .listed import X86_64, Object
 from .sources import GNU
 
-SLOT = 16                                     # bytes that an instruction gets which is assembled alone
+SLOT = 16                                     # bytes of an instruction that is assembled separately
 REMARK = re.compile(r"\s*(#(?!\w|-)|//).*")
 NOPS = {bytes.fromhex(x) for x in (
     "90", "0f1f00", "0f1f4000", "0f1f440000", "660f1f440000", "0f1f8000000000", "0f1f840000000000", "660f1f840000000000",

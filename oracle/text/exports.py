@@ -86,7 +86,7 @@ def expect_code_of_v3(program, other):
 
 
 def led(program, section):
-    """The instructions of a section, where a constant stands for its place."""
+    """The instructions of a section, where a constant represents its place."""
     code = program.sections.get(section, {})
     return [x._replace(target=(program.constants[x.target[0]], x.target[1])) if x.target and x.target[0] in program.constants
             else x for _, x in sorted(code.items())]

@@ -1,4 +1,4 @@
-"""The flags that a branch may ask: what they are of is kept, and the answer is worked out when it is asked.
+"""The flags that a branch may use: their operands are kept, and the value is computed when it is needed.
 
     sub      of a and b, as `cmp` and `sub`           borrow   of a, b and a carry, as `sbb`: b is their sum
     add      of a and b                               logic    of a result, with no carry
@@ -50,7 +50,7 @@ def signed_operands(cpu):
 
 
 def carry(cpu):
-    """Whether there was a carry or a borrow, which numbers alone tell."""
+    """True if there was a carry or a borrow, which is only known of numbers."""
     now = cpu.carry
     if now is None or now.kind == "shift":
         raise Unsupported("a carry that isn't set")

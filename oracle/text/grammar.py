@@ -1,4 +1,4 @@
-"""The grammar of an assembly text: what each line may be, in which order. It is strict, so that all assemblers read the text
+"""The grammar of an assembly source: what each line may be, in which order. It is strict, so that all assemblers read the text
 alike and nothing in it is hidden from a reader: one instruction or one directive on a line, no macros, no conditions except
 the one guard, no symbols that are set, no other encodings, no comment but the first line.
 
@@ -22,7 +22,7 @@ BYTE = 1 << 8
 
 # ---- instructions
 
-# Of x86-64, as GNU as writes them for AT&T. A long jump that a short one could replace stands as its first bytes and a
+# Of x86-64, as GNU as writes them for AT&T. A long jump that a short one could replace is written as its first bytes and a
 # distance.
 REGISTER = "%[a-z][a-z0-9]*"
 MEMORY = rf"(?:-?{HEX})?\({REGISTER}(?:,{REGISTER},[1248])?\)|{LABEL}(?:\+{HEX})?\(%rip\)"

@@ -1,4 +1,4 @@
-"""The table of instructions of x86-64: what each form does, and the set of instructions that has it.
+"""The table of instructions of x86-64: what each form does, and the instruction set that has it.
 
 A form is a mnemonic with a letter for each operand, as `add ml`: b, w, l, q a register of 8, 16, 32, 64 bits, h the
 second byte of one, x, y and z one of 128, 256 and 512, m memory, i a number. What isn't in the table is refused. scalar.py and

@@ -2,7 +2,7 @@
 one to its return.
 
 As processor.py does it for x86-64: branches, addresses and lengths are numbers, words are terms, and whatever isn't
-known at the beginning is a symbol of its own for each call. A place in memory outside of the objects that were handed
+known at the beginning is a symbol of its own for each call. A place in memory outside of the objects that were passed
 over, a byte that was never stored, a store to what is read only, a branch on a symbol and an instruction that the table
 lacks are errors."""
 from terms.refusals import Undecided, Unsupported
@@ -52,7 +52,7 @@ def filler(table):
 
 class Processor:
     """A program. `not_zero` has terms that are supposed not to be 0; `used` has the places that ran, and `changed` the
-    instructions that stand there in the place of the program's; `loops`, `live`, `limit` and `replaced` are what they are
+    instructions that are there in place of the program's; `loops`, `live`, `limit` and `replaced` are what they are
     of processor.py. A kind of processor has the names of its registers, and of these the arguments, those that the caller
     gets back and those that it doesn't, the one for the place to return to, and the one that is always 0."""
 

@@ -122,7 +122,7 @@ class Loaded:
                 if head.kind == PROGBITS and head.flags & LOADED and head.size and head.name != FRAMES}
 
     def read_constants(self):
-        """Each entry of a mergeable section is an object of its own: a linker may move it alone."""
+        """Each entry of a mergeable section is an object of its own: a linker may move it separately."""
         for name, head in self.heads.items():
             data = self.object.body(head)
             if head.flags == CONSTANTS:

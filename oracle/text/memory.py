@@ -1,6 +1,6 @@
 """What a text reads and writes: terms/memory.py's objects, whose cells may hold addresses, and the stack.
 
-A call may write to the objects that it is handed for that, and below its caller's frame. Whoever is called from
+A call may write to the objects that it gets for that, and below its caller's frame. A function that is called from
 outside, as memcpy, may use all that lies below the stack pointer: there is no red zone over a call."""
 import collections
 import contextlib

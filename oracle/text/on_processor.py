@@ -2,7 +2,7 @@
 on inputs with edges. All registers, what lies in memory, and the flags that the table has are compared. Where this one
 isn't x86-64-v4, what came with that is left out.
 
-Each instruction stands in a function of its own, which loads all registers, runs it, and stores them. The processor
+Each instruction is in a function of its own, which loads all registers, runs it, and stores them. The processor
 runs that function; of the same object, read as the texts are, the instruction is run over numbers."""
 import ctypes
 import functools
@@ -27,7 +27,7 @@ MOSTLY = bytes(255 if byte < 180 else 0 for byte in range(256))
 FEATURES = {V3: {"avx2", "bmi2", "movbe"}, V4: {"avx512f", "avx512bw", "avx512cd", "avx512dq", "avx512vl"}}
 BEHIND = "jmp", "call", "ret", "push", "pop", "nop", "ud2", "vzeroupper", "j"      # those without operands, and stacks
 LOADED = [name for name in WIDE if name != "rsp"]
-# Where in the memory that a function is handed: registers, vectors, the word that sets the flags, what an instruction
+# Where in the memory that a function gets: registers, vectors, the word that sets the flags, what an instruction
 # reads and writes, and then the registers and the flags afterwards.
 REGISTERS, VECTORS, COMPARED, ROOM, AFTER, VECTORS_AFTER, FLAGS_AFTER, SIZE = 0, 128, 2176, 2240, 2368, 2496, 4544, 4608
 WHOLE = 8 * LANES                 # bytes of a vector
@@ -89,7 +89,7 @@ def sample(mnemonic, form):
 
 
 def written(mnemonic, operands):
-    """An instruction for the assembler, with another register for the stack pointer, and its memory in the room."""
+    """An instruction for the assembler, with another register for the stack pointer, and its memory in the buffer."""
     operands = [Register("rbx") if x == Register("rsp") else x for x in operands]
     names = {PARTS[x.name][0] for x in operands if isinstance(x, Register) and x.name in PARTS}
     base = next(name for name in BASES if name not in names)

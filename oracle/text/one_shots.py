@@ -23,7 +23,7 @@ def of_seed(request):
 
 
 def suppose_seed(cpu, request):
-    """A seed that isn't a number is supposed not to be 0 where the request has a twin with 0, and there alone."""
+    """A seed that isn't a number is supposed not to be 0 if the request has a twin with 0, and only then."""
     seed = request.seed()
     cpu.not_zero = [seed] if isinstance(seed, Node) and request.with_seed_0() else []
 

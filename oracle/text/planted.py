@@ -43,7 +43,7 @@ def with_lines(text, place, before, lines):
 
 def in_loop(text):
     """XXH64's loop over stripes, where an accumulator is another one 2 ^ 40 bytes behind the beginning and before the
-    end: the first turns and the last one are right."""
+    end: the first turns and the last one are correct."""
     name = "twox_plain.xxhash64.rounds.impl_long"
     function = text[text.index(f"\n{name}:"):]
     head = re.search(r"^\.L\w+:\n", function, re.M)[0]
@@ -291,7 +291,7 @@ ASKED = [Asked(wrong, SOURCE, lambda path: Processor(Program(path), V2)) for wro
 
 
 def noticed():
-    """(faults of the check itself that are noticed, those that aren't)."""
+    """(faults of the check itself that are detected, those that aren't)."""
     with tempfile.TemporaryDirectory(prefix="machine-text-") as room:
         bad = [f"{check.__name__}: not noticed" for check in CHECKS if not check(room)]
     return len(CHECKS) - len(bad), bad

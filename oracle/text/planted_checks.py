@@ -24,7 +24,7 @@ UPDATE = "twox_c.xxh3_state.Xxh3State.update"
 
 
 def in_function(name, old, new):
-    """A function with another piece in the place of its last such one."""
+    """A function with its last such part replaced by another one."""
     def change(text):
         first = text.index(f"\n{name}:\n")
         end = text.index("\t.cfi_endproc", first)
@@ -128,7 +128,7 @@ X86 = [
           "1 bytes at .* of m, which has"),
     Wrong("a store to a place that depends on a length", begun("XXH64_update", "movq $0x0,(%rdi,%rdx,1)"), plain_update,
           "a store at"),
-    # states and answers
+    # states and values
     Wrong("a reset that says it was refused", in_function("XXH64_reset", "\txor %eax,%eax\n", "\tmov $0x1,%eax\n"),
           request("64", "seed", 5, cuts=[2]), "an answer of 1"),
     Wrong("a freed state that stays one", begun("twox_c_forget_xxh64", "ret"), calls.forgotten, "forget changes nothing"),

@@ -20,7 +20,7 @@ PROPERTY = "\t.long 4,16,5\n", "\t.long 0xc0000002,4,2,0\n"
 
 
 def exchanged(old, new):
-    """A text with another piece in the place of one, which is there."""
+    """A text with one part, which must be there, replaced by another one."""
     def change(text):
         if old not in text:
             raise NotShown(f"the text has no {old}")

@@ -2,7 +2,7 @@
 
 Branches, addresses and lengths are numbers, or polynomials that the facts decide; words are terms. Whatever isn't
 known at the beginning is a symbol of its own for each call: the registers that hold no argument, the upper half of one
-that holds a number of 32 bits; the flags are unset. A place in memory outside of the objects that were handed over, a
+that holds a number of 32 bits; the flags are unset. A place in memory outside of the objects that were passed, a
 byte that was never stored, a store to what is read only, a branch on a symbol and a form of an instruction that isn't
 in the table are errors."""
 import functools
@@ -85,7 +85,7 @@ class Processor:
         return self.registers["rax"], self.registers["rdx"]
 
     def expect_kept(self, kept):
-        """A return finds its address at one place of the stack alone, so the stack pointer is the caller's."""
+        """A return finds its address at only one place of the stack, so the stack pointer is the caller's."""
         for register, x in kept.items():
             if self.registers[register] is not x:
                 raise Unsupported(f"{register} isn't the caller's at the end")

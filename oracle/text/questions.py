@@ -1,13 +1,14 @@
-"""What a changed text is asked, and what it notices.
+"""The questions for a changed text, and what they detect.
 
 A request is asked with numbers in place of symbols first, which is cheap: bytes, a secret and a seed that are drawn. One
-that gives another value than the definition is then asked over symbols, and the comparison has to notice it there. The
-other calls compare by themselves. What no request notices is asked by induction too, with --all: some cases of updates
+that gives another value than the definition is then asked over symbols, and the comparison must detect it there. The
+other calls compare by themselves. What no request detects is asked by induction too, with --all: some cases of updates
 of any lengths and of one-shots of every length."""
 import collections
 import functools
 import random
 
+from reasons import CRASH
 from terms import nodes
 from terms.refusals import REFUSALS, NotShown
 from terms.requests import Request
@@ -16,7 +17,7 @@ from terms.nodes import WrongRule, is_same
 from . import any_secret, any_updates, calls, every_length, long_seeds, one_shots, streams, xxh3_updates
 from .memory import Numbers
 
-CRASH, ANOTHER_VALUE, ANOTHER_TERM = "A CRASH", "another value", "another term"
+ANOTHER_VALUE, ANOTHER_TERM = "another value", "another term"
 CASES = 8                         # cases of an induction that a change is asked
 EDGES = [0, 1, 2, 3, 4, 7, 8, 9, 15, 16, 17, 31, 32, 33, 64, 65, 96, 97, 128, 129, 144, 145, 240, 241, 256, 257, 320,
          640, 1025, 1088]
@@ -28,14 +29,14 @@ STREAMS = [(5, 2), (16, 7), (33, 1), (40, 20, 39), (64, 32), (70, 33, 64), (100,
 BY_SECRETS = [(300, 137), (700, 143), (900, 192), (700, 195), (1100, 195), (1025, 192), (1300, 200), (2000, 256),
               (600, 1000), (1100, 144)]
 LEFT_OUT = ("3-64", "both", 136), ("3-128", "secret", 136)
-# With --all, of XXH3: bytes for which the texts have loops of their own, and long pieces from each place in a block.
+# With --all, of XXH3: bytes for which the texts have loops of their own, and long chunks from each place in a block.
 FAR = [("3-64", "default", None, 31_744), ("3-64", "secret", 136, 31_800), ("3-128", "secret", 192, 31_744),
        ("3-128", "seed", None, 32_700)]
 LONG_STREAMS = [(2700 + 131 * k, 600 + 64 * k) for k in range(16)]
-OF_BLOCKS = 3146, 600             # bytes of a stream, whose second piece has two whole blocks and ends with the second
+OF_BLOCKS = 3146, 600             # bytes of a stream, whose second chunk has two whole blocks and ends with the second
 # Bytes from which on a request takes longer than an induction, and has no others near to it.
 LONG = 10_000
-# Further requests, of changes that these don't notice: each short length, and each number of stripes of two blocks.
+# Further requests, of changes that these don't detect: each short length, and each number of stripes of two blocks.
 BUFFERED, LENGTHS = 512, [*range(300), *range(300, 2400, 61)]
 OTHER_SECRETS = [(2200, 195), (3300, 193), (5000, 140), (16_000, 184), (32_000, 195)]
 
@@ -88,7 +89,7 @@ def in_numbers(request, is_extreme):
 # ---- questions
 
 def noticed_by(ask):
-    """What is noticed, by name, or None. What is made of it is forgotten."""
+    """What is detected, by name, or None. What is made of it is forgotten."""
     known = nodes.mark()
     try:
         return ask()
@@ -136,7 +137,7 @@ class OfRequest:
         return noticed_by(lambda: None if is_same(self.term, self.answer(cpu, self.request)) else ANOTHER_TERM)
 
     def twice(self, cpu):
-        """With numbers, and where that notices something over symbols, which has to notice another value."""
+        """With numbers, and if that detects something over symbols, which must detect another value."""
         found = self.with_numbers(cpu)
         told = self.over_symbols(cpu) if found else None
         if found == ANOTHER_VALUE and not told:
@@ -187,7 +188,7 @@ def further_streams(is_plain):
 
 
 def reaching(cpu, asked):
-    """Place -> the questions that run the instruction there, as bits of a number. Each has to be answered as it
+    """Place -> the questions that run the instruction there, as bits of a number. Each must have the result that it
     should be: else the text itself is wrong."""
     found = collections.defaultdict(int)
     for k, question in enumerate(asked):

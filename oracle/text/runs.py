@@ -61,7 +61,7 @@ class State(Words):
         self.put_run(at, n, *source.origin(first))
 
     def put_run(self, at, n, source, place):
-        """As terms/memory.py has it, but for parts of one run whose order isn't known yet: they are all kept."""
+        """As terms/memory.py has it, except parts of one run whose order isn't known yet: they are all kept."""
         self.check(at, n)
         end, shift, parts, others = plus(at, n), minus(place, at), [], []
         for run in self.runs():

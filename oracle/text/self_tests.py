@@ -49,7 +49,7 @@ def change_rows(texts, others, is_all):
 
 
 def pieces():
-    """Pieces that are taken: a changed text below cargo is asked these too, since it has no whole streams."""
+    """Chunks that are taken: a changed text below cargo is asked these too, since it has no whole streams."""
     for k in range(CASES):
         yield functools.partial(plain_update, "32", k)
         yield functools.partial(xxh3_update, cargo_streams.CargoUpdates, k)

@@ -1,4 +1,4 @@
-"""The assembly texts as objects. A text is of the grammar; GNU as, which gcc calls, clang and rustc make one object of it, as
+"""The assembly sources as objects. A text is of the grammar; GNU as, which gcc calls, clang and rustc make one object of it, as
 users do, and GNU as' is the one that is read."""
 import os
 import struct
@@ -13,7 +13,7 @@ from .listed import Object, difference, differences
 GNU = {"x86-64": "as", "aarch64": "aarch64-linux-gnu-as"}
 TARGETS = {"x86-64": ("x86_64-linux-gnu", "x86_64-unknown-linux-gnu", "att_syntax, raw"),
            "aarch64": ("aarch64-linux-gnu", "aarch64-unknown-linux-gnu", "raw")}
-# The crate has these macros from `core`, which a machine has of its own processor alone.
+# The crate has these macros from `core`, which a machine has only for its own processor.
 CRATE = """#![feature(no_core, rustc_attrs)]
 #![no_core]
 #![allow(internal_features)]

@@ -1,5 +1,5 @@
 """Streams of a text: reset, updates that end at given cuts, digest. A state holds anything before its reset, each
-update is handed its piece alone, as an object of its own, and no digest changes the state."""
+update gets only its chunk, as an object of its own, and no digest changes the state."""
 import os
 import re
 
@@ -53,7 +53,7 @@ def expect_answer(answer, code):
 
 
 def reset_name(hash_name, kind):
-    """Those of XXH3 stand behind the tests for null of c/guards.c."""
+    """Those of XXH3 are called by the tests for null of c/guards.c."""
     return f"{NAMES[hash_name]}_reset" if is_plain(hash_name) else f"proved_{NAMES[hash_name]}_reset{WAYS[kind]}"
 
 

@@ -1,9 +1,9 @@
-"""Switches off one check of the checker after another, and requires that a wrong text notices it: that one which this check
+"""Switches off one check of the checker after another, and requires that a wrong text detects it: that one which this check
 refuses is refused no longer, or for another reason.
 
 A check is a statement that only raises under an `if`, a `want`, or a line that the grammar takes. Which check refuses a wrong
-text is seen when it does. A check that no wrong text notices needs a line in unplanted.txt with the reason. A line
-whose check is noticed fails too. What a check would be without it is asked in a process of its own, where the
+text is seen when it does. A check that no wrong text detects needs a line in unplanted.txt with the reason. A line
+whose check a wrong text detects fails too. What a check would be without it is asked in a process of its own, where the
 module is compiled without that statement."""
 import ast
 import concurrent.futures
@@ -152,7 +152,7 @@ def of_process(module, line, number):
 
 
 def plain(text):
-    """A refusal without the names of rooms and symbols."""
+    """A refusal without the names of folders and symbols."""
     return re.sub(r"machine-text-\w+|#\d+", "", text)
 
 
@@ -165,7 +165,7 @@ def unplanted():
 
 
 def tell(is_all, jobs=1):
-    """(checks that were switched off and noticed, what there is to say of others): all, or those of a few texts."""
+    """(checks that were switched off and detected, the messages on others): all, or those of a few texts."""
     where = {module: checks_of(module) for module in MODULES}
     known = {key: (path_of(module), *lines) for module, found in where.items() for key, lines in found.items()}
     refused, listed, bad = {}, unplanted(), []

@@ -96,13 +96,13 @@ def sum_of(a, b, sign):
 
 
 def near_zero(offset):
-    """An address' offset counts mod 2 ^ 64 alone: here the one whose constant lies from -2 ^ 63 to 2 ^ 63 - 1."""
+    """An address' offset counts only mod 2 ^ 64: here the one whose constant lies from -2 ^ 63 to 2 ^ 63 - 1."""
     c = constant_of(offset)
     return plus(offset, (c + HALF) % WHOLE - HALF - c)
 
 
 def low_bits(a, mask):
-    """The bits of an address under a mask, which its object's alignment tells."""
+    """The bits of an address under a mask, known from its object's alignment."""
     memory, at = a.place()
     if mask & mask + 1 or memory.alignment % (mask + 1):
         raise Undecided(f"the bits {mask:#x} of a place in {memory.name}")
@@ -162,6 +162,8 @@ def with_address(word, width, a, b):
         return combined(a, b, 1 if word == "add" else -1)
     if word == "and" and isinstance(b, int) and isinstance(a, Address):
         return low_bits(a, b)
+    if word == "or" and isinstance(b, int) and isinstance(a, Address) and low_bits(a, ones(b.bit_length())) == 0:
+        return combined(a, b, 1)
     raise Undecided(f"{word} of an address")
 
 

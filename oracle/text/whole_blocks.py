@@ -13,7 +13,7 @@ FOURTHS = {"a": range(3), "e": range(1, 4)}          # of a block, which such ca
 
 
 def parted(case, at):
-    """A case whose facts stand at a place in it: one, or two."""
+    """A case whose facts are about a place in it: one, or two."""
     if BLOCKS not in names_in(case):
         yield case
         return
@@ -47,7 +47,7 @@ def may_hold(facts):
 # ---- a value in the place of a variable
 
 def in_numbers(x, name, value):
-    """Polynomials with a number in the place of a variable, in whatever they stand."""
+    """Polynomials with a number in the place of a variable, wherever they are."""
     if isinstance(x, Poly):
         return with_value(x, name, value)
     if isinstance(x, functools.partial):

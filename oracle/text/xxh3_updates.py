@@ -1,7 +1,7 @@
 """The streams of XXH3 of a text: reset, any number of updates of any lengths, digests of 64 and 128 bits, by induction
 over the updates, as terms/xxh3_streams.py does it for the reference.
 
-A state stands for the first N = 64 K + f bytes of a message, K = q b + j stripes, j < q: q is the number of stripes in
+A state represents the first N = 64 K + f bytes of a message, K = q b + j stripes, j < q: q is the number of stripes in
 a block, f <= 512 the bytes in the buffer, f = 0 only where N = 0, and K is 0 or at least 4. Its accumulators are the
 definition's after K stripes; it has j, K, f, N, the mark and the secret, of 64 + 8 q + u bytes; its buffer begins with
 the f bytes behind the stripes, and where K > 0 and f < 64 the last stripe lies in a place of its own. All else may be
@@ -15,6 +15,7 @@ import itertools
 
 from terms import definition, nodes
 from terms.definition import Bytes, suppositions
+from terms.induction import same
 from terms.refusals import REFUSALS, NotShown
 from terms.requests import LONGEST, LONGEST_SECRET
 from terms.memory import RUNS, Piece
@@ -24,7 +25,7 @@ from terms.polynomials import is_same as is_same_number
 
 from . import exports, streams
 from .every_length import FAR, LIMIT
-from .induction import Loops, same
+from .induction import Loops
 from .memory import ENTRY, Words
 from .runs import Source, State
 from .stripes import DEEP, Part, Stripes, StripesProof, Summary
@@ -35,16 +36,16 @@ ACCUMULATORS, PLACE, LAST, COUNT, BUFFER, WAITING, TOTAL = 0, 64, 72, 136, 144, 
 MARKED, HAS_SEED, SEED, SECRET_LENGTH, SECRET = 672, 680, 688, 696, 704
 ROOM, DERIVED, MARK = 512, 192, int.from_bytes(b"twoxXXH3", "little")
 LONG_PIECE = 2048                 # bytes from which on stripes are taken out of line
-FIRST = 7                         # stripes that are taken at least where a piece isn't kept
+FIRST = 7                         # stripes that are taken at least where a chunk isn't kept
 BLOCK = 16                        # stripes of a block that have ways of their own
-MANY = 29                         # stripes that such a piece has at least, behind the first and before the last
+MANY = 29                         # stripes that such a chunk has at least, behind the first and before the last
 WIDTHS, LEAST, LONGEST_KEPT = ("64", "128"), 9, 256    # the least number of stripes of a block, and bytes of a secret
 UPDATES, DIGESTS, STRIPES = "any updates", "resets and digests", "functions that take stripes"
 # The functions that take stripes.
 TAKE = Summary("twox_core.xxhash3.stripes.take_stripes")
 TAKE_MANY = Summary("twox_core.xxhash3.stripes.take_many_stripes", least=MANY, is_in_place=True)
 TAKE_BLOCKS = Summary("twox_core.xxhash3.stripes.blocks.take_many_blocks", has_place=False, least=1)
-# That of x86-64-v4, which no compiler is believed for, under a secret as long as the default one.
+# That of x86-64-v4, for which no compiler is trusted, under a secret as long as the default one.
 TAKE_WIDENED = Summary("twox_core.xxhash3.stripes.take_widened", least=BLOCK, has_length=False, is_in_place=True)
 
 # The stripes of a block, and how many bytes the secret has more than these ask for.
@@ -99,7 +100,7 @@ class Xxh3Updates:
     longest_secret, longest_piece = LONGEST_KEPT, LONGEST
 
     def __init__(self, cpu):
-        self.cpu, self.told, self.refused = cpu, [], []
+        self.cpu, self.refused = cpu, []
         self.use(variable("q"))
 
     @property
@@ -230,7 +231,7 @@ class Xxh3Updates:
     # ---- updates
 
     def update(self, start, end, length, facts, parts=(), last=None, summaries=()):
-        """From a state (place, f) by a piece to another. `last` says what the last stripe is then, or it stays."""
+        """From a state (place, f) by a chunk to another. `last` says what the last stripe is then, or it stays."""
         begun, ended = (plus(times(64, self.stripes(place)), f) for place, f in (start, end))
         self.begin(plus(ended, variable("rest")))
         with given(*self.facts, *facts, at_most(self.source.length, LONGEST)):
@@ -255,11 +256,11 @@ class Xxh3Updates:
         except REFUSALS as error:
             raise NotShown("; ".join([str(error), *cpu.loops.refused])) from error
         finally:
-            self.told, self.refused = cpu.loops.told, cpu.loops.refused
+            self.refused = cpu.loops.refused
             cpu.loops, cpu.limit, cpu.replaced = None, limit, {}
 
     def small_pieces(self):
-        """Pieces that the buffer has room for: as arguments of `update`."""
+        """Chunks that the buffer can hold: as arguments of `update`."""
         b, j, f, more = (variable(name) for name in ("b", "j", "f", "more"))
         sizes = [*((n, []) for n in range(33)), *((plus(33, more), facts) for facts in self.ways_from_33(more))]
         for place, of_place, buffered in (((0, 0), [], 0), ((b, j), [minus(minus(self.q, 1), j), minus(f, 1)], f)):
@@ -269,7 +270,7 @@ class Xxh3Updates:
 
     @staticmethod
     def ways_from_33(more):
-        """Of pieces of 33 + more bytes: facts, for each way of its own that a text has for them."""
+        """Of chunks of 33 + more bytes: facts, for each way of its own that a text has for them."""
         yield []
 
     def end_of(self, place, to, least):
@@ -300,7 +301,7 @@ class Xxh3Updates:
         return n, (b, plus(j, n)), [minus(n, MANY), minus(minus(self.q, 1), plus(j, n))]
 
     def pieces(self, to, begin, lefts):
-        """Pieces that are taken through: as arguments of `update`."""
+        """Chunks that are taken through: as arguments of `update`."""
         for start in begin:
             for left, of_left in lefts:
                 for n, place, of_n in self.end_of(start.behind, to, FIRST - start.g if isinstance(start.g, int) else 1):
@@ -368,7 +369,7 @@ class Xxh3Updates:
     # ---- digest
 
     def digests(self):
-        """As arguments of `digest`, but for the way and the width."""
+        """Arguments of `digest`, except the way and the width."""
         for f in range(241):
             yield (0, 0), f, [], ()
         g, h, b, j = (variable(name) for name in "ghbj")

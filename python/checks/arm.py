@@ -20,7 +20,8 @@ def built_for_arm(room, root):
 
 
 def tests_pass(room, root):
-    """Beside Debian's python3-xxhash for arm64. Fewer objects are made, since each step takes ten times as long."""
+    """Compared with Debian's python3-xxhash for arm64. Fewer objects are made, since each step takes ten times as
+    long."""
     path = built_for_arm(room, root)
     python = ('/usr/bin/qemu-aarch64', '-L', root, f'{root}/usr/bin/python3.11')
     done = run([*python, '-c', 'import platform, twox_hash; print(platform.machine(), twox_hash.instruction_set)'],

@@ -1,4 +1,4 @@
-"""The packages: built without rt and without a network, complete, and installed where there is no compiler."""
+"""The packages: built without rt and without a network, complete, and installed on a machine without a compiler."""
 import os
 import re
 import sys
@@ -21,7 +21,7 @@ def built_without_rt(built):
 
 
 def source_is_complete(built):
-    """The source package builds the same library in a folder of its own, and holds nothing that is built."""
+    """The source package builds the same library in a folder of its own, and has no build output."""
     folder = os.path.join(built.room, 'unpacked')
     with tarfile.open(built.source) as archive:
         names = archive.getnames()
@@ -54,7 +54,7 @@ def pip_builds(built):
 
 
 def pip_builds_in_place(built):
-    """`pip install -e .` imports the sources where they lie."""
+    """`pip install -e .` imports the sources in place."""
     programs = venv(built, 'fresh-editable')
     clone = copied(os.path.join(built.room, 'for-pip-editable'))
     must([os.path.join(programs, 'pip'), 'install', '-q', '-e', '.'], clone)
@@ -63,7 +63,7 @@ def pip_builds_in_place(built):
 
 
 def pages_say_so(built):
-    """The lines of Python in the pages run, one page after another, and a value behind one is what it answers."""
+    """The lines of Python in the pages run, one page after another, and a value after one is its result."""
     lines, values = ['import os', f'os.chdir({TOP!r})'], 0
     for page in ('python/README.md', 'docs/PYTHON.md'):
         with open(os.path.join(TOP, page), encoding='utf-8') as file:
@@ -76,7 +76,7 @@ def pages_say_so(built):
 
 
 def wheel_installs(built):
-    """The wheel in a fresh environment whose PATH has neither rt nor a compiler: the tests pass there."""
+    """The wheel in a fresh environment with neither rt nor a compiler in PATH: the tests pass there."""
     programs = venv(built, 'fresh-wheel')
     theirs = os.path.join(built.room, 'theirs')
     os.makedirs(theirs)
@@ -94,7 +94,7 @@ def wheel_installs(built):
 
 
 def refusals(built):
-    """A build that can't be made says why in one line."""
+    """A build that can't be made prints the reason in one line."""
     clone = copied(os.path.join(built.room, 'refusals'))
     compiler = os.path.join(built.room, 'foreign-cc')
     with open(compiler, 'w') as file:
@@ -108,7 +108,7 @@ def refusals(built):
 
 
 def names_are_hidden(built):
-    """The file shows the linker its start and nothing else, and asks for no name of libxxhash."""
+    """The file exports only its init function, and imports no name of libxxhash."""
     shown = must(['/usr/bin/nm', '-D', '--defined-only', built.library]).split()[2::3]
     want(shown == ['PyInit__native'], f'it shows {shown}')
     asked = [line.split()[-1] for line in must(['/usr/bin/nm', '-D', '-u', built.library]).splitlines()]
@@ -120,8 +120,9 @@ def names_are_hidden(built):
 
 
 def parts_that_differ(room, tools, instructions, prefix, change=('', '')):
-    """The text of a set with its names changed as the build has it, assembled, with its names changed back: what of
-    it is other than what was proved, and how many sections it has. `change` is a wrong word in place of a right one."""
+    """The source of an instruction set with its names changed as in the build, assembled, with its names changed
+    back: the parts that differ from the proved object, and the number of sections. `change` replaces a correct word
+    by a wrong one."""
     text = backend.read(backend.proved(f'asm/{instructions}.s')).decode()
     path = os.path.join(room, f'renamed-{instructions}')
     with open(f'{path}.s', 'w') as file:
@@ -134,8 +135,8 @@ def parts_that_differ(room, tools, instructions, prefix, change=('', '')):
 
 
 def text_is_proved(room, machine, tools=''):
-    """Of the package's code each section is that of the object that was proved. The names are other in one thing alone:
-    they are hidden. A wrong constant is noticed."""
+    """Each section of the package's code is that of the proved object. The names differ only in being hidden. A
+    wrong constant is detected."""
     compared = 0
     for instructions, prefix in backend.SETS[machine].items():
         others, sections = parts_that_differ(room, tools, instructions, prefix)
@@ -147,10 +148,10 @@ def text_is_proved(room, machine, tools=''):
 
 
 def sets_are_chosen(built):
-    """The processor's best set runs, or the one that is named; one that isn't there is refused by name."""
+    """The processor's best instruction set is used, or the requested one; a missing one is refused by name."""
     ask = [PYTHON, '-c', 'import twox_hash; print(twox_hash.instruction_set, twox_hash.xxh3_64_hexdigest(b"a" * 500))']
     answers = set()
-    # qemu has none of what x86-64-v4 adds.
+    # qemu has nothing of what x86-64-v4 adds.
     for processor, instructions in (('max', 'x86-64-v3'), ('Haswell', 'x86-64-v3'), ('Nehalem', 'x86-64-v2'),
                                     ('max,avx2=off', 'x86-64-v2'), ('max,bmi2=off', 'x86-64-v2'),
                                     ('max,movbe=off', 'x86-64-v2'), ('max,xsave=off', 'x86-64-v2')):
@@ -167,7 +168,7 @@ def sets_are_chosen(built):
                   TWOX_HASH_INSTRUCTIONS='x86-64-v4').stdout
     want('ImportError: twox_hash: x86-64-v4: this processor lacks it' in lacking, lacking[-200:])
     unknown = run(ask, PYTHONPATH=built.site, TWOX_HASH_INSTRUCTIONS='sparc').stdout
-    want('ImportError: twox_hash: sparc: there is no such set' in unknown, unknown[-200:])
+    want('ImportError: twox_hash: sparc: there is no such instruction set' in unknown, unknown[-200:])
     return '7 processors, and one that is too old'
 
 

@@ -1,4 +1,4 @@
-"""Prints what dask makes of arrays by the module xxhash, and that module's name."""
+"""Prints dask's tokens of arrays by the module xxhash, and that module's name."""
 import dask.hashing
 import numpy
 import xxhash

@@ -1,5 +1,5 @@
 """Runs the search of dupeGuru for files of equal contents: find_duplicates.py DUPEGURU FOLDER. Prints each group's
-files, and the digests that it made by the module xxhash of each file."""
+files, and their digests by the module xxhash."""
 import pathlib
 import sys
 

@@ -1,5 +1,5 @@
-"""Calls the package with hostile shapes, strides and buffers: `fuzz.py TURNS SEED`. What it is given is refused, or has
-the digests of the bytes that are there. The sanitizers, and a page behind the memory, end the process otherwise."""
+"""Calls the package with hostile shapes, strides and buffers: `fuzz.py TURNS SEED`. An input is refused, or has the
+digest of its actual bytes. Otherwise the sanitizers, or a guard page after the memory, end the process."""
 import array
 import ctypes
 import random
@@ -10,13 +10,13 @@ import twox_hash
 
 REFUSALS = (TypeError, ValueError, BufferError, OverflowError, MemoryError, OSError)
 NAMES = ('xxh32', 'xxh64', 'xxh3_64', 'xxh3_128')
-# No number is between them: of so many rows as that the list alone would fill the memory.
+# No number is between them: with that many rows the list itself would fill the memory.
 SIZES = (*range(9), 15, 16, 17, 64, 240, 241, 256, 300, 2**59, 2**60, 2**60 + 1, 2**61, 2**61 + 1, 2**62, 2**63 - 1)
 FORMATS = (None, 'B', 'c', 'Q', '<Q', '>Q', 'I', 'd', 'O', '3w', '8s', 'T{I:Offset:I:x:}', 'T{', ':', '', 'ä')
 
 
 class Reader:
-    """A file that lies of how much it has read."""
+    """A file that returns wrong numbers of bytes read."""
 
     def __init__(self, answers):
         self.answers = iter(answers)
@@ -38,7 +38,7 @@ class Fuzz:
         return tuple(self.size() for _ in range(count))
 
     def hostile(self):
-        """Memory of up to 300 bytes, of which it tells all, fewer, or a negative length."""
+        """Memory of up to 300 bytes, which exposes all, fewer, or a negative length."""
         draw, bytes_there = self.draw, self.draw.randrange(301)
         shape = draw.choice((None, (bytes_there,), self.sizes(), (self.size(), bytes_there), (draw.randrange(40), 8)))
         strides = draw.choice((None, None, shape and tuple(self.size() for _ in shape)))
@@ -49,7 +49,7 @@ class Fuzz:
                               draw.choice((False, False, True)))
 
     def huge(self):
-        """Rows of no bytes, as ctypes has them."""
+        """Rows of no bytes, as in ctypes."""
         return (ctypes.c_char * 0 * self.draw.choice([size for size in SIZES if size < 2**63]))()
 
     def rows(self):
@@ -85,7 +85,7 @@ class Fuzz:
         return self.draw.choice(({}, {'secret': self.hostile()}, {'secret': self.huge()}))
 
     def memory(self, name):
-        """A forged state: what it answers is any value, and it reads nothing that isn't its own."""
+        """A forged state: its value is arbitrary, and it reads only its own memory."""
         hasher = getattr(twox_hash, name)()
         forged = bytearray(hasher._memory())
         for _ in range(self.draw.randrange(1, 20)):

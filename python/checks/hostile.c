@@ -1,6 +1,6 @@
-/* The module hostile, for fuzz.py: Buffer(bytes, length, itemsize, format, shape, strides, readonly) shows memory as no
- * honest object does. Of `bytes` bytes it tells `length`, which the caller holds to at most as many; item size, format,
- * shape and strides are what it is given, or null where that is None. A page that nobody may touch follows the memory. */
+/* The module hostile, for fuzz.py: Buffer(bytes, length, itemsize, format, shape, strides, readonly) exposes memory
+ * as no correct object does. Of `bytes` bytes it exposes `length`, which the caller limits to at most as many; item
+ * size, format, shape and strides are those passed, or null if they are None. A guard page follows the memory. */
 #define PY_SSIZE_T_CLEAN
 #include <Python.h>
 
@@ -22,7 +22,7 @@ static size_t page(void)
     return (size_t)sysconf(_SC_PAGESIZE);
 }
 
-/* Memory that ends where the page begins that nobody may touch. */
+/* Memory that ends where a guard page begins. */
 static int map_memory(struct buffer *self, size_t bytes)
 {
     const size_t pages = (bytes + page() - 1) / page() * page();
@@ -37,7 +37,7 @@ static int map_memory(struct buffer *self, size_t bytes)
     return 1;
 }
 
-/* Reads a tuple of numbers, and answers how many there are. */
+/* Reads a tuple of numbers, and returns their number. */
 static int read_numbers(PyObject *numbers, Py_ssize_t *place)
 {
     const Py_ssize_t count = PyTuple_Size(numbers);

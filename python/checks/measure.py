@@ -1,4 +1,4 @@
-"""Times both modules, turn by turn: measure.py ROUNDS [--all]. python/bench says what it prints."""
+"""Times both modules, turn by turn: measure.py ROUNDS [--all]. python/bench documents the output."""
 import datetime
 import platform
 import sys
@@ -11,7 +11,7 @@ NAMES = ('xxh32', 'xxh64', 'xxh3_64', 'xxh3_128')
 LENGTHS = {'0': 0, '8': 8, '64': 64, '1 KiB': 1 << 10, '64 KiB': 1 << 16, '1 MiB': 1 << 20}
 # The page's columns, and the lengths of each.
 GROUPS = {'0, 8, 64 bytes': ('0', '8', '64'), '1 KiB': ('1 KiB',), '64 KiB': ('64 KiB',), '1 MiB': ('1 MiB',)}
-# About so long a turn takes, in seconds.
+# A turn takes about this long, in seconds.
 TURN = 0.004
 
 
@@ -23,7 +23,7 @@ def at_once(form):
 
 
 def of_an_object(module, name, data):
-    """An object that is made of an input, and its digest."""
+    """An object made from an input, and its digest."""
     return getattr(module, name), data, 'call(data).hexdigest()'
 
 
@@ -36,7 +36,7 @@ CALLS = {'`_digest`': at_once('digest'), '`_hexdigest`': at_once('hexdigest'), '
 
 
 def turn(call, data, words, times):
-    """The nanoseconds of a call, over a turn of so many."""
+    """The nanoseconds of a call, over a turn of this many."""
     return timeit.Timer(words, globals={'call': call, 'data': data}).timeit(times) / times * 1e9
 
 
@@ -59,7 +59,7 @@ class Row:
 
 
 def print_ranges(rows):
-    """The table of the page: the least and the greatest ratio of the four hashes."""
+    """The table of the page: the minimum and the maximum ratio of the four hashes."""
     print(f'| call | {" | ".join(GROUPS)} |\n|---|{"---|" * len(GROUPS)}')
     for call in CALLS:
         cells = []

@@ -1,12 +1,11 @@
-"""Wrong builds, each of which the tests have to notice."""
+"""Wrong builds, each of which the tests must detect."""
 import os
 
 from report import tail, want
 from room import copied, packed, site
 from suite import first_failure, tests
 
-# What is wrong, in which file below a clone, the text that is there once, what takes its place, and the tests that
-# have to notice it.
+# The mistake, the file below a clone, the text that is there once, its replacement, and the tests that must detect it.
 PLANTED = [
     ('one function exchanged for another', 'python/native/kinds.c', '.hash = hash_3_##bits,', '.hash = hash_64,',
      'values'),
@@ -45,7 +44,7 @@ PLANTED = [
 
 
 def plant(folder, path, text, other):
-    """Puts another text where one stands exactly once."""
+    """Replaces a text that occurs exactly once."""
     path = os.path.join(folder, path)
     with open(path) as file:
         whole = file.read()
@@ -55,7 +54,7 @@ def plant(folder, path, text, other):
 
 
 def noticed(done):
-    """The test that failed first, where one did."""
+    """The test that failed first, if one did."""
     want(done.returncode == 1 and 'FAILED (' in done.stdout, f'no test fails: {tail(done.stdout)}')
     return first_failure(done.stdout).split(':')[0]
 
@@ -70,7 +69,7 @@ def notices(room, number, path, text, other, name):
 
 
 def constant_is_noticed(room, instructions):
-    """The first prime of XXH64, changed in the assembly text of a set."""
+    """The first prime of XXH64, changed in the assembly source of an instruction set."""
     clone = os.path.join(room, f'planted-{instructions}')
     folder = copied(clone)
     path = os.path.join(clone, 'c', 'asm', f'{instructions}.s')

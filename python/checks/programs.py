@@ -1,4 +1,4 @@
-"""Programs of Debian that import the module xxhash, on ours in its place and on the original."""
+"""Programs of Debian that import the module xxhash, with ours in its place and with the original."""
 import os
 import random
 import re
@@ -8,7 +8,7 @@ from room import DEBIANS, PYTHON, must, run
 
 HERE = os.path.dirname(os.path.abspath(__file__))
 STAND_IN = 'import sys\n\nimport twox_hash\n\nsys.modules["xxhash"] = twox_hash\n'
-# Another module of that name, whose hashes are wrong: each program has to notice it.
+# Another module of that name, whose hashes are wrong: each program must detect it.
 WRONG = STAND_IN + '''
 class Wrong(twox_hash.__class__):
     def __getattr__(self, name):
@@ -19,7 +19,7 @@ sys.modules["xxhash"] = Wrong('twox_hash')
 
 
 class Sides:
-    """What PYTHONPATH has to be for each module."""
+    """The value of PYTHONPATH for each module."""
 
     def __init__(self, built):
         self.theirs = DEBIANS
@@ -36,7 +36,7 @@ class Sides:
 
 
 def agrees(sides, words, name_at=0):
-    """The program prints the same over both modules but for the module's name, and other lines over a wrong one."""
+    """The program prints the same with both modules except the module's name, and other lines with a wrong one."""
     theirs, ours, wrong = (must([PYTHON, *words], PYTHONPATH=path).splitlines()
                            for path in (sides.theirs, sides.ours, sides.wrong))
     names = (theirs.pop(name_at), ours.pop(name_at), wrong.pop(name_at))
@@ -47,7 +47,7 @@ def agrees(sides, words, name_at=0):
 
 
 def dasks_own_tests(sides):
-    """The tests that dask has of its hashing, over our module."""
+    """dask's own tests of its hashing, with our module."""
     done = run([PYTHON, '-m', 'pytest', '-q', '-p', 'no:cacheprovider', f'{DEBIANS}/dask/tests/test_hashing.py'], '/',
                PYTHONPATH=sides.ours)
     passed = re.search(r'(\d+) passed', done.stdout)

@@ -1,4 +1,4 @@
-"""What python/check and python/bench work with: a folder of their own, Debian's packages, and builds of the package."""
+"""Shared by python/check and python/bench: a folder of their own, Debian's packages, and builds of the package."""
 import glob
 import os
 import shutil
@@ -16,12 +16,12 @@ DEBIANS = '/usr/lib/python3/dist-packages'
 PACKAGES = {'/usr/bin/gcc': 'gcc', '/usr/bin/nm': 'binutils', '/usr/include/stdio.h': 'libc6-dev', PYTHON: 'python3',
             '/usr/include/python3.11/Python.h': 'python3-dev', f'{DEBIANS}/xxhash/__init__.py': 'python3-xxhash',
             '/usr/share/doc/python3-venv': 'python3-venv', f'{DEBIANS}/pip/__init__.py': 'python3-pip'}
-# What a user's environment has: no rt, whatever the machine has.
+# A user's environment: no rt, whatever the machine has.
 PATH = '/usr/bin:/bin'
 
 
 def environment(**more):
-    """The environment of a user without the toolchain, a network and a taste for messages."""
+    """The environment of a user without the toolchain and a network, and with pip's messages off."""
     kept = {name: value for name, value in os.environ.items()
             if name in ('HOME', 'LANG', 'LC_ALL', 'TMPDIR', 'TERM', 'USER') or name.lower().endswith('_proxy')}
     quiet = {'PIP_NO_INDEX': '1', 'PIP_DISABLE_PIP_VERSION_CHECK': '1', 'PIP_ROOT_USER_ACTION': 'ignore'}
@@ -29,13 +29,13 @@ def environment(**more):
 
 
 def run(words, folder=None, timeout=1200, **more):
-    """A program's status and its output of both kinds, in the environment of such a user."""
+    """A program's status and both of its outputs, in the environment of such a user."""
     return subprocess.run(words, cwd=folder, env=environment(**more), stdout=subprocess.PIPE, stderr=subprocess.STDOUT,
                           text=True, timeout=timeout)
 
 
 def must(words, folder=None, **more):
-    """The output of a program that has to work."""
+    """The output of a program that must succeed."""
     done = run(words, folder, **more)
     if done.returncode:
         raise Fault(f'{" ".join(words)}: {tail(done.stdout)}')
@@ -43,7 +43,7 @@ def must(words, folder=None, **more):
 
 
 def copied(folder):
-    """A copy of what the package is built of, as a clean clone has it: nothing is built in the repository."""
+    """A copy of the package's sources, as in a clean clone: nothing is built in the repository."""
     keep = shutil.ignore_patterns('out', '__pycache__', '*.so')
     for part in ('python', 'c/asm', 'c/include'):
         shutil.copytree(os.path.join(TOP, part), os.path.join(folder, part), ignore=keep)
@@ -52,7 +52,7 @@ def copied(folder):
 
 
 def packed(folder, *words, **more):
-    """The source package and the wheel that python/build makes in a copy, called with these words."""
+    """The source package and the wheel that python/build makes in a copy, called with these arguments."""
     must([os.path.join(folder, 'build'), *(words or [PYTHON])], **more)
     names = sorted(os.listdir(os.path.join(folder, 'out')), key=lambda name: name.endswith('.whl'))
     want(len(names) == 2, f'python/build made {names}')
@@ -67,7 +67,7 @@ def site(room, name, wheel):
 
 
 class Built:
-    """The package, built in the check's folder: `source`, `wheel`, and `site`, where the wheel's files lie."""
+    """The package, built in the check's folder: `source`, `wheel`, and `site`, the folder of the wheel's files."""
 
     def __init__(self, room):
         self.room = room

@@ -8,12 +8,13 @@ from room import PYTHON, copied, must, packed, run, site
 HERE = os.path.dirname(os.path.abspath(__file__))
 TURNS, SEED = 60000, 1
 FLAGS = '-g -fsanitize=address,undefined -fno-sanitize-recover=all'
-# Python and its memory aren't built so: what it leaks is nobody's fault, and memory that isn't there is refused.
+# Python and its memory are not instrumented: its leaks are ignored, and failed allocations return null.
 OPTIONS = 'detect_leaks=0:allocator_may_return_null=1'
 
 
 def built_so(room, name, *change):
-    """A folder for PYTHONPATH with the package built so, and with the module hostile. `change` is something wrong."""
+    """A folder for PYTHONPATH with the package built with the sanitizers, and with the module hostile. `change` is a
+    mistake."""
     clone = os.path.join(room, name)
     folder = copied(clone)
     if change:
@@ -39,7 +40,7 @@ def passes(room):
 
 
 def notices(room):
-    """Without the test of how many digests there are, it ends by the sanitizer."""
+    """Without the test of the number of digests, the sanitizer ends the process."""
     done = fuzz(built_so(room, 'sanitized-wrong', 'python/native/many.c',
                          'digests > PY_SSIZE_T_MAX / kind->digest_bytes', '0'))
     want(done.returncode and 'AddressSanitizer' in done.stdout, f'it is not noticed: {tail(done.stdout)}')

@@ -25,7 +25,7 @@ def pass_all(path, *names, **more):
 
 
 def first_failure(output):
-    """The first test that failed, and why; or what valgrind reports first."""
+    """The first test that failed, and why; or valgrind's first report."""
     report = re.search(r'^.*==\d+== (.*)', output, re.M)
     if report:
         return report[1]
@@ -35,7 +35,7 @@ def first_failure(output):
 
 
 def of_set(built, instructions):
-    """The tests pass over one set of instructions."""
+    """The tests pass with one instruction set."""
     found = must([PYTHON, '-c', 'import twox_hash; print(twox_hash.instruction_set)'], PYTHONPATH=built.site,
                  TWOX_HASH_INSTRUCTIONS=instructions)
     want(found.strip() == instructions, f'{found.strip()} runs in place of {instructions}')
@@ -43,7 +43,8 @@ def of_set(built, instructions):
 
 
 def under_valgrind(built):
-    """No call reads or writes what isn't its own. Fewer objects are made, since each step takes fifty times as long."""
+    """No call reads or writes memory that isn't its own. Fewer objects are made, since each step takes fifty times
+    as long."""
     valgrind = ('/usr/bin/valgrind', '-q', '--error-exitcode=9', PYTHON)
     return pass_all(built.site, 'interface', 'objects', 'files', 'many', python=valgrind, PYTHONMALLOC='malloc')
 
@@ -54,7 +55,7 @@ def leaks_under_valgrind(built):
 
 
 def of_debug_build(built):
-    """The tests pass over a build by Debian's debug Python, which tests its own rules and counts references."""
+    """The tests pass with a build by Debian's debug Python, which tests its own rules and counts references."""
     folder = copied(os.path.join(built.room, 'debug'))
     wheel = packed(folder, DEBUG)[1]
     counts = must([DEBUG, '-c', 'import sys; print(sys.gettotalrefcount() > 0)'])
@@ -63,15 +64,15 @@ def of_debug_build(built):
 
 
 def of_clang(built):
-    """The tests of values pass over what clang compiles."""
+    """The tests of values pass when compiled by clang."""
     folder = copied(os.path.join(built.room, 'clang'))
     wheel = packed(folder, CC='clang')[1]
     return pass_all(site(built.room, 'clang', wheel), 'values', 'objects')
 
 
 def in_another_python(built, path, python):
-    """The tests pass in another Python. The package stands in for the original there: of values that leaves the reference
-    library's table, and of the interface nothing."""
+    """The tests pass in another Python. The package replaces the original there: of the values only the reference
+    library's table is left, and of the interface nothing."""
     folder = os.path.join(built.room, 'stand-in')
     if not os.path.exists(folder):
         os.makedirs(folder)
@@ -82,13 +83,13 @@ def in_another_python(built, path, python):
 
 
 def of_another_python(built, python):
-    """The tests pass in another Python, over what it builds."""
+    """The tests pass in another Python, with its own build."""
     name = os.path.abspath(python).strip('/').replace('/', '-')
     return in_another_python(built, site(built.room, name, packed(copied(os.path.join(built.room, name)), python)[1]), python)
 
 
 def of_limited_interface(built, pythons):
-    """The tests pass over the wheel of the limited interface, in this Python and in others that it is for."""
+    """The tests pass with the wheel of the limited interface, in this Python and in others that it supports."""
     path = site(built.room, 'limited', packed(copied(os.path.join(built.room, 'limited')), '--limited')[1])
     found = must([PYTHON, '-c', 'import twox_hash; print(twox_hash._native.__file__)'], PYTHONPATH=path).strip()
     want(found.endswith('_native.abi3.so'), f'{found} runs')
@@ -97,7 +98,7 @@ def of_limited_interface(built, pythons):
 
 
 def with_xxh(built, xxh):
-    """States go to the program xxh and come back."""
+    """States are passed to the program xxh and back."""
     found = shutil.which(xxh)
     want(found, f'there is no program {xxh}')
     return pass_all(built.site, 'objects', XXH=os.path.abspath(found))

@@ -1,4 +1,4 @@
-"""The types: by mypy --strict, beside the module itself, and for a program that uses them."""
+"""The types: by mypy --strict, compared with the module itself, and in a program that uses them."""
 import os
 import re
 
@@ -45,7 +45,7 @@ def package_is_typed(built):
 
 
 def stub_is_the_module(built):
-    """Each name of the stub is a name of the extension, with its arguments, and none is left out."""
+    """Each name of the stub is a name of the extension, with its arguments, and none is missing."""
     done = run([PYTHON, '-m', 'mypy.stubtest', 'twox_hash._native', 'twox_hash._types', 'twox_hash._states',
                 'twox_hash.version'], built.room, PYTHONPATH=built.site, MYPYPATH=built.site)
     want(done.returncode == 0 and 'no issues' in done.stdout, done.stdout[:300])

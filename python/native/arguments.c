@@ -1,6 +1,6 @@
 #include "arguments.h"
 
-/* What an object's start is called in the words of an exception. */
+/* The name of an object's constructor in exception messages. */
 #define START "__init__"
 
 int open_bytes(struct bytes *bytes, PyObject *object)
@@ -28,14 +28,14 @@ int open_bytes(struct bytes *bytes, PyObject *object)
     return 0;
 }
 
-/* The objects of a call by parameter, each null where it wasn't given, and what is wrong with the call. */
+/* The objects of a call by parameter, each null if it wasn't given, and the error of the call. */
 struct given {
     PyObject *input, *seed, *secret;
     PyObject *unknown; /* the first name that is no parameter's */
     int twice;         /* the input came by name and by position */
 };
 
-/* Takes an argument that came by its name. */
+/* Takes a keyword argument. */
 static void take_named(struct given *given, const struct kind *kind, PyObject *name, PyObject *object)
 {
     if (!PyUnicode_CompareWithASCIIString(name, "seed"))
@@ -49,7 +49,7 @@ static void take_named(struct given *given, const struct kind *kind, PyObject *n
         given->unknown = name;
 }
 
-/* Whether there are at most two arguments beside the secret, which comes by its name alone. */
+/* True if there are at most two arguments besides the secret, which is keyword-only. */
 static int is_count_right(const struct given *given, const char *function, Py_ssize_t count, Py_ssize_t named)
 {
     const Py_ssize_t all = count + named - (given->secret != NULL);
@@ -76,7 +76,7 @@ static void refuse_seed(const char *function, PyObject *seed)
 #endif
 }
 
-/* A seed: an integer, of which the lowest bits count. */
+/* A seed: an integer, of which the lowest bits are used. */
 static int read_seed(struct key *key, const struct kind *kind, const char *function, PyObject *seed)
 {
     if (kind->has_narrow_seed)
@@ -104,7 +104,7 @@ static int open_secret(struct arguments *arguments, PyObject *secret)
     return 0;
 }
 
-/* Opens what was given, from left to right, and only then says what is wrong with the names, as the original does. */
+/* Opens the arguments, from left to right, and reports wrong names afterwards, as the original does. */
 static int read_given(struct arguments *arguments, const struct kind *kind, const char *function,
                       const struct given *given)
 {
@@ -124,7 +124,7 @@ static int read_given(struct arguments *arguments, const struct kind *kind, cons
     return 1;
 }
 
-/* Opens what was given. Where it isn't right nothing stays open. */
+/* Opens the arguments. On an error none stays open. */
 static int open_given(struct arguments *arguments, const struct kind *kind, const char *function,
                       const struct given *given)
 {

@@ -1,4 +1,4 @@
-/* What a call is given: an input, a seed, a secret. */
+/* The arguments of a call: an input, a seed, a secret. */
 #ifndef TWOX_HASH_ARGUMENTS_H
 #define TWOX_HASH_ARGUMENTS_H
 
@@ -6,7 +6,7 @@
 
 #include "kinds.h"
 
-/* The bytes of an object, which stay where they are until close_bytes. */
+/* The bytes of an object, which don't move until close_bytes. */
 struct bytes {
     const void *start;
     size_t length;
@@ -14,7 +14,7 @@ struct bytes {
     Py_buffer view;
 };
 
-/* The bytes of a bytes-like object, or of a str in UTF-8. Answers 0 with an exception where it has none. */
+/* Gets the bytes of a bytes-like object, or of a str in UTF-8. Returns 0 with an exception set if it has none. */
 int open_bytes(struct bytes *bytes, PyObject *object);
 
 static inline void close_bytes(struct bytes *bytes)
@@ -22,7 +22,7 @@ static inline void close_bytes(struct bytes *bytes)
     if (bytes->is_view) PyBuffer_Release(&bytes->view);
 }
 
-/* A hash's arguments, taken from a call. The secret of the key lies in `secret`. */
+/* A hash's arguments, from a call. The secret of the key is in `secret`. */
 struct arguments {
     int has_input;
     struct bytes input;
@@ -30,13 +30,13 @@ struct arguments {
     struct key key;
 };
 
-/* Reads the arguments of `name(input, seed=0, *, secret=None)`, of which only kinds with a secret have the last one.
- * Without a name they are those of an object's start, which may leave out the input. Answers 0 with an exception where
- * they aren't right; else close_arguments is to be called. */
+/* Parses the arguments of `name(input, seed=0, *, secret=None)`; only kinds with a secret have the last one. Without
+ * a name they are those of a constructor, which may omit the input. Returns 0 with an exception set if they are
+ * invalid; otherwise close_arguments must be called. */
 int open_arguments(struct arguments *arguments, const struct kind *kind, const char *name, PyObject *const *args,
                    Py_ssize_t count, PyObject *names);
 
-/* Does so of an object's start whose arguments are a tuple, and a dictionary or null. */
+/* Does the same for a constructor whose arguments are a tuple, and a dictionary or null. */
 int open_arguments_of_tuple(struct arguments *arguments, const struct kind *kind, PyObject *args, PyObject *keywords);
 
 void close_arguments(struct arguments *arguments);

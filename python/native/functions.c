@@ -4,8 +4,8 @@
 #include "kinds.h"
 #include "values.h"
 
-/* Hashes what `name(input, seed=0, *, secret=None)` is given into `value`. Answers 0 with an exception where it isn't
- * right. Bytes alone, as most calls have them, are taken as they are. */
+/* Hashes the arguments of `name(input, seed=0, *, secret=None)` into `value`. Returns 0 with an exception set if
+ * they are invalid. A single bytes object, as in most calls, is used directly. */
 static inline int oneshot(hash_value *value, const struct kind *kind, const char *name, PyObject *const *args,
                           Py_ssize_t count, PyObject *names)
 {
@@ -41,13 +41,13 @@ FUNCTIONS(xxh3_128)
 
 #define ROW(kind, form, signature, does, more) \
     {#kind "_" #form, (PyCFunction)(void (*)(void))kind##_##form, METH_FASTCALL | METH_KEYWORDS, \
-     #kind "_" #form signature "\n--\n\n" does " of the whole input: what an object of the type " #kind \
-     " answers\nthat is made of these arguments." more},
+     #kind "_" #form signature "\n--\n\n" does " of the whole input, as an object of the type " #kind \
+     "\nwith these arguments does." more},
 
 #define ROWS(kind, signature, more) \
-    ROW(kind, digest, signature, "The digest, as bytes,", more) \
-    ROW(kind, hexdigest, signature, "The digest, as hexadecimal digits,", more) \
-    ROW(kind, intdigest, signature, "The value, as a number,", more)
+    ROW(kind, digest, signature, "Return the digest as bytes", more) \
+    ROW(kind, hexdigest, signature, "Return the digest as hexadecimal digits", more) \
+    ROW(kind, intdigest, signature, "Return the value as a number", more)
 
 PyMethodDef functions[] = {
     ROWS(xxh32, "(input, seed=0)", "")

@@ -21,7 +21,7 @@ void leave(struct hasher *hasher)
     if (hasher->lock) PyThread_release_lock(hasher->lock);
 }
 
-/* Takes a piece while other threads run. The lock is there. */
+/* Hashes a chunk with the GIL released. The lock exists. */
 static void take_long(struct hasher *hasher, const void *start, size_t length)
 {
     Py_BEGIN_ALLOW_THREADS
@@ -31,7 +31,7 @@ static void take_long(struct hasher *hasher, const void *start, size_t length)
     Py_END_ALLOW_THREADS
 }
 
-/* Takes a piece. Without memory for a lock no other thread runs meanwhile. */
+/* Hashes a chunk. If there is no memory for a lock, the GIL is kept. */
 static void take(struct hasher *hasher, const void *start, size_t length)
 {
     if (length >= LONG_INPUT && !hasher->lock) hasher->lock = PyThread_allocate_lock();
@@ -51,9 +51,9 @@ static void start(struct hasher *hasher, const struct key *key)
     leave(hasher);
 }
 
-/* ---- Making and ending ---- */
+/* ---- Construction and destruction ---- */
 
-/* An object whose state is not written yet. */
+/* Allocates an object whose state is not written yet. */
 static struct hasher *unwritten(PyTypeObject *type, const struct kind *kind)
 {
     struct hasher *hasher = PyObject_New(struct hasher, type);
@@ -63,7 +63,7 @@ static struct hasher *unwritten(PyTypeObject *type, const struct kind *kind)
     return hasher;
 }
 
-/* An object without its start: one of no bytes, with the seed 0. */
+/* Creates an object before __init__: one of no bytes, with the seed 0. */
 static PyObject *new_of(PyTypeObject *type, const struct kind *kind)
 {
     struct hasher *hasher = unwritten(type, kind);
@@ -71,7 +71,7 @@ static PyObject *new_of(PyTypeObject *type, const struct kind *kind)
     return (PyObject *)hasher;
 }
 
-/* Begins anew with the key, and takes the input if there is one. */
+/* Resets with the key, and hashes the input if there is one. */
 static int begin(struct hasher *hasher, const struct arguments *arguments)
 {
     const struct key *key = &arguments->key;
@@ -93,8 +93,8 @@ static int hasher_init(struct hasher *hasher, PyObject *args, PyObject *keywords
     return begun ? 0 : -1;
 }
 
-/* A call of a type makes an object and begins it at once, where a type has a place for that: the limited interface calls
- * new, and then init. */
+/* A call of a type creates and initializes an object at once, if a type has a slot for that: the limited interface
+ * calls new, and then init. */
 #ifdef Py_LIMITED_API
 #define FAST_CALL(kind)
 #define SET_FAST_CALL(type, kind)
@@ -126,7 +126,7 @@ static void hasher_dealloc(struct hasher *hasher)
     Py_DECREF(type);
 }
 
-/* ---- What an object does ---- */
+/* ---- Methods ---- */
 
 static PyObject *hasher_update(struct hasher *hasher, PyObject *input)
 {
@@ -180,7 +180,7 @@ static PyObject *hasher_reset(struct hasher *hasher, PyObject *none)
     (void)none;
     enter(hasher);
     struct key key = hasher->kind->key_of(hasher->state);
-    /* A start takes no secret that lies in the state which it writes. */
+    /* A constructor refuses a secret in the state that it writes. */
     if (key.secret) key.secret = memcpy(secret, key.secret, key.secret_length);
     hasher->kind->start(hasher->state, &key);
     leave(hasher);
@@ -220,52 +220,52 @@ static PyObject *hasher_block_size(struct hasher *hasher, void *none)
 
 static PyMethodDef methods[] = {
     METHOD("update", hasher_update, METH_O,
-           "update($self, input, /)\n--\n\nTakes more bytes, or a str in UTF-8, after those before."),
+           "update($self, input, /)\n--\n\nHash more bytes, or a str as UTF-8, after those before."),
     METHOD("digest", hasher_digest, METH_NOARGS,
-           "digest($self, /)\n--\n\nThe digest of all bytes so far, as bytes. More may follow."),
+           "digest($self, /)\n--\n\nReturn the digest of all bytes so far as bytes. More may follow."),
     METHOD("hexdigest", hasher_hexdigest, METH_NOARGS,
-           "hexdigest($self, /)\n--\n\nThe digest of all bytes so far, as hexadecimal digits."),
+           "hexdigest($self, /)\n--\n\nReturn the digest of all bytes so far as hexadecimal digits."),
     METHOD("intdigest", hasher_intdigest, METH_NOARGS,
-           "intdigest($self, /)\n--\n\nThe value of all bytes so far, as a number."),
-    METHOD("copy", hasher_copy, METH_NOARGS, "copy($self, /)\n--\n\nAn equal object, which goes on alone."),
+           "intdigest($self, /)\n--\n\nReturn the value of all bytes so far as a number."),
+    METHOD("copy", hasher_copy, METH_NOARGS, "copy($self, /)\n--\n\nReturn an equal, independent object."),
     METHOD("reset", hasher_reset, METH_NOARGS,
-           "reset($self, /)\n--\n\nForgets all bytes, and keeps the seed and the secret."),
+           "reset($self, /)\n--\n\nForget all bytes. Keep the seed and the secret."),
     METHOD("state", hasher_state, METH_NOARGS,
-           "state($self, /)\n--\n\nAll that the object holds, as JSON. from_state goes on from it."),
+           "state($self, /)\n--\n\nReturn everything that the object holds as JSON, for from_state."),
     METHOD("from_state", hasher_from_state, METH_O | METH_CLASS,
-           "from_state($type, state, /)\n--\n\nThe object that was saved. ValueError: the text is no saved state; "
-           "of XXH32 and XXH64\nalso one that no bytes lead to, and of XXH3 one whose parts don't fit each other."),
+           "from_state($type, state, /)\n--\n\nRestore a saved object. ValueError: the text is no saved state; "
+           "for XXH32 and XXH64\nalso one that no bytes lead to, and for XXH3 one whose parts don't fit each other."),
     METHOD("__reduce__", hasher_reduce, METH_NOARGS,
-           "__reduce__($self, /)\n--\n\nfrom_state and the state, for pickle."),
-    METHOD("_memory", hasher_memory, METH_NOARGS, "The state as it lies in memory."),
-    METHOD("_set_memory", hasher_set_memory, METH_O, "Puts back what _memory answered."),
-    METHOD("_many", hasher_many, METH_FASTCALL, "Digests of the rows of a tuple."),
-    METHOD("_many_of_width", hasher_many_of_width, METH_FASTCALL, "Digests of the rows of a buffer."),
+           "__reduce__($self, /)\n--\n\nReturn from_state and the state, for pickle."),
+    METHOD("_memory", hasher_memory, METH_NOARGS, "Return the state in memory."),
+    METHOD("_set_memory", hasher_set_memory, METH_O, "Restore the result of _memory."),
+    METHOD("_many", hasher_many, METH_FASTCALL, "Return the digests of the rows of a tuple."),
+    METHOD("_many_of_width", hasher_many_of_width, METH_FASTCALL, "Return the digests of the rows of a buffer."),
     {0},
 };
 
 #define ATTRIBUTE(name, get, text) {name, (getter)(void (*)(void))get, NULL, text, NULL}
 
 static PyGetSetDef attributes[] = {
-    ATTRIBUTE("name", hasher_name, "The name of the hash, as XXH64."),
-    ATTRIBUTE("seed", hasher_seed, "The seed, as a number of the hash's width. 0 where there is a secret alone."),
-    ATTRIBUTE("digest_size", hasher_digest_size, "The bytes of a digest."),
-    ATTRIBUTE("digestsize", hasher_digest_size, "The bytes of a digest."),
-    ATTRIBUTE("block_size", hasher_block_size, "The bytes of the hash's inner block."),
+    ATTRIBUTE("name", hasher_name, "The name of the hash, for example XXH64."),
+    ATTRIBUTE("seed", hasher_seed, "The seed, as a number of the hash's width. 0 with only a secret."),
+    ATTRIBUTE("digest_size", hasher_digest_size, "The size of a digest in bytes."),
+    ATTRIBUTE("digestsize", hasher_digest_size, "The size of a digest in bytes."),
+    ATTRIBUTE("block_size", hasher_block_size, "The size of the hash's inner block in bytes."),
     {0},
 };
 
 #define INPUT_AND_SEED \
-    "A stream of bytes, and their hash so far. `input` begins it: a bytes-like object whose buffer is contiguous,\n" \
-    "or a str, which is taken in UTF-8. `seed` is an integer, of which the lowest bits count, as many as the hash's\n" \
-    "own seed has; a negative one too.\n\n"
+    "A hash of bytes so far. `input` are the first ones: a bytes-like object whose buffer is contiguous, or a str,\n" \
+    "which is hashed as UTF-8. `seed` is an integer, also a negative one, of which the lowest bits are used, as many\n" \
+    "as the hash's own seed has.\n\n"
 
 #define NO_SECRET \
     "TypeError: the input has no bytes, or the seed is no integer. BufferError: the buffer isn't contiguous."
 
 #define SECRET \
-    "`secret` is bytes-like, of 136 to 256 bytes, and is copied. With a seed, the seed alone takes effect up to 240\n" \
-    "bytes of input and the secret alone above; without one, the secret does at every length.\n\n" NO_SECRET \
+    "`secret` is bytes-like, of 136 to 256 bytes, and is copied. With a seed, only the seed takes effect up to 240\n" \
+    "bytes of input, and only the secret above; without one, the secret does at every length.\n\n" NO_SECRET \
     " ValueError: the secret has\nanother length."
 
 #define TYPE(kind, bytes, signature, more) \

@@ -1,9 +1,9 @@
-/* The calls of each hash, by one form for all. */
+/* The calls of each hash, in one form for all. */
 #include "kinds.h"
 
 #include "proved.h"
 
-/* A 64-bit value, or a narrower one, as any value. */
+/* A value of 64 bits or fewer as the common type. */
 static inline hash_value narrow(uint64_t low)
 {
     return (hash_value){.low64 = low, .high64 = 0};
@@ -11,7 +11,7 @@ static inline hash_value narrow(uint64_t low)
 
 /* ---- XXH32 and XXH64 ---- */
 
-/* The states as they lie in memory: crates/twox_c declares them so, and proves their sizes. */
+/* The states as they are in memory: crates/twox_c declares them like this, and proves their sizes. */
 struct xxh32_state {
     uint32_t v1, seed, v2, marked_waiting, v3, total_low, total_high, v4;
     unsigned char buffer[16];

@@ -5,12 +5,12 @@
 #include "arguments.h"
 #include "values.h"
 
-/* Where digests go, one after another: memory of the call's own, or the caller's buffer. */
+/* The destination of digests, one after another: memory of the call's own, or the caller's buffer. */
 struct room {
     const struct kind *kind;
     unsigned char *start; /* of the digests */
     size_t digests, bytes;
-    int has_numbers; /* they go there as native integers */
+    int has_numbers; /* they are written as native integers */
     int has_view;    /* whether the caller gave a buffer */
     int is_own;      /* whether `start` is memory of the call's own */
     Py_buffer view;
@@ -22,7 +22,7 @@ static void close_room(struct room *room)
     if (room->is_own) PyMem_Free(room->start);
 }
 
-/* Takes the caller's buffer, unless it is None. */
+/* Opens the caller's buffer, unless it is None. */
 static int open_into(struct room *room, PyObject *into)
 {
     if (into == Py_None) return 1;
@@ -30,13 +30,13 @@ static int open_into(struct room *room, PyObject *into)
     room->has_view = 1;
     room->start = room->view.buf;
     if ((size_t)room->view.len == room->bytes) return 1;
-    PyErr_Format(PyExc_ValueError, "into has %zd bytes, and %zu digests of %d bytes go there", room->view.len,
+    PyErr_Format(PyExc_ValueError, "into has %zd bytes, not those of %zu digests of %d bytes", room->view.len,
                  room->digests, room->kind->digest_bytes);
     return 0;
 }
 
-/* Makes room for so many digests. With `may_fail` they go into memory of the call's own first, so that a row that is
- * wrong leaves the caller's buffer as it was. Answers 0 with an exception where there is none. */
+/* Allocates space for this many digests. With `may_fail` they go into memory of the call's own first, so that an
+ * invalid row leaves the caller's buffer unchanged. Returns 0 with an exception set if there is none. */
 static int open_room(struct room *room, const struct kind *kind, size_t digests, PyObject *const *into, int may_fail)
 {
     *room = (struct room){.kind = kind, .digests = digests, .has_numbers = into[1] == Py_True};
@@ -66,7 +66,7 @@ static void put(const struct room *room, size_t i, hash_value value)
         write_digest(place, room->kind, value);
 }
 
-/* Whether the caller's buffer has bytes of a row. */
+/* True if the caller's buffer overlaps a row. */
 static int is_over(const struct room *room, const unsigned char *row, size_t length)
 {
     const uintptr_t start = (uintptr_t)row, into = (uintptr_t)room->view.buf;
@@ -84,7 +84,7 @@ static PyObject *list_of(const struct room *room)
     return list;
 }
 
-/* What a call answers whose digests are all there, or null where they aren't. */
+/* Returns the result of a call after all digests are written, or null if they aren't. */
 static PyObject *end(struct room *room, int is_done)
 {
     PyObject *answer = NULL;
@@ -97,7 +97,7 @@ static PyObject *end(struct room *room, int is_done)
     return answer;
 }
 
-/* Has the exception that a row raised name the row. */
+/* Adds the row's number to the exception of a row. */
 static void name_row(size_t row)
 {
     PyObject *type, *fault, *traceback;
@@ -121,7 +121,7 @@ static int hash_object(const struct room *room, const struct key *key, size_t i,
     if (is_right)
         put(room, i, hash_of(room->kind, row.start, row.length, key));
     else
-        PyErr_Format(PyExc_ValueError, "into lies over row %zu", i);
+        PyErr_Format(PyExc_ValueError, "into overlaps row %zu", i);
     close_bytes(&row);
     return is_right;
 }
@@ -150,14 +150,14 @@ static void hash_rows(const struct room *room, const struct key *key, const stru
         put(room, i, room->kind->hash(rows->start + i * rows->width, rows->width, key));
 }
 
-/* Hashes the rows, with other threads beside it where they are long together. */
+/* Hashes the rows, with the GIL released if they are long together. */
 static PyObject *digests_of_rows(const struct hasher *hasher, const struct rows *rows, PyObject *const *into)
 {
     const struct key key = hasher->kind->key_of(hasher->state);
     struct room room;
     if (!open_room(&room, hasher->kind, rows->count, into, 0)) return NULL;
     if (is_over(&room, rows->start, rows->bytes)) {
-        PyErr_SetString(PyExc_ValueError, "into lies over the rows");
+        PyErr_SetString(PyExc_ValueError, "into overlaps the rows");
         return end(&room, 0);
     }
     if (rows->bytes < LONG_INPUT)
@@ -183,7 +183,7 @@ PyObject *hasher_many_of_width(struct hasher *hasher, PyObject *const *args, Py_
     if (rows.bytes == bytes.length)
         answer = digests_of_rows(hasher, &rows, args + 2);
     else
-        PyErr_Format(PyExc_ValueError, "%zu bytes are no %zu rows of one length", bytes.length, rows.count);
+        PyErr_Format(PyExc_ValueError, "%zu bytes are not %zu rows of one length", bytes.length, rows.count);
     close_bytes(&bytes);
     return answer;
 }

@@ -1,4 +1,4 @@
-/* The module twox_hash._native: the functions and the types that twox_hash/__init__.py hands on. */
+/* The module twox_hash._native: the functions and the types that twox_hash/__init__.py re-exports. */
 #include "functions.h"
 #include "hasher.h"
 #include "proved.h"
@@ -6,7 +6,7 @@
 
 #include <stdlib.h>
 
-/* Chooses the instruction set of the proved calls. TWOX_HASH_INSTRUCTIONS may name one, for measurements and tests. */
+/* Chooses the instruction set of the proved calls. TWOX_HASH_INSTRUCTIONS may select one, for benchmarks and tests. */
 static int choose(void)
 {
     const char *wanted = getenv("TWOX_HASH_INSTRUCTIONS");
@@ -24,8 +24,8 @@ static int fill(PyObject *module)
     return is_filled ? 0 : -1;
 }
 
-/* All that changes belongs to a module or an object, but the set, which is the process's: so interpreters may have locks of
- * their own. Without any lock it was never run. */
+/* All mutable data belongs to a module or an object, except the instruction set, which is the process's: so
+ * subinterpreters may have a GIL of their own. It was never run without any GIL. */
 static PyModuleDef_Slot slots[] = {
     {Py_mod_exec, (void *)fill},
 #ifdef Py_mod_multiple_interpreters

@@ -1,14 +1,15 @@
-/* Which set of proved calls runs. backend.py puts a prefix before each name of a set's text: v2_, v3_, v4_ or arm_. */
+/* The instruction set of the proved calls in use. backend.py puts a prefix before each name of an instruction set's
+   source: v2_, v3_, v4_ or arm_. */
 #include "proved.h"
 
 #include <pthread.h>
 #include <string.h>
 
 struct proved proved;
-/* Interpreters with locks of their own may import the module at once. */
+/* Interpreters with a GIL of their own may import the module concurrently. */
 static pthread_mutex_t choice = PTHREAD_MUTEX_INITIALIZER;
 
-/* A set: whether the processor has its instructions, and its calls. */
+/* An instruction set: whether the processor has it, and its calls. */
 struct set {
     int (*is_there)(void);
     struct proved calls;
@@ -34,7 +35,7 @@ static int has_v2(void)
     return __get_cpuid(1, &a, &b, &c, &d) && (c & wanted) == wanted;
 }
 
-/* Whether the system keeps a thread's registers of 256 bits, and those of 512 and the masks. */
+/* True if the system saves a thread's registers of 256 bits, and those of 512 and the masks. */
 enum { OF_256_BITS = 3 << 1, OF_512_BITS = 7 << 5 | OF_256_BITS };
 
 static int keeps(unsigned registers)
@@ -87,7 +88,7 @@ static const struct set sets[] = {{is_always, {EACH_PROVED_CALL(IN_ARM).instruct
 
 static const char *choose(const char *wanted)
 {
-    const char *fault = wanted ? "there is no such set of instructions" : "this processor lacks x86-64-v2";
+    const char *fault = wanted ? "there is no such instruction set" : "this processor lacks x86-64-v2";
     for (size_t i = 0; i < sizeof(sets) / sizeof(*sets); i++) {
         if (wanted && strcmp(wanted, sets[i].calls.instructions)) continue;
         if (sets[i].is_there()) {
@@ -103,7 +104,7 @@ const char *choose_proved(const char *wanted)
 {
     pthread_mutex_lock(&choice);
     const char *fault = !proved.instructions ? choose(wanted)
-                        : wanted && strcmp(wanted, proved.instructions) ? "this process runs another" : NULL;
+                        : wanted && strcmp(wanted, proved.instructions) ? "this process uses another one" : NULL;
     pthread_mutex_unlock(&choice);
     return fault;
 }

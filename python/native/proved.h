@@ -1,12 +1,12 @@
-/* The proved calls that the package makes, of the set of instructions that the processor has. What each answers stands
- * in xxhash.h, the header of the library for C. */
+/* The proved calls that the package makes, by the processor's instruction set. Their results are documented in
+ * xxhash.h, the header of the library for C. */
 #ifndef TWOX_HASH_PROVED_H
 #define TWOX_HASH_PROVED_H
 
 #include "state_sizes.h"
 #include "xxhash.h"
 
-/* EACH(answer, name, parameters): once for each call. */
+/* EACH(result, name, parameters): once for each call. */
 #define EACH_PROVED_CALL(EACH) \
     EACH(XXH32_hash_t, XXH32, (const void *, size_t, XXH32_hash_t)) \
     EACH(XXH_errorcode, XXH32_reset, (XXH32_state_t *, XXH32_hash_t)) \
@@ -34,15 +34,15 @@ struct proved {
 #define MEMBER(answer, name, parameters) answer(*name) parameters;
     EACH_PROVED_CALL(MEMBER)
 #undef MEMBER
-    /* The set of instructions: "x86-64-v2", "x86-64-v3", "x86-64-v4" or "aarch64". */
+    /* The instruction set: "x86-64-v2", "x86-64-v3", "x86-64-v4" or "aarch64". */
     const char *instructions;
 };
 
-/* The calls that are made. choose_proved fills it before any is. */
+/* The calls in use. choose_proved fills it before any call. */
 extern struct proved proved;
 
-/* Takes the best set that the processor has, or the one that is named where `wanted` isn't null: once in a process. Returns
- * null, or what is at fault: the processor has no such set, there is none of that name, or another one was taken. */
+/* Selects the processor's best instruction set, or `wanted` if that isn't null: once in a process. Returns null, or
+ * the error: the processor lacks the instruction set, its name is unknown, or another one was selected before. */
 const char *choose_proved(const char *wanted);
 
 #endif

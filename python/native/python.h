@@ -1,5 +1,5 @@
-/* Python's header, with lengths as Py_ssize_t, and what is long. With Py_LIMITED_API one file serves each CPython from 3.11
- * on, and each of these macros is a call. */
+/* Python's header, with lengths as Py_ssize_t, and the length from which on inputs are long. With Py_LIMITED_API one
+ * file serves each CPython from 3.11 on, and each of these macros is a call. */
 #ifndef TWOX_HASH_PYTHON_H
 #define TWOX_HASH_PYTHON_H
 
@@ -23,7 +23,7 @@ static inline PyObject *Py_NewRef(PyObject *object)
 #define PyTuple_GET_ITEM PyTuple_GetItem
 #endif
 
-/* From how many bytes on other threads may run meanwhile. */
+/* From this many bytes on the GIL is released. */
 #define LONG_INPUT (64 << 10)
 
 #endif

@@ -2,7 +2,7 @@
 
 #include <string.h>
 
-/* What a function of _states.py answers, or null with an exception. */
+/* Returns the result of a function of _states.py, or null with an exception set. */
 static PyObject *call_states(const char *function, PyObject *first, PyObject *second)
 {
     PyObject *states = PyImport_ImportModule("twox_hash._states");

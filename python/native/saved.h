@@ -1,4 +1,4 @@
-/* Saving and loading an object: the JSON is written and read by twox_hash/_states.py. */
+/* Saving and loading an object: twox_hash/_states.py writes and reads the JSON. */
 #ifndef TWOX_HASH_SAVED_H
 #define TWOX_HASH_SAVED_H
 
@@ -8,8 +8,8 @@ PyObject *hasher_state(struct hasher *hasher, PyObject *none);
 PyObject *hasher_from_state(PyObject *type, PyObject *state);
 PyObject *hasher_reduce(struct hasher *hasher, PyObject *none);
 
-/* The state as it lies in memory. A forged one does no harm: the proved calls test at each call what they need, and
- * the length of the secret is tested here. */
+/* The state in memory. A forged one does no harm: the proved calls test at each call what they need, and the length
+ * of the secret is tested here. */
 PyObject *hasher_memory(struct hasher *hasher, PyObject *none);
 PyObject *hasher_set_memory(struct hasher *hasher, PyObject *memory);
 

@@ -2,8 +2,8 @@
 
 #include <string.h>
 
-/* Bytes of a number, the highest first. Each is stored where it stays: bytes that are copied from stores of another
- * width wait for these. */
+/* Bytes of a number, the highest first. Each is stored in place: copying bytes that were stored with another width
+ * would wait for these stores. */
 static inline void write_word(void *bytes, uint64_t word)
 {
     word = __builtin_bswap64(word);
@@ -43,7 +43,7 @@ PyObject *as_digest(const struct kind *kind, hash_value value)
 }
 
 /* Writes the eight hexadecimal digits of a number, all at once: each half byte gets a byte of its own, the highest
- * first. Answers where the next digits go. */
+ * first. Returns the position of the next digits. */
 static inline char *write_digits(char *digits, uint32_t number)
 {
     const uint64_t ones = 0x0101010101010101;

@@ -1,4 +1,4 @@
-/* Values, and the three forms in which they are handed out. */
+/* Values, and the three forms in which they are returned. */
 #ifndef TWOX_HASH_VALUES_H
 #define TWOX_HASH_VALUES_H
 
@@ -6,7 +6,7 @@
 
 #include "kinds.h"
 
-/* The value of an input that stays as it is. Other threads run meanwhile where it is long. */
+/* The value of an input that doesn't move. The GIL is released if it is long. */
 static inline hash_value hash_of(const struct kind *kind, const void *start, size_t length, const struct key *key)
 {
     if (length < LONG_INPUT) return kind->hash(start, length, key);
@@ -17,10 +17,10 @@ static inline hash_value hash_of(const struct kind *kind, const void *start, siz
     return value;
 }
 
-/* Writes the kind's digest: the bytes of the value, the highest first. */
+/* Writes the digest: the bytes of the value, the highest first. */
 void write_digest(void *digest, const struct kind *kind, hash_value value);
 
-/* Writes the value of a hash of at most 64 bits as an integer of its width, in the machine's order of bytes. */
+/* Writes the value of a hash of at most 64 bits as an integer of its width, in the machine's byte order. */
 void write_number(void *number, const struct kind *kind, hash_value value);
 
 /* New objects: the digest as bytes, its hexadecimal digits, and the value as a number. */

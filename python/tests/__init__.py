@@ -1,3 +1,3 @@
-"""The package's own tests, beside the package xxhash: `python3 -m unittest discover -s python/tests -t python`.
+"""The package's own tests, compared with the package xxhash: `python3 -m unittest discover -s python/tests -t python`.
 
-Both modules have to be on the path. python/check says how."""
+Both modules must be on the path. See python/check."""

@@ -124,8 +124,8 @@ class Files(unittest.TestCase):
                 ours.file_digest(path, **arguments)
 
     def test_a_file_that_vanishes(self):
-        """One that is gone is told by its name; one that is gone while it is open is read to its end, and one that
-        becomes shorter up to there."""
+        """A missing file is reported by its name; one that is deleted while it is open is read to its end, and one
+        that becomes shorter up to there."""
         path = self.file(bytes_of(600000))
         with open(path, 'rb', buffering=0) as file:
             os.remove(path)
@@ -151,7 +151,7 @@ class Files(unittest.TestCase):
             ours.file_digest(Failing())
 
     def test_a_reader_that_lies(self):
-        """Of how many bytes it has read it can only say a number from 0 to as many as there is room for."""
+        """It can only report a number of bytes read from 0 to the buffer's size."""
         for answer in (-1, (1 << 18) + 1, 1 << 70):
             answers = iter((answer, 0))
 

@@ -1,4 +1,4 @@
-"""The interface of the package xxhash: each expression is evaluated over both modules, and has one outcome."""
+"""The interface of the package xxhash: each expression is evaluated with both modules, and has one outcome."""
 import array
 import ctypes
 import io
@@ -47,11 +47,11 @@ def mapped():
     return memory
 
 
-# What the expressions below name.
+# The names in the expressions below.
 NAMED = {'VIEW': VIEW, 'Index': Index, 'Int': Int, 'Broken': Broken, 'Text': Text, 'Bytes': Bytes, 'released': released,
          'mapped': mapped, 'array': array, 'ctypes': ctypes, 'io': io, 'pickle': pickle, 'weakref': weakref}
 
-# Arguments of a call that hashes something: positions and names.
+# Arguments of a call that hashes something: positional and keyword.
 ARGUMENTS = '''
 ()
 (b'abc')
@@ -131,7 +131,7 @@ ARGUMENTS = '''
 (b'a', usedforsecurity=False)
 '''.strip().splitlines()
 
-# What an object does. Each has an object of its own, h, of the type T.
+# Operations of an object. Each has an object of its own, h, of the type T.
 OBJECT = '''
 h.name
 h.seed
@@ -216,13 +216,13 @@ module.version.VERSION == module.VERSION, module.version.VERSION_TUPLE == module
 type(module.xxh64_digest), module.xxh64_digest.__name__
 '''.strip().splitlines()
 
-# Where Python's own words for a call are others, since the call is made in another way.
+# Python's own error text differs here, since the call is made in another way.
 OTHER_WORDS = {'h.update()', "h.update(b'a', b'b')"}
 
 
 class Interface(unittest.TestCase):
     def outcome(self, module, expression, **names):
-        """The value of an expression over a module, or the type and words of its exception."""
+        """The value of an expression with a module, or the type and text of its exception."""
         try:
             words = expression.replace('MODULE', module.__name__)
             value = eval(words, {**NAMED, 'module': module, **names})
@@ -280,7 +280,7 @@ class Interface(unittest.TestCase):
                 self.assertEqual((hasher.hexdigest(), hasher.seed), (before, 5))
 
     def test_a_state_that_never_began(self):
-        """An object without its start is one of no bytes and the seed 0."""
+        """An object before __init__ is one of no bytes and the seed 0."""
         for name in NAMES:
             kind = getattr(ours, name)
             self.assertEqual(kind.__new__(kind).hexdigest(), kind().hexdigest())

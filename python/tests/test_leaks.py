@@ -7,11 +7,11 @@ import unittest
 from .both import NAMES, bytes_of, ours
 
 PAGE = os.sysconf('SC_PAGE_SIZE')
-# How many objects of each hash: a million in all, or those that TWOX_HASH_OBJECTS says, as under valgrind.
+# Number of objects of each hash: a million in all, or TWOX_HASH_OBJECTS, for example under valgrind.
 OBJECTS = int(os.environ.get('TWOX_HASH_OBJECTS', 1000000)) // len(NAMES)
 SECRET, VIEW = bytes_of(192), memoryview(bytes(100))
-# So many bytes may be left of all calls: a leak of a few bytes a call is more than that. Valgrind itself takes more for
-# what it notes, so with few objects what is noticed is buffers that are held, and what it reports.
+# This many bytes may be left after all calls: a leak of a few bytes per call is more than that. Valgrind's own data
+# takes more, so with few objects only buffers that are held are detected, and what valgrind reports.
 LEAST = max(OBJECTS, 1 << 20) if OBJECTS >= 2000 else 1 << 26
 
 

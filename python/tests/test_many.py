@@ -11,7 +11,7 @@ SECRET = bytes_of(200)
 
 
 class Matrix:
-    """Rows of bytes as a buffer of two dimensions, as numpy's arrays are."""
+    """Rows of bytes as a buffer of two dimensions, like numpy's arrays."""
 
     def __init__(self, rows, width):
         self.data = bytes_of(rows * width, 7)
@@ -135,14 +135,14 @@ class Many(unittest.TestCase):
         rows = [memoryview(memory)[at:at + 8] for at in range(0, 40, 8)]
         before = bytes(memory)
         for start in (0, 8, 39):
-            with self.assertRaisesRegex(ValueError, 'into lies over row'):
+            with self.assertRaisesRegex(ValueError, 'into overlaps row'):
                 ours.many(rows, into=memoryview(memory)[start:start + 40])
         self.assertEqual(memory, before)
         ours.many(rows, into=memoryview(memory)[40:])
         ours.many([memoryview(memory)[4:4], b'a'], into=memoryview(memory)[:16])
 
     def test_more_digests_than_memory_has(self):
-        """Rows of no bytes are as many as their shape says. A process of its own asks, since it may die."""
+        """Rows of no bytes are as many as their shape has. A process of its own makes the call, since it may crash."""
         for count, name, into in ((2**61, 'xxh64', bytearray(0)), (2**62, 'xxh32', bytearray(0)),
                                   (2**60, 'xxh128', bytearray(0)), (2**61 + 1, 'xxh64', bytearray(8)),
                                   (2**63 - 1, 'xxh64', None)):
@@ -189,7 +189,7 @@ class Many(unittest.TestCase):
         self.assertEqual(list(into), [ours.xxh3_64_intdigest(row) for row in rows])
 
     def test_other_items_of_into(self):
-        """Bytes and big-endian integers get the digests. Integers that would come out reversed are refused."""
+        """Bytes and big-endian integers get the digests. Integers that would be reversed are refused."""
         rows, digests = [b'one', b'two'], b''.join(ours.xxh3_128_digest(row) for row in (b'one', b'two'))
         for into in ((ctypes.c_char * 32)(), (ctypes.c_ubyte * 16 * 2)(), (ctypes.c_uint64.__ctype_be__ * 4)(),
                      (ctypes.c_double * 4)()):
@@ -202,14 +202,15 @@ class Many(unittest.TestCase):
             self.assertEqual(bytes(into), before)
 
     def test_rows_of_text_in_memory(self):
-        """UTF-32 is no row that anybody means."""
+        """UTF-32 is never meant as a row."""
         letters = 'w' if sys.version_info >= (3, 13) else 'u'
         for rows in (array.array(letters, 'abc'), (ctypes.c_wchar * 3)()):
             with self.assertRaisesRegex(TypeError, 'text'):
                 ours.many(rows)
 
     def test_rows_of_addresses(self):
-        """Pointers of each kind are refused, also in a record; complex numbers and fields of such names are none."""
+        """Pointers of each kind are refused, also in a record; complex numbers and fields of such names are no
+        pointers."""
         class Record(ctypes.Structure):
             _fields_ = (('number', ctypes.c_int), ('text', ctypes.c_wchar_p), ('d', ctypes.c_double))
 
@@ -235,7 +236,7 @@ class Many(unittest.TestCase):
             self.assertEqual(ours.many(table), [ours.xxh3_64_digest(number.tobytes()) for number in table])
 
     def test_rows_that_change_while_they_are_hashed(self):
-        """The rows of a list are taken together, before the first one is hashed."""
+        """The rows of a list are collected before the first one is hashed."""
         rows = [b'a', b'b', b'c']
 
         def changing():

@@ -1,4 +1,4 @@
-"""Objects: pieces, copies, resets, saved states, pickles."""
+"""Objects: chunks, copies, resets, saved states, pickles."""
 import copy
 import json
 import os
@@ -15,7 +15,7 @@ SAVED = os.path.join(os.path.dirname(os.path.abspath(__file__)), 'saved_by_xxh.t
 
 
 def keys(name):
-    """Each way to begin an object of the hash."""
+    """Each way to create an object of the hash."""
     plain = [{}, {'seed': 0x123456789ABCDEF}]
     return plain + [{'secret': SECRET}, {'secret': SECRET, 'seed': 9}, {'secret': bytes_of(256), 'seed': 0}] * (
         name in WITH_SECRET)
@@ -118,13 +118,13 @@ class Saved(unittest.TestCase):
                     self.assertEqual(loaded.digest(), digest(data + b'more', **key))
 
     def test_the_width_of_a_stream(self):
-        """Both widths of XXH3 have the same states, and each answers its own hash."""
+        """Both widths of XXH3 have the same states, and each returns its own hash."""
         hasher = ours.xxh3_64(b'a' * 1000, 5)
         self.assertEqual(ours.xxh3_128.from_state(hasher.state()).digest(), ours.xxh3_128_digest(b'a' * 1000, 5))
 
     def test_states_that_xxh_saved(self):
-        """Each row has a seed, the length of the input, whose bytes are 0, 1, 2 .. 250 over and over, and what the
-        program xxh saved of it."""
+        """Each case has a seed, the length of the input, whose bytes are 0, 1, 2 .. 250, repeated, and the state
+        saved by the program xxh."""
         with open(SAVED) as file:
             rows = [line.split() for line in file if not line.startswith('#')]
         self.assertGreater(len(rows), 20)
@@ -156,7 +156,7 @@ class Forged(unittest.TestCase):
         self.assertEqual(str(caught.exception), words)
 
     def changed(self, kind, words, data=b'a' * 100, **members):
-        """The state with other members is refused by these words."""
+        """The state with other members is refused with this text."""
         record = json.loads(kind(data, 3).state())
         self.refused(kind, json.dumps(record | members), words)
 
@@ -183,7 +183,7 @@ class Forged(unittest.TestCase):
             self.changed(kind, words, total_len=1 << 64)
 
     def test_what_may_stand_beside(self):
-        """Other members, another order and white space are passed over, as xxh does."""
+        """Other members, another order and white space are accepted, as by xxh."""
         for kind in map(ours.__dict__.get, NAMES):
             record = json.loads(kind(b'a' * 300, 3).state())
             text = json.dumps({'more': [-1, 0.5, None], **dict(reversed(record.items()))}, indent=2)
@@ -200,7 +200,7 @@ class Forged(unittest.TestCase):
             self.changed(kind, core, data=b'a', seed=4)
             self.changed(kind, core, data=b'a', core={'v1': 1, 'v2': 2, 'v3': 3, 'v4': 4})
             self.changed(kind, usage, data=b'a', core={'v1': 1, 'v2': 2, 'v3': 3, 'v4': 4}, buffer_usage=2)
-            # From 2^64 - 1 bytes on the length says nothing of the bytes that wait.
+            # From 2^64 - 1 bytes on the length doesn't determine the number of bytes buffered.
             record = json.loads(kind(b'a' * 100, 3).state()) | {'total_len': (1 << 64) - 1}
             kind.from_state(json.dumps(record)).update(b'more')
 
@@ -222,7 +222,7 @@ class Forged(unittest.TestCase):
                 self.changed(kind, 'The text is not a saved state', **members)
 
     def test_forged_memory_does_no_harm(self):
-        """The private call that puts a state into memory takes any bytes: no call goes on from those that are none."""
+        """The private call that writes a state to memory accepts any bytes: no call continues from invalid ones."""
         draw = random.Random(11)
         for kind in map(ours.__dict__.get, NAMES):
             memory = kind(b'a' * 1000)._memory()

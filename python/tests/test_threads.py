@@ -1,4 +1,4 @@
-"""Threads: long inputs let others run, and an object that several threads use is still one."""
+"""Threads: long inputs let others run, and an object may be shared by several threads."""
 import hashlib
 import os
 import signal
@@ -14,7 +14,7 @@ from concurrent.futures import ThreadPoolExecutor
 from .both import NAMES, bytes_of, ours
 
 LONG = bytes_of(1 << 25)
-# Interpreters with locks of their own, each in a thread, import the package at once in a process that hadn't.
+# Interpreters with a GIL of their own, each in a thread, import the package concurrently in a process that hadn't.
 INTERPRETERS = """
 import threading
 try:
@@ -33,7 +33,7 @@ threads = [threading.Thread(target=run, args=(each,)) for each in made]
 
 
 class Clock:
-    """A thread that notes, about each millisecond, how long the thread that made it has computed so far."""
+    """A thread that records, about each millisecond, how long the thread that created it has computed so far."""
 
     def __enter__(self):
         self.seen, self.ends, self.clock = [], False, time.pthread_getcpuclockid(threading.get_ident())
@@ -53,8 +53,8 @@ class Clock:
 
 class Threads(unittest.TestCase):
     def lets_others_run(self, call):
-        """The clock goes on in the midst of one call: the call is made again where the machine was too busy to tell. Before
-        and behind a call others may always run, however long the machine lets this thread wait there."""
+        """The clock continues during one call: the call is repeated if the machine was too busy to decide. Before
+        and after a call others may always run, however long the machine lets this thread wait there."""
         with Clock() as clock:
             for _ in range(50):
                 before = time.thread_time()
@@ -96,8 +96,8 @@ class Threads(unittest.TestCase):
             self.assertTrue(all(pool.map(digest_of, range(200))))
 
     def test_one_object_in_many_threads(self):
-        """Each piece is taken whole, in some order: pieces that are all alike have one hash whatever the order. Others
-        read, copy and save the object meanwhile."""
+        """Each chunk is hashed whole, in some order: equal chunks have one hash whatever the order. Others read,
+        copy and save the object meanwhile."""
         for name in NAMES:
             piece, short, kind = b'ab' * 50000, b'ab' * 3, getattr(ours, name)
             hasher, ends = kind(), threading.Event()
@@ -123,7 +123,7 @@ class Threads(unittest.TestCase):
             self.assertEqual(hasher.digest(), getattr(ours, name + '_digest')((piece + short) * 600))
 
     def test_resets_and_starts_beside_updates(self):
-        """Whatever the order, what is left is the hash of some pieces since the last start."""
+        """Whatever the order, the result is the hash of some chunks since the last start."""
         for name in NAMES:
             kind = getattr(ours, name)
             hasher, piece = kind(seed=3), b'a' * 70000
@@ -145,7 +145,8 @@ class Threads(unittest.TestCase):
             self.assertIn(hasher.digest(), want)
 
     def status_of_a_child(self, hasher, call, seconds):
-        """How a process ends that is forked while a thread updates the object, and makes the call for so long at most."""
+        """The status of a process that is forked while a thread updates the object, and makes the call for at most
+        this long."""
         thread = threading.Thread(target=hasher.update, args=(bytes(1 << 30),))
         thread.start()
         time.sleep(0.03)
@@ -161,7 +162,7 @@ class Threads(unittest.TestCase):
         return os.waitstatus_to_exitcode(status)
 
     def test_a_fork_during_a_long_update(self):
-        """As with hashlib, the child waits for ever for that object, and uses all others."""
+        """As with hashlib, the child waits forever for that object, and can use all others."""
         piece = bytes_of(100000)
         for make in (hashlib.sha256, ours.xxh64):
             hasher = make()

@@ -1,4 +1,4 @@
-"""Values: beside the reference library's table, and beside the package xxhash at every length."""
+"""Values: compared with the reference library's table, and with the package xxhash at every length."""
 import os
 import random
 import unittest
@@ -10,7 +10,7 @@ ALGORITHMS = {'32': 'xxh32', '64': 'xxh64', '3-64': 'xxh3_64', '3-128': 'xxh3_12
 
 
 def drawn(start, length):
-    """The bytes that a row of the table stands for: oracle/vectors.c says which."""
+    """The bytes of a test case of the table: oracle/vectors.c defines them."""
     out, x = bytearray(length), start
     for i in range(length):
         x = x * 6364136223846793005 + 1442695040888963407 & 0xFFFFFFFFFFFFFFFF
@@ -19,7 +19,7 @@ def drawn(start, length):
 
 
 class Row:
-    """A request of the table, and the reference library's answer."""
+    """A request of the table, and the reference library's value."""
 
     def __init__(self, line):
         name, seed, secret, length, start, answer = line.split()
@@ -92,7 +92,7 @@ class BesideTheOriginal(unittest.TestCase):
 
 class Secrets(unittest.TestCase):
     def test_a_seed_with_a_secret(self):
-        """Up to 240 bytes the seed alone takes effect, and above the secret alone; with a secret alone it does at every
+        """Up to 240 bytes only the seed takes effect, and above only the secret; with only a secret it does at every
         length. A seed of 0 that is given is a seed."""
         secret = bytes_of(192, 5)
         for name in WITH_SECRET:

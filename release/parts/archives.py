@@ -1,4 +1,4 @@
-"""The archives of a release. Each function makes a part of a commit in a folder, and answers its files' names."""
+"""The archives of a release. Each function makes a part of a commit in a folder, and returns its files' names."""
 import glob
 import itertools
 import json
@@ -15,7 +15,7 @@ from tools import must
 
 PREFIX = 'usr/lib/twox-hash'
 EXAMPLES = tuple(f'examples/{name}' for name in ('c', 'cmake', 'cpp', 'go', 'java', 'python'))
-# The machines that the library for C and the Debian packages are for: as Linux, as Debian and as c/build name them.
+# The machines of the library for C and the Debian packages: by Linux's, Debian's and c/build's names.
 MACHINES = {'x86_64': ('amd64', 'x86-64'), 'aarch64': ('arm64', 'aarch64')}
 TOOLS = {'x86_64': '', 'aarch64': 'aarch64-linux-gnu-'}
 
@@ -28,12 +28,13 @@ def new_files(folder, step):
 
 
 def documents(commit, made):
-    """What each archive has beside its files."""
+    """What each archive has besides its files."""
     return {'LICENSE': commit.path('LICENSE'), 'PROVENANCE': os.path.join(made, 'PROVENANCE')}
 
 
 def words_of(commit, heading):
-    """What docs/RELEASES.md says of an archive, as its README: its links lead to other pages, which aren't there."""
+    """The section of docs/RELEASES.md on an archive, as its README, without links to other pages, which aren't
+    there."""
     part, = re.findall(rf'^## {re.escape(heading)}\n(.*?)(?=^## |\Z)', commit.read('docs', 'RELEASES.md'), re.M | re.S)
     words = re.sub(r'\[([^]]*)\]\([^)]*\)', r'\1', part.strip())
     return f'# {heading}\n\n{words}\n'.encode()
@@ -52,7 +53,7 @@ def unpacked(commit, architecture):
 
 
 def debian(commit, made):
-    """The Debian packages, which the archive of the programs is taken from."""
+    """The Debian packages, from which the archive of the programs is made."""
     names = []
     for architecture, target in MACHINES.values():
         words = [commit.path('c', 'package'), '--target', target, '--of-ci', '--provenance', f'{made}/PROVENANCE', made]
@@ -63,10 +64,11 @@ def debian(commit, made):
 
 
 def installed(commit, machine):
-    """The folder of the library that make installs, without what no program links to. Or None where no compiler is."""
+    """The folder of the library that make installs, without what no program links to. Or None if there is no
+    compiler."""
     tools, root = TOOLS[machine], os.path.join(commit.room, f'c-{machine}')
     if not shutil.which(tools + 'gcc'):
-        print(f'no {tools}gcc: the library for {machine} is left out')
+        print(f'no {tools}gcc: the library for {machine} is omitted')
         return None
     must(['make', '-s', '-C', commit.path('c'), f'CC={tools}gcc', f'out=out/release-{machine}', f'DESTDIR={root}',
           'PREFIX=/prefix', 'install'])
@@ -120,7 +122,7 @@ def cargo_programs(commit, made):
 
 
 def debian_without_rt(commit, made):
-    """The Debian packages with the programs that cargo builds, where dpkg-deb is."""
+    """The Debian packages with the programs that cargo builds, if there is dpkg-deb."""
     names = []
     for machine, (_, target) in MACHINES.items():
         programs = shutil.which('dpkg-deb') and by_cargo.installed(commit, machine)
@@ -131,8 +133,8 @@ def debian_without_rt(commit, made):
 
 
 def crate(commit, made):
-    """The crate: the files that its manifest includes, as cargo packs them. cargo itself would ask a registry for serde, to
-    write a lock file."""
+    """The crate: the files that its manifest includes, as cargo packs them. cargo itself would request serde from a
+    registry, to write a lock file."""
     folder = commit.path('rust')
     with open(os.path.join(folder, 'Cargo.toml'), 'rb') as file:
         package = tomllib.load(file)['package']
@@ -147,7 +149,7 @@ def crate(commit, made):
 
 
 def python_machines(commit):
-    """The variables of the builds of wheels, for each machine that there is a compiler for."""
+    """The variables of the builds of wheels, for each machine for which there is a compiler."""
     yield {}
     if shutil.which(TOOLS['aarch64'] + 'gcc'):
         root = debian_root(os.path.join(commit.room, 'python-arm'), 'libpython3.11-dev')
@@ -167,7 +169,7 @@ def python(commit, made):
 
 
 def node(commit, made):
-    """The package as npm packs it by the words of web/, with the project's version and PROVENANCE."""
+    """The package as npm packs it with the scripts of web/, with the project's version and PROVENANCE."""
     folder = os.path.join(commit.room, 'npm')
     os.mkdir(folder)
     must(['npm', 'pack', '--silent', '--pack-destination', folder], cwd=commit.path('web'))
@@ -182,14 +184,14 @@ def node(commit, made):
 
 
 def page(commit, made):
-    """The page as web/folder makes it: one folder of static files."""
+    """The page by web/folder: one folder of static files."""
     folder = os.path.join(commit.room, 'page')
     must([commit.path('web', 'folder'), folder])
     return write_archive(commit, made, 'page', {**documents(commit, made), **tree_of(folder, 'web')})
 
 
 def api(commit, made):
-    """The pages of every public name, which any browser shows as files."""
+    """The pages of every public name, which any browser displays as files."""
     folder = os.path.join(commit.room, 'api')
     must([commit.path('docs', 'api', 'make'), '--pages', folder])
     return write_archive(commit, made, 'api', {**documents(commit, made), **tree_of(folder)})

@@ -1,4 +1,4 @@
-"""The programs as cargo builds them: static, for each machine that there is a compiler for."""
+"""The programs as cargo builds them: static, for each machine for which there is a compiler."""
 import functools
 import os
 import shutil
@@ -9,14 +9,14 @@ from tools import must
 
 TARGETS = {'x86_64': 'x86_64-unknown-linux-gnu', 'aarch64': 'aarch64-unknown-linux-gnu'}
 COMPILERS = {'x86_64': 'gcc', 'aarch64': 'aarch64-linux-gnu-gcc'}
-# They need no other file. Nothing in them says where they were built.
+# They need no other file, and don't contain their build path.
 FLAGS = '-C target-feature=+crt-static -C strip=symbols'
 # The other names of xxhsum, under which it uses another algorithm.
 NAMES = ('xxh32sum', 'xxh64sum', 'xxh128sum', 'xxh3sum')
 
 
 def sysroot_flag(commit, machine):
-    """Debian's compiler takes its standard library for another processor from a folder of that processor's packages."""
+    """Debian's compiler uses the standard library for another processor from a folder of that processor's packages."""
     if machine == 'x86_64':
         return ''
     sysroot, libraries = os.path.join(commit.room, 'sysroot'), os.path.join('lib', 'rustlib')
@@ -28,9 +28,9 @@ def sysroot_flag(commit, machine):
 
 @functools.cache
 def installed(commit, machine):
-    """A folder with bin and share, as `cargo install` and its users lay them out. Or None where no compiler is."""
+    """A folder with bin and share, in the layout of `cargo install` and its users. Or None if there is no compiler."""
     if not shutil.which(COMPILERS[machine]):
-        print(f'no {COMPILERS[machine]}: the programs for {machine} are left out')
+        print(f'no {COMPILERS[machine]}: the programs for {machine} are omitted')
         return None
     target, made = TARGETS[machine], os.path.join(commit.room, 'cargo')
     variables = {'CARGO_TARGET_DIR': made, 'CARGO_NET_OFFLINE': 'true', 'RUSTC': '/usr/bin/rustc',
@@ -55,6 +55,6 @@ def laid_out(commit, built, folder):
 
 
 def files(commit, machine):
-    """The files of an archive, or none where there is no compiler."""
+    """The files of an archive, or none if there is no compiler."""
     folder = installed(commit, machine)
     return tree_of(folder) if folder else {}

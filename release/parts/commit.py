@@ -7,13 +7,13 @@ from tools import must
 
 
 class Commit:
-    """`tree` is a clone below a room. All that is packed is made there, and bears the commit's time."""
+    """`tree` is a clone in a working folder. Everything packed is made there, and has the commit's time."""
 
     def __init__(self, top, room):
         self.room, self.tree = room, os.path.join(room, 'twox_hash')
         must(['git', 'clone', '-q', top, self.tree])
         if must(['git', '-C', top, 'status', '--porcelain', '--untracked-files=no']):
-            print('release/make: what is not committed is left out', file=sys.stderr)
+            print('release/make: uncommitted changes are omitted', file=sys.stderr)
         self.name, seconds, self.date = self.git('log', '-1', '--format=%H %ct %cI').split()
         self.seconds = int(seconds)
         self.version = self.read('VERSION').strip()
@@ -21,9 +21,9 @@ class Commit:
         os.environ['SOURCE_DATE_EPOCH'] = seconds
 
     def prove(self):
-        """Has `rt ci` prove the clone, which takes what an earlier run proved of the same files on this machine. Its
-        libraries stay in the clone."""
-        # rt has nobody run the tests, who can't read what lies in a room of release/check.
+        """Proves the clone by `rt ci`, which reuses the proofs of an earlier run of the same files on this machine.
+        Its libraries stay in the clone."""
+        # rt runs the tests as nobody, who can't read the working folder of release/check.
         elsewhere = {name: value for name, value in os.environ.items() if name != 'TMPDIR'}
         last = must(['rt', 'ci'], cwd=self.tree, env=elsewhere).splitlines()[-1]
         if not re.match(r'[1-9]\d* passed, 0 failed', last):

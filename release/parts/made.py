@@ -1,4 +1,4 @@
-"""What release/make wrote: the same bytes twice, sums, and provenance in each archive."""
+"""The output of release/make: the same bytes twice, sums, and provenance in each archive."""
 import glob
 import os
 import re
@@ -12,13 +12,13 @@ from packing import read_tar
 from report import tail, want
 from tools import TOP, must
 
-# What makes the texts, and for which targets.
+# The programs that make the assembly sources, and their targets.
 TEXTS = {'c/build': ('x86-64', 'aarch64'), 'rust/build-library': ('x86-64', 'aarch64')}
 MAKE = os.path.join(TOP, 'release', 'make')
 
 
 def make(room, folder, log):
-    """release/make, with a room of its own for what it builds."""
+    """release/make, with a working folder of its own."""
     os.mkdir(room)
     done = subprocess.run([MAKE, *(['--gate', log] if log else []), folder], env={**os.environ, 'TMPDIR': room},
                           stdout=subprocess.PIPE, stderr=subprocess.STDOUT, text=True)
@@ -31,7 +31,7 @@ def twice(room, folder, log):
     other = os.path.join(room, 'a second folder')
     said, again = (make(os.path.join(room, name), into, log).split(': ', 1)[1]
                    for name, into in (('first', folder), ('second', other)))
-    want(said == again, f'first {said}, then {again}')  # as where a commit was made meanwhile
+    want(said == again, f'first {said}, then {again}')  # for example if a commit was made meanwhile
     one, two = (sums_of(path) for path in (folder, other))
     shutil.rmtree(other)
     differ = sorted(name for name in set(one) | set(two) if one.get(name) != two.get(name))
@@ -60,8 +60,8 @@ def texts_are_made_anew(room):
 
 
 def wrong_bodies_are_refused(room):
-    """Each wrong body, though this machine may remember that it was refused. The planted ones of all crates have the verdicts
-    that they must; the gate takes those of the smallest crates."""
+    """Each mutant, even if this machine remembers that it was refused. The planted ones of all crates have the
+    expected verdicts; CI tests those of the smallest crates."""
     program = os.path.join(proved_clone(room), 'checks', 'wrong-bodies')
     for word in '--self-test', '--anew':
         done = subprocess.run([program, word], stdin=subprocess.DEVNULL, stdout=subprocess.PIPE, stderr=subprocess.STDOUT,
@@ -75,7 +75,7 @@ def sums_of(folder):
 
 
 def stem(folder):
-    """The name and the version that files begin with."""
+    """The name and the version with which file names begin."""
     found = glob.glob(os.path.join(folder, 'twox_hash-*.spdx'))
     want(len(found) == 1, f'{folder} has no release')
     return os.path.basename(found[0]).removesuffix('.spdx')
@@ -89,7 +89,7 @@ def sums_agree(folder):
 
 
 def change_is_noticed(room, folder):
-    """A byte of an archive that is another."""
+    """A changed byte of an archive."""
     copy = os.path.join(room, 'changed')
     shutil.copytree(folder, copy)
     path = sorted(glob.glob(os.path.join(copy, '*.tar.gz')))[0]
@@ -101,12 +101,12 @@ def change_is_noticed(room, folder):
     done = subprocess.run(['sha256sum', '-c', '--quiet', 'SHA256SUMS'], cwd=copy, stdout=subprocess.PIPE,
                           stderr=subprocess.PIPE, text=True)
     shutil.rmtree(copy)
-    want(done.returncode and os.path.basename(path) in done.stdout, 'it is not noticed')
+    want(done.returncode and os.path.basename(path) in done.stdout, 'it is not detected')
     return os.path.basename(path)
 
 
 def members(path):
-    """What an archive holds, but for what says of what it was made."""
+    """The content of an archive, except its provenance."""
     if path.endswith('.whl'):
         with zipfile.ZipFile(path) as archive:
             found = {name: archive.read(name) for name in archive.namelist()}
@@ -125,7 +125,7 @@ def commit_of(folder):
 
 
 def tree(folder):
-    """What is below a folder: each name, and what it holds or leads to."""
+    """The tree below a folder: each name, and its content or target."""
     found = {}
     for path in [folder, *sorted(glob.glob(f'{folder}/**/*', recursive=True, include_hidden=True))]:
         if os.path.islink(path) or os.path.isdir(path):
@@ -137,7 +137,7 @@ def tree(folder):
 
 
 def foreign_folders(room, folder):
-    """Folders that hold more than a release, each with a name that release/make has to refuse."""
+    """Folders with more than a release in them, each with a name that release/make must refuse."""
     mirror, name = os.path.join(room, 'mirror'), sorted(os.listdir(folder))[-1]
     os.mkdir(mirror)
     with open(os.path.join(mirror, 'disk.iso'), 'wb') as file:
@@ -156,7 +156,7 @@ def foreign_folders(room, folder):
 
 
 def foreign_folders_stay(folder):
-    """release/make deletes nothing that it didn't write, and says what that is. An earlier release gives way."""
+    """release/make deletes nothing that it didn't write, and lists what that is. It replaces an earlier release."""
     with tempfile.TemporaryDirectory(prefix='twox-foreign-') as room:
         count = 0
         for place, name in foreign_folders(room, folder):
@@ -200,12 +200,12 @@ def has_provenance(room, folder):
     kit = ('rattle-kit', '[0-9a-f]{64}  bin/rattle') if has_programs else ('none: release/make --without-rt',)
     for part in ('commit [0-9a-f]{40}', *kit, '[0-9a-f]{64}  c/asm/x86-64-v2.s'):
         want(re.search(part, words), f'without {part}')
-    gate = re.search(r'^Gate\n  (.*)', words, re.M)[1]
+    gate = re.search(r'^CI\n  (.*)', words, re.M)[1]
     return f'{len(names)} archives; gate: {gate}'
 
 
 def check_all(report, room, folder):
     report.attempt('SHA256SUMS', sums_agree, folder)
-    report.attempt('a changed byte is noticed', change_is_noticed, room, folder)
+    report.attempt('a changed byte is detected', change_is_noticed, room, folder)
     report.attempt('PROVENANCE in each archive', has_provenance, room, folder)
     report.attempt('release/make in a folder with other files', foreign_folders_stay, folder)

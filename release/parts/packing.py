@@ -1,4 +1,4 @@
-"""Archives whose bytes depend on the files alone: in order, owned by root, with the commit's time."""
+"""Archives whose bytes depend only on the files: sorted, owned by root, with the commit's time."""
 import gzip
 import io
 import os
@@ -16,7 +16,7 @@ def tree_of(folder, below=''):
 
 
 def entry(name, source, seconds):
-    """A file, a link, or bytes, as it stands in an archive, and what it holds."""
+    """A file, a link, or bytes, as an entry of an archive, and its content."""
     told = tarfile.TarInfo(name)
     told.mtime, told.uname, told.gname, told.mode = seconds, 'root', 'root', 0o644
     if isinstance(source, bytes):

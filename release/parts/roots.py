@@ -8,14 +8,14 @@ from report import tail, want
 from tools import QUIET, must
 
 MIRROR, SECURITY = 'http://deb.debian.org/debian', 'http://deb.debian.org/debian-security'
-# Where the archives lie in a root, as a user who has downloaded them has them, and the repository, as one who has cloned it.
+# The folder of the archives in a root, as downloaded by a user, and of the repository, as cloned.
 TAKEN, CLONE = '/root/taken', '/root/twox_hash'
-# What an installation may leave behind: logs, caches, and what apt and dpkg know.
+# What an installation may leave behind: logs, caches, and the data of apt and dpkg.
 LEFT = ('proc', 'root', 'tmp', 'var/log', 'var/cache', 'var/lib/apt', 'var/lib/dpkg', 'etc/ld.so.cache')
 
 
 def new_base(suite, folder):
-    """A root of a release that has what every Debian machine has, and its updates."""
+    """A root of a release with what every Debian machine has, and its updates."""
     must(['debootstrap', '--variant=minbase', suite, folder, MIRROR], env=QUIET)
     with open(os.path.join(folder, 'etc', 'apt', 'sources.list'), 'w') as file:
         for place, name in ((MIRROR, suite), (MIRROR, f'{suite}-updates'), (SECURITY, f'{suite}-security')):
@@ -30,7 +30,7 @@ def new_base(suite, folder):
 
 
 class Root:
-    """A user's machine: what runs there sees no other file, and no toolchain."""
+    """A user's machine: programs there see no other file, and no toolchain."""
 
     def __init__(self, path, suite='', stem=''):
         self.path, self.suite, self.stem = path, suite, stem
@@ -63,12 +63,12 @@ class Root:
             file.write(data)
 
     def copy(self, source, name):
-        """A file or a folder of this machine among the archives."""
+        """Copies a file or a folder of this machine to the archives."""
         copying = shutil.copytree if os.path.isdir(source) else shutil.copy
         copying(source, self.at(f'{TAKEN}/{name}'))
 
     def files(self):
-        """All files but those that an installation may leave behind."""
+        """All files except those that an installation may leave behind."""
         found = set()
         for folder, folders, names in os.walk(self.path):
             place = os.path.relpath(folder, self.path)

@@ -1,5 +1,5 @@
-"""What each user does with a release, or with a clone of the repository, on a machine of their own, by the commands of the
-pages as they are printed."""
+"""What each user does with a release, or with a clone of the repository, on a machine of their own, by the commands
+of the pages as they are printed."""
 import functools
 import os
 import re
@@ -25,20 +25,20 @@ for name in sys.argv[1:]:
     print(name, len(answer.read()), answer.headers['Content-Type'])
 '''
 
-# A user: what is tried, on which releases of Debian, below which heading of docs/RELEASES.md, or None, and how it is
-# tried.
+# A user: the trial's name, its releases of Debian, its heading in docs/RELEASES.md, or None, and its function.
 Trial = namedtuple('Trial', 'name suites heading check')
 
 
 def typed(root, heading, *numbers, **variables):
-    """Runs the blocks of docs/RELEASES.md below a heading, or some of them, as they are printed, and answers what they print."""
+    """Runs the blocks of docs/RELEASES.md below a heading, or some of them, as they are printed, and returns their
+    output."""
     section = printed.section_of(printed.RELEASES, heading, root.suite)
     blocks = [section.blocks[number] for number in numbers] or section.blocks
     return printed.run([section._replace(blocks=blocks)], functools.partial(root.run, **variables))
 
 
 def runs_on_ours(root, heading, *numbers):
-    """Programs of Debian, as the page has them, that load our library alone."""
+    """Programs of Debian, as on the page, that load only our library."""
     out = typed(root, heading, *numbers, LD_DEBUG='libs', LD_DEBUG_OUTPUT='/tmp/loaded')
     found = re.findall(r'calling init: (\S*libxxhash\S*)', root.must('cat /tmp/loaded.*; rm -f /tmp/loaded.*'))
     ours = OURS[heading].format(stem=root.stem)
@@ -47,7 +47,7 @@ def runs_on_ours(root, heading, *numbers):
 
 
 def copies(root, name):
-    """That rsync has written the bytes of a file to /tmp."""
+    """Checks that rsync has written the bytes of a file to /tmp."""
     root.must(f'cmp {name} /tmp/{os.path.basename(name)}')
 
 
@@ -74,7 +74,7 @@ def package(root):
 
 
 def glibc_of(root):
-    """The oldest glibc that the programs run on, which the page names."""
+    """The oldest glibc for the programs, as on the page."""
     folder = root.at(f'{TAKEN}/{root.stem}-programs-x86_64/libexec')
     files = [os.path.join(place, name) for place, _, names in os.walk(folder) for name in names]
     names = set(re.findall(r'GLIBC_([\d.]+)', must(['objdump', '-T', *files])))
@@ -84,7 +84,7 @@ def glibc_of(root):
 
 
 def runs_anywhere(root):
-    """The static programs in a root that has nothing else, and all on a processor without AVX2."""
+    """The static programs in an otherwise empty root, and all on a processor without AVX2."""
     folder = root.at(f'{TAKEN}/{root.stem}-programs-x86_64')
     static = os.path.join(folder, 'static')
     for words in (['chroot', static, '/xxh'], ['qemu-x86_64', '-cpu', 'Nehalem', f'{static}/xxh'],
@@ -95,7 +95,7 @@ def runs_anywhere(root):
 
 
 def cargo_programs(root):
-    """The programs that cargo built, which are static, where there is nothing, and on a processor without AVX2."""
+    """The programs that cargo built, which are static, in an empty root, and on a processor without AVX2."""
     typed(root, 'The programs, by cargo')
     folder = root.at(f'{TAKEN}/{root.stem}-cargo-programs-x86_64/bin')
     for words in (['chroot', folder, '/xxh'], ['qemu-x86_64', '-cpu', 'Nehalem', f'{folder}/xxh']):
@@ -109,7 +109,7 @@ def cargo_programs(root):
 
 
 def programs(root):
-    """The programs where there is nothing, and lists of Debian's xxhsum, which is installed afterwards."""
+    """The programs in an empty root, and lists of Debian's xxhsum, which is installed afterwards."""
     typed(root, 'The programs')
     root.install('xxhash')
     path = f'PATH={TAKEN}/{root.stem}-programs-x86_64/bin:$PATH'
@@ -126,7 +126,7 @@ def programs(root):
 
 
 def crate(root):
-    """examples/rust, with the page's lines in place of its patch."""
+    """examples/rust, with the page's lines instead of its patch."""
     typed(root, 'The crate for cargo')
     root.must('cd twox-hash-2.1.5; find . -type f -printf "%P\\n" | sort > ../held; cargo package --list --allow-dirty --offline '
               '| grep -vx "Cargo.lock\\|Cargo.toml.orig" | sort | diff ../held - >&2')
@@ -169,7 +169,7 @@ def node(root):
 
 
 def static_page(root):
-    """Each file of the page as the server of Python hands it out."""
+    """Each file of the page as Python's server serves it."""
     names = [name.split('/', 1)[1] for name in read_tar(root.at(f'{TAKEN}/{root.stem}-page.tar.gz'))]
     root.write('served.py', SERVED.encode())
     block, = printed.section_of(printed.RELEASES, 'The page', root.suite).blocks
@@ -181,8 +181,8 @@ def static_page(root):
 
 
 def made_without_rt(root):
-    """release/make --without-rt with the packages of the page, by a user who may install nothing, where the only cargo is Debian's:
-    everything it writes equals the full release, except PROVENANCE."""
+    """release/make --without-rt with the packages of the page, by a user who may install nothing, with only Debian's
+    cargo: everything it writes equals the full release, except PROVENANCE."""
     packages, = re.findall(r'These packages of Debian 12 are needed: `(.*)`', printed.text_of(printed.RELEASES))
     root.install(*packages.split())
     must(['git', 'clone', '-q', TOP, root.at('/srv/clone')])
@@ -201,7 +201,7 @@ def sums(root):
 
 
 def installation(packages):
-    """The command that puts the packages of a page in place: Debian's, and the release's own."""
+    """The command that installs the packages of a page: Debian's, and the release's own."""
     names = [f'{TAKEN}/twox-hash_*_amd64.deb' if name == 'twox-hash' else name for name in packages]
     return f'apt-get install -y -qq {" ".join(names)} > /dev/null' if names else None
 
@@ -215,14 +215,14 @@ def page_as_printed(page, root):
 
 
 def wrong_pages_are_noticed(root):
-    """A page that says another value than its commands print, and one that doesn't name a package."""
+    """A page with another value than its commands print, and one that lacks a package."""
     section = printed.section_of(printed.RELEASES, 'The programs', root.suite)
     wrong, = [block._replace(text=block.text.replace("printf 'some bytes'", "printf 'other bytes'"))
               for block in section.blocks]
-    want(fails([section._replace(blocks=[wrong])], root.run), 'another value is not noticed')
+    want(fails([section._replace(blocks=[wrong])], root.run), 'another value is not detected')
     must(['git', 'clone', '-q', TOP, root.at(CLONE)])
     found = printed.sections('docs/C.md', root.suite)
-    want(fails(found, functools.partial(root.run, folder=CLONE)), 'a package that is not named is not noticed')
+    want(fails(found, functools.partial(root.run, folder=CLONE)), 'a missing package name is not detected')
     return 'another value, a package that is not named'
 
 
@@ -241,7 +241,7 @@ def pages_of(suite):
 
 
 def headings_without_trial():
-    """The headings of docs/RELEASES.md whose commands nothing runs."""
+    """The headings of docs/RELEASES.md whose commands are never run."""
     tried = {trial.heading for trial in TRIALS}
     return [it.heading for it in printed.sections(printed.RELEASES, '') if printed.is_run(it) and it.heading not in tried]
 
@@ -263,5 +263,5 @@ TRIALS = (
     Trial('the page', ('bookworm',), 'The page', static_page),
     *(Trial(f'{page} as it is printed', (suite,), None, functools.partial(page_as_printed, page))
       for suite in BOTH for page in pages_of(suite)),
-    Trial('wrong pages are noticed', ('bookworm',), None, wrong_pages_are_noticed),
+    Trial('wrong pages are detected', ('bookworm',), None, wrong_pages_are_noticed),
 )

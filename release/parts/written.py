@@ -1,5 +1,5 @@
-"""The folder that a release is written to. What another program or a user put there stays: release/make deletes only files that
-it wrote itself, by the sums that it left."""
+"""The output folder of a release. Files of other programs or users stay: release/make deletes only files that it
+wrote itself, by the sums that it left."""
 import hashlib
 import os
 import re
@@ -9,7 +9,7 @@ import sys
 import tempfile
 
 SUMS = 'SHA256SUMS'
-# The first line of the sums. sha256sum -c passes over it.
+# The first line of the sums, which sha256sum -c ignores.
 MARK = '# Written by release/make, which deletes these files before it writes here again\n'
 
 
@@ -19,7 +19,7 @@ def sum_of(path):
 
 
 def write_sums(folder):
-    """The sums of all files in a folder, and how many they are."""
+    """The sums of all files in a folder, and their number."""
     names = sorted(set(os.listdir(folder)) - {SUMS})
     with open(os.path.join(folder, SUMS), 'w', encoding='utf-8') as file:
         file.write(MARK)
@@ -32,7 +32,7 @@ def is_file(path):
 
 
 def sums_in(folder):
-    """Name -> sum, of a release that was written to a folder. Of another folder there are none."""
+    """Name -> sum, of a release that was written to a folder. Empty for other folders."""
     path = os.path.join(folder, SUMS)
     if not os.path.lexists(path) or not is_file(path):
         return {}
@@ -44,17 +44,17 @@ def sums_in(folder):
 
 
 def earlier_files(folder):
-    """The files of an earlier release in a folder. Ends where anything else is there."""
+    """The files of an earlier release in a folder. Stops if anything else is there."""
     if not os.path.lexists(folder):
         return []
     if not os.path.isdir(folder):
-        sys.exit(f'release/make: {folder} is no folder')
+        sys.exit(f'release/make: {folder} is not a folder')
     sums, names = sums_in(folder), sorted(os.listdir(folder))
     foreign = [name for name in names if name not in (sums and {SUMS}) and not is_written(folder, name, sums)]
     if foreign:
         more = f' and {len(foreign) - 5} more' if len(foreign) > 5 else ''
-        sys.exit(f'release/make: {folder} has files that release/make did not write, or that were changed since: '
-                 f'{", ".join(map(ascii, foreign[:5]))}{more}. Name another folder, or delete them')
+        sys.exit(f'release/make: {folder} has files that release/make did not write, or that have changed since: '
+                 f'{", ".join(map(ascii, foreign[:5]))}{more}. Use another folder, or delete them')
     return names
 
 
@@ -64,8 +64,8 @@ def is_written(folder, name, sums):
 
 
 def replace(folder, made):
-    """Writes the files of a folder in place of those of an earlier release. A run that is killed leaves whole files, which the
-    sums name."""
+    """Writes the files of a folder, replacing those of an earlier release. A run that is killed leaves whole files,
+    which are in the sums."""
     earlier, names = earlier_files(folder), sorted(os.listdir(made), key=lambda name: name != SUMS)
     os.makedirs(folder, exist_ok=True)
     with tempfile.TemporaryDirectory(prefix='.release-make-', dir=folder) as room:

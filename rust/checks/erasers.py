@@ -32,12 +32,13 @@ class Eraser:
         self.parts, self.program = parts, os.path.join(os.path.dirname(parts), 'erase')
 
     def each(self, sources):
-        """Of each pair of a file's name and its source 'erased' and the Rust, or 'refused' and why."""
+        """For each pair of a file's name and its source: 'erased' and the Rust, or 'refused' and the reason."""
         done = subprocess.run([sys.executable, '-c', EACH, self.program], input=json.dumps(sources),
                               stdout=subprocess.PIPE, stderr=subprocess.PIPE, text=True)
         return json.loads(done.stdout) if done.returncode == 0 else [('failed', done.stderr[-300:])] * len(sources)
 
     def tree(self, folder, crates=CRATES, *words):
-        """Writes the erased crates there, with `--programs` those of the programs. What it says if it fails."""
+        """Writes the erased crates there, with `--programs` those of the programs. Returns the error message if it
+        fails."""
         done = subprocess.run([sys.executable, self.program, *words, '--to', folder, '--from', crates], stderr=subprocess.PIPE, text=True)
         return done.stderr if done.returncode else ''

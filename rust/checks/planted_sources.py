@@ -1,5 +1,5 @@
-"""Sources that a careless eraser would make other programs of. Each is refused for a reason, or erased: then rustc compiles
-it, and `case()` answers the number that its text says."""
+"""Sources that a careless eraser would turn into other programs. Each is refused for a reason, or erased: then rustc
+compiles it, and `case()` returns the number in its text."""
 
 PLANTED = (
     # ---- erased to the same meaning ----
@@ -209,14 +209,14 @@ pub fn other(room: u64) -> usize { room as usize }'''),
     (CASE, 'threads', '`std::thread`', 'use std::thread; pub fn f() { }'),
 )
 
-# Changes of the crates that make an edit apply another number of times: the file, the text as it is and as it is then.
+# Changes of the crates that make an edit apply another number of times: the file, the old text and the new one.
 CHANGED_CRATES = (
     ('twox_words/src/words.rt', 'bytes[i + 3], bytes[i + 4]'.replace(', ', ',\n        '), 'bytes[i + 3],\n        bytes[i + 3]'),
     ('twox_words/src/words/chunks.rt', 'items.as_chunks()', '{ items.as_chunks(); items.as_chunks() }'),
     ('twox_core/src/xxhash3/streaming/core_state.rt', '#[inline(never)]\n    fn write_through', '#[inline]\n    fn write_through'),
     ('twox_plain/src/xxhash64.rt', 'mod saved;\n', ''),
 )
-# The same in the programs, or a refusal: the text, and why.
+# The same in the programs, or a refusal: the text, and the reason.
 CHANGED_PROGRAMS = (
     ('xxhsum_program/src/arguments.rt', 'vec![in alloc; 0u8; room]', 'vec![in alloc; 1u8; room]', ' times, not '),
     ('xxhsum/src/main.rt', 'fn main(rt: HostRuntime)', 'fn main(process: HostRuntime)', ' times, not '),

@@ -1,8 +1,8 @@
 """A second reader of the erased source, which shares no code with rust/erase.
 
-It reads a crate's file and the erased one as rows of tokens, and walks both. Where they differ, only the removal of a contract
-or a replacement of the list below may explain it. It is right if every erased file is its source less contracts, plus these
-replacements; what it can't explain it names."""
+It reads a crate's file and the erased one as tokens, and walks both. Where they differ, only the removal of a
+contract or a replacement of the list below may explain it. It is correct if every erased file is its source without
+contracts, with these replacements; it reports what it can't explain."""
 import os
 import re
 from dataclasses import dataclass
@@ -50,7 +50,7 @@ def behind_comment(text, at):
 
 
 def behind(words, at):
-    """The place behind the bracket that closes the one at `at`."""
+    """The place after the bracket that closes the one at `at`."""
     open_ones = []
     for place in range(at, len(words)):
         if words[place] in BRACKETS:
@@ -63,7 +63,7 @@ def behind(words, at):
 
 
 def contract_at(words, at):
-    """How many tokens a contract at this place has, or 0. None of them may stay."""
+    """The number of tokens of a contract at this place, or 0. None of them may stay."""
     word, before = words[at], words[at - 1] if at else ''
     if word == 'ghost' and words[at + 1] == 'use':
         return words.index(';', at) + 1 - at
@@ -88,7 +88,7 @@ def contract_at(words, at):
 
 
 def drop_at(words, at):
-    """How many tokens of `Drop` there are at this place, in a derive or as a bound, or 0. None may stay."""
+    """The number of tokens of `Drop` at this place, in a derive or as a bound, or 0. None may stay."""
     if words[at:at + 2] in ([',', 'Drop'], ['+', 'Drop']) and words[at + 2] in (')', '>', ',', '+', '{', ';'):
         return 2
     is_of_trait = at > 1 and words[at - 2] == 'trait' and words[at + 2] == '{'
@@ -108,7 +108,7 @@ core.v3 = crate::rattle::opaque_WORD(core.v3); core.v4 = crate::rattle::opaque_W
 LONG_INPUT = '''if secret.len() == DEFAULT_SECRET_LENGTH { if is_widened(input) { oneshot_by_eight_lanes(secret, input) }
 else { oneshot_above_240::<DefaultLength>(secret, input) } } else { oneshot_long_of_any_length(secret, input) }'''
 WORD = 'bytes[i], bytes[i + 1], bytes[i + 2], bytes[i + 3]'
-# What a file has, what the erased one has in its place, and the files in which that may be.
+# The text of a file, the erased text in its place, and the files in which that is allowed.
 REPLACEMENTS = [(rows_of(old), rows_of(new), files) for old, new, files in (
     (f'u32::from_le_bytes([{WORD}])', 'u32::from_le_bytes(*crate::rattle::array_at(bytes, i))', 'twox_words/words'),
     (f'u64::from_le_bytes([{WORD}, bytes[i + 4], bytes[i + 5], bytes[i + 6], bytes[i + 7],])',
@@ -167,7 +167,7 @@ IN_PROGRAMS = [(rows_of(old), rows_of(new), files) for old, new, files in (
 PRELUDE = {'AllocGlobal', 'HostRuntime', 'String', 'Vec'}
 # What may not stay in an erased file.
 GONE = {'prove', 'requires', 'ensures', 'ghost', 'tactic', 'Model', 'Drop'}
-# Files of the library that are written for the programs, or for nobody.
+# Files of the library that are erased for the programs, or not at all.
 NOT_OF_LIBRARY = {'by_stripes', 'saved_text', 'build_hashers', 'saved'}
 # The files of the programs' tree that come from no file of the crates.
 ROOTS = {
@@ -213,7 +213,7 @@ def replacements_at(words, at, crate, file, tree):
 
 
 def behind_prelude(wanted):
-    """The place behind an import of names of Rattle's prelude at the beginning of a file of the programs."""
+    """The place after an import of names of Rattle's prelude at the beginning of a file of the programs."""
     begin = rows_of('use crate::rattle::prelude::')
     if wanted[:len(begin)] != begin:
         return 0
@@ -274,7 +274,7 @@ def text_of(path):
 
 
 def faults(crates, folder, tree=LIBRARY):
-    """How many files were read, and what can't be explained of them."""
+    """The number of files read, and what can't be explained in them."""
     count, found = 0, []
     for crate, file, source in sources(crates, tree):
         path = os.path.join(folder, f'{file}.rs')

@@ -1,5 +1,4 @@
-"""What rust/check, rust/bench and rust/count work with: packages, and a folder in which cargo finds Debian's crates
-alone."""
+"""Shared by rust/check, rust/bench and rust/count: packages, and a folder in which cargo finds only Debian's crates."""
 import os
 import re
 import shutil
@@ -25,15 +24,15 @@ PACKAGES = {'gcc': 'gcc', 'nm': 'binutils', 'git': 'git', 'valgrind': 'valgrind'
 # Debian's newest cargo: its plain one is older than the crate's rust-version.
 CARGO = 'cargo-web'
 DEBIANS_RUST = {'/usr/bin/rustc': 'rustc-web', '/usr/bin/cargo': CARGO}
-# What builds and runs programs for 64-bit ARM: Debian's compiler for its standard library for that processor.
+# Builds and runs programs for 64-bit ARM: Debian's compiler for its standard library for that processor.
 ARM = 'aarch64-unknown-linux-gnu'
 ARM_PACKAGES = {'aarch64-linux-gnu-gcc': 'gcc-aarch64-linux-gnu',
                 'aarch64-linux-gnu-objcopy': 'binutils-aarch64-linux-gnu',
                 '/usr/aarch64-linux-gnu/include/stdio.h': 'libc6-dev-arm64-cross', 'qemu-aarch64': 'qemu-user',
                 **DEBIANS_RUST}
-# What runs a program on a processor that lacks what this one has.
+# Runs a program on a processor without features that this one has.
 OLDER_PACKAGES = {'qemu-x86_64': 'qemu-user'}
-# The sources of Rust's standard library, of which it is built for targets that Debian has none for.
+# The sources of Rust's standard library, to build it for targets for which Debian has none.
 SOURCES = '/usr/lib/rustlib/src/rust/library'
 SOURCE_PACKAGES = {**DEBIANS_RUST, SOURCES: 'rust-web-src', 'musl-gcc': 'musl-tools', 'make': 'make',
                    '/usr/lib/llvm-14/lib/libunwind.a': 'libunwind-14-dev'}
@@ -61,7 +60,7 @@ serde = { version = "1.0", features = ["derive"], optional = true }
 
 
 def must(words, **more):
-    """Runs a tool of the check itself, which has to work."""
+    """Runs a tool of the check itself, which must succeed."""
     done = subprocess.run(words, stdout=subprocess.PIPE, stderr=subprocess.PIPE, text=True, **more)
     if done.returncode:
         sys.exit(f'rust/{os.path.basename(sys.argv[0])}: {" ".join(words)}:\n{(done.stdout + done.stderr)[-2000:]}')
@@ -77,16 +76,16 @@ def install_packages(packages=PACKAGES):
 
 
 class Room:
-    """The check's own folder: a copy of the crate's sources and text, and what cargo makes."""
+    """The check's own folder: a copy of the crate's sources and assembly source, and cargo's output."""
 
     cargo_program = 'cargo'
     target = None
-    # What the names of programs end in.
+    # The suffix of programs' names.
     ending = ''
 
     def __init__(self, path, crate=RUST):
         self.path = path
-        # A copy, so that cargo's lock files stand in no folder of the repository.
+        # A copy, so that cargo writes no lock files in a folder of the repository.
         self.rust = os.path.join(path, 'rust')
         shutil.copytree(crate, self.rust, ignore=shutil.ignore_patterns('out', 'target', 'Cargo.lock'))
         self.use_registry(CRATES)
@@ -119,7 +118,7 @@ class Room:
         return os.path.join(self.path, 'target', *([self.target] if self.target else []), 'release')
 
     def changed(self, name, change):
-        """A copy of the crate whose text is changed: `change` answers the new text of a file."""
+        """A copy of the crate with a changed source: `change` returns the new text of a file."""
         crate = os.path.join(self.path, name)
         shutil.copytree(self.rust, crate, ignore=shutil.ignore_patterns('target', 'Cargo.lock'))
         folder = os.path.join(crate, 'asm')
@@ -136,7 +135,7 @@ class Room:
         shutil.copytree(sources, copy)
         manifest = os.path.join(copy, 'Cargo.toml')
         text = open(manifest).read() if os.path.exists(manifest) else ORIGINAL
-        # Two packages of one name and version can't stand in one program.
+        # Two packages of one name and version can't be linked into one program.
         with open(manifest, 'w') as file:
             file.write(re.sub(r'^version = "2\.1\.5"', 'version = "2.1.5-original"', text, flags=re.M))
         with open(os.path.join(package, 'Cargo.toml'), 'a') as file:
@@ -145,7 +144,7 @@ class Room:
 
 
 class ArmRoom(Room):
-    """A room for 64-bit ARM: programs are built by Debian's compiler and run under qemu."""
+    """A folder for 64-bit ARM: programs are built by Debian's compiler and run under qemu."""
 
     cargo_program = '/usr/bin/cargo'
     target = ARM
@@ -167,8 +166,8 @@ class ArmRoom(Room):
 
 
 class SourceRoom(Room):
-    """A room for a target whose standard library is built of Debian's sources, as with musl. A program is linked by
-    `linker`, and run by `runner` where that isn't empty. Debian's static unwinder lies in the root that is named."""
+    """A folder for a target whose standard library is built from Debian's sources, for example with musl. A program
+    is linked by `linker`, and run by `runner` if that isn't empty. Debian's static unwinder is in the root `root`."""
 
     cargo_program = '/usr/bin/cargo'
 
@@ -187,7 +186,8 @@ class SourceRoom(Room):
             self.add_unwinder(root)
 
     def add_unwinder(self, root):
-        """Debian's unwinder, which is compiled for glibc, and what it wants of glibc: to say a word before it stops."""
+        """Debian's unwinder, which is compiled for glibc, and the function of glibc that it needs: to print a
+        message before it stops."""
         os.symlink(f'{root}/usr/lib/llvm-14/lib/libunwind.a', os.path.join(self.libraries, 'libunwind.a'))
         must([self.linker, '-O2', '-x', 'c', '-', '-c', '-o', os.path.join(self.libraries, 'chk.o')],
              input='void abort(void); int __fprintf_chk(void *f, int n, const char *s, ...) { abort(); }')
@@ -196,7 +196,7 @@ class SourceRoom(Room):
         native = (f'-C link-self-contained=no -L native={self.libraries} -C link-arg={self.libraries}/chk.o '
                   '-C link-arg=-lgcc')
         return super().environment(f'{native} {flags}', **{
-            # The switch for `-Z build-std`, which a released compiler has too.
+            # The switch for `-Z build-std`, which a released compiler also has.
             'RUSTC_BOOTSTRAP': '1', 'RUSTC': '/usr/bin/rustc', 'RUSTDOC': '/usr/bin/rustdoc',
             **for_target(self.target, LINKER=self.linker, RUNNER=self.runner), **more})
 
@@ -207,8 +207,8 @@ class SourceRoom(Room):
 
 
 class FurtherRoom(SourceRoom):
-    """A target that the kit doesn't vouch for, whose programs an emulator runs. Its libxxhash is the reference's header,
-    compiled for it."""
+    """A target that the toolchain doesn't support, whose programs an emulator runs. Its libxxhash is the reference's
+    header, compiled for it."""
 
     def __init__(self, path, target, linker, runner, ending=''):
         self.ending = ending
@@ -226,7 +226,7 @@ class FurtherRoom(SourceRoom):
             **for_target(self.target, LINKER=self.linker, RUNNER=self.runner), **more})
 
 
-# What Rust's standard library asks of Windows for random seeds, and Debian's wine lacks.
+# The function of Windows that Rust's standard library calls for random seeds, and Debian's wine lacks.
 RANDOM_DLL = '''#include <windows.h>
 BOOLEAN NTAPI SystemFunction036(PVOID room, ULONG length);
 __declspec(dllexport) BOOL WINAPI ProcessPrng(PBYTE room, SIZE_T length) { return SystemFunction036(room, (ULONG)length); }
@@ -263,6 +263,6 @@ def errors_of(text):
 
 
 def has(name):
-    """Whether this processor has a set, as x86-64-v3."""
+    """True if this processor has an instruction set, for example x86-64-v3."""
     done = subprocess.run(['/lib64/ld-linux-x86-64.so.2', '--help'], stdout=subprocess.PIPE, text=True)
     return f'{name} (supported' in done.stdout

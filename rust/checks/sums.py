@@ -1,6 +1,6 @@
-"""One sum of hashes, by programs for targets of each width and byte order, under qemu and in Node. The crate is compiled over
-Rust's core library, which is built of Debian's sources, and linked with a line of C. The sum that is wanted is that of the
-same calls by the reference's header."""
+"""One sum of hashes, by programs for targets of each width and byte order, under qemu and in Node. The crate is
+compiled over Rust's core library, which is built from Debian's sources, and linked with a line of C. The expected
+sum is that of the same calls by the reference's header."""
 import os
 import subprocess
 
@@ -64,7 +64,7 @@ def check_sums_of_targets(report, path):
 
 
 def notices_another(room, wanted):
-    """The crate with one rotation other than it should be."""
+    """The crate with one wrong rotation."""
     file = os.path.join(room.rust, 'src', 'erased', 'twox_plain', 'xxhash32', 'rounds.rs')
     with open(file) as text:
         right = text.read()

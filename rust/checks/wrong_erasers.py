@@ -1,5 +1,6 @@
-"""Wrong erasers: each is the eraser with one line changed. Most are noticed by the eraser's own counts and refusals, by the
-second reader or by a planted source. The others write what rustc refuses to compile, or what cargo's tests notice."""
+"""Wrong erasers: each is the eraser with one line changed. Most are detected by the eraser's own counts and
+refusals, by the second reader or by a planted source. The others write what rustc refuses to compile, or what
+cargo's tests detect."""
 import functools
 import os
 import shutil
@@ -13,10 +14,10 @@ from room import Room, install_packages
 RUST = os.path.dirname(os.path.dirname(os.path.abspath(__file__)))
 PARTS, CRATES = os.path.join(RUST, 'eraser'), os.path.join(os.path.dirname(RUST), 'crates')
 
-# The file that each planted source is read as, its name, what is wanted, and the source.
+# The file that each planted source is read as, its name, the expected result, and the source.
 ALL_PLANTED = (*(('twox_words/src/case.rt', *row) for row in PLANTED), *PLANTED_IN_PROGRAMS)
 
-# What is wrong, the file, the line as it is and as it is then.
+# The mistake, the file, the old line and the new one.
 WRONG = (
     ('a load of other bytes', 'edits.py', "u64::from_le_bytes(*crate::rattle::array_at(bytes, i))",
      "u64::from_le_bytes(*crate::rattle::array_at(bytes, i.max(1) - 1))"),
@@ -84,7 +85,7 @@ WRONG = (
     ('any module', 'forms.py', "    if word in ('core', 'alloc', 'erased', 'rattle') and", "    if word in ('kore',) and"),
     ('examples that rustdoc compiles', '../erase', "'```rattle' if begins and not fence[2]", "'```' if begins and not fence[2]"),
 )
-# These are noticed by rustc or by cargo's tests alone.
+# These are detected only by rustc or by cargo's tests.
 BY_RUSTC = {'no constant is tested', 'examples that rustdoc compiles'}
 
 
@@ -122,7 +123,7 @@ def changed_crates(room, number, file, old, new):
 
 
 def noticed_by(eraser, room):
-    """What notices a wrong eraser, or ''."""
+    """The check that detects a wrong eraser, or ''."""
     tree = os.path.join(room, 'tree')
     if eraser.tree(tree):
         return 'the eraser'
@@ -151,7 +152,7 @@ def is_noticed(room, number, file, old, new):
 
 
 def cargos_tests(eraser, path):
-    """What cargo's tests say of the crate with the tree that an eraser writes: their status, and the text."""
+    """The result of cargo's tests on the crate with the tree that an eraser writes: their status, and the output."""
     room = Room(path)
     want(not eraser.tree(os.path.join(room.rust, 'src', 'erased')), 'the eraser notices it')
     done = room.cargo(room.rust, 'test')
@@ -159,7 +160,7 @@ def cargos_tests(eraser, path):
 
 
 def tests_pass(path):
-    """The right eraser's tree: else a wrong one would fail for another reason."""
+    """The correct eraser's tree: otherwise a wrong one would fail for another reason."""
     status, text = cargos_tests(Eraser(PARTS), path)
     want(status == 0, tail(text))
 

@@ -1,8 +1,8 @@
-"""Takes contracts out of a file: clauses, ghost items, tactics, models, and what `Drop` says of a type."""
+"""Removes contracts from a file: clauses, ghost items, tactics, models, and `Drop` of a type."""
 from tokens import Refused, Token, closing, following, preceding
 
 KEPT_ATTRIBUTES = {'inline', 'repr', 'must_use', 'cold', 'derive'}
-# `Hash`, `PartialOrd` and `Ord` aren't here: nothing says that Rattle's derives do what Rust's do.
+# `Hash`, `PartialOrd` and `Ord` are absent: it is not stated that Rattle's derives do what Rust's do.
 KEPT_DERIVES = {'Clone', 'Copy', 'Debug', 'PartialEq', 'Eq'}
 
 
@@ -16,7 +16,7 @@ def drop(tokens, first, last):
 
 
 def first_with_comments(tokens, i):
-    """The first token of the comments that stand on the lines right above token `i`, and of attributes."""
+    """The first token of the comments on the lines right above token `i`, and of attributes."""
     while True:
         before = i - 1
         if before < 0 or tokens[before].kind != 'space' or tokens[before].text.count('\n') != 1:
@@ -136,7 +136,7 @@ def drop_derive(tokens, first, begin, last):
 
 
 def drop_bounds(tokens):
-    """Drops `+ Drop`, and `: Drop` of a type parameter or of a trait. Every type of Rust may be let go."""
+    """Drops `+ Drop`, and `: Drop` of a type parameter or of a trait. In Rust every type may be dropped."""
     for i, token in enumerate(tokens):
         if token.kind != 'word' or token.text != 'Drop':
             continue
@@ -165,7 +165,7 @@ def without_contracts(tokens):
 
 
 def merged(before, after):
-    """The space in place of what is gone between two spaces."""
+    """The space in place of the removed tokens between two spaces."""
     if '\n' not in after:
         return before or after
     if '\n' not in before and before:
@@ -175,7 +175,7 @@ def merged(before, after):
 
 
 def tidied(tokens):
-    """The text, without the lines and spaces that what is gone has left behind."""
+    """The text, without the lines and spaces that removed tokens leave."""
     kept = []
     for token in tokens:
         if token.kind == 'gone':

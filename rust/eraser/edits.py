@@ -1,7 +1,7 @@
-"""What is written in another way once the contracts are gone: one table, each row with its reason and its count.
+"""The edits after the contracts are removed: one table, each row with its reason and its count.
 
-A pattern is a row of tokens, `$name` matches one word, and white space is ignored. A row that applies more or fewer
-times than it says fails, and so does one whose match holds a comment."""
+A pattern is a sequence of tokens, `$name` matches one word, and white space is ignored. A row that applies more or
+fewer times than its count fails, and so does one whose match has a comment."""
 import functools
 import re
 from dataclasses import dataclass
@@ -29,7 +29,7 @@ def load(word, size):
 
 
 def stripes_of_stream(word):
-    """The loop of `write_many` over stripes, after each of which the accumulators are what the compiler can't see through."""
+    """The loop of `write_many` over stripes, after each of which the accumulators are hidden from the optimizer."""
     indent = '\n            '
     lines = ['while let Some((stripe, after)) = rest.split_first_chunk::<BYTES_IN_STRIPE>() {', '    core.write(stripe);',
              *(f'    core.v{k} = crate::rattle::opaque_{word}(core.v{k});' for k in range(1, 5)), '    rest = after;', '}']
@@ -52,7 +52,7 @@ PRODUCTS = 'LLVM otherwise adds the products as vectors, for which it has to gat
 MIDDLE = 'one test of both lengths, in place of one for each word'
 IN_PARTS = 'a second set of vectors takes in the same file'
 
-# What chooses among the ways to take a long input.
+# The choice among the ways to hash a long input.
 LONG_INPUT = '''if secret.len() == DEFAULT_SECRET_LENGTH {
     if is_widened(input) {
         oneshot_by_eight_lanes(secret, input)

@@ -1,21 +1,21 @@
-"""The forms that the eraser knows. Any other form in a source is refused, with its line."""
+"""The forms that the eraser supports. Any other form in a source is refused, with its line."""
 import os
 from collections import Counter, namedtuple
 
 from tokens import Refused, closing
 
-# Words of Rust with a meaning of their own that no rule here was made for.
+# Words of Rust with a meaning of their own for which there is no rule.
 REFUSED_WORDS = {
     'async', 'await', 'dyn', 'extern', 'macro_rules', 'static', 'stringify', 'union', 'transmute', 'size_of_val', 'align_of',
     'type_name', 'offset_of', 'try', 'yield', 'become', 'loop',
 }
 MACROS = {'prove'}
 STD = {'alloc', 'boxed', 'error', 'fmt', 'hash', 'marker', 'simd', 'slice'}
-# What the programs have beyond that.
+# What the programs have in addition.
 PROGRAM_WORDS = {'loop'}
 PROGRAM_MACROS = {'json', 'matches', 'vec', 'write'}
 PROGRAM_STD = {'cmp', 'env', 'fs', 'io', 'process', 'rt'}
-# Calls of the standard library whose contract in Rattle is what Rust's documentation says.
+# Calls of the standard library whose contract in Rattle is what Rust's documentation states.
 CALLS = {
     'add', 'as_array', 'as_chunks', 'as_mut_ptr', 'as_mut_slice', 'as_slice', 'cast', 'clone', 'copy_from_slice', 'copy_to_slice',
     'first_chunk', 'first_chunk_mut', 'into', 'is_empty', 'last_chunk', 'last_chunk_mut', 'len', 'rotate_left', 'saturating_add',
@@ -23,7 +23,7 @@ CALLS = {
     'to_le_bytes', 'unwrap', 'wrapping_add', 'wrapping_mul', 'wrapping_neg', 'wrapping_sub', 'write_str', 'is_some', 'is_none',
     'is_err', 'is_ok', 'as_ref', 'as_mut',
 }
-# Calls of the programs: of Rust's standard library with that contract, and of rust/programs/src/rattle in its place.
+# Calls of the programs: of Rust's standard library with that contract, and of rust/programs/src/rattle instead.
 PROGRAM_CALLS = {
     'as_bytes', 'as_millis', 'as_str', 'checked_mul', 'cmp', 'copy_within', 'ends_with', 'enumerate', 'first', 'get',
     'is_ascii_digit', 'is_dir', 'is_file', 'iter', 'kind', 'max', 'min', 'ok', 'ok_or', 'parse', 'partition_point',
@@ -37,7 +37,8 @@ ADDED_METHODS = {
     'first_u32', 'last_u32', 'first_u64', 'last_u64', 'upper_half', 'lower_half', 'into_u32', 'into_u64', 'into_u128',
     'as_ref', 'as_mut',
 }
-# Casts to a type whose width is the machine's, or from one: where they are, how many, and why no value is lost on 32 bits.
+# Casts to a type whose width is the machine's, or from one: their places, their number, and why no value is lost on 32
+# bits.
 CASTS = {
     ('twox_words/src/words/widening.rt', 'self as u64'): (1, 'a usize has at most 64 bits'),
     ('twox_words/src/words/halves.rt', ') as u64'): (2, 'the halves of a u128'),
@@ -66,7 +67,7 @@ def is_of_programs(file):
 
 
 def check_forms(tokens, file):
-    """Refuses what no rule was made for, in a file without contracts."""
+    """Refuses forms without a rule, in a file without contracts."""
     code = [token for token in tokens if not token.is_blank()]
     known = PROGRAM_FORMS if is_of_programs(file) else LIBRARY_FORMS
     for i, token in enumerate(code):
@@ -134,7 +135,7 @@ def check_std(code, i, known):
 
 
 def check_range(code, i):
-    """Refuses a range without an end, but in an index and as the rest of a pattern."""
+    """Refuses a range without an end, except in an index and as the rest of a pattern."""
     end = i + 2 + (code[i + 2].text == '=')
     if code[end].text in (')', '{') and code[i - 1].text not in (',', '('):
         refuse(code[i], 'a range without an end')

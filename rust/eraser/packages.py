@@ -1,4 +1,4 @@
-"""The two packages that are written: which crates and files each has, and where they go."""
+"""The two packages that are written: the crates and files of each, and their folders."""
 import os
 from dataclasses import dataclass
 
@@ -9,7 +9,7 @@ RUST = os.path.dirname(os.path.dirname(os.path.abspath(__file__)))
 LIBRARY = ('twox_words', 'twox_plain', 'twox_core', 'twox_hash')
 PROGRAMS = ('xxh_io', 'xxh_program', 'xxh', 'xxhsum_line', 'xxhsum_words', 'xxhsum_audit', 'xxhsum_files', 'xxhsum_output',
             'xxhsum_program', 'xxhsum_tree', 'xxhsum')
-# Over JSON, for which the library has serde. The programs have them in modules of the library's names.
+# For JSON, for which the library uses serde. The programs have them in modules of the library's names.
 SAVED = frozenset({'twox_plain/src/saved_text.rt', *(f'twox_plain/src/xxhash{bits}/saved.rt' for bits in (32, 64))})
 # Written for neither.
 LEFT_OUT = frozenset({'twox_plain/src/by_stripes.rt', *(f'twox_plain/src/xxhash{bits}/build_hashers.rt' for bits in (32, 64))})

@@ -1,4 +1,4 @@
-"""What is written in another way in the programs, as edits.py has it for the library."""
+"""The edits of the programs, in the form of edits.py."""
 from edits import FORMATTER, SHIM, Edit
 
 STD = 'rustc 1.81 has the function at this path only'
@@ -28,5 +28,5 @@ PROGRAM_EDITS = (
          'it says who made the program', files='xxhsum_program/src/usage.rt'),
     Edit('main', 'fn main(rt: HostRuntime)', 'pub fn main(rt: HostRuntime)', 2, MAIN),
 )
-# The names of Rattle's prelude that Rust's lacks, or has for something else.
+# The names of Rattle's prelude that Rust's lacks, or uses for something else.
 PRELUDE = frozenset({'AllocGlobal', 'HostRuntime', 'String', 'Vec'})

@@ -13,7 +13,7 @@ CODE = re.compile(r"""
 """, re.X | re.S)
 OPEN = {'(': ')', '[': ']', '{': '}'}
 CLOSE = set(OPEN.values())
-# A contract's text is antt, whose comments begin with `--`. What could hide a brace is refused.
+# A contract's text is antt, whose comments begin with `--`. Text that could hide a brace is refused.
 UNCLEAR_IN_CONTRACTS = re.compile(r'"|//|/\*|\{-|-\}|\'[{}]')
 PLAIN_STRING = re.compile(r'"(?:(?!--)[^"\\{}\n])*"')
 CLAUSE = re.compile(r'(requires|ensures)\b\*?\s*(\w+\s*)?(?=\{)')

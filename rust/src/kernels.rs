@@ -1,8 +1,8 @@
 // SPDX-License-Identifier: MIT
-//! The kernels: long inputs and pieces of streams. The rest of each hash is the erased source, which calls these.
+//! The kernels: long inputs and chunks of streams. The rest of each hash is the erased source, which calls these.
 //!
-//! Linux on x86-64 and on 64-bit ARM has the proved functions as assembly source. Other targets, Miri and
-//! `--cfg twox_hash_no_assembly` compile the erased source for these too.
+//! Linux on x86-64 and on 64-bit ARM has the proved functions as assembly source. Other targets, Miri and `--cfg
+//! twox_hash_no_assembly` compile the erased source for these too.
 #![allow(
     dead_code,
     unused_imports,

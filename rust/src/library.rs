@@ -17,7 +17,7 @@ pub use crate::erased::twox_plain::xxhash64::StateInMemory as Record64;
 use crate::erased::twox_plain::{xxhash32, xxhash64};
 use crate::erased::twox_words::words::IntoU128;
 
-/// Inputs of up to so many bytes are tested for first.
+/// Inputs of up to this many bytes are tested for first.
 const VERY_FEW: usize = 16;
 
 // ---- XXH32 and XXH64 ----
@@ -33,7 +33,7 @@ pub fn xxh64(input: &[u8], seed: u64) -> u64 {
 }
 
 impl Record32 {
-    /// A record of these parts. [`is_reachable`](Self::is_reachable) is false if no bytes lead to them.
+    /// Creates a record of these parts. [`is_reachable`](Self::is_reachable) is false if no bytes lead to them.
     pub const fn of_parts(
         total_len: u64,
         seed: u32,
@@ -72,7 +72,7 @@ impl Record32 {
 }
 
 impl Record64 {
-    /// A record of these parts. [`is_reachable`](Self::is_reachable) is false if no bytes lead to them.
+    /// Creates a record of these parts. [`is_reachable`](Self::is_reachable) is false if no bytes lead to them.
     pub const fn of_parts(
         total_len: u64,
         seed: u64,
@@ -108,8 +108,8 @@ impl Record64 {
     }
 }
 
-/// Defines what both records have. One word is the mark of a record plus the number of bytes that wait in its buffer,
-/// which is less than a stripe.
+/// Defines the common part of both records. One word is the mark of a record plus the number of bytes buffered, which
+/// is less than a stripe.
 macro_rules! marked_record {
     ($record:ident, $module:ident, $stripe:literal) => {
         impl $record {
@@ -126,7 +126,7 @@ macro_rules! marked_record {
                 self.marked_usage.wrapping_sub($module::MARK) as usize
             }
 
-            /// Keeps the first eight bytes of a stream. They fill no stripe.
+            /// Buffers the first eight bytes of a stream. They fill no stripe.
             #[inline(always)]
             pub fn keep_first(&mut self, word: u64) {
                 self.set_counted(8);
@@ -134,7 +134,7 @@ macro_rules! marked_record {
                 self.buffer[..8].copy_from_slice(&word.to_ne_bytes());
             }
 
-            /// The bytes of the stream if they are eight.
+            /// Returns the bytes of the stream if they are eight.
             #[inline(always)]
             pub fn only_word(&self) -> Option<&[u8; 8]> {
                 if self.counted() == 8 {
@@ -158,8 +158,8 @@ marked_record!(Record64, xxhash64, 32);
 
 // ---- XXH3 ----
 
-/// Defines the one-shots of a width, whose erased source answers what `$value_of` makes a number. The shortest inputs have
-/// code of their own: they then pay no more than one test.
+/// Defines the one-shots of a width, whose erased source returns a value that `$value_of` converts to a number. The
+/// shortest inputs have their own code, so that they cost no more than one test.
 macro_rules! oneshots {
     ($width:ident, $value:ty, $value_of:path, $plain:ident, $with_seed:ident, $with_secret:ident, $with_both:ident) => {
         #[inline(always)]
@@ -205,25 +205,25 @@ macro_rules! oneshots {
 oneshots! { width_64, u64, u64::from, xxh3_64, xxh3_64_with_seed, xxh3_64_with_secret, xxh3_64_with_seed_and_secret }
 oneshots! { width_128, u128, IntoU128::into_u128, xxh3_128, xxh3_128_with_seed, xxh3_128_with_secret, xxh3_128_with_seed_and_secret }
 
-/// The secret that a seed derives.
+/// Allocates the secret derived from a seed.
 #[cfg(feature = "alloc")]
 #[inline(always)]
 pub fn boxed_secret(seed: u64) -> Box<[u8; 192]> {
     Box::new(crate::erased::twox_core::xxhash3::derived_secret(seed))
 }
 
-/// Writes the secret that a seed derives over bytes that are there.
+/// Writes the secret derived from a seed over existing bytes.
 #[inline(always)]
 pub fn overwrite_with_secret(room: &mut [u8; 192], seed: u64) {
     *room = DEFAULT_SECRET_RAW;
     derive_secret(seed, room);
 }
 
-/// A stream's secret, which was long enough when the stream was made.
+/// Returns a stream's secret, which was long enough when the stream was made.
 ///
 /// # Panics
 ///
-/// An `unsafe impl` of a secret's buffer broke its promise, and the secret has become too short.
+/// Panics if an `unsafe impl` of a secret's buffer broke its promise, and the secret has become too short.
 #[inline(always)]
 pub fn secret_of_stream(bytes: &[u8]) -> Secret<'_> {
     match Secret::new(bytes) {
@@ -232,7 +232,7 @@ pub fn secret_of_stream(bytes: &[u8]) -> Secret<'_> {
     }
 }
 
-/// Stops a stream whose secret has another length than when the stream was made.
+/// Panics because the secret of a stream has another length than when the stream was made.
 #[cold]
 #[inline(never)]
 pub fn secret_has_changed() -> ! {

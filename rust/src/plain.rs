@@ -1,5 +1,5 @@
 // SPDX-License-Identifier: MIT
-//! What XXH32 and XXH64 share: their hashers differ in the width of a word and the length of a stripe.
+//! Code shared by XXH32 and XXH64: their hashers differ in the width of a word and the length of a stripe.
 
 /// Defines the module of a plain hash.
 macro_rules! plain_hash {
@@ -23,13 +23,13 @@ macro_rules! plain_hash {
         $(#[doc = $example])*
         /// ```
         ///
-        /// Two hashers are equal if they were made with one seed and were given the same bytes; bytes that were
-        /// hashed and stay in memory are compared too.
+        /// Two hashers are equal if they have the same seed and have hashed the same bytes; hashed bytes that are
+        /// still in memory are compared too.
         #[derive(Clone, PartialEq)]
         pub struct Hasher($record);
 
         impl Hasher {
-            /// The hash of all bytes at once.
+            /// Hashes all bytes at once.
             ///
             /// ```
             #[doc = concat!("use twox_hash::", stringify!($alias), ";")]
@@ -43,7 +43,7 @@ macro_rules! plain_hash {
                 library::$oneshot(data, seed)
             }
 
-            /// A hasher of no bytes yet, also for a `static`.
+            /// Creates a hasher of no bytes, also in a `static`.
             ///
             /// ```
             #[doc = concat!("static EMPTY: twox_hash::", stringify!($alias), " = twox_hash::", stringify!($alias), "::with_seed(7);")]
@@ -57,7 +57,7 @@ macro_rules! plain_hash {
                 Self($record::of_parts(0, seed, $initial(seed), [0; $stripe], 0))
             }
 
-            /// The seed that the hasher was made with.
+            /// Returns the seed of the hasher.
             ///
             /// ```
             #[doc = concat!("assert_eq!(twox_hash::", stringify!($alias), "::with_seed(7).seed(), 7);")]
@@ -66,7 +66,7 @@ macro_rules! plain_hash {
                 self.0.seed
             }
 
-            /// How many bytes were hashed. The count stays at `u64::MAX` once it is there.
+            /// Total bytes hashed, saturating at `u64::MAX`.
             ///
             /// ```
             /// use std::hash::Hasher as _;
@@ -91,7 +91,7 @@ macro_rules! plain_hash {
             }
         }
 
-        /// A hasher with the seed 0.
+        /// Creates a hasher with the seed 0.
         impl Default for Hasher {
             fn default() -> Self {
                 Self::with_seed(0)
@@ -176,7 +176,7 @@ macro_rules! plain_hash {
             })
         }
 
-        /// Makes hashers of one seed, as a map wants them.
+        /// Builds hashers of one seed, for example for a map.
         ///
         /// ```
         /// use std::collections::HashMap;
@@ -190,7 +190,7 @@ macro_rules! plain_hash {
         pub struct State($word);
 
         impl State {
-            /// Hashers of this seed.
+            /// Creates the state whose hashers have this seed.
             pub fn with_seed(seed: $word) -> Self {
                 Self(seed)
             }
@@ -204,7 +204,7 @@ macro_rules! plain_hash {
             }
         }
 
-        /// Makes hashers of one seed that was drawn at random.
+        /// Builds hashers of one random seed.
         ///
         /// ```
         /// use std::collections::HashMap;
@@ -235,7 +235,7 @@ macro_rules! plain_hash {
             }
         }
 
-        // What is saved of a hasher, under the names that texts of all versions have.
+        // The saved fields of a hasher, under the names that saved texts of all versions have.
         #[cfg(feature = "serialize")]
         #[derive(serde::Serialize, serde::Deserialize)]
         #[serde(rename = "Shim")]
@@ -276,7 +276,7 @@ macro_rules! plain_hash {
             }
         }
 
-        /// Takes a record only if hashing some bytes gives it.
+        /// Accepts a record only if hashing some bytes produces it.
         #[cfg(feature = "serialize")]
         impl<'de> serde::Deserialize<'de> for Hasher {
             fn deserialize<D: serde::Deserializer<'de>>(deserializer: D) -> Result<Self, D::Error> {

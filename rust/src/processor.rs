@@ -1,10 +1,10 @@
 // SPDX-License-Identifier: MIT
-//! Which sets of instructions the processor and the system have, asked once, with or without the standard library.
+//! The instruction sets of the processor and the system, detected once, with or without the standard library.
 
 use core::arch::x86_64::{__cpuid, __cpuid_count, _xgetbv};
 use core::sync::atomic::{AtomicU8, Ordering::Relaxed};
 
-/// The level of x86-64 that a set of instructions has.
+/// The x86-64 level of an instruction set.
 #[derive(Clone, Copy, PartialEq, PartialOrd)]
 pub enum Level {
     /// Below x86-64-v3.
@@ -19,11 +19,11 @@ macro_rules! target_has {
     ($($feature:literal),*) => { cfg!(all($(target_feature = $feature),*)) };
 }
 
-/// True if the compiler was told of x86-64-v3.
+/// True if the compiler's target has x86-64-v3.
 pub const IS_BUILT_FOR_V3: bool =
     target_has!("avx2", "bmi1", "bmi2", "f16c", "fma", "lzcnt", "movbe");
 
-/// True if the compiler was told of x86-64-v4.
+/// True if the compiler's target has x86-64-v4.
 pub const IS_BUILT_FOR_V4: bool =
     IS_BUILT_FOR_V3 && target_has!("avx512f", "avx512bw", "avx512cd", "avx512dq", "avx512vl");
 
@@ -33,7 +33,7 @@ const BASE: u8 = 1;
 const V3: u8 = 2;
 const V4: u8 = 3;
 
-/// The processor's level.
+/// Returns the processor's level.
 #[inline(always)]
 pub fn level() -> Level {
     match KNOWN.load(Relaxed) {
@@ -63,7 +63,7 @@ fn ask() -> Level {
     level
 }
 
-// Bits of `cpuid` and of the register that says what the system saves, as Intel's and AMD's manuals have them.
+// Bits of `cpuid` and of the register of the state that the system saves, from Intel's and AMD's manuals.
 const FMA_MOVBE_OSXSAVE_AVX_F16C: u32 = 1 << 12 | 1 << 22 | 1 << 27 | 1 << 28 | 1 << 29;
 const BMI1_AVX2_BMI2: u32 = 1 << 3 | 1 << 5 | 1 << 8;
 const LZCNT: u32 = 1 << 5;
@@ -73,7 +73,7 @@ const SAVES_ZMM: u64 = 0b1110_0110;
 
 #[allow(unused_unsafe, reason = "`cpuid` is safe in newer compilers")]
 fn asked() -> Level {
-    // SAFETY: every x86-64 has `cpuid`, and only leaves are asked for that it has.
+    // SAFETY: every x86-64 has `cpuid`, and only existing leaves are read.
     let (leaves, further) = unsafe { (__cpuid(0).eax, __cpuid(0x8000_0000).eax) };
     if leaves < 7 || further < 0x8000_0001 {
         return Level::Base;
@@ -92,7 +92,7 @@ fn asked() -> Level {
     if !has_v3 {
         return Level::Base;
     }
-    // SAFETY: the bit OSXSAVE says that the instruction is there.
+    // SAFETY: the bit OSXSAVE means that the instruction exists.
     let saved = unsafe { saved_registers() };
     if saved & SAVES_YMM != SAVES_YMM {
         Level::Base
@@ -107,7 +107,7 @@ fn asked() -> Level {
 
 #[target_feature(enable = "xsave")]
 unsafe fn saved_registers() -> u64 {
-    // SAFETY: register 0 is there wherever the instruction is.
+    // SAFETY: register 0 exists wherever the instruction does.
     unsafe { _xgetbv(0) }
 }
 

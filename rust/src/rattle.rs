@@ -13,7 +13,7 @@ pub mod simd;
 use alloc::boxed::Box;
 use core::marker::PhantomData;
 
-/// There was no memory.
+/// Out of memory.
 #[derive(Clone, Copy, Debug, PartialEq, Eq)]
 pub struct AllocError;
 
@@ -38,7 +38,7 @@ impl<T: Clone> TryClone for T {
     }
 }
 
-/// A slice in memory of its own.
+/// An allocated slice.
 pub struct BoxedSlice<T, A> {
     #[cfg(feature = "alloc")]
     items: Box<[T]>,
@@ -87,18 +87,18 @@ impl<T: Clone, A: TryClone> TryClone for BoxedSlice<T, A> {
 pub fn as_chunks<T, const N: usize>(items: &[T]) -> (&[[T; N]], &[T]) {
     let count = items.len() / N;
     let (whole, rest) = items.split_at(count * N);
-    // SAFETY: `whole` has `count` times `N` items, and an array lies as its items do.
+    // SAFETY: `whole` has `count` times `N` items, and an array has the layout of its items.
     (
         unsafe { core::slice::from_raw_parts(whole.as_ptr().cast(), count) },
         rest,
     )
 }
 
-/// The `N` bytes from byte `i` on.
+/// Returns the `N` bytes from byte `i` on.
 ///
 /// # Panics
 ///
-/// The slice ends before.
+/// Panics if the slice ends before.
 #[inline(always)]
 pub fn array_at<const N: usize>(bytes: &[u8], i: usize) -> &[u8; N] {
     match bytes[i..].first_chunk() {
@@ -107,7 +107,7 @@ pub fn array_at<const N: usize>(bytes: &[u8], i: usize) -> &[u8; N] {
     }
 }
 
-/// Tests what the callers show: an input of 129 bytes or more, and what comes behind its first eight.
+/// Tests what the callers are proved to pass: an input of 129 bytes or more, and the rest after its first eight.
 #[inline(always)]
 pub fn expect_middle(input: &[u8], from_8: &[u8]) {
     if from_8.len() < 121 || input.len() <= from_8.len() {
@@ -121,7 +121,7 @@ fn out_of_bounds() -> ! {
     panic!("the source reads bytes that aren't there")
 }
 
-/// Defines an identity whose result the optimizer can't see through. It emits no instruction.
+/// Defines an identity whose result is hidden from the optimizer. It emits no instruction.
 macro_rules! opaque {
     ($(#[$meta:meta])* $name:ident, $word:ty, $template:literal) => {
         $(#[$meta])*

@@ -1,5 +1,5 @@
 // SPDX-License-Identifier: MIT
-//! Streams of XXH3, over the erased source. One stream answers both widths.
+//! Streams of XXH3, over the erased source. One stream has values of both widths.
 #![allow(
     dead_code,
     reason = "each hash is a feature, and so are the calls that it makes"
@@ -14,10 +14,10 @@ use crate::erased::twox_core::xxhash3::{
 use crate::kernels;
 use crate::library::secret_of_stream;
 
-/// Pieces of up to so many bytes are kept in the caller.
+/// Chunks of up to this many bytes are buffered inline.
 const FEW: usize = 64;
 
-/// A stream of XXH3, beside its secret.
+/// A stream of XXH3 without its secret.
 #[derive(Clone)]
 pub struct Stream {
     seed: u64,
@@ -25,7 +25,7 @@ pub struct Stream {
 }
 
 impl Stream {
-    /// A stream of no bytes yet.
+    /// Creates a stream of no bytes.
     #[inline(always)]
     pub fn new(seed: u64) -> Self {
         Stream {
@@ -39,7 +39,7 @@ impl Stream {
         self.core.total_bytes == 0
     }
 
-    /// Keeps the first eight bytes of a stream.
+    /// Buffers the first eight bytes of a stream.
     #[inline(always)]
     pub fn keep_first(&mut self, word: u64) {
         self.core.buffer[..8].copy_from_slice(&word.to_ne_bytes());
@@ -47,7 +47,7 @@ impl Stream {
         self.core.total_bytes = 8;
     }
 
-    /// The bytes of the stream if they are eight, and its seed.
+    /// Returns the bytes of the stream if they are eight, and its seed.
     #[inline(always)]
     pub fn only_word(&self) -> Option<(&[u8; 8], u64)> {
         if self.core.total_bytes == 8 {
@@ -57,7 +57,7 @@ impl Stream {
         }
     }
 
-    /// Adds a piece. One that the buffer has room for is kept in the caller.
+    /// Hashes a chunk. One that fits the buffer is buffered inline.
     #[inline(always)]
     pub fn write(&mut self, secret: &[u8], input: &[u8]) {
         let secret = secret_of_stream(secret);

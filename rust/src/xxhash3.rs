@@ -1,5 +1,5 @@
 // SPDX-License-Identifier: MIT
-//! What both widths of XXH3 share: secrets and why one is refused, and streams beside their secrets.
+//! Code shared by both widths of XXH3: secrets and the errors for invalid ones, and streams with their secrets.
 
 #[cfg(feature = "alloc")]
 use alloc::boxed::Box;
@@ -8,10 +8,10 @@ use core::fmt;
 use crate::library;
 use crate::streams::Stream;
 
-/// The fewest bytes that a secret may have.
+/// Minimum length of a secret, in bytes.
 pub const SECRET_MINIMUM_LENGTH: usize = 136;
 
-/// How many bytes the default secret has, and the one that a seed derives.
+/// Length of the default secret, and of one derived from a seed, in bytes.
 pub const DEFAULT_SECRET_LENGTH: usize = 192;
 
 pub(crate) use crate::erased::twox_core::xxhash3::DEFAULT_SECRET_RAW;
@@ -22,9 +22,9 @@ pub(crate) static DEFAULT_SECRET: [u8; DEFAULT_SECRET_LENGTH] = DEFAULT_SECRET_R
 
 const DEFAULT_SECRET_VALUE: &[u8; DEFAULT_SECRET_LENGTH] = &DEFAULT_SECRET_RAW;
 
-// ---- Why a secret is refused ----
+// ---- Errors for secrets ----
 
-/// Its text, and its name in the `Debug` text of what holds it.
+/// Its text, and its name in the `Debug` text of the errors that contain it.
 #[derive(Debug)]
 struct Error(());
 
@@ -37,7 +37,7 @@ impl fmt::Display for Error {
     }
 }
 
-/// A one-shot was handed a secret of fewer than [`SECRET_MINIMUM_LENGTH`] bytes, and needed it.
+/// The error of a one-shot that needed a secret, for one of fewer than [`SECRET_MINIMUM_LENGTH`] bytes.
 #[derive(Debug)]
 pub struct OneshotWithSecretError(Error);
 
@@ -56,14 +56,14 @@ impl fmt::Display for OneshotWithSecretError {
 
 impl core::error::Error for OneshotWithSecretError {}
 
-/// Defines an error that hands back what was handed in, whatever that is.
+/// Defines an error that returns what was passed in, of any type.
 macro_rules! refused {
     ($(#[$meta:meta])* $name:ident, $($text:tt)+) => {
         $(#[$meta])*
         pub struct $name<S>(S);
 
         impl<S> $name<S> {
-            /// What was handed in, unchanged.
+            /// Returns what was passed in, unchanged.
             pub fn into_secret(self) -> S {
                 self.0
             }
@@ -86,12 +86,12 @@ macro_rules! refused {
 }
 
 refused! {
-    /// A stream was handed a secret of fewer than [`SECRET_MINIMUM_LENGTH`] bytes.
+    /// The error of a stream for a secret of fewer than [`SECRET_MINIMUM_LENGTH`] bytes.
     SecretTooShortError, "{}", Error(())
 }
 
 refused! {
-    /// The room for the secret that a seed derives has not [`DEFAULT_SECRET_LENGTH`] bytes.
+    /// The error for a buffer of a derived secret that is not exactly [`DEFAULT_SECRET_LENGTH`] bytes long.
     SecretWithSeedError, "The secret must be exactly {DEFAULT_SECRET_LENGTH} bytes"
 }
 
@@ -101,30 +101,30 @@ refused! {
 ///
 /// # Safety
 ///
-/// `as_ref` gives equally many bytes at each call. A stream panics where it doesn't.
+/// `as_ref` returns equally many bytes at each call. Otherwise a stream panics.
 pub unsafe trait FixedBuffer: AsRef<[u8]> {}
 
-/// Bytes that the secret of a seed can be written to.
+/// Bytes that the secret derived from a seed can be written to.
 ///
 /// # Safety
 ///
-/// `as_mut` gives the bytes that `as_ref` gives, and equally many at each call.
+/// `as_mut` returns the bytes that `as_ref` returns, and equally many at each call.
 pub unsafe trait FixedMutBuffer: FixedBuffer + AsMut<[u8]> {}
 
-// SAFETY: the length of an array is its type's.
+// SAFETY: the length of an array is fixed by its type.
 unsafe impl<const N: usize> FixedBuffer for [u8; N] {}
-// SAFETY: as above, and both calls give the array.
+// SAFETY: as above, and both calls return the array.
 unsafe impl<const N: usize> FixedMutBuffer for [u8; N] {}
-// SAFETY: the length of an array is its type's.
+// SAFETY: the length of an array is fixed by its type.
 unsafe impl<const N: usize> FixedBuffer for &[u8; N] {}
-// SAFETY: the length of an array is its type's.
+// SAFETY: the length of an array is fixed by its type.
 unsafe impl<const N: usize> FixedBuffer for &mut [u8; N] {}
-// SAFETY: as above, and both calls give the array.
+// SAFETY: as above, and both calls return the array.
 unsafe impl<const N: usize> FixedMutBuffer for &mut [u8; N] {}
 // SAFETY: nothing changes the length of a boxed slice.
 #[cfg(feature = "alloc")]
 unsafe impl FixedBuffer for Box<[u8]> {}
-// SAFETY: as above, and both calls give the slice.
+// SAFETY: as above, and both calls return the slice.
 #[cfg(feature = "alloc")]
 unsafe impl FixedMutBuffer for Box<[u8]> {}
 
@@ -136,7 +136,7 @@ pub struct SecretBuffer<S> {
 }
 
 impl<S> SecretBuffer<S> {
-    /// The secret.
+    /// Returns the secret.
     ///
     /// ```
     /// use twox_hash::xxhash3_64::{SecretBuffer, DEFAULT_SECRET_LENGTH};
@@ -149,11 +149,12 @@ impl<S> SecretBuffer<S> {
 }
 
 impl<S: FixedBuffer> SecretBuffer<S> {
-    /// The seed and the secret as they are: up to 240 bytes the seed has an effect, above the secret.
+    /// Creates a buffer of the seed and the secret as they are: up to 240 bytes the seed has an effect, above that the
+    /// secret.
     ///
     /// # Errors
     ///
-    /// The secret has fewer than [`SECRET_MINIMUM_LENGTH`] bytes, and comes back.
+    /// Returns the secret in the error if it has fewer than [`SECRET_MINIMUM_LENGTH`] bytes.
     ///
     /// ```
     /// use twox_hash::xxhash3_64::SecretBuffer;
@@ -171,11 +172,11 @@ impl<S: FixedBuffer> SecretBuffer<S> {
 }
 
 impl<S: FixedMutBuffer> SecretBuffer<S> {
-    /// The seed and the secret that it derives, which is written to `secret`.
+    /// Creates a buffer of the seed and the secret derived from it, which is written to `secret`.
     ///
     /// # Errors
     ///
-    /// `secret` has not [`DEFAULT_SECRET_LENGTH`] bytes, and comes back as it was.
+    /// Returns the unchanged `secret` in the error if it is not exactly [`DEFAULT_SECRET_LENGTH`] bytes long.
     ///
     /// ```
     /// use twox_hash::xxhash3_64::SecretBuffer;
@@ -197,7 +198,7 @@ impl<S: FixedMutBuffer> SecretBuffer<S> {
 }
 
 impl SecretBuffer<&'static [u8; DEFAULT_SECRET_LENGTH]> {
-    /// The seed 0 and the default secret, which take no memory.
+    /// Creates a buffer of the seed 0 and the default secret. Allocates nothing.
     ///
     /// ```
     /// use std::hash::Hasher as _;
@@ -217,7 +218,7 @@ impl SecretBuffer<&'static [u8; DEFAULT_SECRET_LENGTH]> {
 
 #[cfg(feature = "alloc")]
 impl SecretBuffer<Box<[u8]>> {
-    /// The seed 0 and the default secret, in memory of its own.
+    /// Creates a buffer of the seed 0 and the default secret, allocated.
     ///
     /// ```
     /// use twox_hash::xxhash3_64::SecretBuffer;
@@ -232,7 +233,7 @@ impl SecretBuffer<Box<[u8]>> {
         }
     }
 
-    /// The seed and the secret that it derives, in memory of its own.
+    /// Creates a buffer of the seed and the secret derived from it, allocated.
     ///
     /// ```
     /// use twox_hash::xxhash3_64::SecretBuffer;
@@ -247,11 +248,11 @@ impl SecretBuffer<Box<[u8]>> {
         }
     }
 
-    /// The seed and the secret as they are, as [`new`](Self::new) takes them.
+    /// Creates a buffer of the seed and the secret as they are, as [`new`](Self::new) does.
     ///
     /// # Errors
     ///
-    /// The secret has fewer than [`SECRET_MINIMUM_LENGTH`] bytes, and comes back.
+    /// Returns the secret in the error if it has fewer than [`SECRET_MINIMUM_LENGTH`] bytes.
     ///
     /// ```
     /// use twox_hash::xxhash3_64::SecretBuffer;
@@ -269,8 +270,8 @@ impl SecretBuffer<Box<[u8]>> {
 
 // ---- Streams ----
 
-/// Bytes that a stream's secret lies in. Whoever has `S: FixedBuffer` has this, and so has a stream whose secret may
-/// be the default one.
+/// The secret of a stream. Every `S: FixedBuffer` implements it, and so does the secret of a stream that may use the
+/// default one.
 pub(crate) trait Secret {
     fn bytes(&self) -> &[u8];
 }
@@ -282,7 +283,7 @@ impl<S: FixedBuffer> Secret for S {
     }
 }
 
-/// A secret in memory of its own, or the default one, which needs none.
+/// An allocated secret, or the default one, which needs no allocation.
 #[cfg(feature = "alloc")]
 #[derive(Clone)]
 pub(crate) enum Owned {
@@ -311,7 +312,7 @@ impl Secret for Owned {
     }
 }
 
-/// The library's stream beside its secret, which is handed in at each call.
+/// The library's stream with its secret, which is passed to each call.
 #[derive(Clone)]
 pub(crate) struct Beside<S> {
     stream: Stream,
@@ -394,9 +395,9 @@ impl<S: Secret> Beside<S> {
     }
 }
 
-// ---- What both modules define ----
+// ---- Shared definitions of both modules ----
 
-/// Defines the hashers of a width, but for their calls `write` and `finish`.
+/// Defines the hashers of a width, except their calls `write` and `finish`.
 macro_rules! xxh3_hashers {
     ($name:literal, $alias:ident, $module:ident, $value:ty, $finish:ident, $hasher:literal,
      $oneshot:ident, $with_seed:ident, $with_secret:ident, $with_seed_and_secret:ident) => {
@@ -430,7 +431,7 @@ macro_rules! xxh3_hashers {
         }
 
         impl Hasher {
-            /// The hash of all bytes at once, with the default secret and the seed 0.
+            /// Hashes all bytes at once, with the default secret and the seed 0.
             ///
             /// ```
             #[doc = concat!("use twox_hash::", stringify!($alias), " as Hash;")]
@@ -443,8 +444,8 @@ macro_rules! xxh3_hashers {
                 library::$oneshot(input)
             }
 
-            /// The hash of all bytes at once, with a seed: up to 240 bytes with the default secret, above with the one
-            /// that the seed derives.
+            /// Hashes all bytes at once, with a seed: up to 240 bytes with the default secret, above that with the one
+            /// derived from the seed.
             ///
             /// ```
             #[doc = concat!("use twox_hash::", stringify!($alias), " as Hash;")]
@@ -457,11 +458,11 @@ macro_rules! xxh3_hashers {
                 library::$with_seed(input, seed)
             }
 
-            /// The hash of all bytes at once, with a secret and the seed 0, at every length.
+            /// Hashes all bytes at once, with a secret and the seed 0, at every length.
             ///
             /// # Errors
             ///
-            /// The secret has fewer than [`SECRET_MINIMUM_LENGTH`] bytes.
+            /// If the secret has fewer than [`SECRET_MINIMUM_LENGTH`] bytes.
             ///
             /// ```
             #[doc = concat!("use twox_hash::", stringify!($alias), " as Hash;")]
@@ -477,12 +478,12 @@ macro_rules! xxh3_hashers {
                 library::$with_secret(input, secret).map_err(|_| OneshotWithSecretError::new())
             }
 
-            /// The hash of all bytes at once: up to 240 bytes with the seed and the default secret, above with the
-            /// secret alone.
+            /// Hashes all bytes at once: up to 240 bytes with the seed and the default secret, above that with only
+            /// the secret.
             ///
             /// # Errors
             ///
-            /// There are more than 240 bytes, and the secret has fewer than [`SECRET_MINIMUM_LENGTH`].
+            /// If there are more than 240 bytes, and the secret has fewer than [`SECRET_MINIMUM_LENGTH`].
             ///
             /// ```
             #[doc = concat!("use twox_hash::", stringify!($alias), " as Hash;")]
@@ -504,7 +505,7 @@ macro_rules! xxh3_hashers {
 
         #[cfg(feature = "alloc")]
         impl Hasher {
-            /// A stream of no bytes yet, with the seed 0 and the default secret.
+            /// Creates a stream of no bytes, with the seed 0 and the default secret.
             #[inline]
             pub fn new() -> Self {
                 Self {
@@ -512,7 +513,7 @@ macro_rules! xxh3_hashers {
                 }
             }
 
-            /// A stream of no bytes yet, with a seed and the secret that it derives.
+            /// Creates a stream of no bytes, with a seed and the secret derived from it.
             #[inline]
             pub fn with_seed(seed: u64) -> Self {
                 Self {
@@ -520,11 +521,11 @@ macro_rules! xxh3_hashers {
                 }
             }
 
-            /// A stream of no bytes yet, with a seed and a secret.
+            /// Creates a stream of no bytes, with a seed and a secret.
             ///
             /// # Errors
             ///
-            /// The secret has fewer than [`SECRET_MINIMUM_LENGTH`] bytes, and comes back.
+            /// Returns the secret in the error if it has fewer than [`SECRET_MINIMUM_LENGTH`] bytes.
             ///
             /// ```
             #[doc = concat!("use twox_hash::", stringify!($alias), " as Hash;")]
@@ -543,7 +544,7 @@ macro_rules! xxh3_hashers {
                 })
             }
 
-            /// The secret.
+            /// Returns the secret.
             ///
             /// ```
             #[doc = concat!("assert_eq!(twox_hash::", stringify!($alias), "::new().into_secret().len(), 192);")]
@@ -575,13 +576,13 @@ macro_rules! xxh3_hashers {
         pub struct RawHasher<S>(Beside<S>);
 
         impl<S> RawHasher<S> {
-            /// A stream of no bytes yet, with this seed and secret.
+            /// Creates a stream of no bytes, with this seed and secret.
             #[inline]
             pub fn new(secret_buffer: SecretBuffer<S>) -> Self {
                 Self(secret_buffer.into())
             }
 
-            /// The secret.
+            /// Returns the secret.
             pub fn into_secret(self) -> S {
                 self.0.into_secret()
             }

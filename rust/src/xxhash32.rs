@@ -1,5 +1,5 @@
 // SPDX-License-Identifier: MIT
-//! XXH32, of 32 bits.
+//! XXH32.
 
 plain_hash! {
     "XXH32", XxHash32, xxhash32, u32, 16, Record32,
@@ -21,8 +21,8 @@ const fn initial_accumulators(seed: u32) -> [u32; 4] {
 }
 
 impl Hasher {
-    /// The hash of the bytes so far. More may be written afterwards. What [`finish`](hash::Hasher::finish) answers is
-    /// the same number as 64 bits, of which the high half is 0.
+    /// Returns the hash of the bytes written so far. More can be written afterwards. [`finish`](hash::Hasher::finish)
+    /// returns the same number as 64 bits, with the high half 0.
     ///
     /// ```
     /// let hasher = twox_hash::XxHash32::with_seed(0);
@@ -34,7 +34,7 @@ impl Hasher {
         hash::Hasher::finish(self) as u32
     }
 
-    /// The low 32 bits of [`total_len`](Self::total_len), as the hash takes them in.
+    /// Returns the low 32 bits of [`total_len`](Self::total_len), which the hash uses.
     ///
     /// ```
     /// assert_eq!(twox_hash::XxHash32::with_seed(7).total_len_32(), 0);

@@ -1,5 +1,5 @@
 // SPDX-License-Identifier: MIT
-//! XXH3 of 128 bits.
+//! XXH3 128-bit.
 
 use crate::library;
 
@@ -10,7 +10,7 @@ xxh3_hashers! {
 
 #[cfg(feature = "alloc")]
 impl Hasher {
-    /// Takes the bytes of a piece after those taken before.
+    /// Hashes a chunk after the bytes before.
     ///
     /// ```
     /// use twox_hash::XxHash3_128;
@@ -25,7 +25,7 @@ impl Hasher {
         self.stream.write(input);
     }
 
-    /// The hash of the bytes so far. More may be written afterwards.
+    /// Returns the hash of the bytes written so far. More can be written afterwards.
     #[inline]
     pub fn finish_128(&self) -> u128 {
         self.stream.finish_128()
@@ -33,13 +33,13 @@ impl Hasher {
 }
 
 impl<S: FixedBuffer> RawHasher<S> {
-    /// Takes the bytes of a piece after those taken before.
+    /// Hashes a chunk after the bytes before.
     #[inline]
     pub fn write(&mut self, input: &[u8]) {
         self.0.write(input);
     }
 
-    /// The hash of the bytes so far. More may be written afterwards.
+    /// Returns the hash of the bytes written so far. More can be written afterwards.
     #[inline]
     pub fn finish_128(&self) -> u128 {
         self.0.finish_128()

@@ -1,5 +1,5 @@
 // SPDX-License-Identifier: MIT
-//! XXH3 of 64 bits.
+//! XXH3 64-bit.
 
 use core::hash;
 

@@ -1,5 +1,5 @@
 // SPDX-License-Identifier: MIT
-//! XXH64, of 64 bits.
+//! XXH64.
 
 plain_hash! {
     "XXH64", XxHash64, xxhash64, u64, 32, Record64,

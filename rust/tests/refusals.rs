@@ -1,5 +1,5 @@
 // SPDX-License-Identifier: MIT
-//! What is refused, by which words, and what comes back.
+//! What is refused, the error texts, and what is returned in the errors.
 #![cfg(feature = "alloc")]
 
 use twox_hash::xxhash3_64::{RawHasher, SecretBuffer};
@@ -59,7 +59,7 @@ impl AsRef<[u8]> for Shrinking {
     }
 }
 
-// SAFETY: none: this breaks the promise, to see that a stream notices.
+// SAFETY: none: this breaks the promise, to test that a stream detects it.
 unsafe impl twox_hash::xxhash3_64::FixedBuffer for Shrinking {}
 
 #[test]

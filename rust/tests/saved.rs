@@ -1,5 +1,5 @@
 // SPDX-License-Identifier: MIT
-//! Saved hashers of XXH32 and XXH64: which texts are taken, and which are refused.
+//! Saved hashers of XXH32 and XXH64: which texts are accepted, and which are refused.
 #![cfg(feature = "serialize")]
 
 use std::hash::Hasher as _;

@@ -1,5 +1,5 @@
 // SPDX-License-Identifier: MIT
-//! What holds of the types: bounds, sizes, constants, and hashers in maps.
+//! Properties of the types: bounds, sizes, constants, and hashers in maps.
 #![cfg(all(feature = "std", feature = "random"))]
 
 use std::collections::HashMap;

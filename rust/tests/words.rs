@@ -1,5 +1,5 @@
 // SPDX-License-Identifier: MIT
-//! Whole words, as a map's keys are: what is hashed of them is their bytes, first, later and saved.
+//! Whole words, such as a map's keys: their bytes are hashed, first, later and saved.
 #![cfg(all(feature = "std", feature = "random"))]
 
 use std::hash::{BuildHasher, Hasher};

@@ -1,5 +1,5 @@
 #!/usr/bin/env python3
-"""Measures modules in a headless browser, as run.mjs does in Node:
+"""Benchmarks modules in a headless browser, as run.mjs does in Node:
 
     web/bench_c/in_browser.py chromium | firefox | webkit ROUNDS NAME=FILE.."""
 import json
@@ -18,7 +18,7 @@ from page import Requests, Served
 
 
 class Isolated(Requests):
-    """Says that the page shares nothing with other sites, for which a browser's clock is a fine one."""
+    """Declares that the page shares nothing with other sites, so that the browser's clock is precise."""
 
     def end_headers(self):
         self.send_header("Cross-Origin-Opener-Policy", "same-origin")

@@ -1,10 +1,11 @@
 #!/usr/bin/env python3
-"""Measures how fast the page's worker hashes a large file in a headless browser, beside what the browser reads:
+"""Measures how fast the page's worker hashes a large file in a headless browser, compared with reading only:
 
     web/bench_c/large.py chromium | firefox | webkit [MIB [TURNS]]
 
-It prints GB/s, the best and the median turn of each: reading alone, as the page reads; all four hashes, as the page computes
-them; and each hash alone, by `hashBlob`. They take turns, over one file of 1,024 MiB that lies in the system's cache."""
+It prints GB/s, the best and the median turn of each: only reading, as the page reads; all four hashes, as the page
+computes them; and each hash separately, by `hashBlob`. They take turns, over one file of 1,024 MiB in the system's
+cache."""
 import os
 import sys
 import tempfile
@@ -18,7 +19,7 @@ from browser import Chromium, Firefox, WebKit
 from page import Served
 
 MIB = 1 << 20
-# As streams.js reads: four pieces ahead.
+# As streams.js reads: four chunks ahead.
 READER = """
 onmessage = async ({ data }) => {
   const [size, piece, reads] = [data.size, 8 * 1024 * 1024, []];

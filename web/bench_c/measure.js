@@ -1,7 +1,8 @@
 /**
- * Measures modules beside each other, in Node and in a page: calls from JavaScript over bytes that lie in a module's memory,
- * one-shots and streams in pieces. All modules take turns in each round, so that what slows the machine slows all of them.
- * Turns are short: of turns of 8 ms on a busy machine most lose the processor once, and their median says little.
+ * Benchmarks modules against each other, in Node and in a page: calls from JavaScript over bytes in a module's
+ * memory, one-shots and streams in chunks. All modules take turns in each round, so that a slow machine slows all of
+ * them. Turns are short: on a busy machine most turns of 8 ms are interrupted once, which makes their median
+ * useless.
  */
 const LENGTHS = [16, 240, 1024, 65536, 1 << 20];
 const PIECES = [1000, 65536];
@@ -38,7 +39,7 @@ class Module {
     this.view = new DataView(exports.memory.buffer, this.value, 16);
   }
 
-  /** A call without arguments that gives the hash of the first bytes. */
+  /** A call without arguments that returns the hash of the first bytes. */
   oneshot(kind, length) {
     const { input, value } = this;
     const call = this.calls[`${this.isOurs ? "twox" : "peer"}_${kind}`];
@@ -47,7 +48,7 @@ class Module {
     return kind === "xxh3_64" ? () => call(input, length) : () => call(input, length, value);
   }
 
-  /** A call that gives the hash of pieces of that length. */
+  /** A call that returns the hash of chunks of that length. */
   stream(kind, size) {
     const total = size < 5000 ? TOTAL / 4 : TOTAL;
     const pieces = [];
@@ -91,7 +92,7 @@ class Module {
     };
   }
 
-  /** What a call answers, in one form for all. */
+  /** The result of a call, in one form for all. */
   answer(kind, call) {
     const value = call();
     if (kind === "xxh3_128") return `${this.view.getBigUint64(8, true)} ${this.view.getBigUint64(0, true)}`;
@@ -99,14 +100,14 @@ class Module {
   }
 }
 
-/** Nanoseconds of one call, over so many. */
+/** Nanoseconds of one call, over this many. */
 function timed(call, times) {
   const start = performance.now();
   for (let i = 0; i < times; i += 1) call();
   return (performance.now() - start) / times * 1e6;
 }
 
-/** Nanoseconds of a call in the shortest turn of so long. */
+/** Nanoseconds of a call in the shortest turn of this length. */
 function shortestIn(call, milliseconds) {
   const end = performance.now() + milliseconds;
   let shortest = Infinity;
@@ -114,7 +115,7 @@ function shortestIn(call, milliseconds) {
   return shortest;
 }
 
-/** Calls until the engine has compiled all for good, after which turns are no shorter. */
+/** Calls until the engine has compiled everything, after which turns get no shorter. */
 function warm(call) {
   let before = Infinity;
   let now = shortestIn(call, WARM_MILLISECONDS);
@@ -124,11 +125,11 @@ function warm(call) {
   }
 }
 
-/** How many calls a turn has. */
+/** The number of calls of a turn. */
 function timesFor(call) {
   warm(call);
   let times = 1;
-  // Of three turns the shortest, since one during which the machine did something else would end it too early.
+  // The shortest of three turns, since one with an interruption would end it too early.
   const shortest = () => Math.min(timed(call, times), timed(call, times), timed(call, times)) * times;
   while (times < 1e6 && shortest() < TURN_MILLISECONDS * 1e6) times *= 2;
   return times;
@@ -150,7 +151,7 @@ function row(modules, kind, form, size, rounds) {
   return { kind, form, size, times: Object.fromEntries(modules.map(({ name }, i) => [name, of(taken[i].sort((a, b) => a - b))])) };
 }
 
-/** Rows of the best and the median nanoseconds of each module, which is given as `{ name, bytes }`. */
+/** Rows of the best and the median nanoseconds of each module, given as `{ name, bytes }`. */
 export function* measure(given, rounds) {
   const modules = given.map((it) => new Module(it));
   for (const kind of KINDS) {

@@ -1,4 +1,4 @@
-/* The reference library's header for WebAssembly: one-shots and pieces. The memory is the host's to fill. */
+/* The reference library's header for WebAssembly: one-shots and chunks. The host fills the memory. */
 #define XXH_INLINE_ALL
 #define XXH_STATIC_LINKING_ONLY
 #include <xxhash.h>

@@ -1,4 +1,4 @@
-// Measures modules in Node, and prints a row of JSON a line:
+// Benchmarks modules in Node, and prints one row of JSON per line:
 //
 //     node web/bench_c/run.mjs ROUNDS NAME=FILE..
 import { readFile } from "node:fs/promises";

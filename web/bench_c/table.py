@@ -1,12 +1,12 @@
 #!/usr/bin/env python3
-"""Prints what was measured as the table of docs/SPEED.md (bench/data/web.tsv):
+"""Prints the measurements as the table of docs/SPEED.md (bench/data/web.tsv):
 
     web/bench_c/table.py NAME=FILE..
 
-FILE has the rows of JSON that run.mjs prints, of each pass, and NAME is the engine's. A cell has the median time of a header
-over ours: of the module with vectors beside the fastest header of all, and of the one without beside the fastest header
-without. It is the median of those passes in which the header's median is within a tenth of its least: in others the machine
-did something else."""
+FILE has the rows of JSON that run.mjs prints, of each pass, and NAME is the engine's. A cell has the median time of
+a header over ours: the module with vectors against the fastest header of all, and the module without against the
+fastest header without. It is the median of those passes in which the header's median is within a tenth of its
+minimum: in the others the machine was busy."""
 import json
 import statistics
 import sys
@@ -39,7 +39,7 @@ def size_of(row):
 
 
 def table(runs):
-    """A row a hash and engine, with a column for each size: with vectors, and without."""
+    """One row for each hash and engine, with a column for each size: with vectors, and without."""
     sizes = list(dict.fromkeys(size_of(row) for rows in runs.values() for row in rows))
     print("|", " | ".join(["with vectors, without", *sizes]), "|")
     print("|---" * (1 + len(sizes)) + "|")

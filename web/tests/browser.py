@@ -1,5 +1,5 @@
-"""Browsers with no screen, driven over WebDriver by Python's own library: Chromium and WebKit by their drivers, and Firefox,
-of which Debian has no driver, by the protocol Marionette, which has the same commands over a socket."""
+"""Headless browsers, driven over WebDriver by Python's own library: Chromium and WebKit by their drivers, and
+Firefox, for which Debian has no driver, by the protocol Marionette, which has the same commands over a socket."""
 import base64
 import glob
 import json
@@ -25,7 +25,7 @@ def free_port():
 
 
 class Browser:
-    """One window. `close` ends all that was started."""
+    """One window. `close` ends everything that was started."""
 
     def __init__(self, width=1000, height=1400):
         self.room = tempfile.mkdtemp(prefix="twox-browser-")
@@ -42,7 +42,7 @@ class Browser:
         self.process = subprocess.Popen(words, start_new_session=True, **quiet, **more)
 
     def until(self, attempt, what, errors):
-        """What the attempt gives, once it gives it."""
+        """The result of the attempt, once there is one."""
         for _ in range(300):
             try:
                 return attempt()
@@ -73,7 +73,7 @@ class Browser:
         self.command("ElementSendKeys", id=self.find(selector), text=text)
 
     def fill(self, selector, text):
-        """Puts text into a field, in place of what it had."""
+        """Puts text into a field, replacing its content."""
         self.command("ElementClear", id=self.find(selector))
         if text:
             self.type(selector, text)
@@ -84,7 +84,7 @@ class Browser:
         self.command("PerformActions", actions=[{"type": "key", "id": "keyboard", "actions": actions}])
 
     def wait(self, script, *arguments, seconds=60):
-        """Waits until the script's value is true, and gives it."""
+        """Waits until the script's value is true, and returns it."""
         end = time.monotonic() + seconds
         while time.monotonic() < end:
             value = self.run(script, *arguments)
@@ -160,7 +160,7 @@ class Chromium(ByDriver):
         return self.request("POST", f"/session/{self.session}/goog/cdp/execute", {"cmd": name, "params": parameters})
 
     def picture(self, last):
-        """What is shown from the top of the page to the end of the element of that id, as a PNG."""
+        """The page from the top to the end of the element of that id, as a PNG."""
         width, height = self.run("const { bottom } = document.getElementById(arguments[0]).getBoundingClientRect(); return [innerWidth, bottom + 24]", last)
         clip = {"x": 0, "y": 0, "width": width, "height": height, "scale": 1}
         return base64.b64decode(self.devtools("Page.captureScreenshot", format="png", captureBeyondViewport=True, clip=clip)["data"])
@@ -178,12 +178,12 @@ class WebKit(ByDriver):
         self.start_session(browserName="MiniBrowser", **{"webkitgtk:browserOptions": options})
 
     def click(self, selector):
-        """By the page: this driver presses where the element was, though the list has moved since."""
+        """By a script on the page: this driver clicks the element's old position if the list has moved since."""
         self.run("document.querySelector(arguments[0]).click()", selector)
 
 
 def mini_browser():
-    """Debian puts it beside WebKit's library."""
+    """Debian installs it with WebKit's library."""
     found = sorted(glob.glob("/usr/lib/*/webkit2gtk-4.*/MiniBrowser"))
     return found[-1] if found else None
 
@@ -201,7 +201,7 @@ class Firefox(Browser):
                    f"--width={width}", f"--height={height}", env={**os.environ, "HOME": self.room})
         self.socket = self.until(lambda: socket.create_connection(("127.0.0.1", self.port), 330), "Firefox", OSError)
         self.file = self.socket.makefile("rb")
-        self.read()  # what it says of itself
+        self.read()  # the server's greeting
         self.number = 0
         self.version = self.command("NewSession", capabilities={"alwaysMatch": {"timeouts": TIMEOUTS}})["browserVersion"]
 
@@ -211,7 +211,7 @@ class Firefox(Browser):
             self.socket.close()
 
     def read(self):
-        """A message: how many bytes it has, a colon, and so many bytes."""
+        """A message: its length in bytes, a colon, and its bytes."""
         length = b""
         while not length.endswith(b":"):
             byte = self.file.read(1)

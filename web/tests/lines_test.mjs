@@ -1,9 +1,9 @@
-// Gives the page's reader the lines of checks/lines.json, which the command is given too (checks/xxhsum-lines), and prints
-// what it takes for something else, as JSON. A line whose digits are little-endian by an option of the command is left out,
-// since the page has no such option.
+// Passes the lines of checks/lines.json to the page's parser, as checks/xxhsum-lines does for xxhsum, and prints the
+// differences as JSON. Lines whose digits are little-endian by an option of the command are left out, since the page
+// has no such option.
 import { readFile } from "node:fs/promises";
 
-/** What the reader at this address takes the line of each row for, where that isn't what the row says. */
+/** The parser's results that differ from the expected ones. */
 export async function misread(address) {
   const { isComment, readLine } = await import(address);
   const rows = JSON.parse(await readFile(new URL("../../checks/lines.json", import.meta.url), "utf8")).filter(({ little }) => !little);

@@ -1,4 +1,4 @@
-"""The page with digests that are expected, with many files, and on a small screen."""
+"""The page with expected digests, with many files, and on a small screen."""
 import os
 import subprocess
 import time
@@ -15,7 +15,7 @@ return { rows: [...item.querySelectorAll("ol li")].map((it) => [it.children[0].t
 
 
 def expected(page):
-    """Every way to write a digest that is right, and the same with its last digit changed."""
+    """Every correct way to write a digest, and the same with its last digit changed."""
     page.set_key("1234")
     page.choose(page.file("some.txt", b"some bytes"))
     page.digests("some.txt")
@@ -49,18 +49,18 @@ def no_digest(page):
 
 
 def other_digests(page):
-    """Digests of other hashes are told by what they are: by their names, by how many digits they have, or as what may be."""
+    """Digests of other hashes are identified: by their names, by their number of digits, or as possible ones."""
     page.choose(page.file("some.txt", b"some bytes"))
     page.digests("some.txt")
     for name, count in (("SHA-1", 40), ("SHA-224", 56), ("SHA-256", 64), ("SHA-384", 96), ("SHA-512", 128)):
         for words in ("ab" * (count // 2), "CD" * (count // 2) + "  some.txt", f"{'ef' * (count // 2)} *some.txt"):
             page.set_field("expected", words)
-            wanted = f"{count} digits: this looks like {name}; this page computes XXH32, XXH64 and XXH3 alone."
+            wanted = f"{count} digits: this looks like {name}; this page computes only XXH32, XXH64 and XXH3."
             want(page.error_of("expected") == [wanted, "true"], page.error_of("expected"))
     for words, name in (("MD5 (some.txt) = " + "ab" * 16, "MD5"), ("sha256:" + "ab" * 32, "sha256"), ("MD5: " + "ab" * 16, "MD5"),
                         ("SHA512 (some.txt) = " + "ab" * 64, "SHA512"), ("crc32 1234abcd", "crc32")):
         page.set_field("expected", words)
-        wanted = f"This is a digest of {name}; this page computes XXH32, XXH64 and XXH3 alone."
+        wanted = f"This is a digest of {name}; this page computes only XXH32, XXH64 and XXH3."
         want(page.error_of("expected") == [wanted, "true"], page.error_of("expected"))
     for words, name in (("ab" * 16, "an MD5"), ("ab" * 16 + "  some.txt", "an MD5"), ("1234abcd", "a CRC-32"), ("XXH128 " + "ab" * 16, "")):
         page.set_field("expected", words)
@@ -70,7 +70,7 @@ def other_digests(page):
 
 
 def among_many(page):
-    """Which of several files it is, and how many are others."""
+    """The matching one of several files, and the number of others."""
     paths = [page.file(f"many{i}.bin", bytes([i])) for i in range(5)]
     page.choose(*paths)
     page.set_field("expected", reference(paths[3])["xxh3_128"])
@@ -79,7 +79,7 @@ def among_many(page):
 
 
 def checked(page, rows, counts):
-    """Waits until the checksum file says so."""
+    """Waits until the checksum file has these rows and counts."""
     said = None
     for _ in range(100):
         said = page.browser.run(ROWS)
@@ -90,7 +90,7 @@ def checked(page, rows, counts):
 
 
 def checksum_file(page):
-    """Lines of xxhsum in each of its forms: of a file as it is, of one that changed, and of one that is not chosen."""
+    """Lines of xxhsum in each of its forms: of an unchanged file, of a changed one, and of one that is not chosen."""
     for number, (kind, words) in enumerate([(kind, words) for kind in XXHSUM for words in ([], ["--tag"], ["--tag", "--little-endian"])]):
         names = [f"right{number}.bin", f"changed{number}.bin", f"absent (1) {number}.bin"]
         paths = [page.file(name, name.encode() * 100) for name in names]
@@ -107,8 +107,8 @@ def checksum_file(page):
 
 
 def under_a_seed(page):
-    """Under a seed, in a section that is closed, a checksum file's rows differ, and that says why. Without it they say
-    nothing until the files are hashed again."""
+    """Under a seed, in a section that is closed, a checksum file's rows differ, and it shows the reason. Without the
+    seed they have no result until the files are hashed again."""
     path = page.file("one.bin", b"one")
     sums = page.file("sums.xxh64", line_of("one.bin", "xxh64", folder=page.room).encode())
     page.set_key("1234")
@@ -127,7 +127,7 @@ def under_a_seed(page):
 
 
 def long_lines(page):
-    """A line of 32,767 bytes is read, as the command reads it, and a longer one is none: one of 16 MB holds nothing up."""
+    """A line of 32,767 bytes is read, as by the command, and a longer one is malformed: one of 16 MB delays nothing."""
     digits = "0" * 32
     for name, row in (("a" * (32767 - 34), "not here"), ("\u00e9" * ((32767 - 34) // 2), "not here"), ("a" * (32767 - 33), None), ("\u00e9" * ((32767 - 34) // 2 + 1), None)):
         page.open()
@@ -147,7 +147,7 @@ def long_lines(page):
 
 
 def improper_lines(page):
-    """Lines that are none are counted; a file with more of them is no checksum file, and one may be hashed as a file."""
+    """Malformed lines are counted; a file with more of them is no checksum file, and may be hashed as a file."""
     path = page.file("one.bin", b"one")
     line = line_of("one.bin", "xxh64", folder=page.room)
     sums = page.file("sums.xxh64", f"# made by hand\r\n\r\n{line.strip()}\r\n{line.strip().upper().replace('ONE.BIN', './one.bin')}\nwhat is this\n".encode())
@@ -190,7 +190,7 @@ def folder_dropped(page):
     return "120 files"
 
 
-# What the page is given as a drop: entries as a browser has them, which a script made.
+# The drop event for the page: entries as in a browser, created by a script.
 DROP = """const event = new Event("drop", { bubbles: true, cancelable: true });
 const fileEntry = (path, file) => ({ isFile: true, isDirectory: false, fullPath: path, file });
 const item = (entry) => ({ kind: "file", webkitGetAsEntry: () => entry, getAsFile: () => null });
@@ -200,7 +200,8 @@ document.body.dispatchEvent(event);"""
 
 
 def odd_items(page):
-    """Of a drop with things that can't be read each is told, and the others are hashed. Hashed again, it is as before."""
+    """In a drop with unreadable items each is reported, and the others are hashed. Hashed again, the result is the
+    same."""
     page.set_key("1234")
     page.browser.run("navigator.clipboard.writeText = async (text) => { window.copied = text; };")
     page.browser.run(DROP % """[item(null), item(fileEntry("/closed.bin", (_, fail) => fail(new DOMException("closed", "NotReadableError")))),
@@ -235,7 +236,7 @@ MILLION = 1_000_000
 
 
 def million_names(page):
-    """A folder of 1,000,000 files is listed, stopped, begun again and hashed as far as one waits for it."""
+    """A folder of 1,000,000 files is listed, stopped, restarted and hashed as far as the check waits."""
     page.set_key("wrong")
     began = time.monotonic()
     page.browser.run(DROP % """[item({ isDirectory: true, fullPath: "/many", createReader: () => {
@@ -260,7 +261,7 @@ def million_names(page):
 
 
 def lines_saved(page):
-    """What is saved passes xxhsum -c, in each hash; what is copied is the same."""
+    """The saved file passes xxhsum -c, for each hash; the copied text is the same."""
     page.browser.devtools("Browser.grantPermissions", permissions=["clipboardReadWrite", "clipboardSanitizedWrite"], origin=page.address.split("/web")[0])
     page.browser.devtools("Browser.setDownloadBehavior", behavior="allow", downloadPath=page.room)
     names = ["a (b).bin", "c d.bin", "e\u00e9\\.bin", "f.bin", "g.bin"]
@@ -306,7 +307,7 @@ MANY = 10_000
 
 
 def many_files(page):
-    """10,000 files with their checksum file, of which one changed: how long it takes, and the longest wait of the page."""
+    """10,000 files with their checksum file, of which one changed: the time, and the longest delay of the page."""
     folder = folder_of(page, "thousands", {f"{i % 100:02}/{i:05}.bin": b"%d" % i for i in range(MANY)})
     names = sorted(os.path.join(at, name)[len(folder) + 1:] for at, _, names in os.walk(folder) for name in names)
     lines = subprocess.run(["xxhsum", "-H3", *names], cwd=folder, capture_output=True, text=True, check=True).stdout
@@ -333,7 +334,7 @@ def many_files(page):
 
 
 def download(page):
-    """A digest that was pasted before: the file that has it ends the search, and one that waited can be hashed still."""
+    """A digest that was pasted before: the file with it ends the search, and one that waited can still be hashed."""
     wanted = page.file("download.iso", b"the right bytes", 30 << 20)
     page.set_field("expected", reference(wanted)["xxh3_128"])
     page.choose(wanted, *[page.file(f"other{i}.iso", b"%d" % i, 3000 << 20) for i in range(3)])
@@ -349,7 +350,7 @@ def download(page):
 
 
 def small_screen(page):
-    """The results come into view, nothing is wider than the screen, and all that is pressed is high enough."""
+    """The results come into view, nothing is wider than the screen, and every button is high enough."""
     page.browser.devtools("Emulation.setDeviceMetricsOverride", width=390, height=844, deviceScaleFactor=1, mobile=True)
     try:
         page.open()
@@ -368,7 +369,7 @@ def small_screen(page):
 
 
 def opened_as_file(page):
-    """The words that say what to do are seen there, and never on a page that is served."""
+    """The instructions are visible there, and never on a page that is served."""
     seen = "const it = document.getElementById('asleep'); return Boolean(it?.checkVisibility({ visibilityProperty: true }) && it.offsetHeight > 20);"
     want(page.browser.run("return document.getElementById('asleep') === null"), "they stay on the page that is served")
     page.browser.go("file://" + os.path.join(WEB, "index.html"))
@@ -398,7 +399,7 @@ LIST_CHECKS = {
     "opened as a file": opened_as_file,
 }
 
-# What is tried in each browser.
+# The checks for each browser.
 IN_EACH_BROWSER = ["an expected digest, in words", "a digest of another hash is told", "what can't be read in a drop is told, and again", "an expected digest among many", "a checksum file with its files",
                    "improper lines of a checksum file", "one file is removed", "10,000 files and their checksum file",
                    "verifying a download"]

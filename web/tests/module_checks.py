@@ -1,4 +1,4 @@
-"""The module as programs meet it: in Node, as a package, in bundles, under a compiler of types and in other engines."""
+"""The module as programs use it: in Node, as a package, in bundles, under a type checker and in other engines."""
 import json
 import os
 import re
@@ -21,7 +21,7 @@ MODULES = ["twox_hash.wasm", "twox_hash_simd.wasm"]
 SAMPLE = "await load(); console.log(toHex(xxh64('some bytes', 1234), 'xxh64'));"
 OF_SAMPLE = "eab55659a496d78b\n"
 TSC = ["tsc", "--strict", "--noEmit", "--target", "es2022", "--module", "node16", "--moduleResolution", "node16"]
-# Bundles for a browser: the file's form, esbuild's words, and how the entry is made there.
+# Bundles for a browser: the file's form, esbuild's options, and how the entry is imported.
 BUNDLES = {
     "with the bytes inside, as one classic script": (["--format=iife"], 'import * as entry from "twox_hash/inline";'),
     "whose modules esbuild puts beside it": (
@@ -32,7 +32,7 @@ BUNDLES = {
     "whose modules lie beside it": (["--format=esm"], 'import * as entry from "twox_hash";'),
     "whose modules lie beside it, as one classic script": (["--format=iife"], 'import * as entry from "twox_hash";'),
 }
-# What engine and flag leave an x86 processor without the vectors of WebAssembly.
+# The engine and flag for an x86 processor without the vectors of WebAssembly.
 WITHOUT_VECTORS = ["--no-enable-sse4-1"]
 
 
@@ -54,14 +54,14 @@ def write(folder, name, text):
 
 
 def all_right(lines):
-    """That no line of the tests tells of a fault, and how many there are."""
+    """Checks that no line of the tests reports a failure, and returns their number."""
     wrong = [f"{line['name']} ({line.get('words', '')})" for line in lines if not line["ok"]]
     want(len(lines) > 1 and not wrong, "; ".join(wrong) or f"{len(lines)} tests")
     return f"{len(lines)} tests"
 
 
 def tests_in_node(folder, node, entry, others="", flags=(), vectors=None, required=False):
-    """The tests of an entry, and of the other ones, under a Node: as the folder's scripts import or require them."""
+    """The tests of an entry, and of the other ones, in a Node: as the folder's scripts import or require them."""
     imports = "".join(f'import * as {name} from "{path}";' for name, path in entry.items())
     if required:
         imports = 'import { createRequire } from "node:module"; const given = createRequire(import.meta.url);' + "".join(
@@ -80,14 +80,14 @@ def tests_of_tree(folder, node, flags=(), vectors=None):
 
 
 def tests_of_module(folder, node, module):
-    """The module's tests with this module, wherever the other would be taken."""
+    """The module's tests with this module, even where the other would be loaded."""
     entry = write(folder, "given.mjs", f'import * as twox from "file://{WEB}/node.js"; export * from "file://{WEB}/node.js";'
                                        f'export const load = () => twox.load("file://{WEB}/{module}");')
     return tests_in_node(folder, node, {"entry": f"file://{entry}"})
 
 
 def wrong_module_is_noticed(folder, node):
-    """A module in which one bit is another, of the default secret of XXH3, fails the tests."""
+    """A module with one bit changed, in the default secret of XXH3, fails the tests."""
     with open(os.path.join(WEB, MODULES[1]), "rb") as file:
         module = bytearray(file.read())
     at = module.find(bytes.fromhex("b8fe6c3923a44bbe"))
@@ -107,7 +107,7 @@ def wrong_module_is_noticed(folder, node):
 
 
 def refused_in_node(folder, node):
-    """Where there is no WebAssembly, that is what is said."""
+    """Without WebAssembly, the error reports that."""
     script = write(folder, "refused.mjs", f"""delete globalThis.WebAssembly;
         const {{ isSupported, load }} = await import("file://{WEB}/node.js");
         await load().catch((error) => console.log(isSupported(), error.name, error.code, error.message));""")
@@ -137,7 +137,7 @@ def text_of(folder, name):
 
 
 def copy_of_clone(folder):
-    """The repository as a user has it from a clone, where nothing was packed or built."""
+    """A user's clone of the repository, in which nothing was packed or built."""
     top = os.path.dirname(WEB)
     must(["git", "-C", top, "checkout-index", "-q", "-a", f"--prefix={folder}/"] if os.path.exists(os.path.join(top, ".git"))
          else ["cp", "-r", top, folder], top)
@@ -150,12 +150,13 @@ def files_of(web):
 
 
 def row_of_page(start):
-    """The second cell of the row of web/README.md that starts so."""
+    """The second cell of the row of web/README.md with this beginning."""
     return re.search(rf"^\| {re.escape(start)} \| (.*) \|$", text_of(WEB, "README.md"), re.M)[1]
 
 
 def installed_as_printed(folder, node):
-    """Each way to install that the page names, its commands in one shell, in a folder beside a clone, which stays as it was."""
+    """Each way to install on the page, its commands in one shell, in a folder next to a clone, which stays
+    unchanged."""
     ways = [re.findall("`([^`]+)`", way) for way in row_of_page("the package, which has no dependencies").split("; or ")]
     want(len(ways) == 2, f"{len(ways)} ways")
     for way in ways:
@@ -174,7 +175,7 @@ def installed_as_printed(folder, node):
 
 
 def without_a_package(node):
-    """The files that the page names, copied, are enough, also where Node doesn't guess what kind of script a file is."""
+    """The files that the page lists, copied, are enough, also if Node doesn't detect the type of a script."""
     names = re.findall("`([^`]+)`", row_of_page("the files without a package"))
     with tempfile.TemporaryDirectory() as room:  # below no other package.json
         for name in names:
@@ -191,7 +192,7 @@ def without_a_package(node):
 
 
 def bundles_for_node(folder, node):
-    """esbuild's bundles for Node, with the modules beside them, run from another folder."""
+    """esbuild's bundles for Node, with the modules next to them, run from another folder."""
     entries = {"import": 'import { load, toHex, xxh64 } from "twox_hash";', "require": 'const { load, toHex, xxh64 } = require("twox_hash");'}
     for given, form, end in (("import", "esm", "mjs"), ("import", "cjs", "cjs"), ("require", "cjs", "cjs")):
         with tempfile.TemporaryDirectory(dir=folder) as room:
@@ -205,7 +206,7 @@ def bundles_for_node(folder, node):
 
 
 def tests_of_commonjs(folder, node):
-    """All tests of the package as `require` gives it, whose names are those that `import` gives."""
+    """All tests of the package by `require`, whose names are those of `import`."""
     with open(os.path.join(folder, "commonjs.cjs"), "w", encoding="utf-8") as file:
         file.write("""const entries = ["twox_hash", "twox_hash/streams", "twox_hash/inline", "twox_hash/xxhash-wasm"];
             module.exports = Object.fromEntries(entries.map((name) => [name, require(name)]));
@@ -226,7 +227,7 @@ def tests_of_commonjs(folder, node):
 
 
 def page_example(folder, node):
-    """The examples of web/README.md give what they say, in the package's own folder."""
+    """The examples of web/README.md have the printed results, in the package's own folder."""
     with open(os.path.join(WEB, "README.md"), encoding="utf-8") as file:
         examples = re.findall(r"```js\n(.*?)```", file.read(), re.S)
     same = "function same(value, expected) { if (value !== expected) throw new Error(`${value} instead of ${expected}`); }"
@@ -241,7 +242,7 @@ def page_example(folder, node):
 
 
 def types(folder):
-    """The types, of `import` and of `require`, and where a program has no types of a browser."""
+    """The types, of `import` and of `require`, and in a program without types of a browser."""
     for name in ("types.ts", "types.cts"):
         shutil.copy(os.path.join(HERE, "types.ts"), os.path.join(folder, name))
         must([*TSC, "--lib", "es2022,dom", name], folder)
@@ -250,7 +251,7 @@ def types(folder):
 
 
 def bundle(folder, name, words, entry):
-    """Writes the bundle's page, and gives its address."""
+    """Writes the bundle's page, and returns its address."""
     out = os.path.join(folder, name)
     os.makedirs(out)
     app = write(folder, f"{name}.js", f'{entry} import {{ runTests }} from "{HERE}/module_tests.js";'
@@ -270,7 +271,7 @@ def tests_in_bundle(browser, address, folder, name, words, entry):
     return all_right(browser.run("""return tests(await (await fetch("/oracle/vectors.txt")).text(), arguments[0]);""", long_digests()))
 
 
-# A page with no bundle, whose script asks for the files of this folder.
+# A page with no bundle, whose script imports the files of this folder.
 TESTS_PAGE = """<!doctype html><title>tests</title><script type=module>
 import * as twox from "/web/twox_hash.js";
 import * as streams from "/web/streams.js";
@@ -301,14 +302,14 @@ def tests_in_jsc(module, vectors):
 
 
 def jsc():
-    """Debian puts it beside WebKit's library."""
+    """Debian installs it with WebKit's library."""
     folders = [f"/usr/lib/x86_64-linux-gnu/javascriptcoregtk-{it}" for it in ("4.0", "4.1")]
     found = [f"{it}/jsc" for it in folders if os.path.exists(f"{it}/jsc")]
     return found[0] if found else shutil.which("jsc")
 
 
 def lines_read(folder):
-    """The lines of checks/lines.json as the page reads them; a reader that takes each for nothing is noticed."""
+    """The lines of checks/lines.json as the page reads them; a parser that accepts none is detected."""
     nothing = write(folder, "nothing.mjs", "export const isComment = () => false; export const readLine = () => null;")
     script = write(folder, "lines.mjs", f'import {{ misread }} from "file://{HERE}/lines_test.mjs";'
                                         "console.log(JSON.stringify(await misread(process.argv[2])));")
@@ -319,7 +320,7 @@ def lines_read(folder):
 
 
 def sums_are_right():
-    """The modules that stand here have the sums that stand beside them."""
+    """The modules of this folder have the sums in its SHA256SUMS."""
     return must(["sha256sum", "--check", "SHA256SUMS"], WEB).strip().replace("\n", ", ")
 
 

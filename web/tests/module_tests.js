@@ -1,18 +1,18 @@
 /**
- * The tests of the module by any of its entries, for Node and for a browser. Each is one line of what is looked at;
- * the values are the reference library's, of oracle/vectors.txt and of xxhsum.
+ * The tests of the module by any of its entries, for Node and for a browser. Each is one line of output; the values
+ * are the reference library's, of oracle/vectors.txt and of xxhsum.
  */
 
-/** The entry that is tested, as the namespace that `import * as twox` gives. */
+/** The entry under test, as the namespace of `import * as twox`. */
 let twox;
 
-/** Of each hash's rows one in so many is tried, and every one of long inputs. */
+/** The tests use one in this many of each hash's test cases, and every one of long inputs. */
 const STRIDE = 40;
 const LONG = 65535;
 
 const KIND_OF = { 32: "xxh32", 64: "xxh64", "3-64": "xxh3_64", "3-128": "xxh3_128" };
 
-/** The bytes that a row stands for: oracle/vectors.c says which. */
+/** Returns the bytes of a test case: oracle/vectors.c defines them. */
 function drawn(start, length) {
   const bytes = new Uint8Array(length);
   let x = start;
@@ -23,7 +23,7 @@ function drawn(start, length) {
   return bytes;
 }
 
-/** A row of the table: a request, and the reference library's answer. */
+/** A test case of the table: a request, and the reference library's result. */
 class Row {
   constructor(line) {
     const [hash, seed, secret, length, start, answer] = line.split(" ");
@@ -37,7 +37,7 @@ class Row {
     this.answer = BigInt(`0x${answer}`);
   }
 
-  /** The bytes are drawn where they are needed, since there are some 20,000 rows. */
+  /** The bytes are generated when they are needed, since there are some 20,000 test cases. */
   get input() {
     return drawn(this.start, this.length);
   }
@@ -52,19 +52,19 @@ export function rowsOf(table) {
   return table.split("\n").filter((line) => line && !line.startsWith("#")).map((line) => new Row(line));
 }
 
-/** The rows that are tried. */
+/** The test cases that are used. */
 function chosen(table) {
   return rowsOf(table).filter(({ length }, i) => i % STRIDE === 0 || length >= LONG);
 }
 
-/** The time that was worked, where the engine says it, so that what else the machine does counts little. */
+/** The processor time, if the engine has it, so that other programs have little effect. */
 export function milliseconds() {
   if (typeof globalThis.process?.cpuUsage !== "function") return Date.now();
   const { user, system } = process.cpuUsage();
   return (user + system) / 1000;
 }
 
-/** An input of several chunks: the bytes 0 to 250 over and over. */
+/** An input of several chunks: the bytes 0 to 250, repeated. */
 const MANY = 1_000_003;
 
 export function many() {
@@ -75,7 +75,7 @@ function oneshot({ kind, seed, input, options }) {
   return BigInt(kind.startsWith("xxh3_") ? twox[kind](input, options) : twox[kind](input, seed));
 }
 
-/** The digest of the row's input in pieces that end there. */
+/** The digest of the test case's input in chunks that end there. */
 function inPieces({ kind, options }, input, ends) {
   const stream = new twox.Stream(kind, options);
   let at = 0;
@@ -88,7 +88,7 @@ function inPieces({ kind, options }, input, ends) {
   return BigInt(value);
 }
 
-/** The digest where the stream is saved and loaded after each piece. */
+/** The digest if the stream is saved and loaded after each chunk. */
 function savedBetween({ kind, options }, input, ends) {
   const { secret } = options;
   let stream = new twox.Stream(kind, options);
@@ -104,7 +104,7 @@ function savedBetween({ kind, options }, input, ends) {
   return BigInt(value);
 }
 
-/** The state of a stream that took so many bytes. */
+/** The state of a stream of this many bytes. */
 function stateOf(kind, length, options = {}) {
   const stream = new twox.Stream(kind, options).update(new Uint8Array(length));
   const saved = stream.save();
@@ -112,7 +112,7 @@ function stateOf(kind, length, options = {}) {
   return saved;
 }
 
-/** The state with other bytes from there on, and the check that belongs to it. */
+/** The state with other bytes from there on, and a matching checksum. */
 function forged(saved, at, ...bytes) {
   const other = saved.slice();
   other.set(bytes, at);
@@ -133,7 +133,7 @@ function rowIsRight(row) {
   return ways.every((value) => value === row.answer);
 }
 
-/** The error's code, where the call throws one of ours. */
+/** The error's code, if the call throws one of ours. */
 function codeOf(call) {
   try {
     call();
@@ -151,7 +151,7 @@ function messageOf(call) {
   }
 }
 
-/** Streams that shorten the piece while they are listed, where the engine can, take what is left. */
+/** Streams that shorten the chunk while they are iterated, if the engine can, hash what is left. */
 function shrinksInTime() {
   if (!ArrayBuffer.prototype.resize) return true;
   const [stream, piece] = [new twox.Stream("xxh64"), new Uint8Array(new ArrayBuffer(1000, { maxByteLength: 1000 }))];
@@ -162,14 +162,14 @@ function shrinksInTime() {
 const BYTES = Uint8Array.of(1, 2, 3);
 const SECRET = new Uint8Array(136);
 
-/** The view once its buffer was handed to another thread. */
+/** The view after its buffer was transferred to another thread. */
 function detached(view) {
   if (typeof structuredClone === "function") structuredClone(view.buffer, { transfer: [view.buffer] });
   else view.buffer.transfer();
   return view;
 }
 
-/** Views of "some bytes" that say something else of themselves. */
+/** Views of "some bytes" with misleading properties. */
 function liars() {
   class Short extends Uint8Array {
     get length() {
@@ -199,7 +199,7 @@ function liars() {
   return [own, ...[Short, Long, Elsewhere].map((kind) => kind.from(new TextEncoder().encode("some bytes")))];
 }
 
-/** Calls that are refused, and the code; of some also words of the message. */
+/** Calls that are refused, and the code; for some also words of the message. */
 const REFUSED = [
   ["input", () => twox.xxh64(7)],
   ["input", () => twox.xxh64(undefined)],
@@ -234,8 +234,8 @@ const REFUSED = [
   ["state", () => twox.Stream.load(detached(new Uint8Array(200)))],
   ["kind", () => new twox.Stream("xxh64").digest("xxh32")],
   ["input", () => twox.updateAll([new twox.Stream("xxh64")], detached(new Uint8Array(10)))],
-  ["input", () => twox.updateAll([new twox.Stream("xxh64"), {}], BYTES), "A Stream is needed"],
-  ["input", () => twox.updateAll([null], BYTES), "A Stream is needed"],
+  ["input", () => twox.updateAll([new twox.Stream("xxh64"), {}], BYTES), "Not a Stream"],
+  ["input", () => twox.updateAll([null], BYTES), "Not a Stream"],
   ["input", () => twox.updateAll(new twox.Stream("xxh64"), BYTES), "must be iterable"],
   ["input", () => twox.updateAll(undefined, BYTES), "must be iterable"],
   ["options", () => twox.xxh3_64(BYTES, 7)],
@@ -244,7 +244,7 @@ const REFUSED = [
   ["value", () => twox.toHex(-1n, "xxh64")],
   ["value", () => twox.toHex(2n ** 32n, "xxh32")],
   ["value", () => twox.toHex(2 ** 32, "xxh32")],
-  ["value", () => twox.toHex(2 ** 53, "xxh32"), "isn't from 0 to 2^32 - 1"],
+  ["value", () => twox.toHex(2 ** 53, "xxh32"), "from 0 to 2^32 - 1"],
   ["value", () => twox.toHex(-1, "xxh32")],
   ["value", () => twox.toHex(1.5, "xxh32")],
   ["value", () => twox.toHex("7", "xxh32")],
@@ -263,7 +263,7 @@ const REFUSED = [
   ["secret", () => twox.Stream.load(stateOf("xxh3_64", 3, { seed: 7, secret: SECRET }))],
 ];
 
-/** Texts of every width of UTF-8, with halves of pairs, and some whose characters lie across the ends of chunks. */
+/** Texts of every width of UTF-8, with lone surrogates, and some whose characters cross the ends of chunks. */
 const TEXTS = [
   "", "some bytes", "\u00e9", "\u20ac", "\u{1d11e}", "\ud834", "\udd1e", "a\udd1eb\ud834", "\0\x7f\x80\u07ff\u0800\uffff",
   "x".repeat(131072), "x".repeat(131073), `${"x".repeat(131071)}\u{1d11e}y`, `${"x".repeat(131070)}\u{1d11e}\u20ac`,
@@ -280,10 +280,10 @@ function textIsRight(text) {
   });
 }
 
-/** Where a state's head ends and its record begins. */
+/** The end of a state's head, where its record begins. */
 const HEAD = 24;
 
-/** States that nothing but the fault in them gives away: what is wrong, the hash, its bytes, what is put where. */
+/** States whose only defect is the planted one: the defect, the hash, its bytes, and what is put where. */
 const FORGED = [
   ["another mark", "xxh64", 3, 0, 0x54],
   ["another version", "xxh64", 3, 7, 0x32],
@@ -486,7 +486,7 @@ const TESTS = {
     const row = rowsOf(table).find(({ kind, length, seed, secretDrawn }) => kind === "xxh3_64" && length <= 240 && seed && secretDrawn);
     const secret = new Uint8Array(40_000_000);
     secret.set(row.options.secret);
-    // Up to 240 bytes the seed counts and the secret doesn't, so that the row's answer is this one's too.
+    // Up to 240 bytes the seed is used and the secret isn't, so the test case's value is the same.
     return { ok: twox.xxh3_64(row.input, { seed: row.options.seed, secret }) === row.answer };
   },
   "updateAll hands several streams the same bytes": (table) => {
@@ -516,8 +516,8 @@ const TESTS = {
 };
 
 /**
- * Runs all tests of an entry, and gives a line for each: its name, whether it passed, and what was seen. `table` is
- * the text of oracle/vectors.txt, and `digests` what xxhsum says of `many()`, by the kind.
+ * Runs all tests of an entry, and returns a line for each: its name, whether it passed, and details. `table` is the
+ * text of oracle/vectors.txt, and `digests` the digests of `many()` by xxhsum, by the kind.
  */
 export async function runTests(entry, table, digests) {
   twox = entry;

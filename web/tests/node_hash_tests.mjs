@@ -12,7 +12,7 @@ import { many } from "./module_tests.js";
 
 let twox;
 
-// ---- the cases of the page of node:crypto, and what follows from them, by hashes that `make` makes
+// ---- the cases of the page of node:crypto, and what follows from them, for hashes that `make` makes
 
 function outcome(call) {
   try {
@@ -89,7 +89,7 @@ const CASES = {
   "inputs of no kind": (make) => [[7], [null], [undefined], [{}], ["abc", "hex"], []].map((words) => outcome(() => make().update(...words).digest("hex"))),
 };
 
-/** What a case gives, with each digest called by what it is of. */
+/** The result of a case, with each digest replaced by the name of its input. */
 async function seen(run, make, file) {
   const known = ["", TEXT, "one", "onetwo", "onetwothree", Buffer.from([1, 0, 2, 1]), Buffer.from(TEXT, "utf16le"), Buffer.from([0xe9])];
   const names = new Map(known.map((input) => [make().update(input).digest("hex"), `digest of ${Buffer.from(input).toString("hex")}`]));

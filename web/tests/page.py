@@ -9,7 +9,7 @@ from report import want
 sys.path.append(WEB)
 import serve
 
-# What a card of the list says: its state, its words and its digests.
+# The content of a card of the list: its state, its texts and its digests.
 CARD = """const item = [...document.querySelectorAll(".card")].find((it) => it.querySelector(".name").textContent === arguments[0]);
 if (!item) return null;
 const rows = [...item.querySelectorAll(".digest")];
@@ -20,8 +20,8 @@ return { words: item.querySelector(".state").textContent, failed: item.classList
 
 
 class Requests(serve.Handler):
-    """Notes what is asked for, hands out bundles, and can hand out a worker in which something is missing, withhold a file,
-    or hand out another text in its place."""
+    """Records requests and serves bundles, and can serve a broken worker, withhold a file, or serve another text in
+    its place."""
 
     asked = []
     before_worker = b""
@@ -82,7 +82,7 @@ class Page:
         self.browser.wait("return document.documentElement.hasAttribute('data-ready') || !document.getElementById('unsupported').hidden")
 
     def file(self, name, content=b"", length=None):
-        """Makes a file. With a length it is that long, and zeros after the content take no room."""
+        """Makes a file. With a length it is that long, and zeros after the content take no space."""
         path = os.path.join(self.room, name)
         with open(path, "wb") as file:
             file.write(content)
@@ -103,7 +103,7 @@ class Page:
         return self.browser.run(CARD, name)
 
     def wait_for(self, name, test, seconds=60):
-        """The card once `test`, a script over `card`, holds of it."""
+        """The card once `test`, a script over `card`, is true for it."""
         return self.browser.wait(f"const card = (() => {{ {CARD} }})(); return card && ({test}) ? card : null;", name, seconds=seconds)
 
     def digests(self, name, seconds=120):

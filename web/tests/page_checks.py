@@ -18,7 +18,7 @@ MIB = 1 << 20
 
 
 def labels(page):
-    """Every control has a name, and one that is there for each file names the file."""
+    """Every control has a name, and the name of a control of a file has the file's name."""
     page.choose(*(page.file(f"{number}.bin", b"") for number in range(4)))
     page.digests("3.bin")
     nameless = page.browser.run("""return [...document.querySelectorAll(".card button")].filter((it) => !it.hidden && it.checkVisibility())
@@ -95,15 +95,15 @@ def wrong_seed(page):
 
 def wrong_secret(page):
     for secret, form, said in (("ab" * 135, "hex", "135 bytes"), ("short", "text", "5 bytes"), ("abc", "hex", "3 hexadecimal digits"),
-                               ("xy", "hex", '"x" is no hexadecimal digit')):
+                               ("xy", "hex", '"x" is not a hexadecimal digit')):
         page.set_key("", secret, form)
         page.browser.wait("return document.getElementById('secret-error').textContent.includes(arguments[0])", said, seconds=10)
         want(page.error_of("secret")[1] == "true", "aria-invalid isn't set")
     page.set_key("", "short", "text")
     page.browser.type("#text", "some bytes")
-    page.browser.wait("return document.getElementById('text-error').textContent === 'Not hashed: the secret must be right first.'")
+    page.browser.wait("return document.getElementById('text-error').textContent === 'Not hashed: the secret is invalid.'")
     card = page.card("Text")
-    want(card["words"] == "Waiting for the secret to be right" and not card["digests"], card)
+    want(card["words"] == "Waiting: the secret is invalid" and not card["digests"], card)
     page.set_key("", "\u00e9" * 68, "text")
     page.browser.wait("return document.getElementById('secret').getAttribute('aria-invalid') === 'false'")
     page.digests("Text")
@@ -158,7 +158,7 @@ def alive(page):
 
 
 def vanished(page):
-    """Files wait for a seed that is right; meanwhile one vanishes and another changes. The last one is hashed."""
+    """Files wait for a valid seed; meanwhile one vanishes and another changes. The last one is hashed."""
     page.set_key("wrong")
     gone, changed, kept = (page.file(name, b"some bytes") for name in ("gone.bin", "changed.bin", "kept.bin"))
     page.choose(gone, changed, kept)
@@ -190,7 +190,7 @@ def focused(page):
 
 
 def keyboard(page):
-    """From the top by Tab alone: every control in the order of the page, the key opened, a digest copied."""
+    """Only by Tab, from the top: every control in the order of the page, the key opened, a digest copied."""
     page.browser.devtools("Browser.grantPermissions", permissions=["clipboardReadWrite", "clipboardSanitizedWrite"], origin=page.address.split("/web")[0])
     seen = []
     for _ in range(5):
@@ -227,8 +227,8 @@ NO_VERDICT = "return document.querySelector('.card .verdicts').textContent === '
 
 
 def again(page):
-    """After another seed the card's digests are none, and nothing is compared with them, until they are made again. With the
-    first seed they are there without that."""
+    """With another seed the card's digests are hidden, and nothing is compared with them, until they are computed
+    again. With the first seed they are shown without that."""
     page.set_key()
     page.choose(page.file("again.bin", b"some bytes"))
     first = page.digests("again.bin")
@@ -252,7 +252,7 @@ def again(page):
 
 
 def changed_while_hashed(page):
-    """A file that was begun with one seed and ends under another has no digest to compare, and finds none that is expected."""
+    """A file that is hashed while the seed changes has no digest to compare, and no expected digest is found."""
     page.set_key()
     path = page.file("slow.bin", b"x", 1500 * MIB)
     page.set_field("expected", "ab" * 8)
@@ -265,7 +265,7 @@ def changed_while_hashed(page):
     page.browser.wait(NO_VERDICT, seconds=5)
 
 
-# What keeps the page's files asks for them by itself.
+# The service worker requests the page's files by itself.
 KEEPING = ("/web/offline.js", "/web/page_files.json")
 
 
@@ -279,12 +279,12 @@ def no_network(page):
 
 
 def kept(page):
-    """Waits until the page's files are kept."""
+    """Waits until the page's files are cached."""
     page.browser.wait("return (await navigator.serviceWorker.ready).active?.state === 'activated'", seconds=30)
 
 
 def offline(page):
-    """Where the page was loaded once, it works when its server has gone."""
+    """After the page was loaded once, it works without its server."""
     with Served(Requests.bundles) as address:
         there = Page(page.browser, f"{address}/web/", page.room)
         there.open()
@@ -296,7 +296,7 @@ def offline(page):
 
 
 def no_room_to_keep(page):
-    """Where a newer file can't be kept, for want of room, the page gets it as the network has it."""
+    """If a newer file can't be cached for lack of space, the page gets it from the network."""
     with Served(Requests.bundles) as address:
         there = Page(page.browser, f"{address}/web/", page.room)
         there.open()
@@ -346,7 +346,7 @@ def links(page):
     want(not wrong, str(wrong))
 
 
-# Of each field and button that is seen, the contrast of its border with what lies on its two sides, by WCAG's formula.
+# For each visible field and button, the contrast of its border with the colors on both sides, by WCAG's formula.
 CONTRASTS = """const luminance = (color) => color.match(/[0-9.]+/g).slice(0, 3).map((it) => it / 255)
     .map((it) => (it <= 0.04045 ? it / 12.92 : ((it + 0.055) / 1.055) ** 2.4)).reduce((sum, it, i) => sum + it * [0.2126, 0.7152, 0.0722][i], 0);
 const contrast = (...colors) => { const [low, high] = colors.map(luminance).sort((a, b) => a - b); return (high + 0.05) / (low + 0.05); };
@@ -357,7 +357,7 @@ return [...document.querySelectorAll("textarea, input:not([type]), select, butto
 
 
 def schemes(page):
-    """Light and dark, with borders of fields and buttons that are seen in either."""
+    """Light and dark, with visible borders of fields and buttons in both."""
     page.choose(*(page.file(f"{number}.bin", b"") for number in range(4)))
     page.digests("3.bin")
     grounds, lowest = set(), []
@@ -373,7 +373,7 @@ def schemes(page):
 
 
 class Lacking:
-    """The page while the `with` lasts with a line before its worker, which takes something away, or without a file."""
+    """The page while the `with` lasts with a line before its worker that disables something, or without a file."""
 
     def __init__(self, page, line=b"", withheld=None):
         self.page, self.line, self.withheld = page, line, withheld
@@ -387,19 +387,19 @@ class Lacking:
 
 
 def which_module(page):
-    """What is said of the module that runs, with vectors and without: and both hash."""
+    """The message about the module in use, with vectors and without: and both hash."""
     said = page.text_of("#module")
-    want(said.startswith("The fast module runs here"), said)
+    want(said.startswith("The fast module is in use"), said)
     with Lacking(page, b"WebAssembly.validate = () => false;\n"):
         plain = page.text_of("#module")
         page.set_key("1234")
         page.browser.type("#text", "some bytes")
         want(page.digests("Text") == SOME_BYTES, page.card("Text"))
-    want(plain.startswith("The plain module runs here"), plain)
+    want(plain.startswith("The plain module is in use"), plain)
 
 
 def reads_by_itself(page):
-    """A file of several pieces where the thread that hashes has none to read for it, and where that one can't be loaded."""
+    """A file of several chunks if the hashing thread has no reader thread, and if that one can't be loaded."""
     path = page.file("pieces.bin", bytes(i % 251 for i in range(MIB)), 20 * MIB)
     for lack in {"line": b"delete globalThis.Worker;\n"}, {"withheld": "/web/reader_worker.js"}:
         with Lacking(page, **lack):
@@ -414,7 +414,8 @@ def no_webassembly(page):
 
 
 def served_and_no_more(folder):
-    """Without a browser: of a tree of its own, serve.py serves what is named there, and nothing that begins alike, or lies elsewhere."""
+    """Without a browser: from a tree of its own, serve.py serves the listed files, and none with the same beginning
+    or elsewhere."""
     public = ["web/index.html", "docs/C.md", "docs/api/x", "crates/x/src/lib.rt", "README.md", "LICENSE", "oracle/vectors.txt"]
     others = ["README.md.orig", "README.md/x", "docs.bak/x", "web-old/x", "LICENSE2", "oracle/vectors.txt~", "oracle/check", ".git/config",
               "web/outside", "web/../.git/config", "docs/%2e%2e/.git/config"]
@@ -472,7 +473,7 @@ PAGE_CHECKS = {
     "one folder on another host": one_folder,
 }
 
-# What is tried in each browser.
+# The checks for each browser.
 IN_EACH_BROWSER = ["every control has a name", "typed text is hashed, with the seed", "files of all ranges of lengths, as xxhsum",
                    "seeds and secrets", "stopped there is no digest, and started again the right ones", "a dropped file",
                    "the page stays alive", "hash again, with another seed", "clear",

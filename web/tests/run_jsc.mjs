@@ -1,4 +1,5 @@
-// jsc -m run_jsc.mjs -- WEB MODULE DIGESTS: the module's tests in WebKit's engine, by its shell, which has no TextEncoder.
+// jsc -m run_jsc.mjs -- WEB MODULE DIGESTS: the module's tests in WebKit's engine, by its shell, which has no
+// TextEncoder.
 const [web, module, digests] = arguments;
 
 function utf8(text) {
@@ -11,7 +12,7 @@ globalThis.TextEncoder = class {
     return utf8(text);
   }
 
-  /** As the standard says: whole characters, as far as there is room. */
+  /** As in the standard: whole characters, as many as fit. */
   encodeInto(text, place) {
     let [read, written] = [0, 0];
     for (const character of text) {

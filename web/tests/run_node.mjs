@@ -1,13 +1,13 @@
-// Runs the tests under Node, of entries that the caller imports, and prints their lines as JSON. `digests` are those that
-// xxhsum gives of the input that module_tests.js calls many(), as JSON by the kind.
+// Runs the tests in Node, of entries that the caller imports, and prints their lines as JSON. `digests` are xxhsum's
+// digests of the input that module_tests.js names many(), as JSON by the kind.
 import { readFile } from "node:fs/promises";
 import { runTests } from "./module_tests.js";
 import { runNodeHashTests } from "./node_hash_tests.mjs";
 import { runStreamTests } from "./stream_tests.js";
 import { runXxhashWasmTests } from "./xxhash_wasm_tests.js";
 
-// The stack of 1 MiB begins a memory and is used from its upper end. wasm-opt is told that the first 1,024 bytes of a memory
-// are never used, and all but the upper 64 KiB of the stack are looked at here.
+// The stack of 1 MiB begins a memory and is used from its upper end. wasm-opt assumes that the first 1,024 bytes of a
+// memory are never used, and everything except the upper 64 KiB of the stack is tested here.
 const UNUSED_BYTES = (1024 - 64) * 1024;
 const MARK = 0xa5;
 const instances = [];
@@ -24,7 +24,7 @@ function stackIsShort() {
   return { name: "calls use 64 KiB of the stack at most", ok: instances.length > 0 && instances.every(isUnused) };
 }
 
-/** Addresses and lengths cross as numbers of 32 bits, of which JavaScript has the upper half as negative ones too. */
+/** Addresses and lengths are passed as numbers of 32 bits; JavaScript has the upper half as negative ones too. */
 function largeNumbersCross({ Stream }) {
   const { memory, twox_xxh3_64: hash } = instances[0].exports;
   const [start, length] = [memory.buffer.byteLength, 2 ** 31 + 5];
@@ -46,7 +46,10 @@ function memoryIsLevel({ Stream, KINDS }) {
 
 const readTable = () => readFile(new URL("../../oracle/vectors.txt", import.meta.url), "utf8");
 
-/** All tests of the entry, and of the others that are given: streams.js, the entry for Node, that of xxhash-wasm's names. */
+/**
+ * All tests of the entry, and of the others that are passed: streams.js, the entry for Node, that of xxhash-wasm's
+ * names.
+ */
 export async function report(digests, { entry, streams, node, xxhash }) {
   const [table, values] = [await readTable(), JSON.parse(digests)];
   const lines = await runTests(entry, table, values);

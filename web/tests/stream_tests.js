@@ -1,7 +1,7 @@
-/** The tests of streams.js, for Node and for a browser: each is one line of what is looked at. */
+/** The tests of streams.js, for Node and for a browser: each is one line of output. */
 import { many } from "./module_tests.js";
 
-/** The entry whose calls are tested, and streams.js, as namespaces. */
+/** The entry under test, and streams.js, as namespaces. */
 let twox;
 let streams;
 
@@ -85,7 +85,7 @@ const TESTS = {
   },
 };
 
-/** Runs all tests, and gives a line for each. `digests` are what xxhsum says of `many()`, by the kind. */
+/** Runs all tests, and returns a line for each. `digests` are xxhsum's digests of `many()`, by the kind. */
 export async function runStreamTests(entry, streamsEntry, digests) {
   twox = entry;
   streams = streamsEntry;

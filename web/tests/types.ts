@@ -1,5 +1,5 @@
-// Every name of the package's types, used as its pages say; and wrong uses, which a compiler has to refuse. It is
-// compiled and not run.
+// Every name of the package's types, used as on its pages; and wrong uses, which a compiler must refuse. It is compiled
+// and not run.
 import {
   Bytes, ErrorCode, Hash, Input, KINDS, Key, Kind, SECRET_MINIMUM_LENGTH, Seed, Source, Stream, TwoxHashError, ValueOf, createHash,
   hasVectors, isSupported, load, toBytes, toHex, updateAll, xxh3_128, xxh3_64, xxh32, xxh64,
@@ -79,7 +79,7 @@ export function wrongUses(stream: Stream): void {
   xxh3_64(bytes, { sead: 7n });
   // @ts-expect-error: there is no such hash
   new Stream("xxh128");
-  // @ts-expect-error: the hash says how many digits there are
+  // @ts-expect-error: the hash determines the number of digits
   toHex(7n);
   // @ts-expect-error: a value of 64 bits is a bigint
   toHex(7, "xxh64");
@@ -89,7 +89,7 @@ export function wrongUses(stream: Stream): void {
   stream.kind = "xxh64";
   // @ts-expect-error: the bytes are inside
   inline.load("twox_hash.wasm");
-  // @ts-expect-error: XXH64 answers a bigint
+  // @ts-expect-error: XXH64 returns a bigint
   const short: number = xxh64("text");
   // @ts-expect-error: there is no such option
   hashBlob("xxh64", new Blob([]), { signals: [] });

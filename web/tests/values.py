@@ -1,4 +1,4 @@
-"""Where the expected values come from: Debian's xxhsum, and what the reference library says of one input."""
+"""Sources of the expected values: Debian's xxhsum, and the reference library's values of one input."""
 import subprocess
 import tempfile
 
@@ -9,12 +9,12 @@ XXHSUM = {"xxh32": "-H0", "xxh64": "-H1", "xxh3_64": "-H3", "xxh3_128": "-H2"}
 
 
 def reference(path):
-    """The digests that xxhsum gives."""
+    """The digests by xxhsum."""
     return {kind: digest_in(line_of(path, kind), kind) for kind in XXHSUM}
 
 
 def line_of(path, kind, *words, folder=None):
-    """The line that xxhsum prints of a file."""
+    """The line that xxhsum prints for a file."""
     return subprocess.run(["xxhsum", XXHSUM[kind], *words, path], capture_output=True, text=True, check=True, cwd=folder).stdout
 
 
@@ -27,7 +27,7 @@ def is_digest(word, kind):
 
 
 def long_digests():
-    """What xxhsum says of the long input of the module's tests."""
+    """xxhsum's digests of the long input of the module's tests."""
     with tempfile.NamedTemporaryFile() as file:
         file.write(bytes(i % 251 for i in range(1_000_003)))
         file.flush()

@@ -1,9 +1,9 @@
-/** The tests of the entry with the names of xxhash-wasm, on rows of the reference library. */
+/** The tests of the entry with the names of xxhash-wasm, on test cases of the reference library. */
 import { milliseconds, rowsOf } from "./module_tests.js";
 
 const STRIDE = 20;
 
-/** Whether every call answers the row's value, of bytes and, where the bytes are text, of text. */
+/** True if every call returns the test case's value, for bytes and, if the bytes are text, for text. */
 function isRight(calls, row) {
   const bits = row.kind === "xxh32" ? 32 : 64;
   const seed = bits === 32 ? Number(row.seed) : row.seed;
@@ -21,7 +21,7 @@ function timeOf(call) {
   return Math.ceil(milliseconds() - start);
 }
 
-/** The calls, given the table's text: a line of what is looked at. */
+/** The calls, with the table's text: one line of output each. */
 export async function runXxhashWasmTests(xxhash, table) {
   const calls = await xxhash();
   const rows = rowsOf(table).filter(({ kind, seed, length }, i) => i % STRIDE === 0 && length < 5000 && seed !== undefined && (kind === "xxh32" || kind === "xxh64"));

@@ -2,7 +2,7 @@
 use std::slice::from_raw_parts;
 use xxhash_rust::{xxh3, xxh32, xxh64};
 
-/// The bytes of the room that holds the input, which every peer compares a length with.
+/// Size of the input's buffer, with which every peer compares a length.
 const ROOM: usize = 64 << 20;
 
 unsafe fn bytes<'a>(input: *const u8, length: usize) -> &'a [u8] {
@@ -60,7 +60,7 @@ pub unsafe extern "C" fn rust_xxh3_128_seeded(seed: u64, input: *const u8, lengt
     halves(xxh3::xxh3_128_with_seed(bytes(input, length), seed))
 }
 
-// The calls that take a piece, none of them inlined.
+// The calls that hash a chunk, none of them inlined.
 #[inline(never)]
 fn update_32(hasher: &mut xxh32::Xxh32, part: &[u8]) {
     hasher.update(part)
@@ -76,7 +76,7 @@ fn update_3(hasher: &mut xxh3::Xxh3, part: &[u8]) {
     hasher.update(part)
 }
 
-/// A stream that is fed the input in pieces.
+/// A stream that hashes the input in chunks.
 macro_rules! stream {
     ($name:ident, $result:ty, $new:expr, $update:expr, $digest:expr) => {
         #[no_mangle]

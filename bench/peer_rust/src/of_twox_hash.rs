@@ -43,7 +43,7 @@ pub unsafe extern "C" fn twox_hash_xxh3_128_seeded(seed: u64, input: *const u8, 
     halves(XxHash3_128::oneshot_with_seed(seed, bytes(input, length)))
 }
 
-// The calls that take a piece, none of them inlined.
+// The calls that hash a chunk, none of them inlined.
 #[inline(never)]
 fn write_32(hasher: &mut XxHash32, part: &[u8]) {
     hasher.write(part)

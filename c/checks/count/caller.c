@@ -1,9 +1,9 @@
-/* Calls one function of a library so many times, for a count of the instructions:
+/* Calls one function of a library a number of times, to count its instructions:
  *
  *     caller LIBRARY CALL BYTES TIMES
  *
- * CALL is the name of a hash, XXH3_64bits_update, whose stream goes on from call to call, or nothing: an empty function,
- * which costs what stands around a call. */
+ * CALL is the name of a hash, XXH3_64bits_update, whose stream continues from call to call, or nothing: an empty
+ * function, to measure the instructions around a call. */
 #include <dlfcn.h>
 #include <stdint.h>
 #include <stdio.h>
@@ -27,14 +27,15 @@ static void *named(const char *name)
     return found;
 }
 
-/* The empty function takes and gives what a hash does, so that the same stands around its call. */
+/* The empty function has the arguments and the result of a hash, so that the instructions around its call are the
+   same. */
 __attribute__((noinline)) static XXH64_hash_t nothing(const void *p, size_t n, XXH64_hash_t seed)
 {
     __asm__ volatile("" : : "r"(p), "r"(n));
     return seed;
 }
 
-/* A call of any of these has three arguments at most, in the registers of these. */
+/* A call of any of these has at most three arguments, in the registers of these. */
 typedef XXH64_hash_t call_of_hash(const void *, size_t, XXH64_hash_t);
 typedef XXH_errorcode call_of_update(XXH3_state_t *, const void *, size_t);
 

@@ -1,8 +1,8 @@
-/* A plugin for qemu that prints how many instructions the program under it ran:
+/* A plugin for qemu that prints how many instructions the program executed:
  *
  *     qemu-aarch64 -plugin plugin.so -d plugin -D FILE PROGRAM
  *
- * Debian brings no header of qemu's interface for plugins, so what is used of its version 1 is declared here. */
+ * Debian has no header of qemu's plugin interface, so the used part of its version 1 is declared here. */
 #include <stddef.h>
 #include <stdint.h>
 #include <stdio.h>

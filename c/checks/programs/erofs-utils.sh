@@ -1,4 +1,4 @@
-# A file system with pieces that are found to be equal by their hash, made and taken apart.
+# A file system with chunks that are found to be equal by their hash, created and extracted.
 # Debian: 13
 # packages: erofs-utils
 mkdir source

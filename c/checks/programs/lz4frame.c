@@ -5,7 +5,8 @@
 
 static char data[3000000], back[sizeof data], frame[2 * sizeof data];
 
-/* A frame in pieces, with the checksums of the whole and of each block, written to standard output once it was read. */
+/* A frame in chunks, with the checksums of the whole and of each block, written to standard output after it was
+   read. */
 int main(void)
 {
     LZ4F_preferences_t asked = { .frameInfo = { .contentChecksumFlag = LZ4F_contentChecksumEnabled,

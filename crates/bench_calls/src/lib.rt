@@ -1,17 +1,17 @@
-//! What the benchmark links from C: streams that are fed the input in pieces, with a call for each piece.
+//! Exports for the benchmark in C: streams that hash the input in chunks, with a call for each chunk.
 //!
-//! They stand in a crate of their own, since a call that has one caller is inlined, and in the streams of
-//! `bench_exports` it is. The input crosses as it does there.
+//! A separate crate, since a function with one caller is inlined, as those in the streams of `bench_exports` are. The
+//! input is passed as there.
 #![tactic(auto)]
 
 use twox_core::width_128::{Wide, halves};
 use twox_hash::xxhash3::{DefaultSecret, SecretBuffer};
 use twox_hash::{XxHash32, XxHash64, xxhash3_64, xxhash3_128};
 
-/// The bytes of the room that holds the input; of a longer one the front is hashed.
+/// Size of the buffer of the input; of a longer one the front is hashed.
 pub const ROOM: usize = 67_108_864;
 
-/// The room that holds the input.
+/// The buffer of the input.
 pub type Input = [u8; ROOM];
 
 #[inline(never)]
@@ -34,7 +34,7 @@ fn write_3_128(hasher: &mut xxhash3_128::RawHasher<DefaultSecret>, piece: &[u8])
     hasher.write(piece);
 }
 
-/// The hash under the seed 0 of the input in pieces of that many bytes.
+/// Returns the hash under the seed 0 of the input in chunks of this many bytes.
 #[unsafe(no_mangle)]
 pub extern "C" fn twox_xxh32_stream_called(input: &Input, len: usize, piece: usize) -> u32 {
     let mut hasher = XxHash32::with_seed(0);
@@ -44,7 +44,7 @@ pub extern "C" fn twox_xxh32_stream_called(input: &Input, len: usize, piece: usi
     hasher.finish_32()
 }
 
-/// The hash under the seed 0 of the input in pieces of that many bytes.
+/// Returns the hash under the seed 0 of the input in chunks of this many bytes.
 #[unsafe(no_mangle)]
 pub extern "C" fn twox_xxh64_stream_called(input: &Input, len: usize, piece: usize) -> u64 {
     let mut hasher = XxHash64::with_seed(0);
@@ -54,7 +54,7 @@ pub extern "C" fn twox_xxh64_stream_called(input: &Input, len: usize, piece: usi
     hasher.finish()
 }
 
-/// The hash under the seed 0 of the input in pieces of that many bytes.
+/// Returns the hash under the seed 0 of the input in chunks of this many bytes.
 #[unsafe(no_mangle)]
 pub extern "C" fn twox_xxh3_64_stream_called(input: &Input, len: usize, piece: usize) -> u64 {
     let mut hasher = xxhash3_64::RawHasher::new(SecretBuffer::default());
@@ -64,7 +64,7 @@ pub extern "C" fn twox_xxh3_64_stream_called(input: &Input, len: usize, piece: u
     hasher.finish()
 }
 
-/// The hash under the seed 0 of the input in pieces of that many bytes.
+/// Returns the hash under the seed 0 of the input in chunks of this many bytes.
 #[unsafe(no_mangle)]
 pub extern "C" fn twox_xxh3_128_stream_called(input: &Input, len: usize, piece: usize) -> Wide {
     let mut hasher = xxhash3_128::RawHasher::new(SecretBuffer::default());

@@ -21,7 +21,7 @@ pub extern "C" fn twox_xxh64(seed: u64, input: &Input, len: usize) -> u64
     XxHash64::oneshot(seed, &input[..len.min(ROOM)])
 }
 
-/// The hash under the seed 0 of the input in pieces of that many bytes.
+/// Returns the hash under the seed 0 of the input in chunks of this many bytes.
 #[unsafe(no_mangle)]
 pub extern "C" fn twox_xxh32_stream(input: &Input, len: usize, piece: usize) -> u32 {
     let mut hasher = XxHash32::with_seed(0);
@@ -31,7 +31,7 @@ pub extern "C" fn twox_xxh32_stream(input: &Input, len: usize, piece: usize) -> 
     hasher.finish_32()
 }
 
-/// The hash under the seed 0 of the input in pieces of that many bytes.
+/// Returns the hash under the seed 0 of the input in chunks of this many bytes.
 #[unsafe(no_mangle)]
 pub extern "C" fn twox_xxh64_stream(input: &Input, len: usize, piece: usize) -> u64 {
     let mut hasher = XxHash64::with_seed(0);

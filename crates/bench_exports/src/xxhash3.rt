@@ -25,7 +25,7 @@ pub extern "C" fn twox_xxh3_64_with_seed(seed: u64, input: &Input, len: usize) -
     XxHash3_64::oneshot_with_seed(seed, &input[..len.min(ROOM)])
 }
 
-/// The hash under a secret of that many bytes, 136 to 192; 0 of fewer.
+/// Returns the hash under a secret of this many bytes, 136 to 192, or 0 for fewer.
 #[unsafe(no_mangle)]
 pub extern "C" fn twox_xxh3_64_with_secret(
     secret: &DefaultSecret,
@@ -55,7 +55,7 @@ pub extern "C" fn twox_xxh3_128_with_seed(seed: u64, input: &Input, len: usize) 
     halves(XxHash3_128::oneshot_with_seed(seed, &input[..len.min(ROOM)]))
 }
 
-/// The hash under the seed 0 of the input in pieces of that many bytes.
+/// Returns the hash under the seed 0 of the input in chunks of this many bytes.
 #[unsafe(no_mangle)]
 pub extern "C" fn twox_xxh3_64_stream(input: &Input, len: usize, piece: usize) -> u64 {
     let mut hasher = xxhash3_64::RawHasher::new(SecretBuffer::default());
@@ -65,7 +65,7 @@ pub extern "C" fn twox_xxh3_64_stream(input: &Input, len: usize, piece: usize) -
     hasher.finish()
 }
 
-/// The hash under the seed 0 of the input in pieces of that many bytes.
+/// Returns the hash under the seed 0 of the input in chunks of this many bytes.
 #[unsafe(no_mangle)]
 pub extern "C" fn twox_xxh3_128_stream(input: &Input, len: usize, piece: usize) -> Wide {
     let mut hasher = xxhash3_128::RawHasher::new(SecretBuffer::default());

@@ -1,7 +1,6 @@
-//! What the benchmark links from C: XXH3 of 64 bits by each kernel.
+//! Exports for the benchmark in C: XXH3 64-bit by each kernel.
 //!
-//! It stands in a crate of its own, so that the code of `bench_exports` has no other callers than there. The input
-//! crosses as it does there.
+//! A separate crate, so that the code of `bench_exports` has no other callers than there. The input is passed as there.
 #![tactic(auto)]
 
 ghost use Rattle.std.specs.Prelude.{◌≡◌, ◌^◌, ◌<◌, ◌≤◌, length, min, take};
@@ -16,13 +15,13 @@ use twox_hash::xxhash3::{
 };
 use twox_hash::xxhash3_64::Finalize64;
 
-/// The bytes of the room that holds the input; of a longer one the front is hashed.
+/// Size of the buffer of the input; of a longer one the front is hashed.
 pub const ROOM: usize = 67_108_864;
 
-/// The room that holds the input.
+/// The buffer of the input.
 pub type Input = [u8; ROOM];
 
-// The hash under the seed 0. Up to 240 bytes no kernel has a part in it.
+// Returns the hash under the seed 0. Up to 240 bytes no kernel is involved.
 #[inline(always)]
 fn oneshot<V: Vector>(kernel: V, input: &[u8]) -> u64
     ensures { result ≡ xxh3_64 0 default_secret input.now }
@@ -34,7 +33,7 @@ fn oneshot<V: Vector>(kernel: V, input: &[u8]) -> u64
     }
 }
 
-// A call of its own, as in the one-shots of the library.
+// A separate function, as in the one-shots of the library.
 #[inline(never)]
 #[tactic(auto, unfolding(twox_core::specs::Value::xxh3_64, twox_core::specs::Value::range_of, twox_core::specs::Value::value64_in), using(twox_core::proofs::EndingFacts::block_low))]
 fn long<V: Vector>(kernel: V, secret: Secret<'_>, input: &[u8]) -> u64
@@ -44,7 +43,7 @@ fn long<V: Vector>(kernel: V, secret: Secret<'_>, input: &[u8]) -> u64
     Algorithm(kernel).oneshot(secret, input, Finalize64)
 }
 
-// The hash under the seed 0 of pieces of that many bytes.
+// Returns the hash under the seed 0 of chunks of this many bytes.
 #[inline(always)]
 fn stream<V: Vector>(kernel: V, input: &[u8], piece: usize) -> u64 {
     let mut core = RawHasherCore::new(SecretBuffer::default());
@@ -54,7 +53,7 @@ fn stream<V: Vector>(kernel: V, input: &[u8], piece: usize) -> u64 {
     core.finish_with(kernel, Finalize64)
 }
 
-/// The hash under the seed 0 by the plain kernel.
+/// Returns the hash under the seed 0 by the plain kernel.
 #[unsafe(no_mangle)]
 pub extern "C" fn twox_xxh3_64_scalar(input: &Input, len: usize) -> u64
     ensures { result ≡ xxh3_64 0 default_secret (take (min len (2 ^ 26)) input.now) }
@@ -62,7 +61,7 @@ pub extern "C" fn twox_xxh3_64_scalar(input: &Input, len: usize) -> u64
     oneshot(scalar::Impl {}, &input[..len.min(ROOM)])
 }
 
-/// The hash under the seed 0 by the kernel of two words.
+/// Returns the hash under the seed 0 by the kernel of two words.
 #[unsafe(no_mangle)]
 pub extern "C" fn twox_xxh3_64_lanes2(input: &Input, len: usize) -> u64
     ensures { result ≡ xxh3_64 0 default_secret (take (min len (2 ^ 26)) input.now) }
@@ -70,7 +69,7 @@ pub extern "C" fn twox_xxh3_64_lanes2(input: &Input, len: usize) -> u64
     oneshot(lanes2::Impl {}, &input[..len.min(ROOM)])
 }
 
-/// The hash under the seed 0 by the kernel of four words.
+/// Returns the hash under the seed 0 by the kernel of four words.
 #[unsafe(no_mangle)]
 pub extern "C" fn twox_xxh3_64_lanes4(input: &Input, len: usize) -> u64
     ensures { result ≡ xxh3_64 0 default_secret (take (min len (2 ^ 26)) input.now) }
@@ -78,7 +77,7 @@ pub extern "C" fn twox_xxh3_64_lanes4(input: &Input, len: usize) -> u64
     oneshot(lanes4::Impl {}, &input[..len.min(ROOM)])
 }
 
-/// The hash under the seed 0 by the kernel of split products.
+/// Returns the hash under the seed 0 by the kernel of split products.
 #[unsafe(no_mangle)]
 pub extern "C" fn twox_xxh3_64_split2(input: &Input, len: usize) -> u64
     ensures { result ≡ xxh3_64 0 default_secret (take (min len (2 ^ 26)) input.now) }
@@ -86,25 +85,25 @@ pub extern "C" fn twox_xxh3_64_split2(input: &Input, len: usize) -> u64
     oneshot(split2::Impl {}, &input[..len.min(ROOM)])
 }
 
-/// The hash under the seed 0, in pieces of that many bytes, by the plain kernel.
+/// Returns the hash under the seed 0, in chunks of this many bytes, by the plain kernel.
 #[unsafe(no_mangle)]
 pub extern "C" fn twox_xxh3_64_stream_scalar(input: &Input, len: usize, piece: usize) -> u64 {
     stream(scalar::Impl {}, &input[..len.min(ROOM)], piece)
 }
 
-/// The hash under the seed 0, in pieces of that many bytes, by the kernel of two words.
+/// Returns the hash under the seed 0, in chunks of this many bytes, by the kernel of two words.
 #[unsafe(no_mangle)]
 pub extern "C" fn twox_xxh3_64_stream_lanes2(input: &Input, len: usize, piece: usize) -> u64 {
     stream(lanes2::Impl {}, &input[..len.min(ROOM)], piece)
 }
 
-/// The hash under the seed 0, in pieces of that many bytes, by the kernel of four words.
+/// Returns the hash under the seed 0, in chunks of this many bytes, by the kernel of four words.
 #[unsafe(no_mangle)]
 pub extern "C" fn twox_xxh3_64_stream_lanes4(input: &Input, len: usize, piece: usize) -> u64 {
     stream(lanes4::Impl {}, &input[..len.min(ROOM)], piece)
 }
 
-/// The hash under the seed 0, in pieces of that many bytes, by the kernel of split products.
+/// Returns the hash under the seed 0, in chunks of this many bytes, by the kernel of split products.
 #[unsafe(no_mangle)]
 pub extern "C" fn twox_xxh3_64_stream_split2(input: &Input, len: usize, piece: usize) -> u64 {
     stream(split2::Impl {}, &input[..len.min(ROOM)], piece)

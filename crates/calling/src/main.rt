@@ -1,4 +1,4 @@
-//! What CALLING.md quotes: callers with contracts, and a program.
+//! The code that CALLING.md quotes: callers with contracts, and a program.
 #![tactic(auto)]
 
 mod callers;

@@ -3,7 +3,7 @@
 use std::test::Fail;
 use twox_core::xxhash3::{DEFAULT_SECRET_RAW, Kernel, Secret, StripeAccumulator, default_secret};
 
-// One stripe more, where a place of the secret is left for it.
+// Takes one stripe more, if a place of the secret is left for it.
 fn take_stripe(stripes: &mut StripeAccumulator, secret: Secret<'_>) {
     if stripes.current_stripe() < secret.n_stripes() {
         stripes.process_stripe(Kernel {}, &[1; 64], secret.n_stripes(), secret);
@@ -14,7 +14,7 @@ fn are_accumulators_of_none(stripes: &StripeAccumulator) -> bool {
     stripes.accumulators() == StripeAccumulator::new().accumulators()
 }
 
-// After the nine places of the shortest secret the first comes again.
+// After the nine places of the shortest secret the first is used again.
 #[test]
 fn stripe_accumulator(rt: HostRuntime) -> Result<(), Fail> {
     let secret = Secret::new(&DEFAULT_SECRET_RAW[..136])?;

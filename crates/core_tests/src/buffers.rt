@@ -1,4 +1,4 @@
-//! The buffers that hold a secret: what is derived, what is refused, and what each type of them lends.
+//! The buffers that hold a secret: what is derived, what is refused, and the bytes of each type of buffer.
 
 use std::alloc::{AllocError, Global};
 use std::boxed::BoxedSlice;
@@ -16,7 +16,7 @@ fn is(secret: Own, bytes: &[u8]) -> bool {
     secret.as_slice() == bytes
 }
 
-// How the derived secret of the seed 1 begins.
+// The beginning of the derived secret of the seed 1.
 const OF_ONE: [u8; 16] = [
     0xb9, 0xfe, 0x6c, 0x39, 0x23, 0xa4, 0x4b, 0xbe, 0x7b, 0x01, 0x81, 0x2c, 0xf7, 0x21, 0xad, 0x1c,
 ];
@@ -43,7 +43,7 @@ fn reads<E: fmt::Display>(alloc: Global, error: &E, wanted: &str) -> Result<bool
     Ok(format!(in alloc; "{error}")?.as_str() == wanted)
 }
 
-// Whether the array is refused for a derived secret with this text, and comes back.
+// True if the array is refused for a derived secret with this text, and is returned.
 fn is_refused_by_with_seed<const N: usize>(alloc: Global, secret: [u8; N]) -> Result<bool, Fail> {
     let Err(e) = SecretBuffer::with_seed(1, secret) else {
         return Ok(false);
@@ -87,7 +87,7 @@ fn second<S: FixedBuffer>(buffer: &S) -> Option<u8> {
     FixedBuffer::as_ref(buffer).get(1).copied()
 }
 
-// Each type that may hold a secret lends its bytes, and keeps what is written.
+// Each type that may hold a secret exposes its bytes, and keeps what is written.
 #[test]
 fn buffers_of_arrays(rt: HostRuntime) {
     let mut array = [7; 136];

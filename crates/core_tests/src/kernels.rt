@@ -5,7 +5,7 @@ ghost use Rattle.std.specs.Prelude.{◌≤◌};
 use twox_core::xxhash3::large::{halves4, lanes2, lanes4, lanes8, scalar, split2};
 use twox_core::xxhash3::{Kernel, Vector};
 
-// Zeros but for the eight-byte word `at`.
+// Zeros except the eight-byte word `at`.
 fn with_word(at: usize, word: u64) -> [u8; 64]
     requires { at ≤ 7 }
 {
@@ -23,14 +23,14 @@ fn counting_words() -> [u8; 64] {
     stripe
 }
 
-// Accumulators that are 0, after a stripe under a secret.
+// Returns accumulators of 0 after a stripe under a secret.
 fn accumulators_after<V: Vector>(v: V, stripe: &[u8; 64], secret: &[u8; 64]) -> [u64; 8] {
     let mut acc = [0; 8];
     v.accumulate(&mut acc, stripe, secret);
     acc
 }
 
-// A word goes to its neighbour's column, and the product of its halves to its own.
+// A word is added to its neighbour's lane, and the product of its halves to its own.
 fn accumulates<V: Vector>(v: V) -> bool {
     let zeros = [0; 64];
     let first = accumulators_after(v, &with_word(0, 0x0000_0002_0000_0003), &zeros);

@@ -1,4 +1,4 @@
-//! Tests of what XXH3 is made of, through the public calls of `twox_core` alone.
+//! Tests of the parts of XXH3, only through the public calls of `twox_core`.
 #![tactic(auto)]
 
 #[cfg(test)]

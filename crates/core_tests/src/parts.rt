@@ -1,12 +1,12 @@
-//! What XXH3 is made of: derived secrets, stripes, the shortest inputs. Each expected value is one that the tests of
-//! the Rust crate `twox-hash` expect, or follows from the xxHash specification by hand.
+//! The parts of XXH3: derived secrets, stripes, the shortest inputs. Each expected value is one that the tests of the
+//! Rust crate `twox-hash` expect, or follows from the xxHash specification by hand.
 
 use std::test::Fail;
 use twox_core::xxhash3::{
     DEFAULT_SECRET_RAW, Secret, derive_secret, impl_1_to_3_bytes_combined, stripes_with_tail,
 };
 
-// How the secrets of the seeds 1 and 2^64-1 begin.
+// The beginnings of the secrets of the seeds 1 and 2^64-1.
 const OF_ONE: [u8; 16] = [
     0xb9, 0xfe, 0x6c, 0x39, 0x23, 0xa4, 0x4b, 0xbe, 0x7b, 0x01, 0x81, 0x2c, 0xf7, 0x21, 0xad, 0x1c,
 ];
@@ -34,12 +34,12 @@ fn derived_secrets(rt: HostRuntime) {
     assert!(rt; begins_with(&secret, &OF_THE_GREATEST));
 }
 
-// The places of a secret of so many zeros.
+// Number of places of a secret of this many zeros.
 fn places(length: usize) -> Result<usize, Fail> {
     Ok(Secret::new(&[0; 300][..length.min(300)])?.n_stripes())
 }
 
-// The whole stripes before the last one, and how many bytes are left for that.
+// Number of whole stripes before the last one, and of the bytes after them.
 fn stripes_and_tail(length: usize) -> (usize, usize) {
     let (whole, rest) = stripes_with_tail(&[0; 200][..length.min(200)]);
     (whole.len(), rest.len())

@@ -1,4 +1,4 @@
-//! The library in use. The README quotes the body of `main`.
+//! An example of the library. The README quotes the body of `main`.
 #![tactic(auto)]
 
 use std::io;

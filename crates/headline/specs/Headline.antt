@@ -1,13 +1,13 @@
--- The words of the headline.
+-- Definitions of the main theorem.
 use Rattle.std.specs.Prelude.{◌≡◌, List, ◌++◌, map, ℕ}
 use Rattle.std.specs.List.{concat}
 use Rattle.std.specs.Borrow.{Bor}
 
--- the pieces, joined
+-- the chunks, joined
 abbrev pub joined : List (Bor (List ℕ)) → List ℕ
 joined pieces = concat (map (λ piece. piece.now) pieces)
 
--- the two answers are the values of the first pieces joined, and of these and the rest joined
+-- the two results are the values of the first chunks joined, and of these and the rest joined
 abbrev pub AreValuesOf : {V : Type 0} → (List ℕ → V) → List (Bor (List ℕ)) → List (Bor (List ℕ)) → V × V → Type 0
 AreValuesOf value first rest answers =
     (answers.0 ≡ value (joined first)) × (answers.1 ≡ value (joined first ++ joined rest))

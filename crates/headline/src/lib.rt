@@ -1,15 +1,15 @@
-//! The headline of the library, as functions whose contracts are its sentences: for every seed, secret of at least
-//! 136 bytes, kernel and list of pieces, each hasher answers at every moment the definition's value of the pieces
-//! joined, and every accepted one-shot answers the same definition.
+//! The library's main theorem, as functions with contracts: for every seed, secret of at least 136 bytes, kernel and
+//! list of chunks, at any point a hasher returns the definition applied to all bytes written so far, and so does every
+//! one-shot that is not refused.
 //!
-//! An XXH3 stream that was made with a secret alone uses it at every length. Any other one uses the default secret
-//! with its seed up to 240 bytes, and above the secret that it holds, with no seed.
+//! An XXH3 stream that was made with only a secret uses it at every length. Any other stream uses the default secret
+//! with its seed up to 240 bytes, and above that the secret that it holds, with no seed.
 //!
-//! A reader who believes the definitions and this file needs to read few other contracts: what `SecretBuffer::new`,
-//! `with_seed`, `with_secret` and `default` hold, the `bytes` of the four buffers, and what `Finalize` asks of an
-//! implementation. Each `.._of_pieces` takes some pieces, is asked, takes more and is asked again: `AreValuesOf` says
-//! that the two answers are the definition's values of what had come by then. Everything is proved from the public
-//! contracts of `twox_hash` and two lemmas on the definitions (`LongValues` of `twox_core`).
+//! A reader who trusts the definitions and this file needs to read few other contracts: what `SecretBuffer::new`,
+//! `with_seed`, `with_secret` and `default` hold, the `bytes` of the four buffers, and what `Finalize` requires of an
+//! implementation. Each `.._of_pieces` hashes some chunks, returns the value, hashes more and returns the value again:
+//! by `AreValuesOf` these are the definition's values of all bytes written by then. Everything is proved from the
+//! public contracts of `twox_hash` and two lemmas on the definitions (`LongValues` of `twox_core`).
 #![tactic(auto)]
 
 ghost use Rattle.std.specs.Prelude.{◌≡◌, ◌++◌, ◌↔◌, ◌≤◌, ◌<◌, ℕ, Option, Some, List, [], IfOk, IfSome, IsErr, IsSome, length, map};
@@ -40,24 +40,23 @@ use twox_hash::{XxHash3_64, XxHash3_128, XxHash32, XxHash64, xxhash3_64, xxhash3
 
 // ---- any hasher
 
-/// A hasher of any kind: the lists of bytes that it follows, and its value of a list.
+/// A hasher of any algorithm: the lists of bytes that it follows, and its value of a list.
 pub trait Stream {
-    /// The value.
+    /// The type of the value.
     type Value: Copy + PartialEq;
 
-    // That the hasher was given a list, to be hashed with a seed, if there is one, and a secret. The plain hashes
-    // have no secret.
+    // The hasher has hashed a list, with a seed, if there is one, and a secret. The plain hashes have no secret.
     ghost follows: { Self → Option ℕ → List ℕ → List ℕ → Type 0 };
 
     // The value of a list, with a seed and a secret.
     ghost value: { Option ℕ → List ℕ → List ℕ → Self.Value };
 
-    /// Takes a piece.
+    /// Hashes a chunk.
     fn take(&mut self, piece: &[u8])
         ensures { (seed : Option ℕ) (s m : List ℕ) → follows self.old seed s m
             → follows self.new seed s (m ++ piece.now) };
 
-    /// The value of the pieces so far.
+    /// Returns the value of the chunks so far.
     fn answer(&self) -> Self::Value
         ensures { (seed : Option ℕ) (s m : List ℕ) → follows self.now seed s m
             → result ≡ value seed s m };
@@ -159,7 +158,7 @@ impl<A: Allocator> Stream for XxHash3_128<A> {
     }
 }
 
-// Takes the pieces, one after another.
+// Hashes the chunks, one after another.
 fn take_all<H: Stream>(hasher: &mut H, pieces: &[&[u8]])
     ensures { (seed : Option ℕ) (s m : List ℕ) → H.follows hasher.old seed s m
         → H.follows hasher.new seed s (m ++ joined pieces.now) }
@@ -169,7 +168,7 @@ fn take_all<H: Stream>(hasher: &mut H, pieces: &[&[u8]])
     }
 }
 
-// Asks after some pieces, and again after more.
+// Returns the values after some chunks, and after more.
 fn answers<H: Stream>(hasher: &mut H, first: &[&[u8]], rest: &[&[u8]]) -> (H::Value, H::Value)
     ensures { (seed : Option ℕ) (s : List ℕ) → H.follows hasher.old seed s []
         → AreValuesOf (H.value seed s) first.now rest.now result }
@@ -182,14 +181,14 @@ fn answers<H: Stream>(hasher: &mut H, first: &[&[u8]], rest: &[&[u8]]) -> (H::Va
 
 // ---- XXH32 and XXH64
 
-/// XXH32 of pieces.
+/// XXH32 of chunks.
 pub fn xxh32_of_pieces(seed: u32, first: &[&[u8]], rest: &[&[u8]]) -> (u32, u32)
     ensures { AreValuesOf (xxh32 seed) first.now rest.now result }
 {
     answers(&mut XxHash32::with_seed(seed), first, rest)
 }
 
-/// XXH32 of pieces, with the seed 0.
+/// XXH32 of chunks, with the seed 0.
 pub fn xxh32_default_of_pieces(first: &[&[u8]], rest: &[&[u8]]) -> (u32, u32)
     ensures { AreValuesOf (xxh32 0) first.now rest.now result }
 {
@@ -203,14 +202,14 @@ pub fn xxh32_at_once(seed: u32, input: &[u8]) -> u32
     XxHash32::oneshot(seed, input)
 }
 
-/// XXH64 of pieces.
+/// XXH64 of chunks.
 pub fn xxh64_of_pieces(seed: u64, first: &[&[u8]], rest: &[&[u8]]) -> (u64, u64)
     ensures { AreValuesOf (xxh64 seed) first.now rest.now result }
 {
     answers(&mut XxHash64::with_seed(seed), first, rest)
 }
 
-/// XXH64 of pieces, with the seed 0.
+/// XXH64 of chunks, with the seed 0.
 pub fn xxh64_default_of_pieces(first: &[&[u8]], rest: &[&[u8]]) -> (u64, u64)
     ensures { AreValuesOf (xxh64 0) first.now rest.now result }
 {
@@ -224,9 +223,9 @@ pub fn xxh64_at_once(seed: u64, input: &[u8]) -> u64
     XxHash64::oneshot(seed, input)
 }
 
-// ---- XXH3 of 64 bits
+// ---- XXH3 64-bit
 
-/// A stream over any buffer, made with a seed or with its secret alone, as the buffer was.
+/// A stream over any buffer, made with a seed or with only a secret, as the buffer was.
 pub fn xxh3_64_of_pieces<S: FixedBuffer + Drop>(
     secret: SecretBuffer<S>,
     first: &[&[u8]],
@@ -238,7 +237,7 @@ pub fn xxh3_64_of_pieces<S: FixedBuffer + Drop>(
     answers(&mut xxhash3_64::RawHasher::new(secret), first, rest)
 }
 
-/// A stream in memory of its own, with the seed 0 and the default secret.
+/// A stream with an allocated secret, with the seed 0 and the default secret.
 pub fn xxh3_64_boxed_of_pieces<A: Allocator>(
     alloc: A,
     first: &[&[u8]],
@@ -250,7 +249,7 @@ pub fn xxh3_64_boxed_of_pieces<A: Allocator>(
     Ok(answers(&mut hasher, first, rest))
 }
 
-/// A stream of 64 bits in memory of its own, by `default`: the seed 0 and the default secret.
+/// A 64-bit stream with an allocated secret, by `default`: the seed 0 and the default secret.
 pub fn xxh3_64_default_of_pieces<A: Allocator>(
     alloc: A,
     first: &[&[u8]],
@@ -262,7 +261,7 @@ pub fn xxh3_64_default_of_pieces<A: Allocator>(
     Ok(answers(&mut hasher, first, rest))
 }
 
-/// A stream in memory of its own, with a seed and the secret that it derives.
+/// A stream with an allocated secret, with a seed and the secret derived from it.
 pub fn xxh3_64_seeded_of_pieces<A: Allocator>(
     alloc: A,
     seed: u64,
@@ -276,7 +275,7 @@ pub fn xxh3_64_seeded_of_pieces<A: Allocator>(
     Ok(answers(&mut hasher, first, rest))
 }
 
-/// A stream with a seed and a boxed secret of the caller's: accepted from 136 bytes on.
+/// A stream with a seed and a boxed secret of the caller: accepted from 136 bytes on.
 pub fn xxh3_64_seeded_and_keyed_of_pieces<A: Allocator>(
     seed: u64,
     secret: BoxedSlice<u8, A>,
@@ -291,7 +290,7 @@ pub fn xxh3_64_seeded_and_keyed_of_pieces<A: Allocator>(
     Some(answers(&mut hasher, first, rest))
 }
 
-/// A stream with a boxed secret of the caller's alone: accepted from 136 bytes on.
+/// A stream with only a boxed secret of the caller: accepted from 136 bytes on.
 pub fn xxh3_64_keyed_of_pieces<A: Allocator>(
     secret: BoxedSlice<u8, A>,
     first: &[&[u8]],
@@ -312,14 +311,14 @@ pub fn xxh3_64_at_once(input: &[u8]) -> u64
     XxHash3_64::oneshot(input)
 }
 
-/// All bytes at once, with a seed: as a stream with the secret that it derives.
+/// All bytes at once, with a seed: as a stream with the secret derived from it.
 pub fn xxh3_64_seeded_at_once(seed: u64, input: &[u8]) -> u64
     ensures { result ≡ stream_64 (Some seed) (derived_secret seed) input.now }
 {
     XxHash3_64::oneshot_with_seed(seed, input)
 }
 
-/// All bytes at once, with a secret alone.
+/// All bytes at once, with only a secret.
 pub fn xxh3_64_keyed_at_once(secret: &[u8], input: &[u8]) -> Result<u64, OneshotWithSecretError>
     ensures refused { IsErr result ↔ (length secret.now < 136) }
     ensures value { IfOk result (λ value. value ≡ xxh3_64 0 secret.now input.now) }
@@ -339,7 +338,7 @@ pub fn xxh3_64_seeded_and_keyed_at_once(
     XxHash3_64::oneshot_with_seed_and_secret(seed, secret, input)
 }
 
-/// More than 240 bytes at once, by any kernel: the value under every seed, since none enters.
+/// More than 240 bytes at once, by any kernel: the value under every seed, since none is used.
 #[tactic(auto, using(twox_core::proofs::LongValues::block_value_64))]
 pub fn xxh3_64_over<V: Vector>(v: V, secret: Secret<'_>, input: &[u8]) -> u64
     requires { 240 < length input.now }
@@ -348,9 +347,9 @@ pub fn xxh3_64_over<V: Vector>(v: V, secret: Secret<'_>, input: &[u8]) -> u64
     Algorithm(v).oneshot(secret, input, Finalize64)
 }
 
-// ---- XXH3 of 128 bits
+// ---- XXH3 128-bit
 
-/// A stream over any buffer, made with a seed or with its secret alone, as the buffer was.
+/// A stream over any buffer, made with a seed or with only a secret, as the buffer was.
 pub fn xxh3_128_of_pieces<S: FixedBuffer + Drop>(
     secret: SecretBuffer<S>,
     first: &[&[u8]],
@@ -362,7 +361,7 @@ pub fn xxh3_128_of_pieces<S: FixedBuffer + Drop>(
     answers(&mut xxhash3_128::RawHasher::new(secret), first, rest)
 }
 
-/// A stream in memory of its own, with the seed 0 and the default secret.
+/// A stream with an allocated secret, with the seed 0 and the default secret.
 pub fn xxh3_128_boxed_of_pieces<A: Allocator>(
     alloc: A,
     first: &[&[u8]],
@@ -374,7 +373,7 @@ pub fn xxh3_128_boxed_of_pieces<A: Allocator>(
     Ok(answers(&mut hasher, first, rest))
 }
 
-/// A stream of 128 bits in memory of its own, by `default`: the seed 0 and the default secret.
+/// A 128-bit stream with an allocated secret, by `default`: the seed 0 and the default secret.
 pub fn xxh3_128_default_of_pieces<A: Allocator>(
     alloc: A,
     first: &[&[u8]],
@@ -386,7 +385,7 @@ pub fn xxh3_128_default_of_pieces<A: Allocator>(
     Ok(answers(&mut hasher, first, rest))
 }
 
-/// A stream in memory of its own, with a seed and the secret that it derives.
+/// A stream with an allocated secret, with a seed and the secret derived from it.
 pub fn xxh3_128_seeded_of_pieces<A: Allocator>(
     alloc: A,
     seed: u64,
@@ -400,7 +399,7 @@ pub fn xxh3_128_seeded_of_pieces<A: Allocator>(
     Ok(answers(&mut hasher, first, rest))
 }
 
-/// A stream with a seed and a boxed secret of the caller's: accepted from 136 bytes on.
+/// A stream with a seed and a boxed secret of the caller: accepted from 136 bytes on.
 pub fn xxh3_128_seeded_and_keyed_of_pieces<A: Allocator>(
     seed: u64,
     secret: BoxedSlice<u8, A>,
@@ -415,7 +414,7 @@ pub fn xxh3_128_seeded_and_keyed_of_pieces<A: Allocator>(
     Some(answers(&mut hasher, first, rest))
 }
 
-/// A stream with a boxed secret of the caller's alone: accepted from 136 bytes on.
+/// A stream with only a boxed secret of the caller: accepted from 136 bytes on.
 pub fn xxh3_128_keyed_of_pieces<A: Allocator>(
     secret: BoxedSlice<u8, A>,
     first: &[&[u8]],
@@ -436,14 +435,14 @@ pub fn xxh3_128_at_once(input: &[u8]) -> u128
     XxHash3_128::oneshot(input)
 }
 
-/// All bytes at once, with a seed: as a stream with the secret that it derives.
+/// All bytes at once, with a seed: as a stream with the secret derived from it.
 pub fn xxh3_128_seeded_at_once(seed: u64, input: &[u8]) -> u128
     ensures { result ≡ stream_128 (Some seed) (derived_secret seed) input.now }
 {
     XxHash3_128::oneshot_with_seed(seed, input)
 }
 
-/// All bytes at once, with a secret alone.
+/// All bytes at once, with only a secret.
 pub fn xxh3_128_keyed_at_once(secret: &[u8], input: &[u8]) -> Result<u128, OneshotWithSecretError>
     ensures refused { IsErr result ↔ (length secret.now < 136) }
     ensures value { IfOk result (λ value. value ≡ xxh3_128 0 secret.now input.now) }
@@ -463,7 +462,7 @@ pub fn xxh3_128_seeded_and_keyed_at_once(
     XxHash3_128::oneshot_with_seed_and_secret(seed, secret, input)
 }
 
-/// More than 240 bytes at once, by any kernel: the value under every seed, since none enters.
+/// More than 240 bytes at once, by any kernel: the value under every seed, since none is used.
 #[tactic(auto, using(twox_core::proofs::LongValues::block_value_128))]
 pub fn xxh3_128_over<V: Vector>(v: V, secret: Secret<'_>, input: &[u8]) -> u128
     requires { 240 < length input.now }
@@ -474,7 +473,7 @@ pub fn xxh3_128_over<V: Vector>(v: V, secret: Secret<'_>, input: &[u8]) -> u128
 
 // ---- the standard `Hasher`
 
-/// XXH3 of 64 bits by the calls of the standard `Hasher`.
+/// XXH3 64-bit by the calls of the standard `Hasher`.
 pub fn xxh3_64_by_standard_calls<S: FixedBuffer + Drop>(
     secret: SecretBuffer<S>,
     input: &[u8],
@@ -486,7 +485,7 @@ pub fn xxh3_64_by_standard_calls<S: FixedBuffer + Drop>(
     hash::Hasher::finish(&raw_hasher)
 }
 
-/// One piece of XXH3, 64 bits, by the standard library's `Hasher`, in memory of its own.
+/// One chunk of XXH3 64-bit, by the standard library's `Hasher`, with an allocated secret.
 pub fn xxh3_64_boxed_by_standard_calls<A: Allocator>(
     alloc: A,
     seed: u64,
@@ -499,9 +498,9 @@ pub fn xxh3_64_boxed_by_standard_calls<A: Allocator>(
     Ok(hash::Hasher::finish(&hasher))
 }
 
-// ---- the core, by kernels that change from piece to piece, for any finalizer
+// ---- the core, by kernels that change from chunk to chunk, for any finalizer
 
-// Takes each piece by either kernel, as it says.
+// Hashes each chunk by either kernel, as its flag selects.
 fn write_all<S: FixedBuffer, V: Vector, W: Vector>(
     core: &mut RawHasherCore<S>,
     v: V,
@@ -520,8 +519,8 @@ fn write_all<S: FixedBuffer, V: Vector, W: Vector>(
     }
 }
 
-/// A core over any buffer, by two kernels in turn, asked by a third for any finalizer: up to 240 bytes it is the
-/// finalizer's value for short inputs, and above its value for long ones.
+/// A core over any buffer, by two kernels in turn, and a third for the value of any finalizer: up to 240 bytes it is
+/// the finalizer's value for short inputs, and above that its value for long ones.
 pub fn core_of_pieces<S: FixedBuffer + Drop, V: Vector, W: Vector, X: Vector, F: Finalize + Drop>(
     secret: SecretBuffer<S>,
     v: V,

@@ -1,5 +1,5 @@
-//! Every constructor that takes a seed, under seeds of few bits and of all: each succeeds, and what it makes has the
-//! one-shot's value, which other tests hold against outside vectors. So has a copy.
+//! Every constructor with a seed, under seeds of few bits and of all: each succeeds, and its value is the one-shot's,
+//! which other tests compare with outside vectors. So is that of a copy.
 
 use crate::inputs::{between, first, generated};
 use crate::streams::{Stream, beside_64, beside_128, seeded_64, seeded_128};
@@ -18,8 +18,8 @@ type Core = AllocRawHasher<Global>;
 
 const SEEDS: [u64; 5] = [0, 1, 1 << 32, 1 << 63, u64::MAX];
 
-// Whether the stream was made and has this value after the input in two pieces, and so has a copy that was made
-// between them.
+// True if the stream was made and has this value after the input in two chunks, and so has a copy that was made between
+// them.
 fn has<S: Stream + Drop>(made: Option<S>, input: &[u8], value: u128) -> bool {
     let Some(mut stream) = made else {
         return false;
@@ -42,7 +42,7 @@ fn wide_over<S: FixedBuffer>(buffer: SecretBuffer<S>) -> xxhash3_128::RawHasher<
     xxhash3_128::RawHasher::new(buffer)
 }
 
-// Raw streams over a buffer, where there is one.
+// Raw streams over a buffer, if there is one.
 fn raw<S: FixedBuffer>(made: Option<SecretBuffer<S>>) -> Option<xxhash3_64::RawHasher<S>> {
     Some(over(made?))
 }
@@ -147,7 +147,7 @@ fn all_beside_have(alloc: Global, seed: u64, secret: &[u8], input: &[u8]) -> boo
     beside_have(alloc, seed, secret, input) && beside_have_128(alloc, seed, secret, input)
 }
 
-// Above 240 bytes the secret enters, and up to there the seed.
+// Above 240 bytes the secret is used, and up to there the seed.
 #[test]
 fn under_each_seed_beside_a_secret(rt: HostRuntime) {
     let bytes = generated();

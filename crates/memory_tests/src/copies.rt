@@ -1,5 +1,5 @@
-//! Copies of XXH3 streams of each kind, which go on by themselves. Each expected value is one that the tests of the
-//! Rust crate `twox-hash` expect, or that of the one-shot, which other tests hold against those.
+//! Copies of XXH3 streams of each kind, which are independent. Each expected value is one that the tests of the Rust
+//! crate `twox-hash` expect, or that of the one-shot, which other tests compare with those.
 
 use crate::inputs::{between, first, generated};
 use crate::streams::{Stream, after, copy_after, seeded_64, seeded_128};
@@ -38,7 +38,7 @@ const VALUE_OF_1024: u128 = 0xe5d7_8baf_a45b_2aa5;
 
 const WIDE_VALUE_OF_1024: u128 = 0xd0ac_1f7b_93bf_57b9_e5d7_8baf_a45b_2aa5;
 
-// Whether a copy after 600 bytes that goes on to 1,024 has this value, and the stream is as it was.
+// True if a copy after 600 bytes that continues to 1,024 has this value, and the stream is unchanged.
 fn goes_on<S: Stream + Drop>(made: Result<S, AllocError>, value_of_600: u128, value: u128) -> bool {
     let Ok(mut stream) = made else {
         return false;
@@ -64,7 +64,7 @@ fn copies_of_each_kind_of_128_bits(rt: HostRuntime) {
     assert!(rt; goes_on(boxed_wide(rt.alloc()), half, WIDE_VALUE_OF_1024));
 }
 
-// Whether a copy has the stream's value, and another one with a byte more, which the stream doesn't take.
+// True if a copy has the stream's value, and another value with one more byte, which the stream doesn't take.
 fn copy_has<S: Stream + Drop>(stream: S, input: &[u8], value: u128) -> Result<bool, AllocError> {
     let stream = after(stream, input);
     Ok(

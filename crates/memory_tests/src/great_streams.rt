@@ -1,4 +1,4 @@
-//! Streams of many bytes: copies succeed, have the value so far, and go on by themselves.
+//! Streams of many bytes: copies succeed, have the value so far, and are independent.
 
 use crate::copies::{boxed, boxed_wide, core};
 use crate::streams::Stream;
@@ -6,7 +6,7 @@ use std::alloc::{AllocError, Global};
 use std::test::Fail;
 use twox_hash::{XxHash3_64, XxHash3_128};
 
-// The stream after so many times the piece.
+// Returns the stream after the chunk, this many times.
 fn after_many<S: Stream>(mut stream: S, count: u32, piece: &[u8]) -> S {
     for _ in 0..count {
         stream.take(piece);
@@ -14,7 +14,7 @@ fn after_many<S: Stream>(mut stream: S, count: u32, piece: &[u8]) -> S {
     stream
 }
 
-// Whether a copy has the value so far, and with a byte more another one, which the stream has with that byte too.
+// True if a copy has the value so far, and another one with one more byte, which the stream also has with that byte.
 fn copy_goes_on<S: Stream + Drop>(mut stream: S) -> Result<bool, AllocError> {
     let mut copy = stream.copy()?;
     let before = stream.value();
@@ -25,7 +25,7 @@ fn copy_goes_on<S: Stream + Drop>(mut stream: S) -> Result<bool, AllocError> {
     Ok(same && kept && copy.value() != before && copy.value() == stream.value())
 }
 
-// Whether that holds of a stream of each kind, after so many times the piece.
+// True if that is so for a stream of each kind, after the chunk, this many times.
 fn copies_go_on(alloc: Global, count: u32, piece: &[u8]) -> Result<bool, AllocError> {
     Ok(
         copy_goes_on(after_many(boxed(alloc)?, count, piece))?
@@ -58,7 +58,7 @@ fn seeded_copies_go_on(
     )
 }
 
-// Copies of a stream of five million bytes under the greatest seed.
+// Copies of a stream of five million bytes under the maximum seed.
 #[test]
 fn copies_after_five_million_bytes_under_the_greatest_seed(
     rt: HostRuntime,
@@ -67,7 +67,7 @@ fn copies_after_five_million_bytes_under_the_greatest_seed(
     Ok(())
 }
 
-// 65,537 pieces of 64 KiB: more bytes than 32 bits count.
+// 65,537 chunks of 64 KiB: more bytes than 32 bits count.
 #[test]
 fn copies_of_a_stream_past_four_gibibytes(rt: HostRuntime) -> Result<(), Fail> {
     let stream = XxHash3_64::with_seed(rt.alloc(), u64::MAX)?;

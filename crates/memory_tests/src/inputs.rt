@@ -12,12 +12,12 @@ pub(crate) fn generated() -> [u8; 2000] {
     bytes
 }
 
-// The first `n` of them, or all.
+// Returns the first `n` of them, or all.
 pub(crate) fn first(bytes: &[u8; 2000], n: usize) -> &[u8] {
     &bytes[..n.min(2000)]
 }
 
-// The bytes from one place to before another, where these are in order and in range, and none else.
+// Returns the bytes from one place to before another if these are in order and in range, and none otherwise.
 pub(crate) fn between(bytes: &[u8; 2000], start: usize, end: usize) -> &[u8] {
     bytes.get(start..end).unwrap_or(&[])
 }

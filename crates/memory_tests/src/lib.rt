@@ -1,6 +1,6 @@
-//! Tests of XXH3 streams where memory is asked for: constructors under seeds of every size, copies of every kind after
-//! few bytes and many, and what each call answers where there is no memory. Want of memory is allowed by each contract,
-//! so only tests see that a call succeeds.
+//! Tests of the allocations of XXH3 streams: constructors under seeds of every size, copies of every kind after few
+//! bytes and many, and the result of each call if an allocation fails. Each contract allows out of memory, so only
+//! tests show that a call succeeds.
 #![tactic(auto)]
 
 #[cfg(test)]

@@ -1,9 +1,9 @@
-//! XXH3 streams where memory runs out: every request of a call is refused in turn, by a heap that has no room for
-//! it. The answer is out of memory, what was to be copied is as it was, and the same call with memory succeeds.
-//! Expected values are the one-shots', which other tests hold against outside vectors.
+//! XXH3 streams out of memory: each allocation of a call is refused in turn, by a heap without space for it. The result
+//! is out of memory, the source of a copy is unchanged, and the same call with memory succeeds. Expected values are the
+//! one-shots', which other tests compare with outside vectors.
 //!
-//! Each of these calls makes one request, for its secret; all other calls make none, and answer where every
-//! request is refused.
+//! Each of these calls makes one allocation, for its secret. All other calls make none, and return a value with every
+//! allocation refused.
 
 use crate::inputs::{first, generated};
 use crate::streams::{
@@ -25,7 +25,7 @@ const SEED: u64 = 0xdead_cafe;
 // A secret of 192 bytes fills this many bytes of a heap.
 const SECRET_IN_HEAP: usize = 192;
 
-// A heap that refuses every request for a secret after the first `count`.
+// Returns a heap that refuses every allocation of a secret after the first `count`.
 fn heap_of(alloc: Global, count: usize) -> Result<LocalHeap, AllocError> {
     LocalHeap::new(
         alloc,
@@ -37,7 +37,7 @@ fn is<T: Drop>(made: Result<T, AllocError>, refused: bool) -> bool {
     made.is_err() == refused
 }
 
-// Whether each call that takes memory for a secret is refused by this heap, or each succeeds, one after the other.
+// True if each call that allocates a secret is refused by this heap, or each succeeds, one after the other.
 fn streams_are(heap: &LocalHeap, refused: bool) -> bool {
     is(XxHash3_64::new(heap), refused)
         && is(XxHash3_64::default(heap), refused)
@@ -61,13 +61,13 @@ fn all_are(heap: &LocalHeap, refused: bool) -> bool {
 #[test]
 fn constructors_answer_out_of_memory(rt: HostRuntime) -> Result<(), AllocError> {
     assert!(rt; all_are(&heap_of(rt.alloc(), 0)?, true));
-    // with room for one secret each is made in turn, so that each takes one request and gives it back
+    // with space for one secret, each is made in turn, so that each takes one allocation and frees it
     let room = heap_of(rt.alloc(), 1)?;
     assert!(rt; all_are(&room, false) && room.used() == 0);
     Ok(())
 }
 
-// Whether all are refused while a stream holds the memory, and succeed afterwards.
+// True if all are refused while a stream holds the memory, and succeed afterwards.
 fn wait_for_another(room: &LocalHeap) -> bool {
     let Ok(held) = XxHash3_64::new(room) else {
         return false;
@@ -97,7 +97,7 @@ fn core(heap: &LocalHeap) -> Result<Core<'_>, AllocError> {
     Core::allocate_with_seed(heap, SEED)
 }
 
-// Whether the stream was made, there is no memory for a copy of it, and it has its value still.
+// True if the stream was made, there is no memory for a copy of it, and it still has its value.
 fn is_kept<S: Stream + Drop>(made: Result<S, AllocError>, input: &[u8], value: u128) -> bool {
     let Ok(mut stream) = made else {
         return false;
@@ -106,7 +106,7 @@ fn is_kept<S: Stream + Drop>(made: Result<S, AllocError>, input: &[u8], value: u
     stream.copy().is_err() && stream.value() == value
 }
 
-// Whether the stream was made, and a copy of it, which has the value.
+// True if the stream and a copy of it, which has the value, were made.
 fn is_copied<S: Stream + Drop>(made: Result<S, AllocError>, input: &[u8], value: u128) -> bool {
     let Ok(mut stream) = made else {
         return false;
@@ -115,7 +115,7 @@ fn is_copied<S: Stream + Drop>(made: Result<S, AllocError>, input: &[u8], value:
     copy_after(&stream, &[]) == Ok(value)
 }
 
-// Where there is room for one secret, a copy is refused; where there is room for two, the same call succeeds.
+// With space for one secret, a copy is refused; with space for two, the same call succeeds.
 fn narrow_are_kept(one: &LocalHeap, two: &LocalHeap, input: &[u8]) -> bool {
     let value = seeded_64(SEED, input);
     is_kept(XxHash3_64::with_seed(one, SEED), input, value)
@@ -134,7 +134,7 @@ fn wide_are_kept(one: &LocalHeap, two: &LocalHeap, input: &[u8]) -> bool {
         && is_copied(raw_wide(two), input, value)
 }
 
-// The lengths around which a stream begins to keep something else.
+// The lengths around which the contents of a stream change.
 const LENGTHS: [usize; 5] = [0, 5, 240, 241, 1000];
 
 fn all_are_kept(one: &LocalHeap, two: &LocalHeap) -> bool {
@@ -155,7 +155,7 @@ fn copies_of_streams_answer_out_of_memory(rt: HostRuntime) -> Result<(), AllocEr
     Ok(())
 }
 
-// The copy of the secret alone.
+// The copy of only the secret.
 fn secret_is_kept(heap: &LocalHeap, input: &[u8]) -> bool {
     let Ok(mut stream) = core(heap) else {
         return false;
@@ -186,7 +186,7 @@ fn is_the_default(made: Result<SecretBuffer<Own<'_>>, AllocError>) -> bool {
     }
 }
 
-// Whether the buffer has a copy or is refused one, as wanted, which is the default secret, and so is the buffer still.
+// True if the buffer has a copy or is refused one, as expected, with the default secret, and the buffer still has it.
 fn buffer_has_copy(heap: &LocalHeap, wanted: bool) -> bool {
     let Ok(buffer) = SecretBuffer::allocate_default(heap) else {
         return false;
@@ -205,7 +205,7 @@ fn copies_of_secret_buffers_answer_out_of_memory(rt: HostRuntime) -> Result<(), 
     Ok(())
 }
 
-// The secret back, where the stream has this value of the input.
+// Returns the secret, if the stream has this value of the input.
 fn answered<S: Stream + Drop>(mut stream: S, input: &[u8], value: Option<u128>) -> Option<S::Held> {
     stream.take(input);
     if value == Some(stream.value()) {
@@ -215,7 +215,7 @@ fn answered<S: Stream + Drop>(mut stream: S, input: &[u8], value: Option<u128>) 
     }
 }
 
-// Each constructor that takes a secret, as a call that gives the secret back where the value is right.
+// Each constructor with a secret, as a call that returns the secret if the value is correct.
 fn narrow_beside<'a>(own: Own<'a>, secret: &[u8], input: &[u8]) -> Option<Own<'a>> {
     let value = beside_64(SEED, secret, input);
     answered(
@@ -293,7 +293,7 @@ fn raw_answer<'a>(own: Own<'a>, secret: &[u8], input: &[u8]) -> Option<Own<'a>> 
     derived(own, &[])
 }
 
-// Whether the secret came back, and while it is held every request is refused.
+// True if the secret was returned, and every allocation is refused while it is held.
 fn is_full(room: &LocalHeap, own: Option<Own<'_>>) -> bool {
     let came_back = own.is_some();
     let refused = all_are(room, true);
@@ -301,7 +301,7 @@ fn is_full(room: &LocalHeap, own: Option<Own<'_>>) -> bool {
     came_back && refused
 }
 
-// Every request is refused below but the one for the secret that is handed in.
+// Every allocation below is refused except the one for the secret that is passed in.
 #[test]
 fn boxed_streams_answer_without_requests(rt: HostRuntime) -> Result<(), AllocError> {
     let bytes = generated();

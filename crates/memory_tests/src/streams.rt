@@ -1,4 +1,4 @@
-//! Every kind of stream under one trait without contracts, so that a test over it has none to carry along.
+//! Every kind of stream under one trait without contracts, so that a test over it has none to prove.
 
 use std::alloc::{AllocError, Allocator};
 use std::boxed::BoxedSlice;
@@ -6,12 +6,12 @@ use twox_hash::xxhash3::{ClonedBuffer, RawHasherCore};
 use twox_hash::{XxHash3_64, XxHash3_128, xxhash3_64, xxhash3_128};
 
 pub(crate) trait Stream {
-    // What a secret is held in, which comes back.
+    // The holder of a secret, which is returned.
     type Held;
 
     fn take(&mut self, piece: &[u8]);
 
-    // One of 64 bits stands in the low half.
+    // A 64-bit value is in the low half.
     fn value(&self) -> u128;
 
     fn copy(&self) -> Result<Self, AllocError>;
@@ -99,7 +99,7 @@ impl<S: ClonedBuffer> Stream for xxhash3_128::RawHasher<S> {
     }
 }
 
-// Asked for 64 bits.
+// For 64 bits.
 impl<S: ClonedBuffer> Stream for RawHasherCore<S> {
     type Held = S;
 
@@ -125,7 +125,7 @@ pub(crate) fn after<S: Stream>(mut stream: S, piece: &[u8]) -> S {
     stream
 }
 
-// The value of a copy after a further piece.
+// Returns the value of a copy after one more chunk.
 pub(crate) fn copy_after<S: Stream + Drop>(stream: &S, piece: &[u8]) -> Result<u128, AllocError> {
     let mut copy = stream.copy()?;
     copy.take(piece);
@@ -141,7 +141,7 @@ pub(crate) fn seeded_128(seed: u64, input: &[u8]) -> u128 {
     XxHash3_128::oneshot_with_seed(seed, input)
 }
 
-// One-shots under a seed beside a secret that has its length, and under a secret alone.
+// One-shots under a seed and a secret of valid length, and under only a secret.
 pub(crate) fn beside_64(seed: u64, secret: &[u8], input: &[u8]) -> Option<u128> {
     let value = XxHash3_64::oneshot_with_seed_and_secret(seed, secret, input).ok()?;
     Some(u128::from(value))

@@ -1,10 +1,10 @@
-//! Copies of hashers, records, accumulators and states. None takes memory.
+//! Copies of hashers, records, accumulators and states. None allocates.
 
 use crate::records::{record_32, record_64};
 use twox_plain::xxhash32::Hasher as XxHash32;
 use twox_plain::xxhash64::Hasher as XxHash64;
 
-// Whether there is a copy, and it is equal.
+// True if there is a copy, and it is equal.
 fn is_copied<T: Clone + PartialEq + Drop>(value: &T) -> bool {
     match value.clone() {
         Ok(copy) => copy == *value,

@@ -1,10 +1,10 @@
-//! A changed word is noticed: no answer here repeats the original's.
+//! A changed word is detected: no value here is the original's.
 
 use crate::values::bytes_from_0;
 use twox_plain::xxhash32::Hasher as XxHash32;
 use twox_plain::xxhash64::Hasher as XxHash64;
 
-// The value of the bytes 0 to 99, of which one has other bits.
+// Returns the value of the bytes 0 to 99, with some bits of one byte changed.
 fn turned_32(byte: usize, bits: u8) -> u32 {
     let mut bytes: [u8; 100] = bytes_from_0();
     bytes[byte % 100] ^= bits;

@@ -1,7 +1,7 @@
-//! Tests of XXH32, XXH64 and the words that every hash reads, through the public calls of `twox_plain` alone.
+//! Tests of XXH32, XXH64 and the words that every hash reads, only through the public calls of `twox_plain`.
 //!
-//! A test states nothing, so its proof has little to find as long as each function is small: a call and what is
-//! asked of its answer stand in a function of their own, which callers see without the call's contract.
+//! A test has no contract, so its proof has little to find as long as each function is small: a call and the checks of
+//! its result are in a separate function, which callers see without the call's contract.
 #![tactic(auto)]
 
 #[cfg(test)]

@@ -29,7 +29,7 @@ fn drawn_64() -> xxhash64::RandomState {
     xxhash64::RandomState::from_rng(&mut SplitMix64::seed_from_u64(NEXT_IS_1234))
 }
 
-// Whether the state and a copy of it have this value of the input.
+// True if the state and a copy of it have this value of the input.
 fn both_have<S: BuildHasher + Clone + Drop>(state: &S, input: &[u8], value: u64) -> bool {
     match state.clone() {
         Ok(copy) => hash_by(state, input) == value && hash_by(&copy, input) == value,

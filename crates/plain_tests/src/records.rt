@@ -1,4 +1,4 @@
-//! Records of XXH32 and XXH64: what comes back, which are refused, and which hashers are equal.
+//! Records of XXH32 and XXH64: what is restored, which are refused, and which hashers are equal.
 
 use crate::values::HELLO;
 use std::test::Fail;
@@ -26,7 +26,7 @@ pub(crate) fn refusal_64(record: xxhash64::SavedState) -> Option<RestoreError64>
     XxHash64::from_state(record).err()
 }
 
-// Whether hashers of the two records are equal.
+// True if hashers of the two records are equal.
 fn are_equal_32(a: xxhash32::SavedState, b: xxhash32::SavedState) -> Result<bool, RestoreError32> {
     Ok(XxHash32::from_state(a)? == XxHash32::from_state(b)?)
 }
@@ -35,7 +35,7 @@ fn are_equal_64(a: xxhash64::SavedState, b: xxhash64::SavedState) -> Result<bool
     Ok(XxHash64::from_state(a)? == XxHash64::from_state(b)?)
 }
 
-// The value of the hasher that has this record.
+// Returns the value of the hasher that has this record.
 fn value_32(record: xxhash32::SavedState) -> Result<u32, RestoreError32> {
     Ok(XxHash32::from_state(record)?.finish_32())
 }
@@ -104,7 +104,7 @@ fn a_length_past_32_bits(rt: HostRuntime) -> Result<(), Fail> {
     Ok(())
 }
 
-// From the greatest length on the counter stays, and the usage goes on.
+// From the maximum length on the counter stays, and the usage still changes.
 #[test]
 fn a_length_past_the_counter(rt: HostRuntime) -> Result<(), Fail> {
     let mut record = record_32();
@@ -117,7 +117,8 @@ fn a_length_past_the_counter(rt: HostRuntime) -> Result<(), Fail> {
     Ok(())
 }
 
-// A record that no hasher made, of accumulators of zero and the greatest length: XXH32 has this value on paper.
+// A record that no hasher made, of accumulators of zero and the maximum length: XXH32 has this value by a calculation
+// by hand.
 #[test]
 fn the_greatest_length_over_accumulators_of_zero(rt: HostRuntime) {
     let mut record = record_32();
@@ -143,7 +144,7 @@ fn usages_of_the_greatest_lengths(rt: HostRuntime) {
     assert!(rt; refusal_32(record) == Some(RestoreError32::BufferUsage));
 }
 
-// The record with one field changed: the length, the seed, each accumulator, the usage, a byte in use, and one
+// Returns the record with one field changed: the length, the seed, each accumulator, the usage, a byte in use, and one
 // that is not.
 fn changed_32(record: xxhash32::SavedState, field: usize) -> xxhash32::SavedState {
     let mut other = record;
@@ -177,7 +178,7 @@ fn changed_64(record: xxhash64::SavedState, field: usize) -> xxhash64::SavedStat
     other
 }
 
-// Hashers whose records differ in one field alone are unequal.
+// Hashers whose records differ in only one field are unequal.
 #[test]
 fn hashers_of_32_bits_that_differ_in_one_field(rt: HostRuntime) {
     let mut record = record_32();

@@ -1,4 +1,4 @@
-//! The texts of refusals.
+//! The texts of errors.
 
 use std::alloc::Global;
 use std::fmt;

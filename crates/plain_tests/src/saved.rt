@@ -1,4 +1,4 @@
-//! Saved texts of XXH32 and XXH64: the ways there and back, and what is refused.
+//! Saved texts of XXH32 and XXH64: round trips, and what is refused.
 
 use crate::records::{record_32, record_64};
 use std::alloc::{AllocError, Global};
@@ -11,7 +11,7 @@ const TEXT_32: &str =
 const TEXT_64: &str =
     "{\"buffer\":[72,101,108,108,111,44,32,119,111,114,108,100,33,0,0,0,0,0,0,0,0,0,0,0,0,0,0,0,0,0,0,0],\"buffer_usage\":14,\"core\":{\"v1\":6983438078262162902,\"v2\":14029467366897019727,\"v3\":0,\"v4\":7046029288634856825},\"seed\":0,\"total_len\":14}";
 
-// What follows the buffer in the text of a hasher of no bytes under the seed 0.
+// The text after the buffer, of a hasher of no bytes under the seed 0.
 const REST_32: &str =
     "\"buffer_usage\":0,\"core\":{\"v1\":606290984,\"v2\":2246822519,\"v3\":0,\"v4\":1640531535},\"seed\":0,\"total_len\":0}";
 
@@ -63,7 +63,7 @@ fn texts_of_no_record(rt: HostRuntime) {
     assert!(rt; is_refused_32(rt.alloc(), "{}"));
 }
 
-// A saved text whose buffer has so many numbers.
+// Returns a saved text whose buffer has this many numbers.
 fn text_of(alloc: Global, numbers: u32, rest: &str) -> Result<String, AllocError> {
     let mut text = String::new(alloc);
     text.push_str("{\"buffer\":[")?;
@@ -105,8 +105,8 @@ fn other_numbers_of_buffer_bytes(rt: HostRuntime) {
     }
 }
 
-// A saved text before so many spaces, longer than any constant of the code: want of memory is no answer, where none is
-// refused.
+// Returns a saved text before this many spaces, longer than any constant of the code: out of memory is not a valid
+// result if no allocation is refused.
 fn long_text(alloc: Global, saved: &str, spaces: u32) -> Result<String, AllocError> {
     let mut text = String::new(alloc);
     text.push_str(saved)?;
@@ -138,7 +138,7 @@ fn long_texts_are_read(rt: HostRuntime) {
     }
 }
 
-// Whether the text is read as the record.
+// True if the text is read as the record.
 fn reads_as_32(
     alloc: Global,
     text: Result<String, AllocError>,
@@ -154,7 +154,7 @@ pub(crate) fn comes_back_32(alloc: Global, record: xxhash32::SavedState) -> bool
     reads_as_32(alloc, record.to_json(alloc), record)
 }
 
-// Whether the text is read as the record.
+// True if the text is read as the record.
 fn reads_as_64(
     alloc: Global,
     text: Result<String, AllocError>,
@@ -178,7 +178,7 @@ fn as_many_numbers_as_buffer_bytes(rt: HostRuntime) {
     assert!(rt; reads_as_64(rt.alloc(), text, XxHash64::with_seed(0).to_state()));
 }
 
-// The record after the first bytes of this input.
+// Returns the record after the first bytes of this input.
 fn record_after_32(seed: u64, input: &[u8]) -> xxhash32::SavedState {
     let mut hasher = XxHash32::with_seed((seed % 0x1_0000_0000) as u32);
     hasher.write(input);
@@ -193,7 +193,7 @@ fn record_after_64(seed: u64, input: &[u8]) -> xxhash64::SavedState {
 
 const GREAT: [u64; 3] = [4_300_000_000, u64::MAX - 1, u64::MAX];
 
-// The record, and the same of great lengths.
+// Reads back the record, and the same with large lengths.
 fn all_come_back_32(alloc: Global, record: xxhash32::SavedState) -> bool {
     let mut agree = comes_back_32(alloc, record);
     let mut other = record;
@@ -214,7 +214,7 @@ fn all_come_back_64(alloc: Global, record: xxhash64::SavedState) -> bool {
     agree
 }
 
-// Seeds of one digit and of all.
+// Seeds of one digit and of the maximum number of digits.
 const SEEDS: [u64; 3] = [0, 7, u64::MAX];
 
 // Hashers of every length around the first two stripes.

@@ -1,33 +1,34 @@
-//! Saved texts of every length that there is: each is read back. Nothing but a want of memory may refuse one, and a
-//! reader that gave up on long texts could name that.
+//! Saved texts of every possible length: each is read back. Only a failed allocation may refuse one, and a reader that
+//! gave up on long texts could report that.
 
 use crate::saved::{comes_back_32, comes_back_64};
 use std::alloc::Global;
 use twox_plain::{xxhash32, xxhash64};
 
-// The texts in which each number has one digit.
+// Length of the texts in which each number has one digit.
 const SHORTEST_32: usize = 121;
 
 const SHORTEST_64: usize = 153;
 
-// How many digits more the numbers can have: those of the buffer, the usage, the accumulators, the seed, the length.
+// Number of further digits that the numbers can have: those of the buffer, the usage, the accumulators, the seed, the
+// length.
 const MORE_32: u32 = 115;
 
 const MORE_64: u32 = 197;
 
-// Digits that are still to be given out.
+// Digits that are still to be distributed.
 #[derive(Drop)]
 struct Digits(u32);
 
 impl Digits {
-    // As many of them as this number takes.
+    // Takes as many of them as this number can have.
     fn take(&mut self, most: u32) -> u32 {
         let taken = self.0.min(most);
         self.0 = self.0.saturating_sub(taken);
         taken
     }
 
-    // One and so many zeros.
+    // Returns one and this many zeros.
     fn byte(&mut self) -> u8 {
         match self.take(2) {
             0 => 1,
@@ -57,7 +58,7 @@ impl Digits {
     }
 }
 
-// A record whose numbers have so many digits more than one each.
+// Returns a record whose numbers have this many digits more than one each.
 fn record_32(more: u32) -> xxhash32::SavedState {
     let mut digits = Digits(more);
     let buffer = digits.bytes();
@@ -98,7 +99,7 @@ fn record_64(more: u32) -> xxhash64::SavedState {
     }
 }
 
-// Whether the text has this length, and gives the record.
+// True if the text has this length, and contains the record.
 fn is_read_32(alloc: Global, record: xxhash32::SavedState, length: usize) -> bool {
     match record.to_json(alloc) {
         Ok(text) => text.len() == length && comes_back_32(alloc, record),
@@ -137,7 +138,7 @@ fn each_length_of_64_bits(rt: HostRuntime) {
     }
 }
 
-// The greatest numbers.
+// The largest numbers.
 #[test]
 fn the_greatest_records(rt: HostRuntime) {
     let narrow = xxhash32::SavedState {

@@ -1,5 +1,5 @@
-//! Values of XXH32 and XXH64. Each expected value is one that the tests of the Rust crate `twox-hash` expect, one
-//! that the C library prints, or follows from the xxHash specification by hand.
+//! Values of XXH32 and XXH64. Each expected value is one that the tests of the Rust crate `twox-hash` expect, one that
+//! the C library prints, or follows from the xxHash specification by hand.
 
 use twox_plain::by_stripes;
 use twox_plain::xxhash32::Hasher as XxHash32;
@@ -11,7 +11,7 @@ const OTHER_SEED_32: u32 = 0x42c9_1977;
 
 const OTHER_SEED_64: u64 = 0xae05_4331_1b70_2d91;
 
-// the seeds at which adding the last prime, and the length 1 after it, passes the width
+// seeds for which adding the last prime, and then the length 1, overflows the width
 const FULL_SEED_32: u32 = 0xe9a9_984e;
 
 const FULL_SEED_64: u64 = 0xd82b_14d0_e9a9_983a;
@@ -37,7 +37,7 @@ fn says_64(hasher: &XxHash64, seed: u64, len: u64, value: u64) -> bool {
     hasher.finish() == value && hasher.seed() == seed && hasher.total_len() == len
 }
 
-// At once, and byte by byte after an empty piece.
+// At once, and byte by byte after an empty chunk.
 fn has_value_32(seed: u32, input: &[u8], value: u32) -> bool {
     let mut hasher = XxHash32::with_seed(seed);
     hasher.write(&[]);

@@ -1,6 +1,6 @@
-//! The rules by which `oracle/symbolic` writes the definitions and the reference library's code as terms in one
-//! form, as functions whose contracts are these rules. They do nothing. The program in `oracle/terms` names each rule
-//! that it uses as it is named here; that it applies them as they are written is not proved.
+//! The rules by which `oracle/symbolic` writes the definitions and the reference library's code as terms in one form,
+//! as functions whose contracts are these rules. They have no code. The program in `oracle/terms` uses the same names
+//! for its rules; that it applies them as they are written is not proved.
 //!
 //! All values are naturals: a word of w bits is one below 2 ^ w, and a segment of a value v is v / 2 ^ k % 2 ^ n.
 #![tactic(auto)]
@@ -10,13 +10,13 @@ ghost use Rattle.symbolic_rules.specs.Product.{first_sum, second_sum, upper_word
 
 // ---- segments
 
-/// A number is its low bits and the others.
+/// A number consists of its low bits and the others.
 #[tactic(auto, using(std::proofs::lemmas::Nat::shr_split))]
 pub fn parts_of_a_number()
     ensures { (v k : ℕ) → v / 2 ^ k * 2 ^ k + v % 2 ^ k ≡ v }
 {}
 
-/// Two numbers side by side give back the lower one and the upper one.
+/// The lower and the upper part of two concatenated numbers are the two numbers.
 #[tactic(auto, using(std::proofs::lemmas::Nat::mod_low, std::proofs::lemmas::Nat::shr_high))]
 pub fn concatenation()
     ensures lower { (a b k : ℕ) → a < 2 ^ k → (b * 2 ^ k + a) % 2 ^ k ≡ a }
@@ -29,7 +29,7 @@ pub fn bits_of_bits()
     ensures { (v j k : ℕ) → v % 2 ^ (j + k) / 2 ^ k ≡ v / 2 ^ k % 2 ^ j }
 {}
 
-/// The xor of numbers side by side is that of the parts.
+/// The xor of concatenated numbers is the concatenation of the parts' xors.
 #[tactic(auto, using(std::proofs::lemmas::Nat::xor_block, std::proofs::lemmas::Nat::xor_shr, std::proofs::lemmas::Nat::xor_mod))]
 pub fn xor_of_parts()
     ensures whole { (a b c d k : ℕ) → a < 2 ^ k → c < 2 ^ k
@@ -38,7 +38,7 @@ pub fn xor_of_parts()
     ensures lower { (a b k : ℕ) → bit_xor a b % 2 ^ k ≡ bit_xor (a % 2 ^ k) (b % 2 ^ k) }
 {}
 
-/// The order of a xor is free, and what is there twice is not there.
+/// Xor is commutative, and equal operands cancel out.
 #[tactic(auto, using(crate::proofs::Rules::xor_laws))]
 pub fn xor_in_any_order()
     ensures turned { (a b : ℕ) → bit_xor a b ≡ bit_xor b a }
@@ -47,7 +47,7 @@ pub fn xor_in_any_order()
     ensures with_nothing { (a : ℕ) → bit_xor a 0 ≡ a }
 {}
 
-/// Numbers that have no bit in common: their sum and their union are their xor.
+/// The sum and the union of numbers that have no bit in common are their xor.
 #[tactic(auto, using(crate::proofs::Rules::sum_is_xor, crate::proofs::Rules::union_is_xor))]
 pub fn bits_apart()
     ensures sum { (a b : ℕ) → bit_and a b ≡ 0 → a + b ≡ bit_xor a b }
@@ -74,13 +74,13 @@ pub fn complement()
 
 // ---- sums and products
 
-/// A coefficient that goes on as a place value does is that of the whole number.
+/// A coefficient that continues as a place value does is that of the whole number.
 #[tactic(auto, using(crate::proofs::Rules::joined_coefficients))]
 pub fn joined_coefficients()
     ensures { (c v k : ℕ) → c * 2 ^ k * (v / 2 ^ k) + c * (v % 2 ^ k) ≡ c * v }
 {}
 
-/// Of a factor only the bits that count are kept, where the coefficient ends in zeros; and a part of a sum that was
+/// Only the bits of a factor that count are kept, if the coefficient ends in zeros; and a part of a sum that was
 /// narrowed no further than to these may be the whole.
 #[tactic(auto, using(crate::proofs::Rules::narrowed_factor))]
 pub fn narrowed_factor()
@@ -106,22 +106,22 @@ pub fn narrowed_product()
     ensures { (a b w : ℕ) → (a * b) % 2 ^ w ≡ (a % 2 ^ w * (b % 2 ^ w)) % 2 ^ w }
 {}
 
-/// Of the high bits of a sum a part that lies above is a summand, which carries nothing from below.
+/// In the high bits of a sum, a part that lies above is a summand, with no carry from below.
 #[tactic(auto, using(crate::proofs::Rules::high_of_a_sum))]
 pub fn high_of_a_sum()
     ensures { (r y k w : ℕ) → k ≤ w
         → (y * 2 ^ k + r) % 2 ^ w / 2 ^ k ≡ (y + r % 2 ^ w / 2 ^ k) % 2 ^ (w - k) }
 {}
 
-/// A number below the divisor is its own remainder, and no quotient.
+/// A number below the divisor is its own remainder, with the quotient 0.
 pub fn small_remainder()
     ensures remainder { (v m : ℕ) → v < m → v % m ≡ v }
     ensures quotient { (v m : ℕ) → v < m → v / m ≡ 0 }
 {}
 
-/// A product of two words of 64 bits is made of the products of their halves, as `assembly/webassembly.py` has it made in
-/// browsers: the upper word is that of those steps, of which none is too large for 64 bits, and the lower one the
-/// product's own, or the lower halves of the second sum and of the lower halves' product.
+/// A product of two words of 64 bits is computed from the products of their halves, as `assembly/webassembly.py` does
+/// for browsers: the upper word is that of those steps, of which none is too large for 64 bits, and the lower one is
+/// the product's own, or the lower halves of the second sum and of the lower halves' product.
 #[tactic(auto, using(crate::proofs::ProductFacts::product, crate::proofs::ProductFacts::lower))]
 pub fn product_by_halves()
     ensures product { (a b : ℕ) → upper_word a b * 2 ^ 64 + a * b % 2 ^ 64 ≡ a * b }

@@ -1,4 +1,4 @@
--- The number that the two halves of a value of 128 bits make.
+-- The number of the two halves of a 128-bit value.
 use Rattle.std.specs.Prelude.{ℕ, ◌+◌, ◌*◌, ◌^◌}
 use Rattle.twox_c.specs.declared.hash128.Xxh128Hash.{Xxh128Hash}
 

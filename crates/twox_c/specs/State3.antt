@@ -22,13 +22,13 @@ pub record IsSecretLength (n : ℕ) : Type 0 where
   pub long_enough : 136 ≤ n
   pub short_enough : n ≤ 256
 
--- it has the mark of a reset, and all numbers lie in their ranges: calls go on from it, and refuse any other
+-- it has the mark of a reset, and all numbers are in their ranges: calls continue from it, and refuse any other
 pub record IsUsable (c : Xxh3State) : Type 0 where
   pub mark : c.mark ≡ MARK_3
   pub secret_length : IsSecretLength c.secret_length
   pub in_range : IsInRange (secret_of c) c.core
 
--- it was reset with the secret s and this seed, or with the secret alone where there is none, and has taken m since
+-- it was reset with the secret s and this seed (or, without a seed, with only the secret), and has taken m since
 pub record WasGiven (c : Xxh3State) (seed : Option ℕ) (s m : List ℕ) : Type 0 where
   pub usable : IsUsable c
   pub message : StandsFor (λ x. x) (stream_of c) seed s m

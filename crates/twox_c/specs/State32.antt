@@ -9,8 +9,8 @@ use Rattle.twox_c.specs.declared.xxh32.Xxh32State.{Xxh32State}
 abbrev pub record_of_state : Xxh32State → SavedState
 record_of_state c = record_of c.hasher
 
--- it has the mark of a reset, and less than a stripe waits: calls go on from it, and refuse any other. One word says
--- both: it is the mark, and less than a stripe more
+-- it has the mark of a reset, and less than a stripe is buffered: calls continue from it, and refuse any other. One
+-- word contains both: it is the mark plus less than a stripe
 pub record IsUsable (c : Xxh32State) : Type 0 where
   pub in_range : usage_of c.hasher < 16
 

@@ -1,4 +1,4 @@
-//! The value of 128 bits as C has it.
+//! The 128-bit value as C has it.
 
 ghost use Rattle.std.specs.Prelude.{◌≡◌, ◌↔◌, ◌<◌, pos, negsuc};
 ghost use Rattle.std.specs.Int.{w128, to_be_bytes, from_be_bytes};
@@ -6,7 +6,7 @@ ghost use Rattle.twox_c.specs.Hash128.{value_of};
 
 use twox_hash::words::{Halves, IntoU128};
 
-/// `XXH128_hash_t`: a value of 128 bits as its two halves.
+/// `XXH128_hash_t`: a 128-bit value as its two halves.
 #[repr(C)]
 #[derive(Clone, Copy)]
 pub struct Xxh128Hash {
@@ -17,7 +17,7 @@ pub struct Xxh128Hash {
 }
 
 impl Xxh128Hash {
-    // The halves of a value.
+    // Splits a value into its halves.
     #[inline(always)]
     pub(crate) fn of(value: u128) -> Xxh128Hash
         ensures { value_of result ≡ value }
@@ -28,7 +28,7 @@ impl Xxh128Hash {
         }
     }
 
-    // The value of the halves.
+    // Joins the halves.
     #[inline(always)]
     pub(crate) fn value(self) -> u128
         ensures { result ≡ value_of self }
@@ -37,7 +37,7 @@ impl Xxh128Hash {
     }
 }
 
-/// `int XXH128_isEqual(XXH128_hash_t h1, XXH128_hash_t h2)`: 1 if the hashes are equal, and 0 if not.
+/// `int XXH128_isEqual(XXH128_hash_t h1, XXH128_hash_t h2)`: returns 1 if the hashes are equal, and 0 if not.
 #[unsafe(no_mangle)]
 pub extern "C" fn XXH128_isEqual(h1: Xxh128Hash, h2: Xxh128Hash) -> i32
     ensures equal { value_of h1 ≡ value_of h2 → result ≡ pos 1 }
@@ -46,8 +46,9 @@ pub extern "C" fn XXH128_isEqual(h1: Xxh128Hash, h2: Xxh128Hash) -> i32
     if h1.value() == h2.value() { 1 } else { 0 }
 }
 
-/// `int XXH128_cmp(const void* h128_1, const void* h128_2)`: 1, 0 or -1 as the first hash is above the second, equal
-/// to it or below it, as numbers of 128 bits. Both pointers are of an `XXH128_hash_t`, aligned to 8.
+/// `int XXH128_cmp(const void* h128_1, const void* h128_2)`: returns 1, 0 or -1 if the first hash is greater than,
+/// equal to or less than the second, as numbers of 128 bits. Both pointers must point to an `XXH128_hash_t`, aligned to
+/// 8.
 #[unsafe(no_mangle)]
 pub extern "C" fn XXH128_cmp(h1: &Xxh128Hash, h2: &Xxh128Hash) -> i32
     ensures above { value_of h2.now < value_of h1.now → result ≡ pos 1 }
@@ -64,7 +65,7 @@ pub extern "C" fn XXH128_cmp(h1: &Xxh128Hash, h2: &Xxh128Hash) -> i32
     }
 }
 
-/// `void XXH128_canonicalFromHash(XXH128_canonical_t* dst, XXH128_hash_t hash)`: the 16 bytes of the hash, the
+/// `void XXH128_canonicalFromHash(XXH128_canonical_t* dst, XXH128_hash_t hash)`: writes the 16 bytes of the hash, the
 /// highest first.
 #[unsafe(no_mangle)]
 pub extern "C" fn XXH128_canonicalFromHash(dst: &mut [u8; 16], hash: Xxh128Hash)
@@ -73,8 +74,8 @@ pub extern "C" fn XXH128_canonicalFromHash(dst: &mut [u8; 16], hash: Xxh128Hash)
     *dst = hash.value().to_be_bytes();
 }
 
-/// `XXH128_hash_t XXH128_hashFromCanonical(const XXH128_canonical_t* src)`: the hash of these 16 bytes, of which the
-/// highest is first.
+/// `XXH128_hash_t XXH128_hashFromCanonical(const XXH128_canonical_t* src)`: returns the hash of these 16 bytes, the
+/// highest first.
 #[unsafe(no_mangle)]
 pub extern "C" fn XXH128_hashFromCanonical(src: &[u8; 16]) -> Xxh128Hash
     ensures { value_of result ≡ from_be_bytes w128 src.now }

@@ -1,28 +1,28 @@
 //! XXH32, XXH64 and XXH3 under the names of the C library `libxxhash` 0.8.1, as a static library.
 //!
-//! Every name that the shared library of Debian's `libxxhash0` exports is here but the six that allocate and free
-//! states. Each export's documentation begins with its declaration in C, where a pointer
-//! and a length are one parameter here, a slice; a null pointer may stand for no bytes.
+//! Has every name that the shared library of Debian's `libxxhash0` exports, except the six that allocate and free
+//! states. Each export's documentation begins with its declaration in C. A pointer and a length in C are one parameter
+//! here, a slice; a null pointer is an empty slice.
 //!
-//! A contract asks nothing of a caller: what can be tested is tested. Memory without the mark of a reset, and a
-//! secret of a length that doesn't fit, are refused. A call with an error code then answers `XXH_ERROR` and changes nothing,
-//! and one that answers a hash answers 0. Pointers of states have to be of states, and aligned.
+//! No contract requires anything of a caller: what can be tested is tested. Memory without the mark of a reset, and a
+//! secret of a length that doesn't fit, are refused. A call with an error code then returns `XXH_ERROR` and changes
+//! nothing, and a call that returns a hash returns 0. Pointers to states must point to states, and be aligned.
 //!
-//! Each call does what the header `xxhash.h` of that release says under its name, but for this:
+//! Each call does what the header `xxhash.h` of that release documents, with these differences:
 //!
-//! - A state of XXH3 keeps its secret itself, of 136 to 256 bytes. The C library keeps a pointer, so that its caller
-//!   has to keep the secret, of any length from 136 bytes on.
-//! - A state whose secret was refused stays as it was. In the C library `_reset_withSecret` resets it all the same.
+//! - A state of XXH3 stores its secret, of 136 to 256 bytes. The C library keeps a pointer, so its caller has to keep
+//!   the secret, of any length from 136 bytes on.
+//! - A state whose secret was refused stays as it was. In the C library `_reset_withSecret` resets it anyway.
 //! - After `XXH3_128bits_reset_withSecretandSeed` with the seed 0, up to 240 bytes are hashed with the default
 //!   secret, as `XXH3_128bits_withSecretandSeed` does. The C library's stream uses the caller's secret there.
-//! - A one-shot with a secret of fewer than 136 bytes answers 0, and so does the digest of memory without the mark of
-//!   a reset. The header leaves these open.
-//! - A null pointer of a state is not told, nor one of a secret or of bytes with a length above 0. To those in a reset
-//!   of XXH3 and in `XXH3_generateSecret` the C library answers `XXH_ERROR`, as `c/guards.c` does, which stands before
-//!   these exports. A null input of an update it passes over.
-//! - A state of XXH3 is larger than the C library's, so no client may lay one on its stack by that library's header.
+//! - A one-shot with a secret of fewer than 136 bytes returns 0, and so does the digest of memory without the mark of
+//!   a reset. The header leaves these undefined.
+//! - A null pointer to a state is not detected, nor one to a secret or to bytes with a length above 0. For these in a
+//!   reset of XXH3 and in `XXH3_generateSecret` the C library returns `XXH_ERROR`, and so does `c/guards.c`, which
+//!   wraps these exports. The C library ignores a null input of an update.
+//! - A state of XXH3 is larger than the C library's, so no client may put one on its stack with that library's header.
 //!
-//! # What crosses
+//! # Types
 //!
 //! | C type | here | size | alignment |
 //! |---|---|---|---|
@@ -92,7 +92,7 @@
 //! void XXH3_generateSecret_fromSeed(void* secretBuffer, XXH64_hash_t seed);
 //! ```
 //!
-//! For `c/states.c` alone, which frees states, and not among the names of the shared library:
+//! Only for `c/states.c`, which frees states; the shared library doesn't export these:
 //!
 //! ```c
 //! void twox_c_forget_xxh32(XXH32_state_t* state);
@@ -114,14 +114,14 @@ mod xxh3_64;
 mod xxh3_state;
 mod xxh64;
 
-/// What a call answers that did what it was asked: `XXH_OK` of the C library.
+/// Returned by a call that succeeded: `XXH_OK` of the C library.
 pub const XXH_OK: u32 = 0;
 
-/// What a call answers that refused, and changed nothing: `XXH_ERROR` of the C library.
+/// Returned by a call that refused its arguments and changed nothing: `XXH_ERROR` of the C library.
 pub const XXH_ERROR: u32 = 1;
 
-/// `unsigned XXH_versionNumber(void)`: the version of the C library whose names these are, 0.8.1, as
-/// 10000 * 0 + 100 * 8 + 1.
+/// `unsigned XXH_versionNumber(void)`: returns the version of the C library that has these names, 0.8.1, as 10000 * 0 +
+/// 100 * 8 + 1.
 #[unsafe(no_mangle)]
 pub extern "C" fn XXH_versionNumber() -> u32
     ensures { result ≡ 801 }

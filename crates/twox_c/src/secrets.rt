@@ -1,4 +1,4 @@
-//! Secrets that are made from a seed, or from bytes of any number.
+//! Secrets derived from a seed or from any number of bytes.
 
 ghost use Rattle.std.specs.Prelude.{◌≡◌, ◌+◌, ◌*◌, ◌/◌, ◌<◌, ◌≤◌, length};
 ghost use Rattle.twox_core.specs.Secret.{derived_secret};
@@ -11,7 +11,7 @@ use twox_hash::words::{Halves, IntoU64, u64_at};
 use twox_hash::xxhash3::{DefaultSecret, derived_secret};
 
 /// `void XXH3_generateSecret_fromSeed(void* secretBuffer, XXH64_hash_t seed)`: writes the 192 bytes of the secret
-/// that the seed derives, which inputs of more than 240 bytes are hashed with under that seed.
+/// derived from the seed, which inputs of more than 240 bytes are hashed with under that seed.
 #[unsafe(no_mangle)]
 pub extern "C" fn XXH3_generateSecret_fromSeed(secretBuffer: &mut DefaultSecret, seed: u64)
     ensures { secretBuffer.new ≡ derived_secret seed }
@@ -20,10 +20,10 @@ pub extern "C" fn XXH3_generateSecret_fromSeed(secretBuffer: &mut DefaultSecret,
 }
 
 /// `XXH_errorcode XXH3_generateSecret(void* secretBuffer, size_t secretSize, const void* customSeed, size_t
-/// customSeedSize)`: writes a secret of `secretSize` bytes that is made of the custom seed, and answers `XXH_OK`.
-/// `customSeed` may be null where `customSeedSize` is 0; the default secret stands for it then.
+/// customSeedSize)`: writes a secret of `secretSize` bytes derived from the custom seed, and returns `XXH_OK`.
+/// `customSeed` may be null if `customSeedSize` is 0; the default secret is used instead.
 ///
-/// Fewer than 136 bytes are refused: they stay as they are, and the answer is `XXH_ERROR`.
+/// If `secretSize` is below 136, writes nothing and returns `XXH_ERROR`.
 #[unsafe(no_mangle)]
 pub extern "C" fn XXH3_generateSecret(secretBuffer: &mut [u8], customSeed: &[u8]) -> u32
     ensures written { 136 ≤ length secretBuffer.old → (result ≡ XXH_OK) × (secretBuffer.new
@@ -42,20 +42,20 @@ pub extern "C" fn XXH3_generateSecret(secretBuffer: &mut [u8], customSeed: &[u8]
     XXH_OK
 }
 
-// Writes the secret that is made of the source.
+// Writes the secret derived from the source.
 fn write_secret(secret: &mut [u8], source: &[u8])
     requires room { 16 ≤ length secret.old }
     requires some { 1 ≤ length source.now }
     ensures { secret.new ≡ secret_from source.now (length secret.old) }
 {
     repeat(secret, source);
-    // The export itself: with a second caller `oneshot` would be no part of it, but a call.
+    // Calls the export itself: with a second caller `oneshot` would not be inlined into it.
     let hash = XXH3_128bits(source).value();
     xor_groups(secret, &hash.to_be_bytes());
     xor_pair(secret, secret.len() - 16, hash);
 }
 
-// Writes the source over and over.
+// Fills the secret with the source, repeated.
 fn repeat(secret: &mut [u8], source: &[u8])
     requires { 1 ≤ length source.now }
     ensures { secret.new ≡ repeated source.now (length secret.old) }
@@ -65,7 +65,7 @@ fn repeat(secret: &mut [u8], source: &[u8])
     }
 }
 
-// Each whole group of 16 bytes is xored with the hash of `bytes`, with the group's number as the seed.
+// Xors each whole group of 16 bytes with the hash of `bytes`, with the group's number as the seed.
 fn xor_groups(secret: &mut [u8], bytes: &[u8; 16])
     ensures { secret.new ≡ groups_xored bytes.now secret.old (length secret.old / 16) }
 {
@@ -78,7 +78,7 @@ fn xor_groups(secret: &mut [u8], bytes: &[u8; 16])
     }
 }
 
-// The two words from byte `i` on are xored with the low and the high half of the hash.
+// Xors the two words from byte `i` on with the low and the high half of the hash.
 fn xor_pair(secret: &mut [u8], i: usize, hash: u128)
     requires { i + 16 ≤ length secret.old }
     ensures { secret.new ≡ pair_xored secret.old i hash }
@@ -87,7 +87,7 @@ fn xor_pair(secret: &mut [u8], i: usize, hash: u128)
     xor_word(secret, i + 8, hash.upper_half());
 }
 
-// The word from byte `i` on is xored with another.
+// Xors the word from byte `i` on with another.
 fn xor_word(secret: &mut [u8], i: usize, other: u64)
     requires { i + 8 ≤ length secret.old }
     ensures { secret.new ≡ word_xored secret.old i other }

@@ -9,18 +9,18 @@ ghost use Rattle.twox_c.specs.State32.{IsUsable, WasGiven, record_of_state};
 use crate::{XXH_ERROR, XXH_OK};
 use twox_plain::xxhash32::{Hasher, StateInMemory};
 
-/// `XXH32_state_t`: 48 bytes, aligned to 4, as the C library's. Before the first reset it may hold anything.
+/// `XXH32_state_t`: 48 bytes, aligned to 4, as in the C library. Before the first reset it may hold anything.
 #[repr(C)]
 #[derive(Clone, Copy)]
 pub struct Xxh32State {
-    /// What the hasher holds, and the mark of a reset.
+    /// The hasher's record, and the mark of a reset.
     pub hasher: StateInMemory,
 }
 
 const _: () = prove!(size_of::<Xxh32State>() == 48);
 
 impl Xxh32State {
-    // A state that was reset with the seed.
+    // Returns a state that was reset with the seed.
     #[inline(always)]
     fn with_seed(seed: u32) -> Xxh32State
         ensures { WasGiven result seed [] }
@@ -30,7 +30,7 @@ impl Xxh32State {
         }
     }
 
-    // Whether calls go on from the state.
+    // True if calls can continue from the state.
     #[inline(always)]
     fn is_usable(&self) -> bool
         ensures { IsTrue result ↔ IsUsable self.now }
@@ -38,8 +38,8 @@ impl Xxh32State {
         self.hasher.usage() < 16
     }
 
-    // Takes the bytes of a piece, unless it has no mark of a reset. A call of its own, since fewer registers are
-    // saved where the export only tests the pointer for null.
+    // Hashes a chunk, unless the state has no mark of a reset. A separate function, because the export, which only
+    // tests the pointer for null, then saves fewer registers.
     #[inline(never)]
     fn update(&mut self, input: &[u8]) -> u32
         ensures message { (seed : ℕ) (m : List ℕ)
@@ -58,8 +58,8 @@ impl Xxh32State {
     }
 }
 
-/// `XXH32_hash_t XXH32(const void* input, size_t length, XXH32_hash_t seed)`: the hash of `length` bytes.
-/// `input` may be null where `length` is 0.
+/// `XXH32_hash_t XXH32(const void* input, size_t length, XXH32_hash_t seed)`: returns the hash of `length` bytes.
+/// `input` may be null if `length` is 0.
 #[unsafe(no_mangle)]
 pub extern "C" fn XXH32(input: &[u8], seed: u32) -> u32
     ensures { result ≡ xxh32 seed input.now }
@@ -67,8 +67,8 @@ pub extern "C" fn XXH32(input: &[u8], seed: u32) -> u32
     Hasher::oneshot(seed, input)
 }
 
-/// `XXH_errorcode XXH32_reset(XXH32_state_t* state, XXH32_hash_t seed)`: makes the state one of no bytes yet,
-/// whatever it held, and answers `XXH_OK`.
+/// `XXH_errorcode XXH32_reset(XXH32_state_t* state, XXH32_hash_t seed)`: resets the state to one of no bytes, whatever
+/// it held, and returns `XXH_OK`.
 #[unsafe(no_mangle)]
 pub extern "C" fn XXH32_reset(state: &mut Xxh32State, seed: u32) -> u32
     ensures ok { result ≡ XXH_OK }
@@ -78,10 +78,10 @@ pub extern "C" fn XXH32_reset(state: &mut Xxh32State, seed: u32) -> u32
     XXH_OK
 }
 
-/// `XXH_errorcode XXH32_update(XXH32_state_t* state, const void* input, size_t length)`: adds `length` bytes to
-/// those that the state was given. `input` may be null where `length` is 0.
+/// `XXH_errorcode XXH32_update(XXH32_state_t* state, const void* input, size_t length)`: hashes `length` bytes after
+/// those before. `input` may be null if `length` is 0.
 ///
-/// Answers `XXH_OK`. Memory without the mark of a reset is refused: it stays as it is, and the answer is `XXH_ERROR`.
+/// Returns `XXH_OK`. For memory without the mark of a reset, changes nothing and returns `XXH_ERROR`.
 #[unsafe(no_mangle)]
 pub extern "C" fn XXH32_update(state: &mut Xxh32State, input: &[u8]) -> u32
     ensures message { (seed : ℕ) (m : List ℕ)
@@ -95,8 +95,8 @@ pub extern "C" fn XXH32_update(state: &mut Xxh32State, input: &[u8]) -> u32
     state.update(input)
 }
 
-/// `XXH32_hash_t XXH32_digest(const XXH32_state_t* state)`: the hash of the bytes that the state was given, which
-/// stays as it is. The answer is 0 for memory without the mark of a reset.
+/// `XXH32_hash_t XXH32_digest(const XXH32_state_t* state)`: returns the hash of the bytes so far, and doesn't change
+/// the state. Returns 0 for memory without the mark of a reset.
 #[unsafe(no_mangle)]
 pub extern "C" fn XXH32_digest(state: &Xxh32State) -> u32
     ensures message { (seed : ℕ) (m : List ℕ) → WasGiven state.now seed m → result ≡ xxh32 seed m }
@@ -109,8 +109,8 @@ pub extern "C" fn XXH32_digest(state: &Xxh32State) -> u32
     state.hasher.finish()
 }
 
-/// `void twox_c_forget_xxh32(XXH32_state_t* state)`: takes the mark of a reset from the state, so that no call goes on
-/// from its memory before the next reset. `XXH32_freeState` calls it before it frees the memory.
+/// `void twox_c_forget_xxh32(XXH32_state_t* state)`: removes the mark of a reset from the state, so that no call
+/// continues from its memory before the next reset. `XXH32_freeState` calls it before it frees the memory.
 #[unsafe(no_mangle)]
 pub extern "C" fn twox_c_forget_xxh32(state: &mut Xxh32State)
     ensures { ¬ IsUsable state.new }
@@ -118,7 +118,7 @@ pub extern "C" fn twox_c_forget_xxh32(state: &mut Xxh32State)
     state.hasher.marked_usage = 0;
 }
 
-/// `void XXH32_copyState(XXH32_state_t* dst, const XXH32_state_t* src)`: makes `dst` the same as `src`.
+/// `void XXH32_copyState(XXH32_state_t* dst, const XXH32_state_t* src)`: copies `src` to `dst`.
 #[unsafe(no_mangle)]
 pub extern "C" fn XXH32_copyState(dst: &mut Xxh32State, src: &Xxh32State)
     ensures { dst.new ≡ src.now }
@@ -126,7 +126,7 @@ pub extern "C" fn XXH32_copyState(dst: &mut Xxh32State, src: &Xxh32State)
     *dst = *src;
 }
 
-/// `void XXH32_canonicalFromHash(XXH32_canonical_t* dst, XXH32_hash_t hash)`: the four bytes of the hash, the
+/// `void XXH32_canonicalFromHash(XXH32_canonical_t* dst, XXH32_hash_t hash)`: writes the four bytes of the hash, the
 /// highest first.
 #[unsafe(no_mangle)]
 pub extern "C" fn XXH32_canonicalFromHash(dst: &mut [u8; 4], hash: u32)
@@ -135,8 +135,8 @@ pub extern "C" fn XXH32_canonicalFromHash(dst: &mut [u8; 4], hash: u32)
     *dst = hash.to_be_bytes();
 }
 
-/// `XXH32_hash_t XXH32_hashFromCanonical(const XXH32_canonical_t* src)`: the hash of these four bytes, of which
-/// the highest is first.
+/// `XXH32_hash_t XXH32_hashFromCanonical(const XXH32_canonical_t* src)`: returns the hash of these four bytes, the
+/// highest first.
 #[unsafe(no_mangle)]
 pub extern "C" fn XXH32_hashFromCanonical(src: &[u8; 4]) -> u32
     ensures { result ≡ from_be_bytes w32 src.now }

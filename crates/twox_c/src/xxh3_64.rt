@@ -1,4 +1,4 @@
-//! XXH3 of 64 bits.
+//! XXH3 64-bit.
 
 ghost use Rattle.std.specs.Prelude.{◌≡◌, ◌⊎◌, ◌<◌, ◌≤◌, ℕ, Option, List, [], ◌++◌, length};
 ghost use Rattle.twox_hash.specs.Secret.{default_secret, derived_secret};
@@ -13,8 +13,8 @@ use twox_hash::XxHash3_64;
 use twox_hash::xxhash3::derived_secret;
 use twox_hash::xxhash3_64::Finalize64;
 
-/// `XXH64_hash_t XXH3_64bits(const void* input, size_t length)`: the hash of `length` bytes, with the default
-/// secret and the seed 0. `input` may be null where `length` is 0.
+/// `XXH64_hash_t XXH3_64bits(const void* input, size_t length)`: returns the hash of `length` bytes, with the default
+/// secret and the seed 0. `input` may be null if `length` is 0.
 #[unsafe(no_mangle)]
 pub extern "C" fn XXH3_64bits(input: &[u8]) -> u64
     ensures { result ≡ xxh3_64 0 default_secret input.now }
@@ -22,9 +22,9 @@ pub extern "C" fn XXH3_64bits(input: &[u8]) -> u64
     XxHash3_64::oneshot(input)
 }
 
-/// `XXH64_hash_t XXH3_64bits_withSeed(const void* input, size_t length, XXH64_hash_t seed)`: the hash of `length`
-/// bytes with a seed: up to 240 bytes with the default secret, above with the secret that the seed derives.
-/// `input` may be null where `length` is 0.
+/// `XXH64_hash_t XXH3_64bits_withSeed(const void* input, size_t length, XXH64_hash_t seed)`: returns the hash of
+/// `length` bytes with a seed: up to 240 bytes with the default secret, above that with the secret derived from the
+/// seed. `input` may be null if `length` is 0.
 #[unsafe(no_mangle)]
 pub extern "C" fn XXH3_64bits_withSeed(input: &[u8], seed: u64) -> u64
     ensures { let s = effective_secret (derived_secret seed) input.now in
@@ -33,9 +33,9 @@ pub extern "C" fn XXH3_64bits_withSeed(input: &[u8], seed: u64) -> u64
     XxHash3_64::oneshot_with_seed(seed, input)
 }
 
-/// `XXH64_hash_t XXH3_64bits_withSecret(const void* input, size_t length, const void* secret, size_t
-/// secretSize)`: the hash of `length` bytes with a secret, at every length, and the seed 0. `input` may be null
-/// where `length` is 0. The answer is 0 for a secret of fewer than 136 bytes.
+/// `XXH64_hash_t XXH3_64bits_withSecret(const void* input, size_t length, const void* secret, size_t secretSize)`:
+/// returns the hash of `length` bytes with a secret, at every length, and the seed 0. `input` may be null if `length`
+/// is 0. Returns 0 for a secret of fewer than 136 bytes.
 #[unsafe(no_mangle)]
 pub extern "C" fn XXH3_64bits_withSecret(input: &[u8], secret: &[u8]) -> u64
     ensures value { 136 ≤ length secret.now → result ≡ xxh3_64 0 secret.now input.now }
@@ -44,10 +44,10 @@ pub extern "C" fn XXH3_64bits_withSecret(input: &[u8], secret: &[u8]) -> u64
     XxHash3_64::oneshot_with_secret(secret, input).unwrap_or(0)
 }
 
-/// `XXH64_hash_t XXH3_64bits_withSecretandSeed(const void* input, size_t length, const void* secret, size_t
-/// secretSize, XXH64_hash_t seed)`: the hash of `length` bytes: up to 240 with the default secret and the seed,
-/// above with the secret. `input` may be null where `length` is 0. The answer is 0 for more than 240 bytes and a
-/// secret of fewer than 136.
+/// `XXH64_hash_t XXH3_64bits_withSecretandSeed(const void* input, size_t length, const void* secret, size_t secretSize,
+/// XXH64_hash_t seed)`: returns the hash of `length` bytes: up to 240 with the default secret and the seed, above that
+/// with the secret. `input` may be null if `length` is 0. Returns 0 for more than 240 bytes and a secret of fewer than
+/// 136.
 #[unsafe(no_mangle)]
 pub extern "C" fn XXH3_64bits_withSecretandSeed(input: &[u8], secret: &[u8], seed: u64) -> u64
     ensures value { let s = effective_secret secret.now input.now in
@@ -58,8 +58,8 @@ pub extern "C" fn XXH3_64bits_withSecretandSeed(input: &[u8], secret: &[u8], see
     XxHash3_64::oneshot_with_seed_and_secret(seed, secret, input).unwrap_or(0)
 }
 
-/// `XXH_errorcode XXH3_64bits_reset(XXH3_state_t* state)`: makes the state one of no bytes yet, with the default
-/// secret and the seed 0, whatever it held, and answers `XXH_OK`.
+/// `XXH_errorcode XXH3_64bits_reset(XXH3_state_t* state)`: resets the state to one of no bytes, with the default secret
+/// and the seed 0, whatever it held, and returns `XXH_OK`.
 #[unsafe(no_mangle)]
 pub extern "C" fn XXH3_64bits_reset(state: &mut Xxh3State) -> u32
     ensures ok { result ≡ XXH_OK }
@@ -68,8 +68,8 @@ pub extern "C" fn XXH3_64bits_reset(state: &mut Xxh3State) -> u32
     state.reset_default()
 }
 
-/// `XXH_errorcode XXH3_64bits_reset_withSeed(XXH3_state_t* state, XXH64_hash_t seed)`: makes the state one of no
-/// bytes yet, with the seed and the secret that it derives, whatever it held, and answers `XXH_OK`.
+/// `XXH_errorcode XXH3_64bits_reset_withSeed(XXH3_state_t* state, XXH64_hash_t seed)`: resets the state to one of no
+/// bytes, with the seed and the secret derived from it, whatever it held, and returns `XXH_OK`.
 #[unsafe(no_mangle)]
 pub extern "C" fn XXH3_64bits_reset_withSeed(state: &mut Xxh3State, seed: u64) -> u32
     ensures ok { result ≡ XXH_OK }
@@ -78,12 +78,11 @@ pub extern "C" fn XXH3_64bits_reset_withSeed(state: &mut Xxh3State, seed: u64) -
     state.reset(Some(seed), &derived_secret(seed))
 }
 
-/// `XXH_errorcode XXH3_64bits_reset_withSecret(XXH3_state_t* state, const void* secret, size_t secretSize)`:
-/// makes the state one of no bytes yet, with the secret alone, whatever it held, and answers `XXH_OK`. The secret
-/// is copied.
+/// `XXH_errorcode XXH3_64bits_reset_withSecret(XXH3_state_t* state, const void* secret, size_t secretSize)`: resets the
+/// state to one of no bytes, with only the secret, whatever it held, and returns `XXH_OK`. Copies the secret.
 ///
-/// A secret of fewer than 136 bytes or of more than 256 is refused: the state stays as it is, and the answer is
-/// `XXH_ERROR`. The C library keeps a pointer in place of the secret, and takes longer ones.
+/// For a secret of fewer than 136 bytes or of more than 256, leaves the state as it is and returns `XXH_ERROR`. The C
+/// library keeps a pointer instead of the secret, and accepts longer ones.
 #[unsafe(no_mangle)]
 pub extern "C" fn XXH3_64bits_reset_withSecret(state: &mut Xxh3State, secret: &[u8]) -> u32
     ensures accepted { IsSecretLength (length secret.now)
@@ -95,11 +94,11 @@ pub extern "C" fn XXH3_64bits_reset_withSecret(state: &mut Xxh3State, secret: &[
 }
 
 /// `XXH_errorcode XXH3_64bits_reset_withSecretandSeed(XXH3_state_t* state, const void* secret, size_t secretSize,
-/// XXH64_hash_t seed)`: makes the state one of no bytes yet, with the seed and the secret, whatever it held, and
-/// answers `XXH_OK`. The secret is copied.
+/// XXH64_hash_t seed)`: resets the state to one of no bytes, with the seed and the secret, whatever it held, and
+/// returns `XXH_OK`. Copies the secret.
 ///
-/// A secret of fewer than 136 bytes or of more than 256 is refused: the state stays as it is, and the answer is
-/// `XXH_ERROR`. The C library keeps a pointer in place of the secret, and takes longer ones.
+/// For a secret of fewer than 136 bytes or of more than 256, leaves the state as it is and returns `XXH_ERROR`. The C
+/// library keeps a pointer instead of the secret, and accepts longer ones.
 #[unsafe(no_mangle)]
 pub extern "C" fn XXH3_64bits_reset_withSecretandSeed(
     state: &mut Xxh3State,
@@ -114,10 +113,10 @@ pub extern "C" fn XXH3_64bits_reset_withSecretandSeed(
     state.reset(Some(seed), secret)
 }
 
-/// `XXH_errorcode XXH3_64bits_update(XXH3_state_t* state, const void* input, size_t length)`: adds `length` bytes to
-/// those that the state was given. `input` may be null where `length` is 0.
+/// `XXH_errorcode XXH3_64bits_update(XXH3_state_t* state, const void* input, size_t length)`: hashes `length` bytes
+/// after those before. `input` may be null if `length` is 0.
 ///
-/// Answers `XXH_OK`. Memory without the mark of a reset is refused: it stays as it is, and the answer is `XXH_ERROR`.
+/// Returns `XXH_OK`. For memory without the mark of a reset, changes nothing and returns `XXH_ERROR`.
 #[unsafe(no_mangle)]
 pub extern "C" fn XXH3_64bits_update(state: &mut Xxh3State, input: &[u8]) -> u32
     ensures message { (seed : Option ℕ) (s m : List ℕ)
@@ -131,10 +130,10 @@ pub extern "C" fn XXH3_64bits_update(state: &mut Xxh3State, input: &[u8]) -> u32
     state.update(input)
 }
 
-/// `XXH64_hash_t XXH3_64bits_digest(const XXH3_state_t* state)`: the hash of the bytes that the state was given,
-/// which stays as it is. Up to 240 bytes it is made with the default secret and the seed or, after
-/// `XXH3_64bits_reset_withSecret`, with that secret and the seed 0; above with the state's secret, where no seed
-/// enters. The answer is 0 for memory without the mark of a reset.
+/// `XXH64_hash_t XXH3_64bits_digest(const XXH3_state_t* state)`: returns the hash of the bytes so far, and doesn't
+/// change the state. Up to 240 bytes it uses the default secret and the seed or, after `XXH3_64bits_reset_withSecret`,
+/// that secret and the seed 0; above that it uses the state's secret and no seed. Returns 0 for memory without the mark
+/// of a reset.
 #[unsafe(no_mangle)]
 #[tactic(auto, unfolding(twox_hash::specs::Streams::value_64))]
 pub extern "C" fn XXH3_64bits_digest(state: &Xxh3State) -> u64
@@ -146,7 +145,7 @@ pub extern "C" fn XXH3_64bits_digest(state: &Xxh3State) -> u64
     state.finish(&Finalize64).unwrap_or(0)
 }
 
-/// `XXH3_64bits` by another name. In the C library it chooses among instruction sets when it runs.
+/// Another name of `XXH3_64bits`. In the C library it chooses the instruction set at run time.
 #[unsafe(no_mangle)]
 pub extern "C" fn XXH3_64bits_dispatch(input: &[u8]) -> u64
     ensures { result ≡ xxh3_64 0 default_secret input.now }
@@ -154,7 +153,7 @@ pub extern "C" fn XXH3_64bits_dispatch(input: &[u8]) -> u64
     XXH3_64bits(input)
 }
 
-/// `XXH3_64bits_withSeed` by another name. In the C library it chooses among instruction sets when it runs.
+/// Another name of `XXH3_64bits_withSeed`. In the C library it chooses the instruction set at run time.
 #[unsafe(no_mangle)]
 pub extern "C" fn XXH3_64bits_withSeed_dispatch(input: &[u8], seed: u64) -> u64
     ensures { let s = effective_secret (derived_secret seed) input.now in
@@ -163,7 +162,7 @@ pub extern "C" fn XXH3_64bits_withSeed_dispatch(input: &[u8], seed: u64) -> u64
     XXH3_64bits_withSeed(input, seed)
 }
 
-/// `XXH3_64bits_withSecret` by another name. In the C library it chooses among instruction sets when it runs.
+/// Another name of `XXH3_64bits_withSecret`. In the C library it chooses the instruction set at run time.
 #[unsafe(no_mangle)]
 pub extern "C" fn XXH3_64bits_withSecret_dispatch(input: &[u8], secret: &[u8]) -> u64
     ensures value { 136 ≤ length secret.now → result ≡ xxh3_64 0 secret.now input.now }
@@ -172,7 +171,7 @@ pub extern "C" fn XXH3_64bits_withSecret_dispatch(input: &[u8], secret: &[u8]) -
     XXH3_64bits_withSecret(input, secret)
 }
 
-/// `XXH3_64bits_update` by another name. In the C library it chooses among instruction sets when it runs.
+/// Another name of `XXH3_64bits_update`. In the C library it chooses the instruction set at run time.
 #[unsafe(no_mangle)]
 pub extern "C" fn XXH3_64bits_update_dispatch(state: &mut Xxh3State, input: &[u8]) -> u32
     ensures message { (seed : Option ℕ) (s m : List ℕ)

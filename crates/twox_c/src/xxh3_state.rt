@@ -1,4 +1,4 @@
-//! The state of an XXH3 stream, which serves both widths.
+//! The state of an XXH3 stream of both widths.
 
 ghost use Rattle.std.specs.Prelude.{◌≡◌, ◌↔◌, ◌<◌, ◌≤◌, ℕ, Option, List, [], ◌++◌, IsTrue, length, take};
 ghost use Rattle.twox_words.specs.Word.{counted};
@@ -16,15 +16,15 @@ use twox_core::xxhash3::{
     CoreState, DEFAULT_SECRET_RAW, DEFAULT_SEED, Finalize, Kernel, SECRET_MINIMUM_LENGTH, Secret,
 };
 
-/// The greatest length of a secret that a state keeps.
+/// Maximum length of a secret that a state stores.
 pub const GREATEST_SECRET_LENGTH: usize = 256;
 
-/// What a reset leaves in a state: the letters `twoxXXH3`, the first in the low byte.
+/// Written to a state by a reset: the letters `twoxXXH3`, the first in the low byte.
 pub const MARK_3: u64 = 0x3348_5858_786f_7774;
 
 /// `XXH3_state_t`: 960 bytes, aligned to 8. Before the first reset it may hold anything.
 ///
-/// It keeps the secret itself, and no pointer to it.
+/// It stores the secret itself, not a pointer to it.
 #[repr(C)]
 #[derive(Clone, Copy)]
 pub struct Xxh3State {
@@ -32,19 +32,19 @@ pub struct Xxh3State {
     pub core: CoreState,
     /// `MARK_3` after a reset.
     pub mark: u64,
-    /// 0 in a stream that was made with its secret alone.
+    /// 0 in a stream that was made with only a secret.
     pub has_seed: u64,
     /// The seed, if there is one.
     pub seed: u64,
-    /// How many bytes the secret has.
+    /// Length of the secret in bytes.
     pub secret_length: usize,
-    /// Begins with the secret.
+    /// The secret's array. Begins with the secret.
     pub secret: [u8; GREATEST_SECRET_LENGTH],
 }
 
 const _: () = prove!(size_of::<Xxh3State>() == 960);
 
-// Whether a state keeps secrets of this length.
+// True if a state stores secrets of this length.
 #[inline(always)]
 fn is_secret_length(length: usize) -> bool
     ensures { IsTrue result ↔ IsSecretLength length }
@@ -52,7 +52,7 @@ fn is_secret_length(length: usize) -> bool
     SECRET_MINIMUM_LENGTH <= length && length <= GREATEST_SECRET_LENGTH
 }
 
-// The first bytes of the array, as a secret.
+// Borrows the first bytes of the array as a secret.
 #[inline(always)]
 fn lent(secret: &[u8; GREATEST_SECRET_LENGTH], count: usize) -> Secret<'_>
     requires { IsSecretLength count }
@@ -62,7 +62,7 @@ fn lent(secret: &[u8; GREATEST_SECRET_LENGTH], count: usize) -> Secret<'_>
 }
 
 impl Xxh3State {
-    // Whether calls go on from the state.
+    // True if calls can continue from the state.
     #[inline(always)]
     fn is_usable(&self) -> bool
         ensures { IsTrue result ↔ IsUsable self.now }
@@ -70,7 +70,7 @@ impl Xxh3State {
         self.mark == MARK_3 && is_secret_length(self.secret_length) && self.is_in_range()
     }
 
-    // Whether the place in the secret and the buffered bytes are such as calls leave.
+    // True if the secret offset and the buffered length are ones that a call can leave.
     #[inline(always)]
     fn is_in_range(&self) -> bool
         requires { IsSecretLength self.now.secret_length }
@@ -80,7 +80,7 @@ impl Xxh3State {
         self.core.is_in_range(secret)
     }
 
-    // The seed, if there is one.
+    // Returns the seed, if there is one.
     #[inline(always)]
     fn seed(&self) -> Option<u64>
         ensures { result ≡ seed_of self.now }
@@ -92,7 +92,7 @@ impl Xxh3State {
         }
     }
 
-    // Puts the seed in its place.
+    // Stores the seed.
     #[inline(always)]
     fn set_seed(&mut self, seed: Option<u64>)
         ensures seed { seed_of self.new ≡ seed }
@@ -108,7 +108,7 @@ impl Xxh3State {
         }
     }
 
-    // Makes the state one of no bytes yet. A secret of another length than a state keeps is refused.
+    // Resets the state to one of no bytes. Refuses a secret whose length a state doesn't store.
     #[inline(never)]
     pub(crate) fn reset(&mut self, seed: Option<u64>, secret: &[u8]) -> u32
         ensures accepted { IsSecretLength (length secret.now)
@@ -127,7 +127,7 @@ impl Xxh3State {
         XXH_OK
     }
 
-    // Makes the state one of no bytes yet, with the default secret and the seed 0.
+    // Resets the state to one of no bytes, with the default secret and the seed 0.
     pub(crate) fn reset_default(&mut self) -> u32
         ensures ok { result ≡ XXH_OK }
         ensures empty { WasGiven self.new (Some 0) default_secret [] }
@@ -135,7 +135,7 @@ impl Xxh3State {
         self.reset(Some(DEFAULT_SEED), &DEFAULT_SECRET_RAW)
     }
 
-    // Takes the bytes of a piece, unless it has no mark of a reset. A call of its own, which four exports share.
+    // Hashes a chunk, unless the state has no mark of a reset. A separate function, which four exports share.
     #[inline(never)]
     pub(crate) fn update(&mut self, input: &[u8]) -> u32
         ensures message { (seed : Option ℕ) (s m : List ℕ)
@@ -154,7 +154,7 @@ impl Xxh3State {
         XXH_OK
     }
 
-    // What `finalize` makes of the bytes taken, or `None` where the state has no mark of a reset.
+    // Returns the value of the bytes taken by `finalize`, or `None` if the state has no mark of a reset.
     #[inline(always)]
     pub(crate) fn finish<F: Finalize>(&self, finalize: &F) -> Option<F::Output>
         ensures short { (seed : Option ℕ) (s m : List ℕ) → WasGiven self.now seed s m
@@ -177,8 +177,8 @@ impl Xxh3State {
     }
 }
 
-/// `void twox_c_forget_xxh3(XXH3_state_t* state)`: takes the mark of a reset from the state, so that no call goes on
-/// from its memory before the next reset. `XXH3_freeState` calls it before it frees the memory.
+/// `void twox_c_forget_xxh3(XXH3_state_t* state)`: removes the mark of a reset from the state, so that no call
+/// continues from its memory before the next reset. `XXH3_freeState` calls it before it frees the memory.
 #[unsafe(no_mangle)]
 pub extern "C" fn twox_c_forget_xxh3(state: &mut Xxh3State)
     ensures { ¬ IsUsable state.new }
@@ -186,7 +186,7 @@ pub extern "C" fn twox_c_forget_xxh3(state: &mut Xxh3State)
     state.mark = 0;
 }
 
-/// `void XXH3_copyState(XXH3_state_t* dst, const XXH3_state_t* src)`: makes `dst` the same as `src`.
+/// `void XXH3_copyState(XXH3_state_t* dst, const XXH3_state_t* src)`: copies `src` to `dst`.
 #[unsafe(no_mangle)]
 pub extern "C" fn XXH3_copyState(dst: &mut Xxh3State, src: &Xxh3State)
     ensures { dst.new ≡ src.now }

@@ -9,18 +9,18 @@ ghost use Rattle.twox_c.specs.State64.{IsUsable, WasGiven, record_of_state};
 use crate::{XXH_ERROR, XXH_OK};
 use twox_plain::xxhash64::{Hasher, StateInMemory};
 
-/// `XXH64_state_t`: 88 bytes, aligned to 8, as the C library's. Before the first reset it may hold anything.
+/// `XXH64_state_t`: 88 bytes, aligned to 8, as in the C library. Before the first reset it may hold anything.
 #[repr(C)]
 #[derive(Clone, Copy)]
 pub struct Xxh64State {
-    /// What the hasher holds, and the mark of a reset.
+    /// The hasher's record, and the mark of a reset.
     pub hasher: StateInMemory,
 }
 
 const _: () = prove!(size_of::<Xxh64State>() == 88);
 
 impl Xxh64State {
-    // A state that was reset with the seed.
+    // Returns a state that was reset with the seed.
     #[inline(always)]
     fn with_seed(seed: u64) -> Xxh64State
         ensures { WasGiven result seed [] }
@@ -30,7 +30,7 @@ impl Xxh64State {
         }
     }
 
-    // Whether calls go on from the state.
+    // True if calls can continue from the state.
     #[inline(always)]
     fn is_usable(&self) -> bool
         ensures { IsTrue result ↔ IsUsable self.now }
@@ -38,8 +38,8 @@ impl Xxh64State {
         self.hasher.usage() < 32
     }
 
-    // Takes the bytes of a piece, unless it has no mark of a reset. A call of its own, since fewer registers are
-    // saved where the export only tests the pointer for null.
+    // Hashes a chunk, unless the state has no mark of a reset. A separate function, because the export, which only
+    // tests the pointer for null, then saves fewer registers.
     #[inline(never)]
     fn update(&mut self, input: &[u8]) -> u32
         ensures message { (seed : ℕ) (m : List ℕ)
@@ -58,8 +58,8 @@ impl Xxh64State {
     }
 }
 
-/// `XXH64_hash_t XXH64(const void* input, size_t length, XXH64_hash_t seed)`: the hash of `length` bytes.
-/// `input` may be null where `length` is 0.
+/// `XXH64_hash_t XXH64(const void* input, size_t length, XXH64_hash_t seed)`: returns the hash of `length` bytes.
+/// `input` may be null if `length` is 0.
 #[unsafe(no_mangle)]
 pub extern "C" fn XXH64(input: &[u8], seed: u64) -> u64
     ensures { result ≡ xxh64 seed input.now }
@@ -67,8 +67,8 @@ pub extern "C" fn XXH64(input: &[u8], seed: u64) -> u64
     Hasher::oneshot(seed, input)
 }
 
-/// `XXH_errorcode XXH64_reset(XXH64_state_t* state, XXH64_hash_t seed)`: makes the state one of no bytes yet,
-/// whatever it held, and answers `XXH_OK`.
+/// `XXH_errorcode XXH64_reset(XXH64_state_t* state, XXH64_hash_t seed)`: resets the state to one of no bytes, whatever
+/// it held, and returns `XXH_OK`.
 #[unsafe(no_mangle)]
 pub extern "C" fn XXH64_reset(state: &mut Xxh64State, seed: u64) -> u32
     ensures ok { result ≡ XXH_OK }
@@ -78,10 +78,10 @@ pub extern "C" fn XXH64_reset(state: &mut Xxh64State, seed: u64) -> u32
     XXH_OK
 }
 
-/// `XXH_errorcode XXH64_update(XXH64_state_t* state, const void* input, size_t length)`: adds `length` bytes to
-/// those that the state was given. `input` may be null where `length` is 0.
+/// `XXH_errorcode XXH64_update(XXH64_state_t* state, const void* input, size_t length)`: hashes `length` bytes after
+/// those before. `input` may be null if `length` is 0.
 ///
-/// Answers `XXH_OK`. Memory without the mark of a reset is refused: it stays as it is, and the answer is `XXH_ERROR`.
+/// Returns `XXH_OK`. For memory without the mark of a reset, changes nothing and returns `XXH_ERROR`.
 #[unsafe(no_mangle)]
 pub extern "C" fn XXH64_update(state: &mut Xxh64State, input: &[u8]) -> u32
     ensures message { (seed : ℕ) (m : List ℕ)
@@ -95,8 +95,8 @@ pub extern "C" fn XXH64_update(state: &mut Xxh64State, input: &[u8]) -> u32
     state.update(input)
 }
 
-/// `XXH64_hash_t XXH64_digest(const XXH64_state_t* state)`: the hash of the bytes that the state was given, which
-/// stays as it is. The answer is 0 for memory without the mark of a reset.
+/// `XXH64_hash_t XXH64_digest(const XXH64_state_t* state)`: returns the hash of the bytes so far, and doesn't change
+/// the state. Returns 0 for memory without the mark of a reset.
 #[unsafe(no_mangle)]
 pub extern "C" fn XXH64_digest(state: &Xxh64State) -> u64
     ensures message { (seed : ℕ) (m : List ℕ) → WasGiven state.now seed m → result ≡ xxh64 seed m }
@@ -109,8 +109,8 @@ pub extern "C" fn XXH64_digest(state: &Xxh64State) -> u64
     state.hasher.finish()
 }
 
-/// `void twox_c_forget_xxh64(XXH64_state_t* state)`: takes the mark of a reset from the state, so that no call goes on
-/// from its memory before the next reset. `XXH64_freeState` calls it before it frees the memory.
+/// `void twox_c_forget_xxh64(XXH64_state_t* state)`: removes the mark of a reset from the state, so that no call
+/// continues from its memory before the next reset. `XXH64_freeState` calls it before it frees the memory.
 #[unsafe(no_mangle)]
 pub extern "C" fn twox_c_forget_xxh64(state: &mut Xxh64State)
     ensures { ¬ IsUsable state.new }
@@ -118,7 +118,7 @@ pub extern "C" fn twox_c_forget_xxh64(state: &mut Xxh64State)
     state.hasher.marked_usage = 0;
 }
 
-/// `void XXH64_copyState(XXH64_state_t* dst, const XXH64_state_t* src)`: makes `dst` the same as `src`.
+/// `void XXH64_copyState(XXH64_state_t* dst, const XXH64_state_t* src)`: copies `src` to `dst`.
 #[unsafe(no_mangle)]
 pub extern "C" fn XXH64_copyState(dst: &mut Xxh64State, src: &Xxh64State)
     ensures { dst.new ≡ src.now }
@@ -126,7 +126,7 @@ pub extern "C" fn XXH64_copyState(dst: &mut Xxh64State, src: &Xxh64State)
     *dst = *src;
 }
 
-/// `void XXH64_canonicalFromHash(XXH64_canonical_t* dst, XXH64_hash_t hash)`: the eight bytes of the hash, the
+/// `void XXH64_canonicalFromHash(XXH64_canonical_t* dst, XXH64_hash_t hash)`: writes the eight bytes of the hash, the
 /// highest first.
 #[unsafe(no_mangle)]
 pub extern "C" fn XXH64_canonicalFromHash(dst: &mut [u8; 8], hash: u64)
@@ -135,8 +135,8 @@ pub extern "C" fn XXH64_canonicalFromHash(dst: &mut [u8; 8], hash: u64)
     *dst = hash.to_be_bytes();
 }
 
-/// `XXH64_hash_t XXH64_hashFromCanonical(const XXH64_canonical_t* src)`: the hash of these eight bytes, of which
-/// the highest is first.
+/// `XXH64_hash_t XXH64_hashFromCanonical(const XXH64_canonical_t* src)`: returns the hash of these eight bytes, the
+/// highest first.
 #[unsafe(no_mangle)]
 pub extern "C" fn XXH64_hashFromCanonical(src: &[u8; 8]) -> u64
     ensures { result ≡ from_be_bytes w64 src.now }

@@ -1,4 +1,4 @@
--- Vectors of words taken for vectors of their halves, and back.
+-- Vectors of words as vectors of their halves, and back.
 use Rattle.std.proofs.Common.{◌≡◌, ℕ, zero, suc, ◌+◌, ◌*◌, ◌/◌, ◌%◌, ◌^◌, ◌<◌, [], ◌∷◌, ap, ◌∙◌, arith, div-add-mod', div-lt_iff_lt-mul, pow-suc}
 use lib.Lanes.{number_l, digits_l}
 

@@ -1,4 +1,4 @@
--- The values of up to 16 bytes tell the bytes and the seed.
+-- The values of up to 16 bytes determine the bytes and the seed.
 use Rattle.std.proofs.Common.{◌≡◌, ℕ, zero, suc, ◌+◌, ◌-◌, ◌*◌, ◌/◌, ◌%◌, ◌^◌, ◌<◌, ◌≤◌, Bool, true, false, if◌then◌else◌, nat_lt, List, [], ◌∷◌, length, slice_index, bit_xor, sym, ap, refl, subst, inl, inr, ◌∙◌, arith, lit<, mod-lt, pow_pos}
 use Rattle.std.specs.Int.{w32, w64, swap_bytes}
 use Rattle.std.proofs.lemmas.Nat.{xor_lt}
@@ -73,7 +73,7 @@ each_of m n (suc (suc (suc zero))) (suc (suc zero)) high h a b c = c
 each_of m n (suc (suc (suc zero))) (suc (suc (suc k))) high h a b c = absurd (omega arith)
 each_of m n (suc (suc (suc (suc len)))) k high h a b c = absurd (omega arith)
 
--- the number tells the length and each byte
+-- the number determines the length and each byte
 combined_one_to_one : (m n : List ℕ) → IsBytes m → IsBytes n → length m ≤ 3 → length n ≤ 3 → combined_bytes m ≡ combined_bytes n → m ≡ n
 unfolding combined_bytes
 combined_one_to_one m n p q hm hn e =
@@ -134,7 +134,7 @@ four_words-lt m i j p =
 same_halves : (a b c d : ℕ) → a < 2 ^ 32 → c < 2 ^ 32 → a + b * 2 ^ 32 ≡ c + d * 2 ^ 32 → (a ≡ c) × (b ≡ d)
 same_halves a b c d small small' e = (omega arith, omega arith)
 
--- the words tell the bytes
+-- the words determine the bytes
 four_bytes : (m n : List ℕ) → IsBytes m → IsBytes n → length m ≡ length n → 4 ≤ length m → length m ≤ 8 → first32 m ≡ first32 n → last32 m ≡ last32 n → m ≡ n
 four_bytes m n p q len low high first last =
     same_ends 4 m n len low high (told_by_word_32 m n 0 0 p q (omega arith) (omega arith) first)

@@ -127,7 +127,7 @@ strong_one_to_one n le x y p q e =
     let e0 = multiple_one_to_one prime_mx2 0x2ab9c720d1024ad (2 ^ 64) refl (xor_rotated x) (xor_rotated y) (xor_rotated-lt x p) (xor_rotated-lt y q) e1 in
     xor_rotated_one_to_one x y p q e0
 
--- ---- the seed that goes in at 4 to 8 bytes: its low half stays, and so the high half is told
+-- ---- the seed that goes in at 4 to 8 bytes: its low half stays, and so the high half is determined
 
 pub mixed_seed_one_to_one : IsOneToOne (2 ^ 64) mixed_seed
 unfolding mixed_seed

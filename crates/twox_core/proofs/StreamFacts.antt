@@ -1,4 +1,4 @@
--- A stream follows the list of its pieces, joined.
+-- A stream follows the list of its chunks, joined.
 use Rattle.std.proofs.Common.{◌≡◌, ℕ, Option, zero, suc, ◌+◌, ◌-◌, ◌*◌, ◌/◌, ◌%◌, ◌^◌, ◌<◌, ◌≤◌, min, nat_le, nat_lt, if◌then◌else◌, Bool, true, false, List, [], ◌++◌, length, take, drop, refl, sym, ap, ◌∙◌, arith, length-append, length-drop}
 use Rattle.std.proofs.Math.Seq.{take-append-add}
 use Rattle.std.proofs.lemmas.Bool.Decides.{nat_tests}
@@ -17,7 +17,7 @@ use Rattle.twox_core.specs.declared.xxhash3.streaming.core_state.CoreState.{Core
 use Rattle.twox_core.proofs.StripeFacts.{folded_more}
 use Rattle.twox_core.proofs.TakenFacts.{took_none, took_longer, took_more}
 
--- ---- a piece that the buffer has room for
+-- ---- a chunk that fits the buffer
 
 holds_added : (s m d b : List ℕ) (k u : ℕ) (t : TakenStripes) → Holds s m k t b u → length b ≡ 512 → u + length d ≤ 512
     → Holds s (m ++ d) k t (take u b ++ (d ++ drop (length d) (drop u b))) (u + length d)

@@ -1,4 +1,4 @@
--- The bytes of four words that stand in one number, as a vector of the words gives them.
+-- The bytes of four words in one number, as a vector of the words has them.
 use Rattle.std.proofs.Common.{◌≡◌, ℕ, zero, suc, ◌+◌, ◌*◌, ◌/◌, ◌%◌, ◌^◌, ◌<◌, List, [], ◌∷◌, ◌++◌, refl, arith, ap, ◌∙◌}
 use Rattle.std.specs.Int.{w64, to_le_bytes}
 

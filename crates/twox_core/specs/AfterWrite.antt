@@ -1,4 +1,4 @@
--- What one write does to a stream, unread buffer bytes included.
+-- The effect of one write on a stream, unread buffer bytes included.
 use Rattle.std.specs.Prelude.{ℕ, zero, suc, List, ◌++◌, ◌+◌, ◌-◌, ◌*◌, ◌/◌, ◌%◌, ◌^◌, min, nat_le, replicate, length, take, drop, if◌then◌else◌}
 use Rattle.twox_core.specs.Parts.{stripe_at}
 use Rattle.twox_core.specs.Stripes.{after_stripes, no_stripe}
@@ -40,11 +40,11 @@ with_empty_buffer s c = record c {
   buffer_usage = 0;
 }
 
--- how many stripes of n bytes are taken where they lie: all but a last one, whole or not
+-- how many stripes of n bytes are taken in place: all except a last one, whole or not
 abbrev pub stripes_in_place : ℕ → ℕ
 stripes_in_place n = (n - 64) / 64
 
--- stripes of r are taken where they lie, and its other bytes begin the buffer
+-- stripes of r are taken in place, and its other bytes begin the buffer
 unfoldable pub after_rest : List ℕ → CoreState → List ℕ → CoreState
 after_rest s c r =
     let n = stripes_in_place (length r) in
@@ -62,18 +62,18 @@ with_longer_length c d = record c { total_bytes = min (c.total_bytes + length d)
 abbrev pub bytes_to_stripe_end : CoreState → ℕ
 bytes_to_stripe_end c = (64 - c.buffer_usage % 64) % 64
 
--- the piece d fills a stripe, the buffered stripes are taken, and the rest of d comes after them
+-- the chunk d fills a stripe, the buffered stripes are taken, and the rest of d comes after them
 unfoldable pub after_long_piece : List ℕ → CoreState → List ℕ → CoreState
 after_long_piece s c d =
     let n = bytes_to_stripe_end c in
     after_rest s (with_empty_buffer s (with_buffered c (take n d))) (drop n d)
 
--- the state after the piece d, under the secret s
+-- the state after the chunk d, under the secret s
 unfoldable pub state_after_write : List ℕ → CoreState → List ℕ → CoreState
 state_after_write s c d =
     if nat_le (length d) (512 - c.buffer_usage) then with_buffered (with_longer_length c d) d
     else after_long_piece s (with_longer_length c d) d
 
--- the core after the piece d, where `bytes` gives those of its secret
+-- the core after the chunk d, where `bytes` is the function from its secret to that secret's bytes
 unfoldable pub core_after_write : {S : Type 0} → (S → List ℕ) → CoreView S → List ℕ → CoreView S
 core_after_write bytes h d = record h { state = state_after_write (bytes h.key.secret) h.state d }

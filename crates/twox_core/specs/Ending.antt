@@ -23,7 +23,7 @@ block_accumulators s m = accumulators_after s m (stripes_before s m)
 unfoldable pub last_block : List ℕ → List ℕ → List ℕ
 last_block s m = drop (64 * stripes_before s m) m
 
--- where all stripes but the last were taken: the accumulators after those, and the bytes after those
+-- if all stripes except the last were taken: the accumulators after those, and the bytes after those
 unfoldable pub stream_accumulators : List ℕ → List ℕ → List ℕ
 stream_accumulators s m = accumulators_after s m ((length m - 1) / 64)
 
@@ -34,18 +34,18 @@ stream_block m = drop (64 * ((length m - 1) / 64)) m
 unfoldable pub last_stripe : List ℕ → List ℕ
 last_stripe m = drop (length m - 64) m
 
--- ---- what is made of a last block b and of last 64 bytes t
+-- ---- the results of a last block b and of last 64 bytes t
 
 -- the accumulators a after k stripes of b, from the secret's start on and with no scramble
 unfoldable pub accumulate_block : List ℕ → List ℕ → List ℕ → ℕ → List ℕ
 accumulate_block s a b zero = a
 accumulate_block s a b (suc k) = accumulate (accumulate_block s a b k) (stripe_at b (64 * k)) (stripe_at s (8 * k))
 
--- the accumulators after all stripes of b but its last, and after t
+-- the accumulators after all stripes of b except its last, and after t
 unfoldable pub final_accumulators : List ℕ → List ℕ → List ℕ → List ℕ → List ℕ
 final_accumulators a b t s = accumulate (accumulate_block s a b ((length b - 1) / 64)) t (stripe_at s (length s - 71))
 
--- the value of 64 bits of n bytes, and the high half of the one of 128
+-- the value of 64 bits of n bytes, and the high half of the value of 128 bits
 unfoldable pub finalize_64 : List ℕ → List ℕ → List ℕ → List ℕ → ℕ → ℕ
 finalize_64 a b t s n = merge_accumulators (mul64 n prime64_1) s 11 (slice_index (final_accumulators a b t s))
 

@@ -23,13 +23,12 @@ end_accumulators s c = (after_stripes s c.taken.stripes (buffered_bytes c) (stri
 unfoldable pub end_block : CoreState → List ℕ
 end_block c = drop (64 * stripes_left c) (buffered_bytes c)
 
--- what a finalizer makes of a state, from what it makes of short and of long inputs, of which long ones have the
--- secret s
+-- the value of a state, from the finalizer's functions of short and of long inputs; long inputs use the secret s
 unfoldable pub state_finish : {R : Type 0} → (List ℕ → ℕ → List ℕ → R) → (List ℕ → List ℕ → List ℕ → List ℕ → ℕ → R) → Option ℕ → List ℕ → CoreState → R
 state_finish small large seed s c =
     if nat_le c.total_bytes 240 then small (short_secret seed s) (stream_seed seed) (take c.total_bytes c.buffer)
     else large (end_accumulators s c) (end_block c) (last_bytes c.taken.last c.buffer c.buffer_usage) s c.total_bytes
 
--- of a core, where `bytes` gives those of its secret
+-- the value of a core, where `bytes` is the function from its secret to that secret's bytes
 unfoldable pub core_finish : {S R : Type 0} → (List ℕ → ℕ → List ℕ → R) → (List ℕ → List ℕ → List ℕ → List ℕ → ℕ → R) → (S → List ℕ) → CoreView S → R
 core_finish small large bytes h = state_finish small large h.key.seed (bytes h.key.secret) h.state

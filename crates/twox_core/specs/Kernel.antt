@@ -1,6 +1,5 @@
--- The two operations of a kernel on the eight accumulators at once, each accumulator by the functions that the long
--- definition follows it with: the xxHash specification, "XXH3 algorithm description (for large inputs)",
--- step 2.
+-- The two operations of a kernel on the eight accumulators at once, each accumulator by the functions of the definition
+-- for long inputs: the xxHash specification, "XXH3 algorithm description (for large inputs)", step 2.
 use Rattle.std.specs.Prelude.{ℕ, ◌+◌, ◌*◌, ◌%◌, ◌^◌, List, [], ◌∷◌, slice_index, bit_xor}
 use Rattle.twox_words.specs.Word.{xor_shift}
 use Rattle.twox_core.specs.Primes.{prime32_1}

@@ -1,5 +1,5 @@
--- Above 240 bytes: the xxHash specification, "XXH3 algorithm description (for large inputs)", steps 1 to 4.
--- Each of the eight accumulators is followed alone, by the number of stripes of 64 bytes, and no seed enters.
+-- Above 240 bytes: the xxHash specification, "XXH3 algorithm description (for large inputs)", steps 1 to 4. Each of the
+-- eight accumulators is followed separately, by the number of stripes of 64 bytes, and no seed is used.
 use Rattle.std.specs.Prelude.{ℕ, zero, suc, ◌+◌, ◌-◌, ◌*◌, ◌/◌, ◌%◌, ◌^◌, ◌==◌, List, [], ◌∷◌, length, slice_index, bit_xor, if◌then◌else◌}
 use Rattle.twox_words.specs.Word.{xor_shift, low32, high32, counted}
 use Rattle.twox_core.specs.Primes.{prime32_1, prime32_2, prime32_3, prime64_1, prime64_2, prime64_3, prime64_4, prime64_5}
@@ -24,7 +24,7 @@ accumulate_one i a m p s j =
 unfoldable pub scramble_one : ℕ → ℕ → List ℕ → ℕ → ℕ
 scramble_one i a s j = mul64 (bit_xor (xor_shift a 47) (word64 s (j + 8 * i))) prime32_1
 
--- how many stripes go by from one scramble to the next
+-- the number of stripes from one scramble to the next
 abbrev pub stripes_of : List ℕ → ℕ
 stripes_of s = (length s - 64) / 8
 
@@ -47,8 +47,8 @@ pair_fold f s j i = fold (bit_xor (f (2 * i)) (word64 s (j + 16 * i))) (bit_xor 
 unfoldable pub merge_accumulators : ℕ → List ℕ → ℕ → (ℕ → ℕ) → ℕ
 merge_accumulators init s j f = avalanche ((init + sum_below (pair_fold f s j) 4) % 2 ^ 64)
 
--- the value of 64 bits, which is the low half of the one of 128 too, and the high half. A length enters as it
--- is counted.
+-- the value of 64 bits, which is also the low half of the value of 128 bits, and the high half. The length is the
+-- counted one.
 unfoldable pub low_above_240 : List ℕ → List ℕ → ℕ
 low_above_240 s m = merge_accumulators (mul64 (counted (length m)) prime64_1) s 11 (last_accumulator s m)
 

@@ -1,5 +1,5 @@
--- Lengths 17 to 240: the xxHash specification, "XXH3 algorithm description (for medium inputs)". Chunk c is
--- the 16 bytes of `m` from byte 16 * c on, and back chunk c the 16 bytes that 16 * c bytes follow.
+-- Lengths 17 to 240: the xxHash specification, "XXH3 algorithm description (for medium inputs)". Chunk c is the 16
+-- bytes of `m` from byte 16 * c on, and back chunk c the 16 bytes before the last 16 * c bytes.
 use Rattle.std.specs.Prelude.{ℕ, zero, suc, ◌+◌, ◌-◌, ◌*◌, ◌/◌, ◌%◌, ◌^◌, List, length, bit_xor}
 use Rattle.twox_core.specs.Primes.{prime64_1, prime64_2, prime64_4}
 use Rattle.twox_core.specs.Steps.{word64, add64, sub64, mul64, avalanche, mix, sum_below}
@@ -29,7 +29,7 @@ value64_129_to_240 seed s m =
     + sum_below (later seed s m) (length m / 16 - 8)
     + mix m (length m - 16) s 119 seed) % 2 ^ 64)
 
--- ---- 128 bits: two accumulators, each followed alone
+-- ---- 128 bits: two accumulators, each followed separately
 
 -- the accumulator a takes the 16 bytes at i under the secret at j, and then the words of the 16 bytes at k
 unfoldable pub accumulator_step : ℕ → List ℕ → List ℕ → ℕ → ℕ → ℕ → ℕ → ℕ

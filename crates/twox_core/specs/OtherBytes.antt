@@ -1,4 +1,4 @@
--- Short inputs whose values of XXH3 never meet, under one seed and one secret.
+-- Short inputs whose values of XXH3 are never equal under one seed and one secret.
 use Rattle.std.specs.Prelude.{◌≡◌, ◌≢◌, ◌≤◌, ◌⊎◌, ℕ, List, length}
 use Rattle.twox_words.specs.Word.{IsBytes}
 

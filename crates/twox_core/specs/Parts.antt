@@ -1,4 +1,4 @@
--- Parts of a list of bytes, by absolute position, as XXH3 lends them.
+-- Parts of a list of bytes, by absolute position, as XXH3 borrows them.
 use Rattle.std.specs.Prelude.{ℕ, ◌+◌, ◌*◌, List, [], ◌∷◌, take, drop}
 use Rattle.std.specs.Simd.{first_chunks}
 

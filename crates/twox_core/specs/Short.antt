@@ -31,8 +31,8 @@ unfoldable pub combined_bytes : List ℕ → ℕ
 combined_bytes m =
     slice_index m (length m - 1) + length m * 2 ^ 8 + slice_index m 0 * 2 ^ 16 + slice_index m (length m / 2) * 2 ^ 24
 
--- the value of 64 bits, which is the low half of the one of 128 too, and the high half, from the combined
--- bytes c
+-- the value of 64 bits, which is also the low half of the value of 128 bits, and the high half, from the combined bytes
+-- c
 unfoldable pub low_1_to_3 : ℕ → List ℕ → ℕ → ℕ
 low_1_to_3 seed s c = avalanche_xxh64 (bit_xor (add64 (pair32 s 0) seed) c)
 
@@ -41,7 +41,7 @@ high_1_to_3 seed s c = avalanche_xxh64 (bit_xor (sub64 (pair32 s 8) seed) (rotat
 
 -- ---- 4 to 8 bytes
 
--- the seed, its low half with the bytes turned laid over its high half
+-- the seed, with the reversed bytes of its low half xored into its high half
 unfoldable pub mixed_seed : ℕ → ℕ
 mixed_seed seed = bit_xor seed (swap_bytes w32 (low32 seed) * 2 ^ 32)
 
@@ -64,7 +64,7 @@ unfoldable pub value64_4_to_8 : ℕ → List ℕ → List ℕ → ℕ
 value64_4_to_8 seed s m =
     strong (length m) (bit_xor (sub64 (pair64 s 8) (mixed_seed seed)) (last32 m + first32 m * 2 ^ 32))
 
--- the full product, of which both halves of the value are made
+-- the full product, from which both halves of the value are computed
 unfoldable pub product_4_to_8 : ℕ → List ℕ → List ℕ → ℕ
 product_4_to_8 seed s m =
     bit_xor (add64 (pair64 s 16) (mixed_seed seed)) (first32 m + last32 m * 2 ^ 32) * add64 prime64_1 (length m * 4)

@@ -1,4 +1,4 @@
--- The lists of bytes that a stream stands for.
+-- The lists of bytes that a stream represents.
 use Rattle.std.specs.Prelude.{◌≡◌, ◌+◌, ◌-◌, ◌*◌, ◌^◌, ◌<◌, min, ℕ, Option, List, ◌++◌, take, drop, length}
 use Rattle.twox_words.specs.Word.{counted}
 use Rattle.twox_core.specs.Stripes.{HasTaken}
@@ -19,7 +19,7 @@ pub record Holds (s m : List ℕ) (k : ℕ) (t : TakenStripes) (buffer : List �
   pub all : 64 * k + u ≡ length m
   pub bytes : take u buffer ≡ drop (64 * k) m
 
--- stripes are taken only of a list that is longer than the buffer, and then a byte at least is left
+-- stripes are taken only of a list that is longer than the buffer, and at least one byte is then left
 pub record LeavesLast (m : List ℕ) (k u : ℕ) : Type 0 where
   pub left : 0 < k → 0 < u
   pub long : 0 < k → 512 < length m
@@ -29,16 +29,16 @@ unfoldable pub Follows : List ℕ → CoreState → List ℕ → Type 0
 Follows s c m =
     (k : ℕ) × (c.total_bytes ≡ counted (length m)) × LeavesLast m k c.buffer_usage × Holds s m k c.taken c.buffer c.buffer_usage
 
--- the core h has this seed, or was made with its secret alone where there is none, it has this secret, whose bytes
--- `bytes` gives, and it was given m
+-- the core h has this seed, or none if it was made with only a secret; its secret has these bytes (by `bytes`), and it
+-- has hashed m
 unfoldable pub StandsFor : {S : Type 0} → (S → List ℕ) → CoreView S → Option ℕ → List ℕ → List ℕ → Type 0
 StandsFor bytes h seed s m = (h.key.seed ≡ seed) × (bytes h.key.secret ≡ s) × Follows s h.state m
 
--- whatever list the core a stands for, the core b stands for that list and the piece d after it
+-- whatever list the core a represents, the core b represents that list and the chunk d after it
 abbrev pub TakesPiece : {S : Type 0} → (S → List ℕ) → CoreView S → CoreView S → List ℕ → Type 0
 TakesPiece bytes a b d = (seed : Option ℕ) (s m : List ℕ) → StandsFor bytes a seed s m → StandsFor bytes b seed s (m ++ d)
 
--- the core b has the seed, the secret's bytes and the state of a, so that it stands for the same lists
+-- the core b has the seed, the secret's bytes and the state of a, so that it represents the same lists
 pub record IsCopy {S : Type 0} (bytes : S → List ℕ) (a b : CoreView S) : Type 0 where
   pub seed : b.key.seed ≡ a.key.seed
   pub secret : bytes b.key.secret ≡ bytes a.key.secret

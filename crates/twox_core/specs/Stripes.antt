@@ -1,4 +1,4 @@
--- What a stripe does to the accumulators and to their place in the secret.
+-- The effect of a stripe on the accumulators and on their place in the secret.
 use Rattle.std.specs.Prelude.{◌≡◌, ◌<◌, ℕ, zero, suc, ◌+◌, ◌-◌, ◌*◌, ◌/◌, ◌%◌, ◌==◌, List, length, if◌then◌else◌}
 use Rattle.twox_core.specs.Long.{stripes_of, initial_accumulators, accumulator_after}
 use Rattle.twox_core.specs.Kernel.{eight, accumulate, round_scramble}
@@ -22,7 +22,7 @@ no_stripe = at_start initial_accumulators
 abbrev pub sum_at_place : List ℕ → StripeAccumulator → List ℕ → List ℕ
 sum_at_place s a t = accumulate a.accumulator t (stripe_at s (8 * a.current_stripe))
 
--- a after the stripe t: scrambled where it comes to the secret's last place
+-- a after the stripe t: scrambled if it reaches the secret's last place
 unfoldable pub after_stripe : List ℕ → StripeAccumulator → List ℕ → StripeAccumulator
 after_stripe s a t =
     if a.current_stripe + 1 == stripes_of s

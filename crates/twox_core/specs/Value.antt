@@ -1,5 +1,5 @@
--- The values of XXH3, of 64 bits and of 128, of any list of bytes: the xxHash specification, "XXH3 algorithm
--- overview". `seed` and `s` are the seed and the secret that take effect.
+-- The values of XXH3, of 64 bits and of 128, of any list of bytes: the xxHash specification, "XXH3 algorithm overview".
+-- `seed` and `s` are the seed and the secret in effect.
 use Rattle.std.specs.Prelude.{ℕ, Option, Some, None, ◌+◌, ◌-◌, ◌*◌, ◌/◌, ◌^◌, nat_lt, if◌then◌else◌, List, length}
 use Rattle.twox_words.specs.Word.{low64, high64}
 use Rattle.twox_core.specs.Steps.{avalanche}
@@ -69,16 +69,15 @@ xxh3_64 seed s m = value64_in (range_of (length m)) seed s m
 unfoldable pub xxh3_128 : ℕ → List ℕ → List ℕ → ℕ
 xxh3_128 seed s m = high_in (range_of (length m)) seed s m * 2 ^ 64 + low_in (range_of (length m)) seed s m
 
--- The secret that takes effect where a call has both a seed and a secret, a derived one too: up to 240 bytes
--- the default secret, with the seed, and above the call's own, where no seed enters. A call with a secret
--- alone uses it at every length, with the seed 0, and a call with neither has the default secret and the
--- seed 0.
+-- The secret in effect if a call has both a seed and a secret, also a derived one: up to 240 bytes the default secret,
+-- with the seed, and above that the call's own, with no seed. A call with only a secret uses it at every length, with
+-- the seed 0, and a call with neither has the default secret and the seed 0.
 unfoldable pub effective_secret : List ℕ → List ℕ → List ℕ
 effective_secret own m = if nat_lt (length m) 241 then default_secret else own
 
--- The seed and the secret that take effect in a stream with the secret s. A stream that was made with a seed
--- follows the rule above; one that was made with the secret alone has no seed of its own and uses the secret at
--- every length, with the seed 0.
+-- The seed and the secret in effect in a stream with the secret s. A stream that was made with a seed follows the rule
+-- above; one that was made with only a secret has no seed of its own and uses the secret at every length, with the seed
+-- 0.
 abbrev pub stream_seed : Option ℕ → ℕ
 stream_seed (Some seed) = seed
 stream_seed None = 0
@@ -92,7 +91,7 @@ abbrev pub short_secret : Option ℕ → List ℕ → List ℕ
 short_secret (Some _) s = default_secret
 short_secret None s = s
 
--- the values of a stream that was given m
+-- the values of a stream that has hashed m
 abbrev pub stream_64 : Option ℕ → List ℕ → List ℕ → ℕ
 stream_64 seed s m = xxh3_64 (stream_seed seed) (stream_secret seed s m) m
 

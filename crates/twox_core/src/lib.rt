@@ -1,7 +1,6 @@
-//! XXH3: what both widths share, and the values of each.
+//! XXH3: code shared by both widths, and the values of each.
 //!
-//! Callers of the library have `xxhash3` under `twox_hash`, which makes its own calls of the two widths; `short_pieces` is
-//! for exports.
+//! `twox_hash` re-exports `xxhash3` and has its own calls of the two widths. `short_pieces` is for exports.
 #![tactic(auto)]
 
 pub mod short_pieces;

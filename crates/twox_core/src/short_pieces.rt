@@ -1,11 +1,11 @@
-//! Pieces of a few bytes, for exports: what serves speed alone, and has no name under `twox_hash`.
+//! Chunks of a few bytes, for exports. Exists only for speed; `twox_hash` doesn't re-export it.
 
 ghost use Rattle.std.specs.Prelude.{◌≡◌, ◌+◌, ◌≤◌, ℕ, List, length};
 ghost use Rattle.twox_core.specs.AfterWrite.{state_after_write};
 
 use crate::xxhash3::CoreState;
 
-/// Takes a piece of a few bytes that the buffer has room for, with no call, over whatever secret.
+/// Buffers a chunk of a few bytes for which the buffer has space, without a call and for any secret.
 #[inline(always)]
 pub fn keep_few(core: &mut CoreState, input: &[u8])
     requires room { core.old.buffer_usage + length input.now ≤ 512 }

@@ -1,4 +1,4 @@
-//! The values of XXH3 of 128 bits: the ranges of lengths, the finalizer, and the one-shots of every length.
+//! XXH3 128-bit: the ranges of lengths, the finalizer, and the one-shots of every length.
 
 ghost use Rattle.std.specs.Prelude.{◌≡◌, ◌+◌, ◌-◌, ◌*◌, ◌/◌, ◌^◌, ◌<◌, ◌≤◌, ℕ, List, bit_xor, length};
 ghost use Rattle.twox_words.specs.Word.{low64, high64};
@@ -20,7 +20,7 @@ use crate::xxhash3::{
 };
 use twox_words::words::{Halves, IntoU64, IntoU128, bp_as_chunks, u32_at, u64_at};
 
-/// The finalizer of 128 bits: what is made of short inputs and of long ones.
+/// Finalizes 128-bit values, of short and of long inputs.
 #[derive(Clone, Copy)]
 pub struct Finalize128;
 
@@ -50,10 +50,9 @@ impl Finalize for Finalize128 {
     }
 }
 
-/// The value with the default secret and the seed 0.
+/// Returns the value with the default secret and the seed 0.
 ///
-/// Inputs above 64 bytes are a call of their own: they need more registers than there are to spare, and the shortest
-/// inputs then save none.
+/// Inputs above 64 bytes are a separate call: they need more registers than are free, so the shortest inputs save none.
 #[inline(always)]
 pub fn oneshot(input: &[u8]) -> Wide
     ensures { result.high * 2 ^ 64 + result.low
@@ -83,7 +82,8 @@ fn oneshot_from_65(input: &[u8]) -> Wide
     }
 }
 
-/// The value with a seed: up to 240 bytes with the default secret, above with the one that the seed derives.
+/// Returns the value with a seed: up to 240 bytes with the default secret, above that with the one derived from the
+/// seed.
 #[inline(always)]
 #[tactic(auto, unfolding(crate::specs::Value::effective_secret))]
 pub fn oneshot_with_seed(seed: u64, input: &[u8]) -> Wide
@@ -99,7 +99,7 @@ pub fn oneshot_with_seed(seed: u64, input: &[u8]) -> Wide
     }
 }
 
-// The seed comes last, where C's calls have it: no register then changes its place on the way.
+// The seed comes last, as in C's calls, so no register moves on the way.
 #[inline(never)]
 #[tactic(auto, unfolding(crate::specs::Value::effective_secret))]
 fn oneshot_with_seed_from_65(input: &[u8], seed: u64) -> Wide
@@ -116,7 +116,7 @@ fn oneshot_with_seed_from_65(input: &[u8], seed: u64) -> Wide
     }
 }
 
-/// The value with a secret and the seed 0.
+/// Returns the value with a secret and the seed 0.
 #[inline(always)]
 pub fn oneshot_with_secret(secret: Secret<'_>, input: &[u8]) -> Wide
     ensures { result.high * 2 ^ 64 + result.low
@@ -146,10 +146,10 @@ fn oneshot_with_secret_from_65(input: &[u8], secret: Secret<'_>) -> Wide
     }
 }
 
-/// The value above 240 bytes, with a secret. No seed enters, so it is that of any.
+/// Returns the value above 240 bytes, with a secret. No seed is used, so it is the value for every seed.
 ///
-/// It is a call of its own, so that short inputs pay nothing for the room that long ones take. Where the secret's length is
-/// known, nothing is divided or tested for it.
+/// A separate call, so that short inputs don't pay for the stack frame of long ones. If the secret's length is known,
+/// nothing is divided or tested for it.
 #[inline(never)]
 pub fn oneshot_long(secret: Secret<'_>, input: &[u8]) -> Wide
     requires { 240 < length input.now }
@@ -167,7 +167,7 @@ pub fn oneshot_long(secret: Secret<'_>, input: &[u8]) -> Wide
     }
 }
 
-// As a last call, so that the default's length keeps no register for the division.
+// A tail call, so that the default length keeps no register for the division.
 #[inline(never)]
 fn oneshot_long_of_any_length(secret: Secret<'_>, input: &[u8]) -> Wide
     requires { 240 < length input.now }
@@ -177,7 +177,7 @@ fn oneshot_long_of_any_length(secret: Secret<'_>, input: &[u8]) -> Wide
     oneshot_above_240::<AnyLength>(secret, input)
 }
 
-// Each `Caller` has code of its own: see `Algorithm::oneshot_of`.
+// Each `Caller` has its own copy of the code: see `Algorithm::oneshot_of`.
 #[inline(always)]
 #[tactic(auto, using(crate::proofs::ValueLaws::long_128, crate::proofs::EndingFacts::block_both))]
 fn oneshot_above_240<Caller>(secret: Secret<'_>, input: &[u8]) -> Wide
@@ -193,7 +193,7 @@ fn oneshot_above_240<Caller>(secret: Secret<'_>, input: &[u8]) -> Wide
     }
 }
 
-// Many bytes, as a tail call of `oneshot_above_240`, which so keeps no register for them.
+// Hashes many bytes, as a tail call of `oneshot_above_240`, which then keeps no register for them.
 #[inline(never)]
 #[tactic(auto, using(crate::proofs::ValueLaws::long_128, crate::proofs::EndingFacts::block_both))]
 fn oneshot_many(secret: Secret<'_>, input: &[u8]) -> Wide
@@ -205,7 +205,7 @@ fn oneshot_many(secret: Secret<'_>, input: &[u8]) -> Wide
     halves(algorithm.oneshot_of::<Finalize128, AnyLength, true>(secret, input, Finalize128))
 }
 
-// By eight lanes, as another tail call, of `oneshot_long`.
+// Hashes by eight lanes, as another tail call, of `oneshot_long`.
 #[inline(never)]
 #[tactic(auto, using(crate::proofs::ValueLaws::long_128, crate::proofs::EndingFacts::taken_both))]
 fn oneshot_by_eight_lanes(secret: Secret<'_>, input: &[u8]) -> Wide
@@ -217,7 +217,7 @@ fn oneshot_by_eight_lanes(secret: Secret<'_>, input: &[u8]) -> Wide
     halves(oneshot_widened(secret, input, Finalize128))
 }
 
-// Long inputs with the secret that a seed derives. The seed 0 derives the default one.
+// Hashes long inputs with the secret derived from the seed. The seed 0 derives the default one.
 #[inline(always)]
 #[tactic(auto, using(crate::proofs::Vectors::derived_secret_none))]
 fn oneshot_long_with_seed(seed: u64, input: &[u8]) -> Wide
@@ -234,7 +234,7 @@ fn oneshot_long_with_seed(seed: u64, input: &[u8]) -> Wide
     }
 }
 
-// The derived secret stands on the stack. Taken in place, it is known to have 192 bytes, so nothing is tested for that.
+// The derived secret is on the stack. Built in place, it is known to have 192 bytes, so nothing tests that.
 #[inline(never)]
 fn oneshot_long_derived(seed: u64, input: &[u8]) -> Wide
     requires { 240 < length input.now }
@@ -245,7 +245,8 @@ fn oneshot_long_derived(seed: u64, input: &[u8]) -> Wide
     oneshot_above_240::<Derived>(Secret::new(&secret).unwrap(), input)
 }
 
-// Those that eight lanes take, in code of its own: whoever has fewer bytes then keeps no register for this call.
+// Hashes inputs that eight lanes take. A separate function, so that callers with fewer bytes save no register for this
+// call.
 #[inline(never)]
 #[tactic(auto, using(crate::proofs::ValueLaws::long_128, crate::proofs::EndingFacts::taken_both))]
 fn oneshot_derived_by_eight_lanes(seed: u64, input: &[u8]) -> Wide
@@ -257,10 +258,10 @@ fn oneshot_derived_by_eight_lanes(seed: u64, input: &[u8]) -> Wide
     halves(oneshot_widened(Secret::new(&derived).unwrap(), input, Finalize128))
 }
 
-/// A value of 128 bits as its halves.
+/// A 128-bit value as its halves.
 ///
-/// Only the callers make one number of them: whoever wants the halves again, as the exports for C do, then jumps to the
-/// call that answers them.
+/// Only the callers join them, so that callers that need the halves, such as the exports for C, can tail call the
+/// function that returns them.
 #[derive(Clone, Copy)]
 #[repr(C)]
 pub struct Wide {
@@ -270,7 +271,7 @@ pub struct Wide {
     pub high: u64,
 }
 
-/// The value's halves.
+/// Splits the value into its halves.
 #[inline(always)]
 pub fn halves(value: u128) -> Wide
     ensures { result.high * 2 ^ 64 + result.low ≡ value }
@@ -290,7 +291,7 @@ impl IntoU128 for Wide {
     }
 }
 
-/// The value up to 240 bytes, with a secret and a seed.
+/// Returns the value up to 240 bytes, with a secret and a seed.
 #[inline(always)]
 pub fn oneshot_short(secret: Secret<'_>, seed: u64, input: &[u8]) -> Wide
     requires { length input.now ≤ 240 }
@@ -408,7 +409,7 @@ fn impl_9_to_16_bytes(secret: Secret<'_>, seed: u64, input: &[u8]) -> Wide
     let low = product
         .lower_half()
         .wrapping_add((input.len() - 1).into_u64() << 54);
-    // The lower half of `two` counts times the prime, and the upper half in its place.
+    // The lower half of `two` counts times the prime, and the upper half unmultiplied.
     let high = product
         .upper_half()
         .wrapping_add(two)
@@ -423,14 +424,14 @@ fn impl_9_to_16_bytes(secret: Secret<'_>, seed: u64, input: &[u8]) -> Wide
     }
 }
 
-// The two accumulators of 17 to 240 bytes.
+// The two accumulators for 17 to 240 bytes.
 #[derive(Clone, Copy)]
 struct Accumulators {
     first: u64,
     second: u64,
 }
 
-// The accumulators before the first chunk.
+// Returns the accumulators before the first chunk.
 #[inline(always)]
 fn initial_accumulators(input: &[u8]) -> Accumulators
     ensures first { result.first ≡ mul64 (length input.now) prime64_1 }
@@ -442,7 +443,7 @@ fn initial_accumulators(input: &[u8]) -> Accumulators
     }
 }
 
-// An accumulator after the 16 bytes `own` under the secret's, and then the words of the 16 bytes `other`.
+// Returns an accumulator after the 16 bytes `own` under the secret's, and then the words of the 16 bytes `other`.
 #[inline(always)]
 fn accumulator_step(
     accumulator: u64,
@@ -458,7 +459,7 @@ fn accumulator_step(
     accumulator.wrapping_add(mix_step(own, words, seed)) ^ other[0].wrapping_add(other[1])
 }
 
-// The accumulators after chunk `c` from the front and from the back, where there is one.
+// Returns the accumulators after chunk `c` from the front and from the back, if there is one.
 #[inline(always)]
 fn mix_two_chunks(
     accumulators: Accumulators,
@@ -487,7 +488,7 @@ fn mix_two_chunks(
     }
 }
 
-// Up to 64 bytes have the last two steps alone.
+// Up to 64 bytes have only the last two steps.
 #[inline(always)]
 fn impl_17_to_64_bytes(secret: Secret<'_>, seed: u64, input: &[u8]) -> Wide
     requires some { 17 ≤ length input.now }
@@ -510,7 +511,7 @@ fn impl_65_to_128_bytes(secret: Secret<'_>, seed: u64, input: &[u8]) -> Wide
     mix_last(accumulators, secret, seed, input)
 }
 
-// The accumulators after all steps but the last, from those before the first.
+// Returns the accumulators after all steps except the last, from those before the first.
 #[inline(always)]
 fn mix_above_32(initial: Accumulators, secret: Secret<'_>, seed: u64, input: &[u8]) -> Accumulators
     requires some { 17 ≤ length input.now }
@@ -531,7 +532,7 @@ fn mix_above_32(initial: Accumulators, secret: Secret<'_>, seed: u64, input: &[u
     accumulators
 }
 
-// The value from the accumulators before the last step, which takes the chunks at both ends.
+// Returns the value from the accumulators before the last step, which takes the chunks at both ends.
 #[inline(always)]
 fn mix_last(accumulators: Accumulators, secret: Secret<'_>, seed: u64, input: &[u8]) -> Wide
     requires some { 17 ≤ length input.now }
@@ -586,7 +587,7 @@ fn impl_129_to_240_bytes(secret: Secret<'_>, seed: u64, input: &[u8]) -> Wide
         );
     }
 
-    // the halves of the last 32 bytes go in the other way round, and the seed with its sign turned
+    // the halves of the last 32 bytes are swapped, and the seed is negated
     let (_, tail) = input.split_at(input.len() - 32);
     let (tail, _) = bp_as_chunks(tail);
     let words = secret.for_128().words_for_129_to_240_part3();
@@ -598,7 +599,7 @@ fn impl_129_to_240_bytes(secret: Secret<'_>, seed: u64, input: &[u8]) -> Wide
     finalize_medium(accumulators, input.len().into_u64(), seed)
 }
 
-// The value of the accumulators.
+// Returns the value of the accumulators.
 #[inline(always)]
 #[tactic(auto, unfolding(crate::specs::Middle::merge_low, crate::specs::Middle::merge_high))]
 fn finalize_medium(accumulators: Accumulators, input_len: u64, seed: u64) -> Wide

@@ -49,7 +49,7 @@ stands : (s m : List ℕ) (c : CoreState) (seed : Option ℕ) → Follows s c m 
 unfolding StandsFor
 stands s m c seed held = (refl, refl, held)
 
--- a piece
+-- a chunk
 pub follows_written : (s m d : List ℕ) (c : CoreState) → 136 ≤ length s → length c.buffer ≡ 512 → Follows s c m
     → Follows s (state_after_write s c d) (m ++ d)
 unfolding StandsFor core_after_write

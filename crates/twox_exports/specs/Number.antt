@@ -1,4 +1,4 @@
--- Values of 128 bits as two words.
+-- 128-bit values as two words.
 use Rattle.std.specs.Prelude.{ℕ, ◌+◌, ◌*◌, ◌^◌}
 use Rattle.twox_core.specs.declared.width_128.Wide.{Wide}
 

@@ -1,4 +1,5 @@
--- What a stream's state answers, with its seed, if it has one, and over its secret: also a state that no bytes lead to.
+-- The values of a stream's state, with its seed, if it has one, and over its secret, also for a state that no bytes
+-- lead to.
 use Rattle.std.specs.Prelude.{ℕ, List, Option}
 use Rattle.twox_core.specs.Value.{xxh3_64, xxh3_128}
 use Rattle.twox_core.specs.Ending.{finalize_64, finalize_128}

@@ -1,12 +1,12 @@
-//! What the exports to other languages share, below `twox_web` and `twox_rust`: the codes that a call answers, values
-//! of 128 bits, and streams of XXH3 whose secrets lie beside them.
+//! Code shared by the exports to other languages, below `twox_web` and `twox_rust`: the codes that calls return,
+//! 128-bit values, and streams of XXH3 whose secrets are stored separately.
 #![tactic(auto)]
 
 pub mod stream_3;
 
 pub use twox_core::width_128::{Wide, halves};
 
-/// The call did what it says.
+/// The call succeeded.
 pub const DONE: u32 = 0;
 
 /// The secret has fewer than 136 bytes.

@@ -1,7 +1,7 @@
-//! Streams of XXH3 in a caller's memory. One stream answers both widths.
+//! Streams of XXH3 in a caller's memory. One stream has values of both widths.
 //!
-//! A stream's secret lies beside it, and each call is handed it again. So a secret may have any length, and the
-//! clauses speak of the stream and that secret together.
+//! A stream's secret is stored separately and passed to each call again. So a secret may have any length, and the
+//! clauses are about the stream and that secret together.
 
 ghost use Rattle.std.specs.Prelude.{◌≡◌, ◌↔◌, ◌+◌, ◌<◌, ◌≤◌, ℕ, List, [], ◌++◌, take, length, IsTrue};
 ghost use Rattle.twox_hash.specs.Secret.{default_secret};
@@ -23,7 +23,7 @@ use twox_hash::xxhash3::{
 use twox_hash::xxhash3_64::Finalize64;
 use twox_hash::xxhash3_128::Finalize128;
 
-/// The state of no bytes yet, over whatever secret.
+/// Returns the state of no bytes, for any secret.
 #[tactic(auto, using(crate::proofs::StreamFacts::follows_fresh))]
 #[inline(always)]
 pub fn start() -> CoreState
@@ -32,15 +32,15 @@ pub fn start() -> CoreState
     CoreState::new()
 }
 
-// A piece of up to so many bytes is kept with no call.
+// A chunk of up to this many bytes is buffered without a call.
 const FEW_BYTES: usize = 64;
 
-/// Takes the bytes of a piece after those taken before, over the stream's secret.
+/// Hashes a chunk after the bytes before, over the stream's secret.
 ///
-/// - `SECRET_TOO_SHORT`: it has fewer than 136 bytes.
-/// - `NOT_A_STREAM`: the state's place and number of bytes are none that calls leave.
+/// - `SECRET_TOO_SHORT` if the secret has fewer than 136 bytes.
+/// - `NOT_A_STREAM` if the state's place or its number of bytes is one that no call leaves.
 ///
-/// Where it refuses, the state stays as it was.
+/// If it refuses, the state is unchanged.
 #[inline(always)]
 pub fn write<V: Vector>(core: &mut CoreState, v: V, secret: &[u8], input: &[u8]) -> u32
     ensures done { result ≡ DONE ↔ ((136 ≤ length secret.now) × IsInRange secret.now core.old) }
@@ -62,7 +62,7 @@ pub fn write<V: Vector>(core: &mut CoreState, v: V, secret: &[u8], input: &[u8])
     write_far(core, v, secret, input)
 }
 
-// Whether calls go on from the state, and the buffer has room for the piece, which is of a few bytes.
+// True if calls can continue from the state, and the chunk has few bytes that fit the buffer.
 #[inline(always)]
 fn has_room(core: &CoreState, secret: Secret<'_>, input: &[u8]) -> bool
     ensures in_range { IsTrue result → IsInRange (secret_bytes secret.entry) core.now }
@@ -77,7 +77,7 @@ fn has_room(core: &CoreState, secret: Secret<'_>, input: &[u8]) -> bool
         && core.is_in_range(secret)
 }
 
-// Takes any other piece: a call of its own, so that those pay for no register that it keeps.
+// Hashes any other chunk. A separate function, so that the small ones don't save the registers that it uses.
 #[inline(never)]
 fn write_far<V: Vector>(core: &mut CoreState, v: V, secret: Secret<'_>, input: &[u8]) -> u32
     ensures done { result ≡ DONE ↔ IsInRange (secret_bytes secret.entry) core.old }
@@ -95,7 +95,7 @@ fn write_far<V: Vector>(core: &mut CoreState, v: V, secret: Secret<'_>, input: &
     DONE
 }
 
-// What `finalize` makes of the bytes taken.
+// Returns the value of the bytes taken, by `finalize`.
 #[tactic(auto, using(std::proofs::lemmas::Bool::Decides::nat_tests), unfolding(twox_core::specs::Finish::state_finish))]
 #[inline(always)]
 fn finish<V: Vector, F: Finalize>(
@@ -119,7 +119,7 @@ fn finish<V: Vector, F: Finalize>(
     finish_short(core, finalize, own)
 }
 
-// The value of up to 240 bytes, with the default secret and a seed.
+// Returns the value of up to 240 bytes, with the default secret and a seed.
 #[inline(always)]
 fn finish_short<F: Finalize>(core: &CoreState, finalize: &F, seed: u64) -> F::Output
     requires { core.now.total_bytes ≤ 240 }
@@ -130,7 +130,7 @@ fn finish_short<F: Finalize>(core: &CoreState, finalize: &F, seed: u64) -> F::Ou
     finalize.small(default_secret(), seed, input)
 }
 
-// The value at every length, out of line, so that short streams pay for no register that it keeps.
+// Returns the value at every length. A separate function, so that short streams don't save the registers that it uses.
 #[inline(never)]
 fn finish_far<V: Vector, F: Finalize>(
     core: &CoreState,
@@ -147,13 +147,13 @@ fn finish_far<V: Vector, F: Finalize>(
     core.finish(v, finalize, seed, secret)
 }
 
-/// Writes the hash of 64 bits of the bytes taken so far, with the stream's seed, if it has one, and over its secret.
-/// More may be taken afterwards.
+/// Writes the 64-bit hash of the bytes so far, with the stream's seed, if it has one, and over its secret. More can be
+/// hashed afterwards.
 ///
-/// - `SECRET_TOO_SHORT`: the secret has fewer than 136 bytes.
-/// - `NOT_A_STREAM`: the state's place and number of bytes are none that calls leave.
+/// - `SECRET_TOO_SHORT` if the secret has fewer than 136 bytes.
+/// - `NOT_A_STREAM` if the state's place or its number of bytes is one that no call leaves.
 ///
-/// Where it refuses, nothing is written.
+/// If it refuses, nothing is written.
 #[inline(always)]
 pub fn finish_64<V: Vector>(
     core: &CoreState,
@@ -181,7 +181,7 @@ pub fn finish_64<V: Vector>(
     DONE
 }
 
-/// Writes the hash of 128 bits of all bytes so far. It refuses what the call of 64 bits above refuses.
+/// Writes the 128-bit hash of the bytes so far. Refuses what the 64-bit call above refuses.
 #[inline(always)]
 pub fn finish_128<V: Vector>(
     core: &CoreState,

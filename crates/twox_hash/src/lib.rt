@@ -1,5 +1,5 @@
-//! XXH32, XXH64 and XXH3 under the names of the Rust crate `twox-hash`, each call proved equal to the
-//! xxHash definition.
+//! XXH32, XXH64 and XXH3 with the API of the Rust crate `twox-hash`. Each function is proved to return the value that
+//! the xxHash specification defines.
 #![tactic(auto)]
 
 pub mod streams;

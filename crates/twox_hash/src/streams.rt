@@ -1,5 +1,5 @@
-//! What the streams of both widths share: a core that takes the bytes, and the finalizer that says what is made
-//! of them. Each width's module gives them its names, `Hasher` and `RawHasher`, and their last call.
+//! Code shared by the streams of both widths: a core that takes the bytes, and the finalizer that computes the value.
+//! Each width's module adds its names, `Hasher` and `RawHasher`, and its last call.
 
 use std::alloc::{AllocError, Allocator, Global};
 use std::boxed::BoxedSlice;
@@ -9,7 +9,7 @@ use twox_core::xxhash3::{
     SecretTooShortError,
 };
 
-/// A stream over a secret of the caller's, which takes no memory: `xxhash3_64::RawHasher` and
+/// A stream over a secret of the caller. Allocates nothing. Its names are `xxhash3_64::RawHasher` and
 /// `xxhash3_128::RawHasher`.
 #[derive(Drop)]
 pub struct RawStream<F: Finalize, S: FixedBuffer> {
@@ -31,7 +31,7 @@ impl<F: Finalize, S: FixedBuffer> RawStream<F, S> {
     ghost use Rattle.twox_core.specs.AfterWrite.{core_after_write};
     ghost use Rattle.twox_core.specs.StandsFor.{StandsFor, TakesPiece};
 
-    /// A stream of no bytes yet, with the seed and the secret of the buffer.
+    /// Creates a stream of no bytes, with the seed and the secret of the buffer.
     pub fn new(secret_buffer: SecretBuffer<S>) -> RawStream<F, S>
         ensures { StandsFor S.bytes result secret_buffer.seed (S.bytes secret_buffer.secret) [] }
     {
@@ -41,7 +41,7 @@ impl<F: Finalize, S: FixedBuffer> RawStream<F, S> {
         }
     }
 
-    /// Takes the bytes of a piece after those taken before.
+    /// Hashes a chunk after the bytes before.
     #[inline]
     pub fn write(&mut self, input: &[u8])
         ensures message { TakesPiece S.bytes self.old self.new input.now }
@@ -50,7 +50,7 @@ impl<F: Finalize, S: FixedBuffer> RawStream<F, S> {
         self.core.write(input);
     }
 
-    /// The secret, as it was handed in.
+    /// Returns the secret that was passed in.
     pub fn into_secret(self) -> S
         ensures exact { result ≡ self.key.secret }
         ensures message { (seed : Option ℕ) (s m : List ℕ) → StandsFor S.bytes self seed s m
@@ -60,7 +60,7 @@ impl<F: Finalize, S: FixedBuffer> RawStream<F, S> {
         core.into_secret()
     }
 
-    // The core, lent to the last call of a width.
+    // Borrows the core, for the last call of a width.
     #[inline(always)]
     pub(crate) fn core(&self) -> &RawHasherCore<S>
         ensures { result.now ≡ self.now }
@@ -85,7 +85,7 @@ impl<F: Finalize, S: ClonedBuffer> Clone for RawStream<F, S> {
     }
 }
 
-/// A stream whose secret is in memory of its own: `xxhash3_64::Hasher` and `xxhash3_128::Hasher`.
+/// A stream whose secret is allocated: `xxhash3_64::Hasher` and `xxhash3_128::Hasher`.
 #[derive(Drop)]
 pub struct BoxedStream<F: Finalize, A: Allocator = Global> {
     inner: AllocRawHasher<A>,
@@ -119,33 +119,33 @@ impl<F: Finalize, A: Allocator> BoxedStream<F, A> {
         }
     }
 
-    /// A stream of no bytes yet, with the seed 0 and the default secret.
+    /// Creates a stream of no bytes, with the seed 0 and the default secret.
     ///
     /// # Errors
     ///
-    /// There is no memory for the secret.
+    /// `AllocError` if out of memory.
     pub fn new(alloc: A) -> Result<BoxedStream<F, A>, AllocError>
         ensures { IfOk result (λ h. StandsFor boxed_slice_items h (Some 0) default_secret []) }
     {
         Ok(BoxedStream::over(AllocRawHasher::allocate_default(alloc)?))
     }
 
-    /// An empty stream with the default secret and the seed 0, as [`BoxedStream::new`] makes it.
+    /// Creates a stream of no bytes, with the seed 0 and the default secret, as [`BoxedStream::new`] does.
     ///
     /// # Errors
     ///
-    /// There is no memory for the secret.
+    /// `AllocError` if out of memory.
     pub fn default(alloc: A) -> Result<BoxedStream<F, A>, AllocError>
         ensures { IfOk result (λ h. StandsFor boxed_slice_items h (Some 0) default_secret []) }
     {
         BoxedStream::new(alloc)
     }
 
-    /// A stream of no bytes yet, with the seed and the secret that it derives.
+    /// Creates a stream of no bytes, with the seed and the secret derived from it.
     ///
     /// # Errors
     ///
-    /// There is no memory for the secret.
+    /// `AllocError` if out of memory.
     pub fn with_seed(alloc: A, seed: u64) -> Result<BoxedStream<F, A>, AllocError>
         ensures { let s = derived_secret seed in
             IfOk result (λ h. StandsFor boxed_slice_items h (Some seed) s []) }
@@ -154,11 +154,11 @@ impl<F: Finalize, A: Allocator> BoxedStream<F, A> {
         Ok(BoxedStream::over(inner))
     }
 
-    /// A stream of no bytes yet, with the seed and the secret. It takes no memory.
+    /// Creates a stream of no bytes, with the seed and the secret. Allocates nothing.
     ///
     /// # Errors
     ///
-    /// The secret has fewer than 136 bytes; it is handed back.
+    /// Returns the secret in the error if it has fewer than 136 bytes.
     pub fn with_seed_and_secret(
         seed: u64,
         secret: BoxedSlice<u8, A>,
@@ -171,12 +171,12 @@ impl<F: Finalize, A: Allocator> BoxedStream<F, A> {
         Ok(BoxedStream::over(inner))
     }
 
-    /// A stream of no bytes yet, with the secret alone, which is used at every length with the seed 0. It takes no
-    /// memory.
+    /// Creates a stream of no bytes, with only the secret, which it uses at every length with the seed 0. Allocates
+    /// nothing.
     ///
     /// # Errors
     ///
-    /// The secret has fewer than 136 bytes; it is handed back.
+    /// Returns the secret in the error if it has fewer than 136 bytes.
     pub fn with_secret(
         secret: BoxedSlice<u8, A>,
     ) -> Result<BoxedStream<F, A>, SecretTooShortError<BoxedSlice<u8, A>>>
@@ -188,7 +188,7 @@ impl<F: Finalize, A: Allocator> BoxedStream<F, A> {
         Ok(BoxedStream::over(inner))
     }
 
-    /// Takes the bytes of a piece after those taken before.
+    /// Hashes a chunk after the bytes before.
     #[inline]
     pub fn write(&mut self, input: &[u8])
         ensures message { TakesPiece boxed_slice_items self.old self.new input.now }
@@ -197,7 +197,7 @@ impl<F: Finalize, A: Allocator> BoxedStream<F, A> {
         self.inner.write(input);
     }
 
-    /// The secret, as it was handed in or made.
+    /// Returns the secret that was passed in or derived.
     pub fn into_secret(self) -> BoxedSlice<u8, A>
         ensures exact { result ≡ self.key.secret }
         ensures message { (seed : Option ℕ) (s m : List ℕ)
@@ -211,7 +211,7 @@ impl<F: Finalize, A: Allocator> BoxedStream<F, A> {
         inner.into_secret()
     }
 
-    // The core, lent to the last call of a width.
+    // Borrows the core, for the last call of a width.
     #[inline(always)]
     pub(crate) fn inner(&self) -> &AllocRawHasher<A>
         ensures { result.now ≡ self.now }

@@ -1,4 +1,4 @@
-//! XXH3 of 128 bits.
+//! XXH3 128-bit.
 
 ghost use Rattle.std.specs.Prelude.{◌≡◌, ◌↔◌, ◌<◌, length, IfOk, IsErr};
 ghost use Rattle.twox_core.specs.Laws.{TellsOthers128, HasLowHalf64};
@@ -16,8 +16,8 @@ pub use twox_core::xxhash3::{
 use twox_core::xxhash3::{CUTOFF, Secret, default_secret};
 use twox_words::words::IntoU128;
 
-/// Calculates the 128-bit hash: of all bytes at once, or of bytes that come in pieces. The secret of a stream
-/// is in memory of its own.
+/// Calculates the 128-bit hash, of all bytes at once or of chunks one after another. The secret of a stream is
+/// allocated.
 ///
 /// ```text
 /// let mut hasher = Hasher::with_seed(alloc, 7)?;
@@ -27,7 +27,7 @@ use twox_words::words::IntoU128;
 /// ```
 pub type Hasher<A = Global> = BoxedStream<Finalize128, A>;
 
-/// A stream over a secret of the caller's, which takes no memory.
+/// A stream over a secret of the caller. Allocates nothing.
 ///
 /// ```text
 /// let secret = SecretBuffer::with_seed(7, [0; DEFAULT_SECRET_LENGTH])?;
@@ -38,11 +38,11 @@ pub type Hasher<A = Global> = BoxedStream<Finalize128, A>;
 pub type RawHasher<S> = RawStream<Finalize128, S>;
 
 impl Hasher<Global> {
-    /// The hash of all bytes at once, with the default secret and the seed 0.
+    /// Hashes all bytes at once, with the default secret and the seed 0.
     ///
-    /// Other bytes are noticed: no two different inputs of one length up to 16 bytes have the same hash. So is
-    /// another seed, up to 16 bytes. Of 1 to 3 bytes and above 240 the low half is the hash of 64 bits. All that
-    /// holds of the other one-shots too, under their secrets.
+    /// No two different inputs of one length up to 16 bytes have the same hash, and an input of up to 16 bytes has
+    /// another hash under every other seed. For 1 to 3 bytes and above 240 the low half is the 64-bit hash. All this is
+    /// also true of the other one-shots, under their secrets.
     #[inline]
     pub fn oneshot(input: &[u8]) -> u128
         ensures value { result ≡ xxh3_128 0 default_secret input.now }
@@ -52,8 +52,8 @@ impl Hasher<Global> {
         width_128::oneshot(input).into_u128()
     }
 
-    /// The hash of all bytes at once, with a seed: up to 240 bytes with the default secret, above with the
-    /// secret that the seed derives.
+    /// Hashes all bytes at once, with a seed: up to 240 bytes with the default secret, above that with the secret
+    /// derived from the seed.
     #[inline]
     pub fn oneshot_with_seed(seed: u64, input: &[u8]) -> u128
         ensures value { let s = effective_secret (derived_secret seed) input.now in
@@ -65,11 +65,11 @@ impl Hasher<Global> {
         width_128::oneshot_with_seed(seed, input).into_u128()
     }
 
-    /// The hash of all bytes at once, with a secret and the seed 0, at every length.
+    /// Hashes all bytes at once, with a secret and the seed 0, at every length.
     ///
     /// # Errors
     ///
-    /// The secret has fewer than 136 bytes.
+    /// `OneshotWithSecretError` if the secret has fewer than 136 bytes.
     #[inline]
     pub fn oneshot_with_secret(secret: &[u8], input: &[u8]) -> Result<u128, OneshotWithSecretError>
         ensures refused { IsErr result ↔ (length secret.now < 136) }
@@ -81,12 +81,12 @@ impl Hasher<Global> {
         Ok(width_128::oneshot_with_secret(secret, input).into_u128())
     }
 
-    /// The hash of all bytes at once, with a seed and a secret. Only one of the two has an effect: up to 240
-    /// bytes the seed, with the default secret, whatever secret is handed in; above, the secret.
+    /// Hashes all bytes at once, with a seed and a secret, of which only one has an effect: up to 240 bytes the seed,
+    /// with the default secret, whatever secret is passed; above that the secret.
     ///
     /// # Errors
     ///
-    /// The input has more than 240 bytes and the secret fewer than 136.
+    /// `OneshotWithSecretError` if the input has more than 240 bytes and the secret fewer than 136.
     #[inline]
     #[tactic(auto, unfolding(twox_core::specs::Value::effective_secret))]
     pub fn oneshot_with_seed_and_secret(
@@ -116,9 +116,9 @@ impl<A: Allocator> Hasher<A> {
     ghost use Rattle.twox_core.specs.StandsFor.{StandsFor};
     ghost use Rattle.twox_hash.specs.Streams.{value_128};
 
-    /// The hash of the bytes taken so far, which stay: up to 240 bytes with the default secret and the seed or, in
-    /// a stream that was made with its secret alone, with that secret and the seed 0; above with the stream's
-    /// secret, where no seed enters.
+    /// Returns the hash of the bytes written so far. More can be written afterwards. Up to 240 bytes it uses the
+    /// default secret and the seed or, if the stream was made with only a secret, that secret and the seed 0; above
+    /// that it uses the stream's secret and no seed.
     #[inline]
     #[tactic(auto, unfolding(crate::specs::Streams::value_128))]
     pub fn finish_128(&self) -> u128
@@ -137,9 +137,9 @@ impl<S: FixedBuffer> RawHasher<S> {
     ghost use Rattle.twox_core.specs.StandsFor.{StandsFor};
     ghost use Rattle.twox_hash.specs.Streams.{value_128};
 
-    /// The hash of the bytes taken so far, which stay: up to 240 bytes with the default secret and the seed or, in
-    /// a stream that was made with its secret alone, with that secret and the seed 0; above with the stream's
-    /// secret, where no seed enters.
+    /// Returns the hash of the bytes written so far. More can be written afterwards. Up to 240 bytes it uses the
+    /// default secret and the seed or, if the stream was made with only a secret, that secret and the seed 0; above
+    /// that it uses the stream's secret and no seed.
     #[inline]
     #[tactic(auto, unfolding(crate::specs::Streams::value_128))]
     pub fn finish_128(&self) -> u128

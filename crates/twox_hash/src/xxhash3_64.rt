@@ -1,4 +1,4 @@
-//! XXH3 of 64 bits.
+//! XXH3 64-bit.
 
 ghost use Rattle.std.specs.Prelude.{◌≡◌, ◌↔◌, ◌<◌, length, IfOk, IsErr};
 ghost use Rattle.twox_core.specs.Laws.{TellsOthers64};
@@ -16,8 +16,8 @@ pub use twox_core::xxhash3::{
 };
 use twox_core::xxhash3::{CUTOFF, Secret, default_secret};
 
-/// Calculates the 64-bit hash: of all bytes at once, or of bytes that come in pieces. The secret of a stream
-/// is in memory of its own.
+/// Calculates the 64-bit hash, of all bytes at once or of chunks one after another. The secret of a stream is
+/// allocated.
 ///
 /// ```text
 /// let mut hasher = Hasher::with_seed(alloc, 7)?;
@@ -27,7 +27,7 @@ use twox_core::xxhash3::{CUTOFF, Secret, default_secret};
 /// ```
 pub type Hasher<A = Global> = BoxedStream<Finalize64, A>;
 
-/// A stream over a secret of the caller's, which takes no memory.
+/// A stream over a secret of the caller. Allocates nothing.
 ///
 /// ```text
 /// let secret = SecretBuffer::with_seed(7, [0; DEFAULT_SECRET_LENGTH])?;
@@ -38,11 +38,11 @@ pub type Hasher<A = Global> = BoxedStream<Finalize64, A>;
 pub type RawHasher<S> = RawStream<Finalize64, S>;
 
 impl Hasher<Global> {
-    /// The hash of all bytes at once, with the default secret and the seed 0.
+    /// Hashes all bytes at once, with the default secret and the seed 0.
     ///
-    /// Other bytes are noticed: of two different inputs of 1 to 3 bytes, and of two of one length from 4 to 8,
-    /// no two have the same hash. So is another seed, up to 8 bytes. All that holds of the other one-shots
-    /// too, under their secrets.
+    /// No two different inputs of 1 to 3 bytes have the same hash, nor have two of one length from 4 to 8. An input of
+    /// up to 8 bytes has another hash under every other seed. All this is also true of the other one-shots, under their
+    /// secrets.
     #[inline]
     pub fn oneshot(input: &[u8]) -> u64
         ensures value { result ≡ xxh3_64 0 default_secret input.now }
@@ -51,8 +51,8 @@ impl Hasher<Global> {
         width_64::oneshot(input)
     }
 
-    /// The hash of all bytes at once, with a seed: up to 240 bytes with the default secret, above with the
-    /// secret that the seed derives.
+    /// Hashes all bytes at once, with a seed: up to 240 bytes with the default secret, above that with the secret
+    /// derived from the seed.
     #[inline]
     pub fn oneshot_with_seed(seed: u64, input: &[u8]) -> u64
         ensures value { let s = effective_secret (derived_secret seed) input.now in
@@ -62,11 +62,11 @@ impl Hasher<Global> {
         width_64::oneshot_with_seed(seed, input)
     }
 
-    /// The hash of all bytes at once, with a secret and the seed 0, at every length.
+    /// Hashes all bytes at once, with a secret and the seed 0, at every length.
     ///
     /// # Errors
     ///
-    /// The secret has fewer than 136 bytes.
+    /// `OneshotWithSecretError` if the secret has fewer than 136 bytes.
     #[tactic(auto, using(twox_core::proofs::OneshotLaws::tells_others_64))]
     #[inline]
     pub fn oneshot_with_secret(secret: &[u8], input: &[u8]) -> Result<u64, OneshotWithSecretError>
@@ -78,12 +78,12 @@ impl Hasher<Global> {
         Ok(width_64::oneshot_with_secret(secret, input))
     }
 
-    /// The hash of all bytes at once, with a seed and a secret. Only one of the two has an effect: up to 240
-    /// bytes the seed, with the default secret, whatever secret is handed in; above, the secret.
+    /// Hashes all bytes at once, with a seed and a secret, of which only one has an effect: up to 240 bytes the seed,
+    /// with the default secret, whatever secret is passed; above that the secret.
     ///
     /// # Errors
     ///
-    /// The input has more than 240 bytes and the secret fewer than 136.
+    /// `OneshotWithSecretError` if the input has more than 240 bytes and the secret fewer than 136.
     #[inline]
     #[tactic(auto, unfolding(twox_core::specs::Value::effective_secret))]
     pub fn oneshot_with_seed_and_secret(
@@ -111,9 +111,9 @@ impl<A: Allocator> Hasher<A> {
     ghost use Rattle.twox_core.specs.StandsFor.{StandsFor};
     ghost use Rattle.twox_hash.specs.Streams.{value_64};
 
-    /// The hash of the bytes taken so far, which stay: up to 240 bytes with the default secret and the seed or, in
-    /// a stream that was made with its secret alone, with that secret and the seed 0; above with the stream's
-    /// secret, where no seed enters.
+    /// Returns the hash of the bytes written so far. More can be written afterwards. Up to 240 bytes it uses the
+    /// default secret and the seed or, if the stream was made with only a secret, that secret and the seed 0; above
+    /// that it uses the stream's secret and no seed.
     #[inline]
     #[tactic(auto, unfolding(crate::specs::Streams::value_64))]
     pub fn finish(&self) -> u64
@@ -132,9 +132,9 @@ impl<S: FixedBuffer> RawHasher<S> {
     ghost use Rattle.twox_core.specs.StandsFor.{StandsFor};
     ghost use Rattle.twox_hash.specs.Streams.{value_64};
 
-    /// The hash of the bytes taken so far, which stay: up to 240 bytes with the default secret and the seed or, in
-    /// a stream that was made with its secret alone, with that secret and the seed 0; above with the stream's
-    /// secret, where no seed enters.
+    /// Returns the hash of the bytes written so far. More can be written afterwards. Up to 240 bytes it uses the
+    /// default secret and the seed or, if the stream was made with only a secret, that secret and the seed 0; above
+    /// that it uses the stream's secret and no seed.
     #[inline]
     #[tactic(auto, unfolding(crate::specs::Streams::value_64))]
     pub fn finish(&self) -> u64

@@ -1,4 +1,4 @@
--- What is held goes on following a message that comes in pieces: for any block length and any accumulators.
+-- The state keeps following a message that comes in chunks: for any block length and any accumulators.
 use Rattle.std.proofs.Common.{◌≡◌, ℕ, ◌+◌, ◌-◌, ◌*◌, ◌/◌, ◌%◌, ◌^◌, ◌<◌, ◌≤◌, min, List, [], ◌++◌, length, take, drop, nat_lt, true, false, inl, inr, refl, sym, ap, ap₂, subst, ◌∙◌, arith, length-append, length-drop}
 use Rattle.std.proofs.lemmas.Bool.{cases_lt}
 use Rattle.std.proofs.lemmas.Bool.Decides.{nat_tests}
@@ -14,7 +14,7 @@ use Rattle.twox_plain.specs.BlockState.{BlockState, Follows, AgreeInUse, buffer_
 pub counted_more : (t : ℕ) (m d : List ℕ) → t ≡ counted (length m) → min (t + length d) (2 ^ 64 - 1) ≡ counted (length (m ++ d))
 counted_more t m d count = omega (arith, length-append m d)
 
--- ---- the three ways in which a piece is taken
+-- ---- the three ways in which a chunk is hashed
 
 module _ {X : Type 0} (block : ℕ) (from : X → List ℕ → ℕ → X) where
   -- it leaves the buffer short of a block
@@ -57,7 +57,7 @@ module _ {X : Type 0} (block : ℕ) (from : X → List ℕ → ℕ → X) where
         rw (after_piece_empty h d unused, whole, zero_used, no_blocks, all_used, none) refl
   ]
 
--- ---- what follows m, follows m ++ d after the piece d
+-- ---- what follows m, follows m ++ d after the chunk d
 
 module _ {X : Type 0} (block : ℕ) (after : List ℕ → ℕ → X) where
   -- any number of blocks that leaves less than one is the quotient
@@ -134,7 +134,7 @@ module _ {X : Type 0} (block : ℕ) (after : List ℕ → ℕ → X) (from : X �
       (follows.whole ∙ sym (longer m d q (omega arith)))
       (sym (drop_at m d (q * block) (omega arith)))
 
-  -- the law of a piece
+  -- the law of a chunk
   pub after_piece_follows : (m d : List ℕ) (h : BlockState X) → Follows block after m h → length h.buffer ≡ block → Follows block after (m ++ d) (after_piece block from h d)
   after_piece_follows m d h follows size =
       let short : h.usage < block = rw follows.left (mod_below (length m) block some) in
@@ -163,23 +163,23 @@ module _ {X : Type 0} (block : ℕ) (from : X → List ℕ → ℕ → X) where
             ∙ sym (length-append tail (drop (length tail) b));
       }
 
-  -- a piece that fits leaves the buffer's length
+  -- a chunk that fits leaves the buffer's length
   length-buffer_with : (h : BlockState X) (d : List ℕ) → length h.buffer ≡ block → h.usage + length d ≤ block → length (buffer_with h d) ≡ block
   length-buffer_with h d size fits =
       length-append (take h.usage h.buffer) (d ++ drop (length d) (drop h.usage h.buffer))
       ∙ omega (arith, length-take-le h.usage h.buffer (omega arith), length-append d (drop (length d) (drop h.usage h.buffer)), length-drop (length d) (drop h.usage h.buffer), length-drop h.usage h.buffer)
 
-  -- the bytes in use and a piece behind them
+  -- the bytes in use and a chunk after them
   in_use_and_piece : (h : BlockState X) (d : List ℕ) → length h.buffer ≡ block → h.usage + length d ≤ block → take (h.usage + length d) (buffer_with h d) ≡ take h.usage h.buffer ++ d
   in_use_and_piece h d size fits = take-put_mid h.usage (length d) h.buffer d (h.usage + length d) refl (omega arith)
 
-  -- a buffer that a piece fills
+  -- a buffer that a chunk fills
   full_buffer : (h : BlockState X) (d : List ℕ) → length h.buffer ≡ block → h.usage + length d ≡ block → buffer_with h d ≡ take h.usage h.buffer ++ d
   full_buffer h d size full =
       let none : drop (length d) (drop h.usage h.buffer) ≡ [] = drop_all (length d) (drop h.usage h.buffer) (omega (arith, length-drop h.usage h.buffer)) in
       rw (none, append-nil) refl
 
-  -- states that agree in use still do after the same piece
+  -- states that agree in use still do after the same chunk
   pub after_piece_agree : (g h : BlockState X) (d : List ℕ) → length g.buffer ≡ block → g.usage < block → AgreeInUse g h
       → AgreeInUse (after_piece block from g d) (after_piece block from h d)
   after_piece_agree g h d size short agree =

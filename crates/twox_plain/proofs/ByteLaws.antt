@@ -1,4 +1,4 @@
--- A value that takes the bytes of a list one after another tells its start, and notices a changed byte, where
+-- A value that takes the bytes of a list one after another determines its start, and detects a changed byte, if
 -- each step does.
 use Rattle.std.proofs.Common.{◌≡◌, ◌≢◌, ℕ, ◌+◌, ◌-◌, ◌^◌, ◌<◌, ◌≤◌, List, slice_index, inl, inr, sym, ap, subst, ◌∙◌, arith}
 use Rattle.std.proofs.lemmas.Bool.{cases_lt}

@@ -1,4 +1,4 @@
--- XXH32 tells each unit of the list, at any length, and the seed under 16 bytes.
+-- XXH32 determines each unit of the list, at any length, and the seed under 16 bytes.
 use Rattle.std.proofs.Common.{◌≡◌, ◌≢◌, ℕ, zero, suc, ◌+◌, ◌-◌, ◌*◌, ◌/◌, ◌%◌, ◌^◌, ◌<◌, ◌≤◌, List, length, nat_lt, true, false, slice_index, inl, inr, refl, sym, ap, subst, ◌∙◌, arith, lit<, lit≤, mod-lt, pow_pos}
 use Rattle.std.proofs.lemmas.Bool.{cases_lt}
 use Rattle.std.proofs.lemmas.Bool.Decides.{nat_tests}
@@ -89,7 +89,7 @@ after_words_same : (m n : List ℕ) (i x t : ℕ) → ((u : ℕ) → u < t / 4 �
 unfolding after_words
 after_words_same m n i x t same = after_units_same take_word _ _ x (t / 4) same
 
--- ---- what equal values tell
+-- ---- what equal values determine
 
 -- the value before its last mixing
 tail_told : (m n : List ℕ) (seed other : ℕ) → length n ≡ length m → xxh32 seed m ≡ xxh32 other n
@@ -219,7 +219,7 @@ unit_law_32 seed m n from size small p q unit apart e = elim unit [
   | inr byte ↦ byte_law seed m n from p q byte.1 byte.2 (subst (λ x. DiffersWithin from x m n) byte.0 apart) (sym e)
 ]
 
--- under 16 bytes the seed is told
+-- under 16 bytes the seed is determined
 short_start : (seed : ℕ) (m : List ℕ) → length m < 16 → start seed m ≡ ((seed + p5) % 2 ^ 32 + counted (length m) % 2 ^ 32) % 2 ^ 32
 unfolding start
 short_start seed m short =

@@ -1,4 +1,4 @@
--- XXH64 tells each unit of the bytes that fill no stripe, at any length, and the seed under 32 bytes.
+-- XXH64 determines each unit of the bytes that fill no stripe, at any length, and the seed under 32 bytes.
 use Rattle.std.proofs.Common.{◌≡◌, ◌≢◌, ℕ, ◌+◌, ◌-◌, ◌*◌, ◌/◌, ◌%◌, ◌^◌, ◌<◌, ◌≤◌, List, length, nat_lt, true, slice_index, bit_xor, inl, inr, refl, sym, ap, subst, ◌∙◌, arith, lit<, lit≤, mod-lt, pow_pos}
 use Rattle.std.proofs.lemmas.Bool.{cases_lt}
 use Rattle.std.proofs.lemmas.Bool.Decides.{nat_tests}
@@ -97,7 +97,7 @@ eights_same : (m n : List ℕ) (i x t : ℕ) → ((u : ℕ) → u < t / 8 → wo
 unfolding after_eights
 eights_same m n i x t same = after_units_same take_eight _ _ x (t / 8) same
 
--- ---- what equal values tell
+-- ---- what equal values determine
 
 -- the value before its last mixing
 tail_told : (m n : List ℕ) (seed other : ℕ) → length n ≡ length m → xxh64 seed m ≡ xxh64 other n
@@ -194,7 +194,7 @@ unit_law_64 seed m n from size p q unit apart e = elim unit [
   | inr (inr byte) ↦ byte_law seed m n from p q byte.1 byte.2 (subst (λ x. DiffersWithin from x m n) byte.0 apart) (sym e)
 ]
 
--- under 32 bytes the seed is told
+-- under 32 bytes the seed is determined
 short_start : (seed : ℕ) (m : List ℕ) → length m < 32 → start seed m ≡ ((seed + p5) % 2 ^ 64 + counted (length m)) % 2 ^ 64
 unfolding start
 short_start seed m short =

@@ -1,4 +1,4 @@
--- What a record of XXH32 stands for, from call to call, and the value of the message.
+-- What a record of XXH32 represents, from call to call, and the value of the message.
 use Rattle.std.proofs.Common.{◌≡◌, ℕ, ◌*◌, ◌/◌, ◌%◌, ◌<◌, ◌^◌, List, [], ◌++◌, drop, length, nat_lt, if◌then◌else◌, true, false, inl, inr, refl, ap, ◌∙◌, arith, lit<, length-drop}
 use Rattle.std.proofs.lemmas.Bool.{cases_lt}
 use Rattle.std.proofs.lemmas.Bool.Decides.{nat_tests}
@@ -18,7 +18,7 @@ pub initial_record_stands : (seed : ℕ) → StandsFor (initial_record seed) []
 unfolding StandsFor
 initial_record_stands seed = (refl, record { whole = refl; left = refl; bytes = refl })
 
--- a piece more
+-- one more chunk
 pub after_write_stands : (s : SavedState) (m d : List ℕ) → length s.buffer ≡ 16 → StandsFor s m → StandsFor (after_write s d) (m ++ d)
 unfolding StandsFor after_write
 after_write_stands s m d size stands =
@@ -61,7 +61,7 @@ short_message seed m short =
     let test : nat_lt (counted (length m)) 16 ≡ true = grind (arith, nat_tests) in
     rw (test, len) at (value_of_message seed m m (counted (length m)) (core_of_stripes seed m (length m / 16)) refl refl (rw none refl))
 
--- records that agree in use still do after the same piece, and answer equally
+-- records that agree in use still do after the same chunk, and have equal values
 pub after_write_agree : (r s : SavedState) (d : List ℕ) → length r.buffer ≡ 16 → r.buffer_usage < 16 → AgreeInUse r s
     → AgreeInUse (after_write r d) (after_write s d)
 unfolding after_write

@@ -1,4 +1,4 @@
--- The records of XXH64 that stand for some list of bytes are those that fit.
+-- The records of XXH64 that represent some list of bytes are those that fit.
 use Rattle.std.proofs.Common.{◌≡◌, ℕ, zero, suc, ◌*◌, ◌/◌, ◌%◌, ◌^◌, ◌<◌, List, [], length, replicate, refl, ap, ◌∙◌, arith, lit<, lit≤, mod-lt, pow_pos}
 use Rattle.std.specs.Int.{w64}
 use Rattle.twox_words.specs.Word.{IsBytes}
@@ -35,7 +35,7 @@ unfolding core_of_stripes accumulator after_units
 IsCore-core_of_stripes seed m zero p = record { v1 = below _; v2 = below _; v3 = p; v4 = below _ }
 IsCore-core_of_stripes seed m (suc k) p = record { v1 = below _; v2 = below _; v3 = below _; v4 = below _ }
 
--- a record that fits stands for some list of bytes
+-- a record that fits represents some list of bytes
 pub fits_stands : (s : SavedState) → s.total_len < 2 ^ 64 → s.seed < 2 ^ 64 → IsCore s.core → IsBytes s.buffer → length s.buffer ≡ 32 → UsageFits s → CoreFits s
     → (m : List ℕ) × IsBytes m × StandsFor s m
 unfolding StandsFor
@@ -50,7 +50,7 @@ fits_stands s small seed core bytes size usage initial =
       takes = core_reached a c (IsCore-core_of_stripes s.seed _ k seed) core;
     })
 
--- a record that stands for a list fits
+-- a record that represents a list fits
 pub stands_fits : (s : SavedState) (m : List ℕ) → StandsFor s m → UsageFits s × CoreFits s
 unfolding StandsFor
 stands_fits s m stands =

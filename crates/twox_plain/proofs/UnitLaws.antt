@@ -1,4 +1,4 @@
--- A value that takes units one after another tells its start, and each unit, where each step does.
+-- A value that takes units one after another determines its start, and each unit, if each step does.
 use Rattle.std.proofs.Common.{◌≡◌, ◌≢◌, ℕ, zero, suc, ◌<◌, ◌≤◌, inl, inr, sym, ap, subst, ◌∙◌, arith}
 use Rattle.std.proofs.Math.Nat.{eq-or-lt_of_le}
 use Rattle.twox_plain.specs.Units.{after_units}

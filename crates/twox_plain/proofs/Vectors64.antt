@@ -1,5 +1,5 @@
 -- Published values of XXH64, so that a wrong constant, step or order in the definition does not check: from
--- the tests of the Rust crate `twox-hash`, which stand on the C library.
+-- the tests of the Rust crate `twox-hash`, which are from the C library.
 use Rattle.std.proofs.Common.{◌≡◌, ℕ, zero, suc, ◌∷◌, ◌++◌, [], ◌+◌, List, codes, refl}
 use Rattle.twox_words.specs.Word.{word_at}
 use Rattle.twox_plain.specs.Units.{after_units}

@@ -1,6 +1,6 @@
--- Accumulators that take whole blocks, and a buffer for the bytes that fill none: for any block length and any
--- type of accumulators. `after m k` is the accumulators after the first k blocks of m, and `from x d k` what x
--- becomes by the first k blocks of d.
+-- Accumulators that take whole blocks, and a buffer for the bytes after the last whole block, for any block length and
+-- any type of accumulators. `after m k` is the accumulators after the first k blocks of m, and `from x d k` is x after
+-- the first k blocks of d.
 use Rattle.std.specs.Prelude.{◌≡◌, ◌+◌, ◌-◌, ◌*◌, ◌/◌, ◌%◌, ℕ, List, ◌++◌, take, drop, length, nat_lt, if◌then◌else◌}
 
 -- what is kept of a message: the accumulators, the buffer, and how many of its bytes are in use
@@ -29,7 +29,7 @@ after_blocks block from x buffer d =
       usage = length tail;
     }
 
--- the state after one more piece, bytes of the buffer that are not in use included
+-- the state after one more chunk, bytes of the buffer that are not in use included
 unfoldable pub after_piece : {X : Type 0} → ℕ → (X → List ℕ → ℕ → X) → BlockState X → List ℕ → BlockState X
 after_piece block from h d =
     let room = block - h.usage in
@@ -40,7 +40,7 @@ after_piece block from h d =
     else after_blocks block from (from h.accumulators block_of 1) block_of (drop room d))
     else after_blocks block from h.accumulators h.buffer d
 
--- the states agree but for bytes of the buffer that are not in use
+-- the states agree except in bytes of the buffer that are not in use
 pub record AgreeInUse {X : Type 0} (g h : BlockState X) : Type 0 where
   pub accumulators : h.accumulators ≡ g.accumulators
   pub usage : h.usage ≡ g.usage

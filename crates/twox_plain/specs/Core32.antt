@@ -15,7 +15,7 @@ core_of_stripes seed m k = record {
   v4 = accumulator seed m 3 k;
 }
 
--- the accumulators that c becomes by the first k stripes of d
+-- the accumulators c after the first k stripes of d
 unfoldable pub core_after_stripes : Core → List ℕ → ℕ → Core
 core_after_stripes c d k = record {
   v1 = after_units round (λ i. word_at w32 d (i * 16 + 0)) c.v1 k;

@@ -1,4 +1,4 @@
--- The record of an XXH64 hasher: the lists that it stands for, and what each call makes of it.
+-- The record of an XXH64 hasher: the lists of bytes that it represents, and the effect of each call.
 use Rattle.std.specs.Prelude.{ℕ, List, length, take, nat_lt, Bool, ◌==◌, codes, if◌then◌else◌}
 use Rattle.std.specs.Cmp.Lexicographic.{pointwise}
 use Rattle.std.specs.Ordering.{on, eq_of_both}
@@ -29,11 +29,11 @@ record_of_parts r = record {
   buffer_usage = r.state.usage;
 }
 
--- the record has counted m, and its accumulators and its buffer follow m under its seed
+-- the record represents m: it has counted m, and its accumulators and its buffer follow m under its seed
 unfoldable pub StandsFor : SavedState → List ℕ → Type 0
 StandsFor s m = Plain.StandsFor 32 core_of_stripes (parts s) m
 
--- some list of bytes makes the record stand for it
+-- the record represents some list of bytes
 abbrev pub IsReachable : SavedState → Type 0
 IsReachable s = (m : List ℕ) × IsBytes m × StandsFor s m
 
@@ -41,7 +41,7 @@ IsReachable s = (m : List ℕ) × IsBytes m × StandsFor s m
 abbrev pub initial_record : ℕ → SavedState
 initial_record seed = record_of_parts (Plain.initial_record 32 core_of_stripes seed)
 
--- the record after one more piece, exactly
+-- the record after one more chunk, exactly
 unfoldable pub after_write : SavedState → List ℕ → SavedState
 after_write s d = record_of_parts (Plain.after_write 32 core_after_stripes (parts s) d)
 
@@ -51,7 +51,7 @@ value_of seed len core rest =
     let start = if nat_lt len 32 then wrap_add w64 seed p5 else convergence core.v1 core.v2 core.v3 core.v4 in
     avalanche (after_tail rest 0 (wrap_add w64 start len) (length rest))
 
--- the value that a record's hasher answers
+-- the value that the record's hasher returns
 abbrev pub finish_value : SavedState → ℕ
 finish_value s = value_of s.seed s.total_len s.core (take s.buffer_usage s.buffer)
 
@@ -62,7 +62,7 @@ UsageFits s = Plain.UsageFits 32 (parts s)
 abbrev pub CoreFits : SavedState → Type 0
 CoreFits s = Plain.CoreFits 32 core_of_stripes (parts s)
 
--- the records agree but for bytes of the buffer that are not in use
+-- the records agree except in bytes of the buffer that are not in use
 abbrev pub AgreeInUse : SavedState → SavedState → Type 0
 AgreeInUse r s = Plain.AgreeInUse (parts r) (parts s)
 
@@ -83,7 +83,7 @@ records_equal =
     (eq_of_both (on (λ s. s.buffer) (pointwise ◌==◌))
     (on (λ s. s.buffer_usage) ◌==◌))))
 
--- why a record is refused, in words
+-- the text of the error that refuses a record
 abbrev pub restore_error_text : RestoreError → List ℕ
 restore_error_text BufferUsage = codes "The buffer usage does not match the total length"
 restore_error_text WrongCore = codes "The core does not match the seed"

@@ -1,4 +1,4 @@
--- The saved text of a record of XXH64, and the record that a text is by the reading of `serde_json`.
+-- The saved text of a record of XXH64, and the record that `serde_json` reads from a text.
 use Rattle.std.specs.Prelude.{ℕ, ◌^◌, List, Option, option_and_then, codes}
 use Rattle.serde_json.specs.Data.{Data}
 use Rattle.serde_json.specs.Read.{read}
@@ -19,7 +19,7 @@ record_of_data =
     Text.record_of_data (2 ^ 64) 32 core_of_data (λ total_len seed core buffer usage.
     record { total_len = total_len; seed = seed; core = core; buffer = buffer; buffer_usage = usage })
 
--- the record that a text is
+-- the record that a text contains
 abbrev pub record_of_text : List ℕ → Option SavedState
 record_of_text text = option_and_then record_of_data (read text)
 
@@ -39,7 +39,7 @@ record_data s = Text.record_data s.total_len s.seed (core_data s.core) (bytes_da
 
 -- ---- refusals
 
--- why a text gave no record, in words
+-- the text of the error for a text without a record
 abbrev pub form_error_text : FormError → List ℕ
 form_error_text Text = codes "The text is not a saved state"
 form_error_text Memory = codes "out of memory"

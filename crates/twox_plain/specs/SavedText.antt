@@ -1,5 +1,5 @@
--- The saved texts of both plain hashes, and how they are read. The hashes differ in the width of their words,
--- in the bytes of a stripe, and in the types of their records: all three are arguments here.
+-- The saved texts of both plain hashes, and how they are read. The hashes differ in the width of their words, the bytes
+-- of a stripe and the types of their records; all three are arguments here.
 use Rattle.std.specs.Prelude.{ℕ, suc, map, ◌==◌, ◌^◌, List, [], ◌∷◌, ◌++◌, if◌then◌else◌, nat_lt, Option, Some, None, option_map, option_and_then, codes, decimal}
 use Rattle.serde_json.specs.Data.{Data, number, unsigned, array, object, no_members, member, Items, no_items, item}
 use Rattle.serde_json.specs.Find.{get, as_number, as_u64, as_array}
@@ -7,7 +7,7 @@ use Rattle.serde_json.specs.View.{items_of}
 
 -- ---- reading
 
--- the number, where it is below the limit
+-- the number, if it is below the limit
 abbrev pub number_below : ℕ → ℕ → Option ℕ
 number_below limit x = if nat_lt x limit then Some x else None
 
@@ -36,7 +36,7 @@ bytes_of_count n ds = if item_count ds == n then item_bytes ds else None
 abbrev pub bytes_of_data : ℕ → Data → Option (List ℕ)
 bytes_of_data n d = option_and_then (bytes_of_count n) (as_array d)
 
--- the object of the members v1 to v4, each below the limit; others are passed over
+-- the object of the members v1 to v4, each below the limit; others are ignored
 abbrev pub core_of_data : {C : Type 0} → ℕ → (ℕ → ℕ → ℕ → ℕ → C) → Data → Option C
 core_of_data limit core d =
     option_and_then (λ a. option_and_then (λ b. option_and_then (λ c. option_map (λ e. core a b c e)
@@ -45,7 +45,7 @@ core_of_data limit core d =
     (number_member limit (codes "v2") d))
     (number_member limit (codes "v1") d)
 
--- the record of an object's members: a stripe of bytes, and a seed below the limit; others are passed over
+-- the record of an object's members: a stripe of bytes, and a seed below the limit; others are ignored
 abbrev pub record_of_data : {C S : Type 0} → ℕ → ℕ → (Data → Option C) → (ℕ → ℕ → C → List ℕ → ℕ → S)
     → Data → Option S
 record_of_data limit stripe core_of record_of d =

@@ -1,4 +1,4 @@
--- The record of a hasher, from its fields in the order in which they lie in memory.
+-- The record of a hasher, from its fields in their order in memory.
 use Rattle.std.specs.Prelude.{◌≡◌, ℕ, List, ◌++◌, ◌+◌, ◌*◌, ◌/◌, ◌^◌, ◌<◌, drop, length}
 use Rattle.std.specs.Int.{w32}
 use Rattle.twox_words.specs.Word.{wrap_sub}
@@ -8,11 +8,11 @@ use Rattle.twox_plain.specs.declared.xxhash32.SavedState.{SavedState}
 use Rattle.twox_plain.specs.declared.xxhash32.StateInMemory.{StateInMemory}
 use Rattle.twox_plain.specs.declared.xxhash32.TheConstants.{MARK}
 
--- how many bytes wait: a stripe or more in memory without the mark
+-- the number of buffered bytes: a stripe or more if the memory has no mark
 abbrev pub usage_of : StateInMemory → ℕ
 usage_of a = wrap_sub w32 a.marked_usage MARK
 
--- the counted length, of its halves
+-- the counted length, from its halves
 abbrev pub total_of : StateInMemory → ℕ
 total_of a = a.total_high * 2 ^ 32 + a.total_low
 
@@ -25,7 +25,7 @@ record_of a = record {
   buffer_usage = usage_of a;
 }
 
--- the record after d, the rest of a piece that is counted already, where no byte of the buffer waits
+-- the record after d, the rest of a chunk whose length is already counted, if no byte is buffered
 unfoldable pub after_rest : SavedState → List ℕ → SavedState
 after_rest s d =
     let rest = drop (length d / 16 * 16) d in
@@ -41,7 +41,7 @@ pub record AfterRest (a : StateInMemory) (d : List ℕ) (b : StateInMemory) : Ty
   pub seed : b.seed ≡ a.seed
   pub in_range : usage_of b < 16
 
--- b is the memory a after the piece d
+-- b is the memory a after the chunk d
 pub record AfterPiece (a : StateInMemory) (d : List ℕ) (b : StateInMemory) : Type 0 where
   pub exact : record_of b ≡ after_write (record_of a) d
   pub seed : b.seed ≡ a.seed

@@ -1,4 +1,4 @@
--- The record of a hasher, from its fields in the order in which they lie in memory.
+-- The record of a hasher, from its fields in their order in memory.
 use Rattle.std.specs.Prelude.{◌≡◌, ℕ, List, ◌++◌, ◌*◌, ◌/◌, ◌<◌, drop, length}
 use Rattle.std.specs.Int.{w32}
 use Rattle.twox_words.specs.Word.{wrap_sub}
@@ -7,7 +7,7 @@ use Rattle.twox_plain.specs.declared.xxhash64.SavedState.{SavedState}
 use Rattle.twox_plain.specs.declared.xxhash64.StateInMemory.{StateInMemory}
 use Rattle.twox_plain.specs.declared.xxhash64.TheConstants.{MARK}
 
--- how many bytes wait: a stripe or more in memory without the mark
+-- the number of buffered bytes: a stripe or more if the memory has no mark
 abbrev pub usage_of : StateInMemory → ℕ
 usage_of a = wrap_sub w32 a.marked_usage MARK
 
@@ -20,7 +20,7 @@ record_of a = record {
   buffer_usage = usage_of a;
 }
 
--- the record after d, the rest of a piece that is counted already, where no byte of the buffer waits
+-- the record after d, the rest of a chunk whose length is already counted, if no byte is buffered
 unfoldable pub after_rest : SavedState → List ℕ → SavedState
 after_rest s d =
     let rest = drop (length d / 32 * 32) d in

@@ -1,5 +1,5 @@
--- XXH32 of a list of bytes: the xxHash specification, "XXH32 algorithm description", steps 1 to 6. The
--- list is read as a whole, by absolute positions, and each accumulator is followed by itself.
+-- XXH32 of a list of bytes: the xxHash specification, "XXH32 algorithm description", steps 1 to 6. The list is read as
+-- a whole, by absolute positions, and each accumulator is followed separately.
 use Rattle.std.specs.Prelude.{ℕ, ◌+◌, ◌*◌, ◌/◌, ◌%◌, ◌^◌, nat_lt, List, [], ◌∷◌, length, slice_index, if◌then◌else◌}
 use Rattle.std.specs.Int.{w32, rotate_left}
 use Rattle.twox_words.specs.Word.{word_at, wrap_add, wrap_sub, wrap_mul, xor_shift, counted}
@@ -25,11 +25,11 @@ abbrev pub initial_accumulators : ℕ → List ℕ
 initial_accumulators seed =
     wrap_add w32 (wrap_add w32 seed p1) p2 ∷ wrap_add w32 seed p2 ∷ seed ∷ wrap_sub w32 seed p1 ∷ []
 
--- step 2: what an accumulator becomes by a word
+-- step 2: an accumulator after a word
 abbrev pub round : ℕ → ℕ → ℕ
 round a word = wrap_mul w32 (rotate_left w32 (wrap_add w32 a (wrap_mul w32 word p2)) 13) p1
 
--- accumulator j after k stripes, of which stripe i gives it the word at byte 16 * i + 4 * j
+-- accumulator j after k stripes; stripe i adds the word at byte 16 * i + 4 * j
 unfoldable pub accumulator : ℕ → List ℕ → ℕ → ℕ → ℕ
 accumulator seed m j k =
     let initial = slice_index (initial_accumulators seed) j in
@@ -41,7 +41,7 @@ convergence a b c d =
     let two = wrap_add w32 (rotate_left w32 a 1) (rotate_left w32 b 7) in
     wrap_add w32 (wrap_add w32 two (rotate_left w32 c 12)) (rotate_left w32 d 18)
 
--- steps 1, 3 and 4: the value before the bytes that fill no stripe. Of the length its low 32 bits enter.
+-- steps 1, 3 and 4: the value before the bytes that fill no stripe, which uses the low 32 bits of the length
 unfoldable pub start : ℕ → List ℕ → ℕ
 start seed m =
     let k = length m / 16 in

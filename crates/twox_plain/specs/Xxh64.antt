@@ -1,5 +1,5 @@
--- XXH64 of a list of bytes: the xxHash specification, "XXH64 algorithm description", steps 1 to 6. The
--- list is read as a whole, by absolute positions, and each accumulator is followed by itself.
+-- XXH64 of a list of bytes: the xxHash specification, "XXH64 algorithm description", steps 1 to 6. The list is read as
+-- a whole, by absolute positions, and each accumulator is followed separately.
 use Rattle.std.specs.Prelude.{ℕ, ◌+◌, ◌*◌, ◌/◌, ◌%◌, nat_lt, List, [], ◌∷◌, length, slice_index, bit_xor, if◌then◌else◌}
 use Rattle.std.specs.Int.{w32, w64, rotate_left}
 use Rattle.twox_words.specs.Word.{word_at, wrap_add, wrap_sub, wrap_mul, xor_shift, counted}
@@ -25,11 +25,11 @@ abbrev pub initial_accumulators : ℕ → List ℕ
 initial_accumulators seed =
     wrap_add w64 (wrap_add w64 seed p1) p2 ∷ wrap_add w64 seed p2 ∷ seed ∷ wrap_sub w64 seed p1 ∷ []
 
--- step 2: what an accumulator becomes by a word
+-- step 2: an accumulator after a word
 abbrev pub round : ℕ → ℕ → ℕ
 round a word = wrap_mul w64 (rotate_left w64 (wrap_add w64 a (wrap_mul w64 word p2)) 31) p1
 
--- accumulator j after k stripes, of which stripe i gives it the word at byte 32 * i + 8 * j
+-- accumulator j after k stripes; stripe i adds the word at byte 32 * i + 8 * j
 unfoldable pub accumulator : ℕ → List ℕ → ℕ → ℕ → ℕ
 accumulator seed m j k =
     let initial = slice_index (initial_accumulators seed) j in

@@ -1,4 +1,4 @@
-//! What the saved texts of both hashes share: numbers and bytes as members of a JSON object, and that object.
+//! Code shared by the saved texts of both hashes: numbers and bytes as members of a JSON object, and that object.
 
 ghost use Rattle.std.specs.Prelude.{◌≡◌, ◌^◌, length, Some, IfOk};
 ghost use Rattle.serde_json.specs.View.{view, items_view};
@@ -7,7 +7,7 @@ ghost use Rattle.twox_plain.specs.SavedText.{whole_number, number_member, bytes_
 use serde_json::{Value, json};
 use std::alloc::{AllocError, Global};
 
-// The whole number, where it is below the limit.
+// Returns the whole number, if it is below the limit.
 fn whole_number_below(value: &Value, limit: u64) -> Option<u64>
     ensures { result ≡ whole_number limit (view value.now) }
 {
@@ -15,14 +15,14 @@ fn whole_number_below(value: &Value, limit: u64) -> Option<u64>
     if number < limit { Some(number) } else { None }
 }
 
-// The whole number, where it fits.
+// Returns the whole number, if it fits.
 fn whole_number(value: &Value) -> Option<u64>
     ensures { result ≡ whole_number (2 ^ 64) (view value.now) }
 {
     value.as_u64()
 }
 
-/// The member of that name, a whole number below 2^32.
+/// Returns the member of this name, a whole number below 2^32.
 pub(crate) fn u32_member(value: &Value, name: &str) -> Option<u32>
     ensures { result ≡ number_member (2 ^ 32) name.now (view value.now) }
 {
@@ -30,21 +30,21 @@ pub(crate) fn u32_member(value: &Value, name: &str) -> Option<u32>
     Some(number as u32)
 }
 
-/// The member of that name, a whole number below 2^64.
+/// Returns the member of this name, a whole number below 2^64.
 pub(crate) fn u64_member(value: &Value, name: &str) -> Option<u64>
     ensures { result ≡ number_member (2 ^ 64) name.now (view value.now) }
 {
     whole_number(value.get(name)?)
 }
 
-/// The member of that name, a whole number that is a length: below 2^64, and no more than the target's `usize` holds.
+/// Returns the member of this name, a length: a whole number below 2^64 that fits the target's `usize`.
 pub(crate) fn usize_member(value: &Value, name: &str) -> Option<usize>
     ensures { result ≡ number_member (2 ^ 64) name.now (view value.now) }
 {
     usize::try_from(u64_member(value, name)?).ok()
 }
 
-/// The array of exactly N whole numbers below 256.
+/// Parses an array of exactly N integers from 0 to 255.
 #[tactic(auto, using(crate::proofs::ByteItems::bytes_of_other_length, crate::proofs::ByteItems::one_more, crate::proofs::ByteItems::all_read))]
 pub(crate) fn byte_array<const N: usize>(value: &Value) -> Option<[u8; N]>
     ensures { result ≡ bytes_of_data N (view value.now) }
@@ -70,7 +70,7 @@ fn byte_values(alloc: Global, bytes: &[u8]) -> Result<Vec<Value>, AllocError>
     Ok(list)
 }
 
-/// The array of these bytes as numbers.
+/// Returns the bytes as an array of numbers.
 #[tactic(auto, using(crate::proofs::ByteTexts::data_there_and_back))]
 pub(crate) fn byte_array_value(alloc: Global, bytes: &[u8]) -> Result<Value, AllocError>
     ensures value { IfOk result (λ value. view value ≡ bytes_data bytes.now) }
@@ -79,7 +79,7 @@ pub(crate) fn byte_array_value(alloc: Global, bytes: &[u8]) -> Result<Value, All
     Ok(Value::Array(byte_values(alloc, bytes)?))
 }
 
-/// The object of four accumulators.
+/// Returns the object of four accumulators.
 pub(crate) fn core_value(
     alloc: Global,
     v1: u64,
@@ -92,7 +92,7 @@ pub(crate) fn core_value(
     json!(in alloc; {"v1": v1, "v2": v2, "v3": v3, "v4": v4})
 }
 
-/// The object of a record's members, of which the buffer and the core are values already.
+/// Returns the object of a record's members, from the values of the buffer and the core.
 pub(crate) fn record_value(
     alloc: Global,
     buffer: Value,

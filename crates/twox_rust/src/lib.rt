@@ -1,8 +1,8 @@
-//! The kernels that the cargo crate of `rust/` calls for many bytes, as a static library. Everything else in that crate is
-//! the library's own source.
+//! The kernels that the cargo crate of `rust/` calls for many bytes, as a static library. Everything else in that crate
+//! is the library's own source.
 //!
-//! A slice crosses as its address and its length, a record as its address. No contract requires anything of a caller: a call
-//! that can't do its work returns a code other than `DONE`, and changes nothing.
+//! A slice is passed as its address and its length, a record as its address. No contract requires anything of a caller:
+//! a call that can't do its work returns a code other than `DONE`, and changes nothing.
 #![tactic(auto)]
 
 ghost use Rattle.std.specs.Prelude.{◌≡◌};
@@ -14,8 +14,8 @@ mod pieces_32;
 /// The input has 240 bytes or fewer.
 pub const INPUT_TOO_SHORT: u32 = 3;
 
-/// Its name is the number of this interface: it changes with every change of an export or of a record's layout, so that a
-/// caller of another number finds no such name. Returns that number.
+/// Returns the number of this interface, which is part of the name. The number changes with every change of an export
+/// or of a record's layout, so a caller of another number doesn't link.
 #[unsafe(no_mangle)]
 pub extern "C" fn twox_rust_interface_5() -> u32
     ensures { result ≡ 5 }

@@ -1,4 +1,4 @@
-//! XXH3 of more than 240 bytes at once.
+//! One-shots of XXH3 for more than 240 bytes.
 
 ghost use Rattle.std.specs.Prelude.{◌≡◌, ◌↔◌, ◌<◌, ◌≤◌, ℕ, length};
 ghost use Rattle.twox_exports.specs.Number.{number_of};
@@ -9,20 +9,20 @@ use twox_core::{width_64, width_128};
 use twox_exports::{DONE, SECRET_TOO_SHORT, Wide};
 use twox_hash::xxhash3::{CUTOFF, Secret};
 
-/// A code beside a value, as two registers. The value is 0 if the code isn't `DONE`.
+/// A code and a value, as two registers. The value is 0 if the code isn't `DONE`.
 #[derive(Clone, Copy)]
 #[repr(C)]
 pub struct Answer {
-    /// `DONE`, or why there is no value.
+    /// `DONE`, or the reason for no value.
     pub code: u32,
     /// The hash.
     pub value: u64,
 }
 
-/// Returns the hash of 64 bits under a secret. No seed has an effect at this length.
+/// Returns the 64-bit hash under a secret. No seed has an effect at this length.
 ///
-/// - `INPUT_TOO_SHORT`: the input has 240 bytes or fewer.
-/// - `SECRET_TOO_SHORT`: the input is longer, and the secret has fewer than 136 bytes.
+/// - `INPUT_TOO_SHORT` if the input has 240 bytes or fewer.
+/// - `SECRET_TOO_SHORT` if the input is longer and the secret has fewer than 136 bytes.
 #[unsafe(no_mangle)]
 pub extern "C" fn twox_rust_xxh3_64_long(input: &[u8], secret: &[u8]) -> Answer
     ensures done { result.code ≡ DONE ↔ ((240 < length input.now) × (136 ≤ length secret.now)) }
@@ -51,10 +51,10 @@ pub extern "C" fn twox_rust_xxh3_64_long(input: &[u8], secret: &[u8]) -> Answer
     }
 }
 
-/// Writes the hash of 128 bits under a secret. No seed has an effect at this length.
+/// Writes the 128-bit hash under a secret. No seed has an effect at this length.
 ///
-/// - `INPUT_TOO_SHORT`: the input has 240 bytes or fewer.
-/// - `SECRET_TOO_SHORT`: the input is longer, and the secret has fewer than 136 bytes.
+/// - `INPUT_TOO_SHORT` if the input has 240 bytes or fewer.
+/// - `SECRET_TOO_SHORT` if the input is longer and the secret has fewer than 136 bytes.
 ///
 /// If it returns a code other than `DONE`, nothing is written.
 #[unsafe(no_mangle)]

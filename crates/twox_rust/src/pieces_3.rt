@@ -1,4 +1,4 @@
-//! Pieces of streams of XXH3.
+//! Chunks of streams of XXH3.
 
 ghost use Rattle.std.specs.Prelude.{◌≡◌, ◌↔◌, ◌<◌, ◌≤◌, List, ℕ, ◌++◌, length};
 ghost use Rattle.twox_core.specs.AfterWrite.{state_after_write};
@@ -9,10 +9,10 @@ use twox_exports::stream_3::write;
 use twox_exports::{DONE, NOT_A_STREAM, SECRET_TOO_SHORT};
 use twox_hash::xxhash3::{CoreState, Kernel};
 
-/// Takes the bytes of a piece after those taken before, over the stream's secret.
+/// Hashes a chunk after the bytes before, over the stream's secret.
 ///
-/// - `SECRET_TOO_SHORT`: it has fewer than 136 bytes.
-/// - `NOT_A_STREAM`: the state's place in the secret and its number of bytes are none that calls leave.
+/// - `SECRET_TOO_SHORT` if the secret has fewer than 136 bytes.
+/// - `NOT_A_STREAM` if the state's place in the secret or its number of bytes is one that no call leaves.
 ///
 /// If it returns a code other than `DONE`, the state is unchanged.
 #[unsafe(no_mangle)]

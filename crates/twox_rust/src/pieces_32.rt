@@ -1,4 +1,4 @@
-//! Pieces of streams of XXH32.
+//! Chunks of streams of XXH32.
 
 ghost use Rattle.std.specs.Prelude.{◌≡◌, ◌↔◌, ◌<◌, ℕ, List, ◌++◌};
 ghost use Rattle.twox_plain.specs.Record32.{StandsFor, after_write};
@@ -9,9 +9,10 @@ use twox_plain::xxhash32::StateInMemory;
 
 const _: () = prove!(size_of::<StateInMemory>() == 48);
 
-/// Takes the bytes of a piece after those taken before.
+/// Hashes a chunk after the bytes before.
 ///
-/// `NOT_A_STREAM`: the record has no mark, or a stripe or more waits by it. The record is unchanged.
+/// `NOT_A_STREAM` if the record has no mark, or its mark counts a stripe or more as buffered. The record is then
+/// unchanged.
 #[unsafe(no_mangle)]
 pub extern "C" fn twox_rust_xxh32_write(stream: &mut StateInMemory, input: &[u8]) -> u32
     ensures done { result ≡ DONE ↔ (usage_of stream.old < 16) }

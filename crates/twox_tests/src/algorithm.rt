@@ -1,4 +1,4 @@
-//! XXH3 by kernels and finalizers of a caller's own.
+//! XXH3 by a caller's own kernels and finalizers.
 
 ghost use Rattle.std.specs.Prelude.{◌≤◌, length};
 
@@ -72,7 +72,7 @@ fn oneshot_128<V: Vector>(v: V, input: &[u8; 10240]) -> u128 {
     Algorithm(v).oneshot(default_secret(), input, Finalize128)
 }
 
-// The algorithm calls the kernel that it is given.
+// The algorithm calls the kernel that is passed to it.
 #[test]
 fn kernel_of_a_oneshot_of_64_bits(rt: HostRuntime) {
     let counts = Counts::new();
@@ -127,14 +127,14 @@ fn stripes_done(core: &Core) -> u64 {
     core.stripes_done()
 }
 
-// Whether it was called for the stripes done, and then for the others.
+// True if it was called for the stripes done, and then for the others.
 fn takes_all(core: &Core, counts: &Counts) -> bool {
     counts.accumulates.get() == stripes_done(core)
         && finish_64(core, counts.kernel()) == VALUE
         && counts.are(160, 9)
 }
 
-// A core calls the kernel that it is given.
+// A core calls the kernel that is passed to it.
 #[test]
 fn kernel_of_a_core_of_64_bits(rt: HostRuntime) -> Result<(), Fail> {
     let counts = Counts::new();
@@ -160,7 +160,7 @@ fn kernel_of_a_core_of_128_bits(rt: HostRuntime) -> Result<(), Fail> {
     Ok(())
 }
 
-// What a caller makes of the parts: how long the last block is, and the input.
+// A caller's own finalizer: the length of the last block, and the input.
 #[derive(Clone, Copy)]
 struct Lengths;
 

@@ -1,5 +1,5 @@
-//! What a core of XXH3 counts. Each expected value is one that the tests of the Rust
-//! crate `twox-hash` expect, or that of the one-shot, which other tests hold against those.
+//! The counts of a core of XXH3. Each expected value is one that the tests of the Rust crate `twox-hash` expect, or
+//! that of the one-shot, which other tests compare with those.
 
 use crate::rows::{between, first, gen_10240};
 use std::hash;
@@ -20,7 +20,7 @@ fn write(core: &mut Core, piece: &[u8]) {
     core.write(piece);
 }
 
-// Whether it counts so many bytes, stripes that are done, and bytes that wait.
+// True if it counts this many bytes, stripes done, and bytes buffered.
 fn counts(core: &Core, total_len: u64, stripes: u64, buffered: usize) -> bool {
     core.total_len() == total_len && core.stripes_done() == stripes && core.buffered() == buffered
 }
@@ -29,7 +29,7 @@ fn has_value(core: &Core, value: u64) -> bool {
     core.finish(Finalize64) == value
 }
 
-// Whole stripes of a long piece are taken, and the last one, whole or not, is left for the last call.
+// Whole stripes of a long chunk are taken, and the last one, whole or not, is left for the last call.
 #[test]
 fn counts_of_pieces(rt: HostRuntime) {
     let bytes = gen_10240();
@@ -43,7 +43,7 @@ fn counts_of_pieces(rt: HostRuntime) {
     assert!(rt; counts(&core, 513, 8, 1));
 }
 
-// The counts and the value after one piece of so many bytes.
+// The counts and the value after one chunk of this many bytes.
 fn counts_after(bytes: &[u8; 10240], n: usize, stripes: u64, buffered: usize) -> bool {
     let input = first(bytes, n);
     let mut core = new_core();
@@ -86,7 +86,7 @@ fn secrets_of_copies(rt: HostRuntime) -> Result<(), Fail> {
     Ok(())
 }
 
-// The standard `Hasher` is the inherent calls.
+// The standard `Hasher` makes the inherent calls.
 fn through_the_trait<H: hash::Hasher>(hasher: &mut H, input: &[u8]) -> u64 {
     hasher.write(input);
     hasher.finish()

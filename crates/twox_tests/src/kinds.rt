@@ -1,4 +1,4 @@
-//! A stream of each kind, asked for its value after an input in pieces.
+//! A stream of each kind, with its value after an input in chunks.
 
 use headline::Stream;
 use std::alloc::Global;
@@ -8,7 +8,7 @@ use twox_hash::{XxHash3_64, XxHash3_128, xxhash3_64, xxhash3_128};
 
 pub(crate) type Own = BoxedSlice<u8, Global>;
 
-// A piece, and then pieces of one size, or of one byte where that is 0.
+// A chunk, and then chunks of one size, or of one byte if that is 0.
 #[derive(Clone, Copy)]
 pub(crate) struct Pieces<'a> {
     pub(crate) head: &'a [u8],
@@ -24,14 +24,14 @@ pub(crate) fn in_pieces(input: &[u8], size: usize) -> Pieces<'_> {
     }
 }
 
-// The values of an input: of 64 bits, and of 128.
+// The 64-bit and the 128-bit value of an input.
 #[derive(Clone, Copy)]
 pub(crate) struct Values {
     pub(crate) narrow: u64,
     pub(crate) wide: u128,
 }
 
-// Whether the stream was made, and has this value after the input.
+// True if the stream was made, and has this value after the input.
 pub(crate) fn has<S: Stream + Drop>(made: Option<S>, input: Pieces<'_>, value: S::Value) -> bool {
     let Some(mut stream) = made else {
         return false;
@@ -43,7 +43,7 @@ pub(crate) fn has<S: Stream + Drop>(made: Option<S>, input: Pieces<'_>, value: S
     stream.answer() == value
 }
 
-// Raw streams over a buffer, where there is one.
+// Raw streams over a buffer, if there is one.
 pub(crate) fn raw<S: FixedBuffer>(
     made: Option<SecretBuffer<S>>,
 ) -> Option<xxhash3_64::RawHasher<S>> {
@@ -64,7 +64,7 @@ fn seeded(alloc: Global, seed: u64) -> Option<SecretBuffer<Own>> {
     SecretBuffer::allocate_with_seed(alloc, seed).ok()
 }
 
-// Whether each kind of stream has the value of its width: of no seed, of a seed, of a secret alone, and of both.
+// True if each kind of stream has the value of its width: of no seed, of a seed, of only a secret, and of both.
 pub(crate) fn default_have(alloc: Global, input: Pieces<'_>, values: Values) -> bool {
     has(XxHash3_64::new(alloc).ok(), input, values.narrow)
         && has(XxHash3_128::default(alloc).ok(), input, values.wide)
@@ -145,7 +145,7 @@ pub(crate) fn beside_have_128(
         && has(raw_wide(beside(alloc, seed, secret)), input, value)
 }
 
-// The values under a seed beside a secret that has its length, at once.
+// The values of one-shots under a seed and a secret of valid length.
 pub(crate) fn values_beside(seed: u64, secret: &[u8], input: &[u8]) -> Option<Values> {
     Some(Values {
         narrow: XxHash3_64::oneshot_with_seed_and_secret(seed, secret, input).ok()?,
@@ -153,7 +153,7 @@ pub(crate) fn values_beside(seed: u64, secret: &[u8], input: &[u8]) -> Option<Va
     })
 }
 
-// Whether streams that take this input in such pieces have the values of the whole.
+// True if streams that hash this input in such chunks have the values of the whole.
 pub(crate) fn beside_are_the_oneshot(
     alloc: Global,
     seed: u64,

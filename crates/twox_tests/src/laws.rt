@@ -1,4 +1,4 @@
-//! A changed bit is noticed: no answer here repeats the original's.
+//! A changed bit is detected: no value here is the original's.
 
 use twox_hash::XxHash3_128;
 
@@ -12,7 +12,7 @@ fn bytes_to_15() -> [u8; 16] {
     bytes
 }
 
-// The value of the bytes 0 to 15, of which one has other bits.
+// Returns the value of the bytes 0 to 15, with some bits of one byte changed.
 fn turned(byte: usize, bits: u8) -> u128 {
     let mut bytes = bytes_to_15();
     bytes[byte % 16] ^= bits;

@@ -1,8 +1,8 @@
-//! Tests of XXH3 through the public calls of `twox_hash` alone. Those of XXH32 and XXH64 are
-//! in `plain_tests`, those of what XXH3 is made of in `core_tests`, those of its memory in `memory_tests`.
+//! Tests of XXH3, only through the public calls of `twox_hash`. The tests of XXH32 and XXH64 are in `plain_tests`,
+//! those of the parts of XXH3 in `core_tests`, those of its memory in `memory_tests`.
 //!
-//! A test states nothing, so its proof has little to find as long as each function is small: a call and what is
-//! asked of its answer stand in a function of their own, which callers see without the call's contract.
+//! A test has no contract, so its proof has little to find as long as each function is small: a call and the checks of
+//! its result are in a separate function, which callers see without the call's contract.
 #![tactic(auto)]
 
 #[cfg(test)]

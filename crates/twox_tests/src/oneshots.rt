@@ -1,4 +1,4 @@
-//! XXH3 of slices at once, with each way to name a secret and a seed.
+//! XXH3 one-shots, with every combination of seed and secret.
 
 use crate::rows::{SEED, first, gen_10240, rows, seeded_rows};
 use std::alloc::Global;
@@ -24,7 +24,7 @@ fn under_both_128(seed: u64, secret: &[u8], input: &[u8]) -> Result<u128, Onesho
     XxHash3_128::oneshot_with_seed_and_secret(seed, secret, input)
 }
 
-// Every one-shot, with each way to name the default secret and the seed 0.
+// Every one-shot, with each way to pass the default secret and the seed 0.
 fn has_value_64(input: &[u8], value: u64) -> bool {
     XxHash3_64::oneshot(input) == value
         && XxHash3_64::oneshot_with_seed(0, input) == value
@@ -49,7 +49,7 @@ fn values_without_a_seed(rt: HostRuntime) {
     }
 }
 
-// Up to 240 bytes any secret may stand beside the seed, even none.
+// Up to 240 bytes any secret may be passed with the seed, even an empty one.
 fn has_seeded_value(input: &[u8], value: u64) -> bool {
     XxHash3_64::oneshot_with_seed(SEED, input) == value
         && (input.len() > 240 || under_both_64(SEED, &[], input) == Ok(value))
@@ -70,7 +70,8 @@ fn a_secret_of_zeros(rt: HostRuntime) {
     assert!(rt; under_secret_64(&[0; 136], &[0; 4]) == Ok(0x7ec8_7193_96e4_65d3));
 }
 
-// Up to 240 bytes a secret beside a seed has no effect, and above it must be long enough and the seed has none.
+// Up to 240 bytes a secret passed with a seed has no effect; above that it must be long enough and the seed has no
+// effect.
 fn is_the_seedless(input: &[u8], value: u64, wide: u128) -> bool {
     if input.len() <= 240 {
         under_both_64(0, &[], input) == Ok(value) && under_both_128(0, &[], input) == Ok(wide)

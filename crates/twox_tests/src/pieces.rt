@@ -1,5 +1,5 @@
-//! XXH3 of bytes that come in pieces, by streams of each kind. Expected values are those of the table, or the
-//! one-shots', which other tests hold against it.
+//! XXH3 of bytes that come in chunks, by streams of each kind. Expected values are those of the table, or the
+//! one-shots', which other tests compare with it.
 
 use crate::kinds::{
     Pieces, Values, beside_are_the_oneshot, beside_have_64, boxed_wide_beside, default_have, has,
@@ -36,7 +36,7 @@ fn byte_by_byte(rt: HostRuntime) {
     }
 }
 
-// With the default secret alone.
+// With only the default secret.
 fn keyed_have(alloc: Global, input: Pieces<'_>, narrow: u64, wide: u128) -> bool {
     keyed_have_64(alloc, &DEFAULT_SECRET_RAW, input, narrow)
         && keyed_have_128(alloc, &DEFAULT_SECRET_RAW, input, wide)
@@ -72,7 +72,7 @@ fn seeded_byte_by_byte(rt: HostRuntime) {
     }
 }
 
-// Whether streams that take the input in such pieces are the one-shot.
+// True if streams that hash the input in such chunks have the one-shot's value.
 fn are_the_oneshot(alloc: Global, input: &[u8], size: usize) -> bool {
     default_have(alloc, in_pieces(input, size), oneshots(input))
 }
@@ -106,7 +106,7 @@ fn pieces_of_a_buffer(rt: HostRuntime) {
     assert!(rt; default_have(rt.alloc(), in_pieces(&gen_10240(), 512), values));
 }
 
-// 577 bytes are nine stripes before the last, which is all places of 136 bytes: one scramble.
+// 577 bytes are nine stripes before the last, one for each place of 136 bytes: one scramble.
 #[test]
 fn one_scramble_under_a_short_secret(rt: HostRuntime) {
     let bytes = gen_10240();
@@ -129,7 +129,7 @@ fn secrets_come_back_after_bytes(rt: HostRuntime) {
     assert!(rt; secret_comes_back(rt.alloc(), first(&bytes, 136), first(&bytes, 577)));
 }
 
-// Whether the input cut at each point, before the first byte and after the last among them, is the one-shot.
+// True if the input split at each point, including before the first byte and after the last, has the one-shot's value.
 fn is_the_same_cut(alloc: Global, input: &[u8]) -> bool {
     let values = oneshots(input);
     let mut agree = true;
@@ -156,7 +156,7 @@ const OF_FOUR_ZEROS: u64 = 0x7ec8_7193_96e4_65d3;
 
 const ZEROS: &[u8] = &[0; 136];
 
-// In one piece, and one by one.
+// In one chunk, and one by one.
 #[test]
 fn secrets_of_zeros(rt: HostRuntime) {
     assert!(rt; keyed_have_64(rt.alloc(), ZEROS, in_pieces(&[], 1), 0));
@@ -166,14 +166,14 @@ fn secrets_of_zeros(rt: HostRuntime) {
     }
 }
 
-// Beside a seed, even 0, the default secret is used for no bytes.
+// With a seed, even 0, the default secret is used for no bytes.
 #[test]
 fn secrets_of_zeros_beside_a_seed(rt: HostRuntime) {
     let value = 0x2d06_8005_38d3_94c2;
     assert!(rt; beside_have_64(rt.alloc(), 0, ZEROS, in_pieces(&[], 1), value));
 }
 
-// Whether a stream that grows byte by byte has these values, one before each byte.
+// True if a stream that grows byte by byte has these values, one before each byte.
 fn grows<S: Stream + Drop>(made: Option<S>, bytes: &[u8; 10240], values: &[S::Value]) -> bool {
     let Some(mut stream) = made else {
         return false;
@@ -219,7 +219,7 @@ fn seeded_array() -> Option<SecretBuffer<[u8; 192]>> {
     SecretBuffer::with_seed(SEED, [0; 192]).ok()
 }
 
-// Whether the stream was made, and has this value after the bytes, one a piece.
+// True if the stream was made, and has this value after the bytes, one per chunk.
 fn has_bytewise<S: Stream + Drop>(made: Option<S>, input: &[u8], value: S::Value) -> bool {
     let Some(mut stream) = made else {
         return false;

@@ -1,4 +1,4 @@
-//! The input of the tests of XXH3, and the values that the tests of the Rust crate `twox-hash` expect of it.
+//! The input of the tests of XXH3, and the values that the tests of the Rust crate `twox-hash` expect.
 
 /// The values of the first `len` bytes under the seed 0.
 #[derive(Clone, Copy)]
@@ -118,7 +118,7 @@ const ROWS: [Row; 21] = [
 
 pub(crate) const SEED: u64 = 0xdead_cafe;
 
-/// The values of 64 bits of so many bytes under that seed.
+/// The 64-bit values of this many bytes under that seed.
 const SEEDED_ROWS: [(usize, u64); 8] = [
     (0, 0x4aed_e683_89c0_e311),
     (1, 0x78fc_079a_75aa_f3c0),
@@ -130,7 +130,7 @@ const SEEDED_ROWS: [(usize, u64); 8] = [
     (1024, 0x2483_9f0f_cdf4_d078),
 ];
 
-// The tables, as values that a caller knows nothing of: a check would read each row anew in each caller.
+// The tables, as opaque values: a check would read each case again in each caller.
 pub(crate) fn rows() -> [Row; 21] {
     ROWS
 }
@@ -156,12 +156,12 @@ pub(crate) fn gen_10240() -> [u8; 10240] {
     generated()
 }
 
-// The first `n` of them, or all.
+// Returns the first `n` of them, or all.
 pub(crate) fn first(bytes: &[u8; 10240], n: usize) -> &[u8] {
     &bytes[..n.min(10240)]
 }
 
-// The bytes from one place to before another, where these are in order and in range, and none else.
+// Returns the bytes from one place to before another if these are in order and in range, and none otherwise.
 pub(crate) fn between(bytes: &[u8; 10240], start: usize, end: usize) -> &[u8] {
     bytes.get(start..end).unwrap_or(&[])
 }

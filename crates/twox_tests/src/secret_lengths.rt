@@ -1,4 +1,5 @@
-//! Secrets of every length: which are refused, that they come back, and that a stream is the one-shot under each.
+//! Secrets of every length: which are refused, that they are returned, and that a stream has the one-shot's value under
+//! each.
 
 use crate::kinds::{Own, Pieces, beside_are_the_oneshot, in_pieces};
 use crate::rows::{SEED, first, gen_10240};
@@ -13,7 +14,7 @@ fn own(alloc: Global, secret: &[u8]) -> Result<Own, AllocError> {
     BoxedSlice::from_slice(alloc, secret)
 }
 
-// Whether each constructor of a stream takes the secret, beside which it gives the secret back in either case.
+// True if the constructor of a stream accepts the secret; the secret is returned in either case.
 fn by_new(secret: Own) -> (bool, Own) {
     match SecretBuffer::new(SEED, secret) {
         Ok(buffer) => (true, buffer.into_secret()),
@@ -42,7 +43,7 @@ fn by_wide_stream(secret: Own) -> (bool, Own) {
     }
 }
 
-// Whether the constructor said so, and gave back these bytes.
+// True if the constructor returned this result, and these bytes.
 fn said(answer: (bool, Own), fits: bool, secret: &[u8]) -> bool {
     let (accepted, back) = answer;
     accepted == fits && back.as_slice() == secret
@@ -93,13 +94,13 @@ fn by_with_seed(room: Own) -> (bool, Own) {
     }
 }
 
-// Whether the buffer is taken for a derived secret and changed, or is refused and comes back as it was, as wanted.
+// True if the buffer is accepted for a derived secret and changed, or is refused and returned unchanged, as expected.
 fn is_derived_into(alloc: Global, room: &[u8], wanted: bool) -> Result<bool, AllocError> {
     let (taken, back) = by_with_seed(own(alloc, room)?);
     Ok(taken == wanted && (back.as_slice() == room) != wanted)
 }
 
-// A buffer for a derived secret has to have 192 bytes.
+// A buffer for a derived secret must have 192 bytes.
 #[test]
 fn derived_exactly_into_192_bytes(rt: HostRuntime) -> Result<(), Fail> {
     let bytes = gen_10240();
@@ -113,12 +114,12 @@ fn derived_exactly_into_192_bytes(rt: HostRuntime) -> Result<(), Fail> {
     Ok(())
 }
 
-// Whether a stream of each kind has the value of the whole.
+// True if a stream of each kind has the value of the whole.
 fn have(alloc: Global, secret: &[u8], input: Pieces<'_>, whole: &[u8]) -> bool {
     beside_are_the_oneshot(alloc, SEED, secret, input, whole)
 }
 
-// Cut in two at each of these places, and byte by byte.
+// Split in two at each of these places, and byte by byte.
 fn is_the_same_by_parts(alloc: Global, secret: &[u8], input: &[u8]) -> bool {
     let mut agree = have(alloc, secret, in_pieces(input, 1), input);
     for cut in [0, 1, 63, 64, 65, 240, 241, 256, 512] {

@@ -1,5 +1,5 @@
-//! Secrets of XXH3 streams: those that are refused and handed back, and what a held one does.
-//! Expected values are the one-shots', which other tests hold against outside vectors, or computed from the formulas.
+//! Secrets of XXH3 streams: those that are refused and returned, and the effect of an accepted one. Expected values are
+//! the one-shots', which other tests compare with outside vectors, or computed from the formulas.
 
 use crate::rows::{SEED, first, gen_10240};
 use std::alloc::{AllocError, Global};
@@ -19,7 +19,7 @@ fn is(secret: Own, bytes: &[u8]) -> bool {
     secret.as_slice() == bytes
 }
 
-// The value of a stream of this seed and a secret of zeros, and the secret back.
+// Returns the value of a stream of this seed and a secret of zeros, and the secret.
 fn beside_zeros(seed: u64, input: &[u8]) -> Result<(u64, [u8; 136]), Fail> {
     let secret = SecretBuffer::new(seed, [0; 136]).ok().ok_or("136 bytes")?;
     let mut hasher = xxhash3_64::RawHasher::new(secret);
@@ -27,7 +27,7 @@ fn beside_zeros(seed: u64, input: &[u8]) -> Result<(u64, [u8; 136]), Fail> {
     Ok((hasher.finish(), hasher.into_secret()))
 }
 
-// Up to 240 bytes the held secret isn't used, and it is handed back.
+// Up to 240 bytes the secret isn't used, and it is returned.
 #[test]
 fn short_inputs_use_the_default_secret(rt: HostRuntime) -> Result<(), Fail> {
     let bytes = gen_10240();
@@ -39,7 +39,7 @@ fn short_inputs_use_the_default_secret(rt: HostRuntime) -> Result<(), Fail> {
     Ok(())
 }
 
-// The secret that each constructor refuses and gives back.
+// The secret that each constructor refuses and returns.
 fn from_buffer_with_seed_and_secret(secret: Own) -> Option<Own> {
     match SecretBuffer::allocate_with_seed_and_secret(1, secret) {
         Ok(_) => None,
@@ -103,13 +103,13 @@ fn keyed_core(alloc: Global, secret: &[u8]) -> Option<AllocRawHasher<Global>> {
     AllocRawHasher::allocate_with_secret(own(alloc, secret).ok()?).ok()
 }
 
-// Whether the core has the value and the counts of five bytes.
+// True if the core has the value and the counts of five bytes.
 fn has(core: &RawHasherCore<Own>, value: Option<u64>) -> bool {
     let counts = core.total_len() == 5 && core.stripes_done() == 0 && core.buffered() == 5;
     counts && value == Some(core.finish(Finalize64))
 }
 
-// Whether a copy has them too, and the secret.
+// True if a copy has them too, and the secret.
 fn copy_keeps(core: &RawHasherCore<Own>, secret: &[u8], value: Option<u64>) -> bool {
     let Ok(copy) = core.clone() else {
         return false;
@@ -126,7 +126,7 @@ fn core_and_copy_keep(alloc: Global, secret: &[u8], input: &[u8]) -> bool {
     has(&core, value) && copy_keeps(&core, secret, value)
 }
 
-// How a stream was made stays with its copies, its counts and the secret that it gives back.
+// Copies, their counts and the secret that they return keep how a stream was made.
 #[test]
 fn copies_keep_how_they_were_made(rt: HostRuntime) {
     let bytes = gen_10240();

@@ -1,4 +1,4 @@
--- A stream in the page's memory, and the lists that it stands for.
+-- A stream in the page's memory, and the lists that it represents.
 use Rattle.std.proofs.Common.{◌≡◌, ℕ, List, refl, sym, ◌∙◌, arith}
 use Rattle.twox_core.specs.Long.{initial_accumulators}
 use Rattle.twox_core.specs.Stripes.{no_stripe}

@@ -1,5 +1,5 @@
-//! XXH3 at once, by the module's kernel. Up to 240 bytes no kernel has a part in it, and the library's own calls
-//! are taken.
+//! One-shots of XXH3 with the module's kernel. Up to 240 bytes no kernel is involved, and the library's own functions
+//! are called.
 
 ghost use Rattle.std.specs.Prelude.{◌≡◌, ◌<◌, ◌≤◌, ℕ, length};
 ghost use Rattle.twox_hash.specs.Secret.{default_secret, derived_secret};
@@ -14,10 +14,10 @@ use twox_hash::xxhash3_64::Finalize64;
 use twox_hash::xxhash3_128::Finalize128;
 use twox_hash::{XxHash3_64, XxHash3_128};
 
-/// The module's kernel: of the library's the fastest in WebAssembly, with vectors and without.
+/// The module's kernel: the library's fastest in WebAssembly, both with and without vectors.
 pub type PageKernel = halves4::Impl;
 
-/// The hash of 64 bits, with the default secret and the seed 0.
+/// Returns the 64-bit hash, with the default secret and the seed 0.
 pub fn default_64(input: &[u8]) -> u64
     ensures { result ≡ xxh3_64 0 default_secret input.now }
 {
@@ -28,7 +28,7 @@ pub fn default_64(input: &[u8]) -> u64
     }
 }
 
-/// The hash of 64 bits, with a seed.
+/// Returns the 64-bit hash, with a seed.
 #[tactic(auto, unfolding(twox_core::specs::Value::effective_secret))]
 pub fn seeded_64(seed: u64, input: &[u8]) -> u64
     ensures { let s = effective_secret (derived_secret seed) input.now in
@@ -41,7 +41,7 @@ pub fn seeded_64(seed: u64, input: &[u8]) -> u64
     }
 }
 
-/// The hash of 64 bits, with a secret.
+/// Returns the 64-bit hash, with a secret.
 pub fn keyed_64(secret: Secret<'_>, input: &[u8]) -> u64
     ensures { result ≡ xxh3_64 0 (secret_bytes secret.entry) input.now }
 {
@@ -52,18 +52,18 @@ pub fn keyed_64(secret: Secret<'_>, input: &[u8]) -> u64
     }
 }
 
-/// The hash of more than 240 bytes under a secret, where no seed enters.
+/// Returns the hash of more than 240 bytes under a secret. No seed is used.
 #[inline(never)]
 #[tactic(auto, using(twox_core::proofs::ValueLaws::long_64, twox_core::proofs::EndingFacts::block_low))]
 pub fn long_64(secret: Secret<'_>, input: &[u8]) -> u64
     requires { 240 < length input.now }
     ensures { (any : ℕ) → result ≡ xxh3_64 any (secret_bytes secret.entry) input.now }
 {
-    // A call of its own, so that short inputs pay nothing for the room of long ones.
+    // A separate call, so that short inputs don't pay for the stack frame of long ones.
     Algorithm(PageKernel {}).oneshot(secret, input, Finalize64)
 }
 
-// The derived secret stands on the stack.
+// The derived secret is on the stack.
 #[inline(never)]
 fn long_64_derived(seed: u64, input: &[u8]) -> u64
     requires { 240 < length input.now }
@@ -73,7 +73,7 @@ fn long_64_derived(seed: u64, input: &[u8]) -> u64
     long_64(Secret::new(&secret).unwrap(), input)
 }
 
-/// The hash of 128 bits, with the default secret and the seed 0.
+/// Returns the 128-bit hash, with the default secret and the seed 0.
 pub fn default_128(input: &[u8]) -> u128
     ensures { result ≡ xxh3_128 0 default_secret input.now }
 {
@@ -84,7 +84,7 @@ pub fn default_128(input: &[u8]) -> u128
     }
 }
 
-/// The hash of 128 bits, with a seed.
+/// Returns the 128-bit hash, with a seed.
 #[tactic(auto, unfolding(twox_core::specs::Value::effective_secret))]
 pub fn seeded_128(seed: u64, input: &[u8]) -> u128
     ensures { let s = effective_secret (derived_secret seed) input.now in
@@ -97,7 +97,7 @@ pub fn seeded_128(seed: u64, input: &[u8]) -> u128
     }
 }
 
-/// The hash of 128 bits, with a secret.
+/// Returns the 128-bit hash, with a secret.
 pub fn keyed_128(secret: Secret<'_>, input: &[u8]) -> u128
     ensures { result ≡ xxh3_128 0 (secret_bytes secret.entry) input.now }
 {
@@ -108,18 +108,18 @@ pub fn keyed_128(secret: Secret<'_>, input: &[u8]) -> u128
     }
 }
 
-/// The hash of more than 240 bytes under a secret, where no seed enters.
+/// Returns the hash of more than 240 bytes under a secret. No seed is used.
 #[inline(never)]
 #[tactic(auto, using(twox_core::proofs::ValueLaws::long_128, twox_core::proofs::EndingFacts::block_both))]
 pub fn long_128(secret: Secret<'_>, input: &[u8]) -> u128
     requires { 240 < length input.now }
     ensures { (any : ℕ) → result ≡ xxh3_128 any (secret_bytes secret.entry) input.now }
 {
-    // A call of its own, so that short inputs pay nothing for the room of long ones.
+    // A separate call, so that short inputs don't pay for the stack frame of long ones.
     Algorithm(PageKernel {}).oneshot(secret, input, Finalize128)
 }
 
-// The derived secret stands on the stack.
+// The derived secret is on the stack.
 #[inline(never)]
 fn long_128_derived(seed: u64, input: &[u8]) -> u128
     requires { 240 < length input.now }

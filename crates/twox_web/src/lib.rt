@@ -1,8 +1,8 @@
-//! What a web page calls: one-shots of the four hashes, and streams that lie in the page's memory.
+//! Functions for web pages: one-shots of the four hashes, and streams in the page's memory.
 //!
-//! A slice crosses as an address and a length, and a record as its address. What else comes from the page is
-//! tested: a call that can refuse answers a code, `DONE`, `SECRET_TOO_SHORT` or `NOT_A_STREAM`, and leaves
-//! all as it was where it refuses.
+//! A slice is passed as an address and a length, and a record as its address. Everything else from the page is tested:
+//! a call that can refuse returns a code, `DONE`, `SECRET_TOO_SHORT` or `NOT_A_STREAM`, and changes nothing if it
+//! refuses.
 #![tactic(auto)]
 
 mod by_kernel;

@@ -1,4 +1,4 @@
-//! One-shots of XXH3 of 128 bits.
+//! One-shots of XXH3 128-bit.
 
 ghost use Rattle.std.specs.Prelude.{◌≡◌, ◌↔◌, ◌<◌, ◌≤◌, length};
 ghost use Rattle.twox_hash.specs.Secret.{default_secret, derived_secret};
@@ -10,7 +10,7 @@ use twox_exports::{DONE, SECRET_TOO_SHORT, Wide, halves};
 use twox_hash::XxHash3_128;
 use twox_hash::xxhash3::{CUTOFF, Secret};
 
-/// Writes the hash of 128 bits of all bytes at once, with the default secret and the seed 0.
+/// Writes the 128-bit hash of all bytes at once, with the default secret and the seed 0.
 #[unsafe(no_mangle)]
 pub extern "C" fn twox_xxh3_128(input: &[u8], value: &mut Wide)
     ensures { number_of value.new ≡ xxh3_128 0 default_secret input.now }
@@ -18,7 +18,7 @@ pub extern "C" fn twox_xxh3_128(input: &[u8], value: &mut Wide)
     *value = halves(default_128(input));
 }
 
-/// Writes the hash of 128 bits of all bytes at once, with a seed.
+/// Writes the 128-bit hash of all bytes at once, with a seed.
 #[unsafe(no_mangle)]
 pub extern "C" fn twox_xxh3_128_with_seed(seed: u64, input: &[u8], value: &mut Wide)
     ensures { let s = effective_secret (derived_secret seed) input.now in
@@ -27,9 +27,9 @@ pub extern "C" fn twox_xxh3_128_with_seed(seed: u64, input: &[u8], value: &mut W
     *value = halves(seeded_128(seed, input));
 }
 
-/// Writes the hash of 128 bits of all bytes at once, with a secret and the seed 0, at every length.
+/// Writes the 128-bit hash of all bytes at once, with a secret and the seed 0, at every length.
 ///
-/// `SECRET_TOO_SHORT`: the secret has fewer than 136 bytes, and nothing is written.
+/// `SECRET_TOO_SHORT` if the secret has fewer than 136 bytes. Nothing is then written.
 #[unsafe(no_mangle)]
 pub extern "C" fn twox_xxh3_128_with_secret(secret: &[u8], input: &[u8], value: &mut Wide) -> u32
     ensures done { result ≡ DONE ↔ (136 ≤ length secret.now) }
@@ -44,10 +44,10 @@ pub extern "C" fn twox_xxh3_128_with_secret(secret: &[u8], input: &[u8], value: 
     DONE
 }
 
-/// Writes the hash of 128 bits of all bytes at once, with a seed and a secret. Up to 240 bytes the seed has an
-/// effect, with the default secret, whatever secret is handed in; above, the secret.
+/// Writes the 128-bit hash of all bytes at once, with a seed and a secret. Up to 240 bytes the seed has an effect, with
+/// the default secret, whatever secret is passed; above that, the secret.
 ///
-/// `SECRET_TOO_SHORT`: the input has more than 240 bytes and the secret fewer than 136, and nothing is written.
+/// `SECRET_TOO_SHORT` if the input has more than 240 bytes and the secret fewer than 136. Nothing is then written.
 #[unsafe(no_mangle)]
 #[tactic(auto, unfolding(twox_core::specs::Value::effective_secret))]
 pub extern "C" fn twox_xxh3_128_with_seed_and_secret(

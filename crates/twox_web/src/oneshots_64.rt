@@ -1,4 +1,4 @@
-//! One-shots of XXH3 of 64 bits.
+//! One-shots of XXH3 64-bit.
 
 ghost use Rattle.std.specs.Prelude.{◌≡◌, ◌↔◌, ◌<◌, ◌≤◌, length};
 ghost use Rattle.twox_hash.specs.Secret.{default_secret, derived_secret};
@@ -9,7 +9,7 @@ use twox_exports::{DONE, SECRET_TOO_SHORT};
 use twox_hash::XxHash3_64;
 use twox_hash::xxhash3::{CUTOFF, Secret};
 
-/// The hash of 64 bits of all bytes at once, with the default secret and the seed 0.
+/// Returns the 64-bit hash of all bytes at once, with the default secret and the seed 0.
 #[unsafe(no_mangle)]
 pub extern "C" fn twox_xxh3_64(input: &[u8]) -> u64
     ensures { result ≡ xxh3_64 0 default_secret input.now }
@@ -17,7 +17,7 @@ pub extern "C" fn twox_xxh3_64(input: &[u8]) -> u64
     default_64(input)
 }
 
-/// The hash of 64 bits of all bytes at once, with a seed.
+/// Returns the 64-bit hash of all bytes at once, with a seed.
 #[unsafe(no_mangle)]
 pub extern "C" fn twox_xxh3_64_with_seed(seed: u64, input: &[u8]) -> u64
     ensures { let s = effective_secret (derived_secret seed) input.now in
@@ -26,9 +26,9 @@ pub extern "C" fn twox_xxh3_64_with_seed(seed: u64, input: &[u8]) -> u64
     seeded_64(seed, input)
 }
 
-/// Writes the hash of 64 bits of all bytes at once, with a secret and the seed 0, at every length.
+/// Writes the 64-bit hash of all bytes at once, with a secret and the seed 0, at every length.
 ///
-/// `SECRET_TOO_SHORT`: the secret has fewer than 136 bytes, and nothing is written.
+/// `SECRET_TOO_SHORT` if the secret has fewer than 136 bytes. Nothing is then written.
 #[unsafe(no_mangle)]
 pub extern "C" fn twox_xxh3_64_with_secret(secret: &[u8], input: &[u8], value: &mut u64) -> u32
     ensures done { result ≡ DONE ↔ (136 ≤ length secret.now) }
@@ -43,10 +43,10 @@ pub extern "C" fn twox_xxh3_64_with_secret(secret: &[u8], input: &[u8], value: &
     DONE
 }
 
-/// Writes the hash of 64 bits of all bytes at once, with a seed and a secret. Up to 240 bytes the seed has an
-/// effect, with the default secret, whatever secret is handed in; above, the secret.
+/// Writes the 64-bit hash of all bytes at once, with a seed and a secret. Up to 240 bytes the seed has an effect, with
+/// the default secret, whatever secret is passed; above that, the secret.
 ///
-/// `SECRET_TOO_SHORT`: the input has more than 240 bytes and the secret fewer than 136, and nothing is written.
+/// `SECRET_TOO_SHORT` if the input has more than 240 bytes and the secret fewer than 136. Nothing is then written.
 #[unsafe(no_mangle)]
 #[tactic(auto, unfolding(twox_core::specs::Value::effective_secret))]
 pub extern "C" fn twox_xxh3_64_with_seed_and_secret(

@@ -1,4 +1,4 @@
-//! XXH32, by stripes alone, which is the fastest way where WebAssembly has no vectors.
+//! XXH32, by stripes only, which is the fastest way in WebAssembly without vectors.
 
 ghost use Rattle.std.specs.Prelude.{◌≡◌, ◌↔◌, ℕ, List, [], ◌++◌};
 ghost use Rattle.twox_hash.specs.Xxh32.{xxh32};
@@ -9,7 +9,7 @@ use twox_hash::XxHash32;
 use twox_hash::xxhash32::SavedState;
 use twox_plain::by_stripes;
 
-/// The hash of all bytes at once.
+/// Returns the hash of all bytes at once.
 #[unsafe(no_mangle)]
 pub extern "C" fn twox_xxh32(seed: u32, input: &[u8]) -> u32
     ensures { result ≡ xxh32 seed input.now }
@@ -17,7 +17,7 @@ pub extern "C" fn twox_xxh32(seed: u32, input: &[u8]) -> u32
     by_stripes::oneshot(seed, input)
 }
 
-/// The size of a stream's record in bytes.
+/// Returns the size of a stream's record in bytes.
 #[unsafe(no_mangle)]
 pub extern "C" fn twox_xxh32_stream_size() -> usize
     ensures { result ≡ 56 }
@@ -25,7 +25,7 @@ pub extern "C" fn twox_xxh32_stream_size() -> usize
     size_of::<SavedState>()
 }
 
-/// Makes the record a stream of no bytes yet, whatever it was.
+/// Makes the record a stream of no bytes, whatever it was.
 #[unsafe(no_mangle)]
 pub extern "C" fn twox_xxh32_start(stream: &mut SavedState, seed: u32)
     ensures record { stream.new ≡ initial_record seed }
@@ -35,9 +35,9 @@ pub extern "C" fn twox_xxh32_start(stream: &mut SavedState, seed: u32)
     *stream = XxHash32::with_seed(seed).to_state();
 }
 
-/// Takes the bytes of a piece after those taken before.
+/// Hashes a chunk after the bytes before.
 ///
-/// `NOT_A_STREAM`: no list of bytes leads to the record. It stays as it was.
+/// `NOT_A_STREAM` if no list of bytes leads to the record. The record is then unchanged.
 #[unsafe(no_mangle)]
 pub extern "C" fn twox_xxh32_update(stream: &mut SavedState, input: &[u8]) -> u32
     ensures done { result ≡ DONE ↔ IsReachable stream.old }
@@ -56,9 +56,9 @@ pub extern "C" fn twox_xxh32_update(stream: &mut SavedState, input: &[u8]) -> u3
     DONE
 }
 
-/// Writes the hash of the bytes taken so far. More may be taken afterwards.
+/// Writes the hash of the bytes so far. More can be hashed afterwards.
 ///
-/// `NOT_A_STREAM`: no list of bytes leads to the record, and nothing is written.
+/// `NOT_A_STREAM` if no list of bytes leads to the record. Nothing is then written.
 #[unsafe(no_mangle)]
 pub extern "C" fn twox_xxh32_digest(stream: &SavedState, value: &mut u32) -> u32
     ensures done { result ≡ DONE ↔ IsReachable stream.now }

@@ -8,7 +8,7 @@ use twox_exports::{DONE, NOT_A_STREAM};
 use twox_hash::XxHash64;
 use twox_hash::xxhash64::SavedState;
 
-/// The hash of all bytes at once.
+/// Returns the hash of all bytes at once.
 #[unsafe(no_mangle)]
 pub extern "C" fn twox_xxh64(seed: u64, input: &[u8]) -> u64
     ensures { result ≡ xxh64 seed input.now }
@@ -16,7 +16,7 @@ pub extern "C" fn twox_xxh64(seed: u64, input: &[u8]) -> u64
     XxHash64::oneshot(seed, input)
 }
 
-/// The size of a stream's record in bytes.
+/// Returns the size of a stream's record in bytes.
 #[unsafe(no_mangle)]
 pub extern "C" fn twox_xxh64_stream_size() -> usize
     ensures { result ≡ 88 }
@@ -24,7 +24,7 @@ pub extern "C" fn twox_xxh64_stream_size() -> usize
     size_of::<SavedState>()
 }
 
-/// Makes the record a stream of no bytes yet, whatever it was.
+/// Makes the record a stream of no bytes, whatever it was.
 #[unsafe(no_mangle)]
 pub extern "C" fn twox_xxh64_start(stream: &mut SavedState, seed: u64)
     ensures record { stream.new ≡ initial_record seed }
@@ -34,9 +34,9 @@ pub extern "C" fn twox_xxh64_start(stream: &mut SavedState, seed: u64)
     *stream = XxHash64::with_seed(seed).to_state();
 }
 
-/// Takes the bytes of a piece after those taken before.
+/// Hashes a chunk after the bytes before.
 ///
-/// `NOT_A_STREAM`: no list of bytes leads to the record. It stays as it was.
+/// `NOT_A_STREAM` if no list of bytes leads to the record. The record is then unchanged.
 #[unsafe(no_mangle)]
 pub extern "C" fn twox_xxh64_update(stream: &mut SavedState, input: &[u8]) -> u32
     ensures done { result ≡ DONE ↔ IsReachable stream.old }
@@ -55,9 +55,9 @@ pub extern "C" fn twox_xxh64_update(stream: &mut SavedState, input: &[u8]) -> u3
     DONE
 }
 
-/// Writes the hash of the bytes taken so far. More may be taken afterwards.
+/// Writes the hash of the bytes so far. More can be hashed afterwards.
 ///
-/// `NOT_A_STREAM`: no list of bytes leads to the record, and nothing is written.
+/// `NOT_A_STREAM` if no list of bytes leads to the record. Nothing is then written.
 #[unsafe(no_mangle)]
 pub extern "C" fn twox_xxh64_digest(stream: &SavedState, value: &mut u64) -> u32
     ensures done { result ≡ DONE ↔ IsReachable stream.now }

@@ -1,7 +1,7 @@
-//! Streams of XXH3. One stream answers both widths.
+//! Streams of XXH3. One stream has values of both widths.
 //!
-//! A stream's secret lies beside it in the page's memory, and each call is handed it again. So a secret may have
-//! any length, and the clauses speak of the stream and that secret together.
+//! A stream's secret is stored separately in the page's memory, and is passed to each call again. So a secret may have
+//! any length, and the clauses are about the stream and that secret together.
 
 ghost use Rattle.std.specs.Prelude.{◌≡◌, ◌↔◌, ◌<◌, ◌≤◌, ◌+◌, ◌-◌, ◌*◌, ◌^◌, min, ℕ, Option, Some, None, List, [], ◌++◌, length, IsTrue};
 ghost use Rattle.twox_hash.specs.Secret.{derived_secret};
@@ -17,11 +17,11 @@ use twox_exports::{DONE, NOT_A_STREAM, SECRET_TOO_SHORT, Wide};
 use twox_hash::words::IntoU64;
 use twox_hash::xxhash3::{CoreState, DefaultSecret, INITIAL_ACCUMULATORS, Secret, derived_secret};
 
-/// A stream of both widths, over a secret that lies elsewhere.
+/// A stream of both widths, over a secret that is stored elsewhere.
 #[derive(Clone, Copy)]
 #[repr(C)]
 pub struct Stream {
-    /// How many seeds it was started with: none, or one.
+    /// Number of seeds it was started with: none or one.
     pub seeds: u64,
     /// The seed, if there is one.
     pub seed: u64,
@@ -30,7 +30,7 @@ pub struct Stream {
 }
 
 impl Stream {
-    // A stream of no bytes yet.
+    // Returns a stream of no bytes.
     fn starting_with(seed: Option<u64>) -> Stream
         ensures { (s : List ℕ) → StandsFor result s seed [] }
     {
@@ -49,7 +49,7 @@ impl Stream {
         }
     }
 
-    // The seed, if there is one.
+    // Returns the seed, if there is one.
     fn seed(&self) -> Option<u64>
         ensures { result ≡ seed_of self.now }
     {
@@ -61,14 +61,15 @@ impl Stream {
     }
 }
 
-// Whether the length agrees with the stripes taken and the bytes that wait, and the accumulators with no stripe.
+// True if the length agrees with the stripes taken and the bytes buffered and, with no stripe taken, the accumulators
+// are the initial ones.
 fn is_counted(core: &CoreState) -> bool
     ensures { IsTrue result ↔ IsCounted core.now }
 {
     core.total_bytes == counted_bytes(core) && (core.taken.count > 0 || has_no_stripe(core))
 }
 
-// The bytes of the stripes taken and those in the buffer.
+// Number of bytes of the stripes taken and in the buffer.
 fn counted_bytes(core: &CoreState) -> u64
     ensures { result ≡ min (64 * core.now.taken.count + core.now.buffer_usage) (2 ^ 64 - 1) }
 {
@@ -78,7 +79,7 @@ fn counted_bytes(core: &CoreState) -> u64
         .saturating_add(core.buffer_usage.into_u64())
 }
 
-// Whether the accumulators are those before the first stripe.
+// True if the accumulators are those before the first stripe.
 fn has_no_stripe(core: &CoreState) -> bool
     ensures { IsTrue result ↔ (core.now.taken.stripes ≡ no_stripe) }
 {
@@ -86,7 +87,7 @@ fn has_no_stripe(core: &CoreState) -> bool
         && core.taken.stripes.accumulators() == INITIAL_ACCUMULATORS
 }
 
-// Why a record whose numbers don't agree is refused: the secret comes first.
+// Returns the reason to refuse a record whose numbers don't agree. The secret is tested first.
 fn refusal(secret: &[u8]) -> u32
     ensures short { result ≡ SECRET_TOO_SHORT ↔ (length secret.now < 136) }
     ensures long { result ≡ NOT_A_STREAM ↔ (136 ≤ length secret.now) }
@@ -98,7 +99,7 @@ fn refusal(secret: &[u8]) -> u32
     }
 }
 
-/// The size of a stream's record in bytes.
+/// Returns the size of a stream's record in bytes.
 #[unsafe(no_mangle)]
 pub extern "C" fn twox_xxh3_stream_size() -> usize
     ensures { result ≡ 688 }
@@ -106,8 +107,8 @@ pub extern "C" fn twox_xxh3_stream_size() -> usize
     size_of::<Stream>()
 }
 
-/// Makes the record a stream of no bytes yet with a seed, whatever it was, and writes the secret that the seed
-/// derives, which each later call is to be handed.
+/// Makes the record a stream of no bytes with a seed, whatever it was, and writes the secret derived from the seed,
+/// which must be passed to each later call.
 #[unsafe(no_mangle)]
 pub extern "C" fn twox_xxh3_start_with_seed(
     stream: &mut Stream,
@@ -121,10 +122,10 @@ pub extern "C" fn twox_xxh3_start_with_seed(
     *stream = Stream::starting_with(Some(seed));
 }
 
-/// Makes the record a stream of no bytes yet with the secret alone, whatever it was. Each later call is to be
-/// handed the same secret.
+/// Makes the record a stream of no bytes with only a secret, whatever it was. The same secret must be passed to each
+/// later call.
 ///
-/// `SECRET_TOO_SHORT`: it has fewer than 136 bytes. The record stays as it was.
+/// `SECRET_TOO_SHORT` if the secret has fewer than 136 bytes. The record is then unchanged.
 #[unsafe(no_mangle)]
 pub extern "C" fn twox_xxh3_start_with_secret(stream: &mut Stream, secret: &[u8]) -> u32
     ensures done { result ≡ DONE ↔ (136 ≤ length secret.now) }
@@ -135,10 +136,10 @@ pub extern "C" fn twox_xxh3_start_with_secret(stream: &mut Stream, secret: &[u8]
     start(stream, secret, None)
 }
 
-/// Makes the record a stream of no bytes yet with a seed and a secret, whatever it was. Each later call is to be
-/// handed the same secret.
+/// Makes the record a stream of no bytes with a seed and a secret, whatever it was. The same secret must be passed to
+/// each later call.
 ///
-/// `SECRET_TOO_SHORT`: it has fewer than 136 bytes. The record stays as it was.
+/// `SECRET_TOO_SHORT` if the secret has fewer than 136 bytes. The record is then unchanged.
 #[unsafe(no_mangle)]
 pub extern "C" fn twox_xxh3_start_with_seed_and_secret(
     stream: &mut Stream,
@@ -167,12 +168,12 @@ fn start(stream: &mut Stream, secret: &[u8], seed: Option<u64>) -> u32
     DONE
 }
 
-/// Takes the bytes of a piece after those taken before, over the stream's secret.
+/// Hashes a chunk after the bytes before, over the stream's secret.
 ///
-/// - `SECRET_TOO_SHORT`: it has fewer than 136 bytes.
-/// - `NOT_A_STREAM`: the record's parts don't agree with each other and with the secret.
+/// - `SECRET_TOO_SHORT` if the secret has fewer than 136 bytes.
+/// - `NOT_A_STREAM` if the record's parts don't agree with each other and with the secret.
 ///
-/// Where it refuses, the record stays as it was.
+/// If it refuses, the record is unchanged.
 #[tactic(auto, using(crate::proofs::StreamFacts::follows_counted))]
 #[unsafe(no_mangle)]
 pub extern "C" fn twox_xxh3_update(stream: &mut Stream, secret: &[u8], input: &[u8]) -> u32
@@ -193,12 +194,12 @@ pub extern "C" fn twox_xxh3_update(stream: &mut Stream, secret: &[u8], input: &[
     write(&mut stream.core, PageKernel {}, secret, input)
 }
 
-/// Writes the hash of 64 bits of the bytes taken so far, over the stream's secret. More may be taken afterwards.
+/// Writes the 64-bit hash of the bytes so far, over the stream's secret. More can be hashed afterwards.
 ///
-/// - `SECRET_TOO_SHORT`: it has fewer than 136 bytes.
-/// - `NOT_A_STREAM`: the record's parts don't agree with each other and with the secret.
+/// - `SECRET_TOO_SHORT` if the secret has fewer than 136 bytes.
+/// - `NOT_A_STREAM` if the record's parts don't agree with each other and with the secret.
 ///
-/// Where it refuses, nothing is written.
+/// If it refuses, nothing is written.
 #[tactic(auto, using(crate::proofs::StreamFacts::follows_counted))]
 #[unsafe(no_mangle)]
 pub extern "C" fn twox_xxh3_64_digest(stream: &Stream, secret: &[u8], value: &mut u64) -> u32
@@ -217,12 +218,12 @@ pub extern "C" fn twox_xxh3_64_digest(stream: &Stream, secret: &[u8], value: &mu
     finish_64(&stream.core, PageKernel {}, stream.seed(), secret, value)
 }
 
-/// Writes the hash of 128 bits of the bytes taken so far, over the stream's secret. More may be taken afterwards.
+/// Writes the 128-bit hash of the bytes so far, over the stream's secret. More can be hashed afterwards.
 ///
-/// - `SECRET_TOO_SHORT`: it has fewer than 136 bytes.
-/// - `NOT_A_STREAM`: the record's parts don't agree with each other and with the secret.
+/// - `SECRET_TOO_SHORT` if the secret has fewer than 136 bytes.
+/// - `NOT_A_STREAM` if the record's parts don't agree with each other and with the secret.
 ///
-/// Where it refuses, nothing is written.
+/// If it refuses, nothing is written.
 #[tactic(auto, using(crate::proofs::StreamFacts::follows_counted))]
 #[unsafe(no_mangle)]
 pub extern "C" fn twox_xxh3_128_digest(stream: &Stream, secret: &[u8], value: &mut Wide) -> u32

@@ -1,4 +1,4 @@
--- A list that is laid over another of its length in two parts, which may overlap.
+-- A list that is copied over another of its length in two parts, which may overlap.
 use Rattle.std.proofs.Common.{◌≡◌, ℕ, ◌+◌, ◌-◌, ◌≤◌, List, [], ◌++◌, length, take, drop, ap, ap₂, ◌∙◌, arith, length-append, length-drop}
 use Rattle.std.proofs.lemmas.List.{append-nil, drop_all, length-take-le, take_all, take-append-drop, take-append-le, take-take}
 use borrow.Rule.Slice.PartMut.{put_mid, mid_of, post_of}

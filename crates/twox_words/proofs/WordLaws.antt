@@ -1,4 +1,4 @@
--- A word is below its width, and tells its bytes.
+-- A word is below its width, and determines its bytes.
 use Rattle.std.proofs.Common.{◌≡◌, ℕ, ◌+◌, ◌^◌, ◌<◌, ◌≤◌, List, length, take, drop, get_or, slice_index, inl, inr, refl, sym, ap, subst, ◌∙◌, arith, lit<, length-drop, length-take}
 use Rattle.std.proofs.lemmas.Bool.{cases_lt}
 use Rattle.std.proofs.lemmas.List.{get_or-drop, get_or-take, get_or_past}
@@ -46,7 +46,7 @@ word_at-lt_64 m i bytes =
     let b6 = b 6 in
     let b7 = b 7 in omega arith
 
--- ---- a word tells its bytes, where the width can be written back
+-- ---- a word determines its bytes, if the width can be written back
 
 module _ (w : Width) (back : (bs : List ℕ) (n : ℕ) → length bs ≡ byte_len w → ((k : ℕ) → get_or bs k 0 < 256) → n ≡ from_le_bytes w bs → to_le_bytes w n ≡ bs) where
   told_by_word : (m n : List ℕ) (i j : ℕ) → IsBytes m → IsBytes n → i + byte_len w ≤ length m → j + byte_len w ≤ length n → word_at w m i ≡ word_at w n j

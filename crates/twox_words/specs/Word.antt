@@ -39,6 +39,6 @@ low64 x = x % 2 ^ 64
 abbrev pub high64 : ℕ → ℕ
 high64 x = x / 2 ^ 64
 
--- the length that enters a value: n, and 2 ^ 64 - 1 from there on
+-- the length as it is hashed: n, or 2 ^ 64 - 1 if n is larger
 abbrev pub counted : ℕ → ℕ
 counted n = min n (2 ^ 64 - 1)

@@ -2,9 +2,9 @@
 
 ghost use Rattle.std.specs.Prelude.{◌≡◌, ◌+◌, ◌≤◌, ◌++◌, take, drop, length};
 
-/// Copies a slice of at most 32 bytes over another of its length.
+/// Copies a slice of at most 32 bytes over another of the same length.
 ///
-/// It does what `copy_from_slice` does, which makes a call: that takes longer than the few moves here.
+/// Does what `copy_from_slice` does, without its call, which takes longer than these few moves.
 #[inline(always)]
 pub fn copy_short(to: &mut [u8], from: &[u8])
     requires same { length to.old ≡ length from.now }
@@ -25,7 +25,7 @@ pub fn copy_short(to: &mut [u8], from: &[u8])
     }
 }
 
-/// Copies a slice of at most 128 bytes over another of its length, with no call either.
+/// Copies a slice of at most 128 bytes over another of the same length, without a call.
 #[inline(always)]
 pub fn copy_up_to_128(to: &mut [u8], from: &[u8])
     requires same { length to.old ≡ length from.now }
@@ -42,7 +42,7 @@ pub fn copy_up_to_128(to: &mut [u8], from: &[u8])
     }
 }
 
-/// Lays a slice of at most 32 bytes over the front of another, with one test where it is empty.
+/// Copies a slice of at most 32 bytes over the front of another. An empty slice costs one test.
 #[inline(always)]
 pub fn copy_front(to: &mut [u8], from: &[u8])
     requires room { length from.now ≤ length to.old }
@@ -54,9 +54,9 @@ pub fn copy_front(to: &mut [u8], from: &[u8])
     }
 }
 
-// Copies a slice of `N` to `2 * N` bytes over another of its length: the first `N` bytes, then the last `N`, which may
-// overlap them. Where the last begins is a value of its own, so that the address of each copy is seen to lie within its
-// slice.
+// Copies a slice of `N` to `2 * N` bytes over another of the same length: the first `N` bytes, then the last `N`, which
+// may overlap them. The start of the last `N` is a named value, so that the compiler sees that each copy's address lies
+// within its slice.
 #[inline(always)]
 fn copy_ends<const N: usize>(to: &mut [u8], from: &[u8])
     requires same { length to.old ≡ length from.now }

@@ -1,6 +1,6 @@
-//! The little-endian words that every hash of this repository reads, and copies of a few bytes.
+//! Little-endian words, which every hash of this repository reads, and copies of a few bytes.
 //!
-//! Callers of the library have `words` under `twox_hash`; `copies` serves speed alone.
+//! `twox_hash` re-exports `words`. `copies` exists only for speed.
 #![tactic(auto)]
 
 pub mod copies;

@@ -1,5 +1,5 @@
-//! Little-endian words of a slice, by absolute position, and what belongs to them: conversions that keep the
-//! value, the halves of a word, and the chunks of a slice.
+//! Little-endian words of a slice by absolute position, value-preserving conversions, halves of a word, and chunks of a
+//! slice.
 
 ghost use Rattle.std.specs.Prelude.{◌≡◌, ◌↔◌, ◌+◌, ◌-◌, ◌≤◌, ℕ, List, IsSome, IfSome, length};
 ghost use Rattle.std.specs.Int.{w32, w64};
@@ -13,9 +13,9 @@ pub use chunks::{bp_as_chunks, bp_as_chunks_mut};
 pub use halves::Halves;
 pub use widening::{IntoU32, IntoU64, IntoU128};
 
-/// The eight-byte word at byte `i`, low byte first.
+/// Returns the eight-byte word at byte `i`, low byte first.
 ///
-/// The caller shows that the slice has eight bytes from `i` on, so the load has no test.
+/// The caller proves that the slice has eight bytes from `i` on, so the load has no test.
 #[inline]
 pub fn u64_at(bytes: &[u8], i: usize) -> u64
     requires { i + 8 ≤ length bytes.now }
@@ -33,9 +33,9 @@ pub fn u64_at(bytes: &[u8], i: usize) -> u64
     ])
 }
 
-/// The four-byte word at byte `i`, low byte first.
+/// Returns the four-byte word at byte `i`, low byte first.
 ///
-/// The caller shows that the slice has four bytes from `i` on, so the load has no test.
+/// The caller proves that the slice has four bytes from `i` on, so the load has no test.
 #[inline]
 pub fn u32_at(bytes: &[u8], i: usize) -> u32
     requires { i + 4 ≤ length bytes.now }
@@ -44,30 +44,30 @@ pub fn u32_at(bytes: &[u8], i: usize) -> u32
     u32::from_le_bytes([bytes[i], bytes[i + 1], bytes[i + 2], bytes[i + 3]])
 }
 
-/// The words at both ends of a slice of bytes, low byte first.
+/// Words at both ends of a slice of bytes, low byte first.
 ///
-/// Each call answers `None` exactly where the slice has fewer bytes than the word.
+/// Each method returns `None` if and only if the slice has fewer bytes than the word.
 pub trait U8SliceExt {
     // The bytes of the slice.
     ghost bytes: { Self → List ℕ };
 
-    /// The word of the first four bytes.
+    /// Returns the word of the first four bytes.
     fn first_u32(self) -> Option<u32>
         ensures long_enough { IsSome result ↔ (4 ≤ length (bytes self)) }
         ensures word { IfSome result (λ x. x ≡ word_at w32 (bytes self) 0) };
 
-    /// The word of the last four bytes.
+    /// Returns the word of the last four bytes.
     fn last_u32(self) -> Option<u32>
         ensures long_enough { IsSome result ↔ (4 ≤ length (bytes self)) }
         ensures word { IfSome result (λ x.
             x ≡ word_at w32 (bytes self) (length (bytes self) - 4)) };
 
-    /// The word of the first eight bytes.
+    /// Returns the word of the first eight bytes.
     fn first_u64(self) -> Option<u64>
         ensures long_enough { IsSome result ↔ (8 ≤ length (bytes self)) }
         ensures word { IfSome result (λ x. x ≡ word_at w64 (bytes self) 0) };
 
-    /// The word of the last eight bytes.
+    /// Returns the word of the last eight bytes.
     fn last_u64(self) -> Option<u64>
         ensures long_enough { IsSome result ↔ (8 ≤ length (bytes self)) }
         ensures word { IfSome result (λ x.

@@ -1,4 +1,4 @@
-//! An index of blocks: the hash of each block of a file, which finds the first block that was changed.
+//! An index of blocks: the hash of each block of a file, which finds the first changed block.
 
 ghost use Rattle.std.specs.Prelude.{◌≡◌, ◌≤◌, ◌<◌, ℕ, List, length, map, slice_get, Some, IfOk, IfSome, IfNone, IsSomeAnd};
 ghost use Rattle.twox_hash.specs.Word.{IsBytes};
@@ -8,11 +8,11 @@ ghost use Rattle.twox_hash.specs.Xxh32.{xxh32};
 use std::alloc::{AllocError, Global};
 use twox_hash::XxHash32;
 
-/// The XXH32 of each block.
+/// Returns the XXH32 of each block.
 ///
 /// # Errors
 ///
-/// There is no memory for the index.
+/// `AllocError` if out of memory.
 pub fn block_index<const N: usize>(
     alloc: Global,
     seed: u32,
@@ -27,10 +27,10 @@ pub fn block_index<const N: usize>(
     Ok(index)
 }
 
-/// The number of the first block that hasn't the hash of the index.
+/// Returns the number of the first block whose hash is not the one in the index.
 ///
-/// Every block is noticed, there or before, that is one changed unit away from the one that was indexed: a
-/// four-byte word, counted from the block's byte 0, or one of the bytes after the last word.
+/// Detects at that block, or before, every block that is one changed unit away from the indexed one: a four-byte word,
+/// counted from the block's byte 0, or one of the bytes after the last word.
 pub fn first_changed<const N: usize>(index: &[u32], seed: u32, blocks: &[[u8; N]]) -> Option<usize>
     requires { length blocks.now ≤ length index.now }
     ensures found { IfSome result (λ i. (block : List ℕ)

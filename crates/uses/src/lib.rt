@@ -1,4 +1,4 @@
-//! What a caller can prove of `twox_hash`, from its contracts alone.
+//! Properties of `twox_hash` that a caller can prove from its contracts only.
 #![tactic(auto)]
 
 mod blocks;

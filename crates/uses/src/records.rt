@@ -1,4 +1,4 @@
-//! Equality, copies, and hashers that are kept as records.
+//! Equality, copies, and hashers that are saved as records.
 
 ghost use Rattle.std.specs.Prelude.{◌≡◌, ◌↔◌, ◌++◌, ℕ, List, IsTrue, Ok, IfOk, MatchResult};
 ghost use Rattle.twox_hash.specs.Xxh64.{xxh64};
@@ -9,15 +9,15 @@ use std::alloc::AllocError;
 use twox_hash::xxhash64::RestoreError;
 use twox_hash::{XxHash32, XxHash64};
 
-/// Whether two hashers are equal: exactly where their records are.
+/// True if and only if the records of the two hashers are equal.
 pub fn are_equal(a: &XxHash64, b: &XxHash64) -> bool
     ensures { IsTrue result ↔ (a.now ≡ b.now) }
 {
     *a == *b
 }
 
-/// The XXH32 of two hashers after the same pieces: equal where the hashers are, and where their records differ
-/// in bytes of the buffer alone that are not in use.
+/// Returns the XXH32 of two hashers after the same chunks: equal if the hashers are, and if their records differ only
+/// in bytes of the buffer that are not in use.
 pub fn values_after_32(a: &mut XxHash32, b: &mut XxHash32, pieces: &[&[u8]]) -> (u32, u32)
     ensures equal { b.old ≡ a.old → result.1 ≡ result.0 }
     ensures unread { AgreeInUse32 a.old b.old → result.1 ≡ result.0 }
@@ -29,8 +29,8 @@ pub fn values_after_32(a: &mut XxHash32, b: &mut XxHash32, pieces: &[&[u8]]) -> 
     (a.finish_32(), b.finish_32())
 }
 
-/// The XXH64 of two hashers after the same pieces: equal where the hashers are, and where their records differ
-/// in bytes of the buffer alone that are not in use.
+/// Returns the XXH64 of two hashers after the same chunks: equal if the hashers are, and if their records differ only
+/// in bytes of the buffer that are not in use.
 pub fn values_after_64(a: &mut XxHash64, b: &mut XxHash64, pieces: &[&[u8]]) -> (u64, u64)
     ensures equal { b.old ≡ a.old → result.1 ≡ result.0 }
     ensures unread { AgreeInUse a.old b.old → result.1 ≡ result.0 }
@@ -42,8 +42,8 @@ pub fn values_after_64(a: &mut XxHash64, b: &mut XxHash64, pieces: &[&[u8]]) -> 
     (a.finish(), b.finish())
 }
 
-/// The hash of the bytes so far, and the one that they would have with one more piece: the piece is written to
-/// a copy, and the original isn't changed. No copy fails.
+/// Returns the hash of the bytes so far, and the hash with one more chunk: writes the chunk to a copy, and doesn't
+/// change the original. No copy fails.
 pub fn without_and_with(hasher: &XxHash64, piece: &[u8]) -> Result<(u64, u64), AllocError>
     ensures { MatchResult result
         (λ values. (m : List ℕ) → StandsFor hasher.now m
@@ -55,9 +55,9 @@ pub fn without_and_with(hasher: &XxHash64, piece: &[u8]) -> Result<(u64, u64), A
     Ok((hasher.finish(), copy.finish()))
 }
 
-/// The hash of the bytes so far and one more piece, which is written to what was restored from the record.
+/// Returns the hash of the bytes so far and one more chunk, which is written to the hasher restored from the record.
 ///
-/// The record of a hasher that stands for any list is accepted, and goes on as the hasher itself.
+/// The record of a hasher that represents any list is accepted, and continues as the hasher itself.
 pub fn save_and_go_on(hasher: &XxHash64, piece: &[u8]) -> Result<u64, RestoreError>
     ensures accepted { (m : List ℕ)
         → StandsFor hasher.now m → result ≡ Ok (xxh64 hasher.now.seed (m ++ piece.now)) }

@@ -1,4 +1,4 @@
-//! Hashes that were stored beside blocks, and what they notice.
+//! Hashes that were stored with blocks, and the changes that they detect.
 
 ghost use Rattle.std.specs.Prelude.{◌≡◌, ◌≢◌, ◌↔◌, ◌^◌, ◌<◌, ◌≤◌, ℕ, List, length, IsTrue};
 ghost use Rattle.twox_hash.specs.Word.{IsBytes};
@@ -10,10 +10,10 @@ ghost use Rattle.twox_hash.specs.Value.{xxh3_128};
 
 use twox_hash::{XxHash3_128, XxHash32};
 
-/// Whether a block still has the XXH32 that was stored with it.
+/// True if a block still has the XXH32 that was stored with it.
 ///
-/// The answer is `false` for every block that is one changed unit away from the one that was stored: a
-/// four-byte word, counted from byte 0, or one of the bytes after the last word.
+/// Returns `false` for every block that is one changed unit away from the stored one: a four-byte word, counted from
+/// byte 0, or one of the bytes after the last word.
 pub fn is_unchanged(stored: u32, seed: u32, block: &[u8]) -> bool
     ensures exact { IsTrue result ↔ (stored ≡ xxh32 seed block.now) }
     ensures notices { (m : List ℕ) (from size : ℕ)
@@ -23,9 +23,9 @@ pub fn is_unchanged(stored: u32, seed: u32, block: &[u8]) -> bool
     XxHash32::oneshot(seed, block) == stored
 }
 
-/// Whether two blocks have one XXH3 of 128 bits.
+/// True if two blocks have the same XXH3 128-bit.
 ///
-/// For blocks of one length up to 16 bytes, that is whether they are the same.
+/// For blocks of one length up to 16 bytes, that means that they are the same.
 pub fn same_value(first: &[u8], second: &[u8]) -> bool
     ensures exact { IsTrue result
         ↔ (xxh3_128 0 default_secret first.now ≡ xxh3_128 0 default_secret second.now) }

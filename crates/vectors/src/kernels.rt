@@ -1,4 +1,4 @@
-//! XXH3 by each kernel by name, whichever kernel the one-shots and the hashers run.
+//! XXH3 by each kernel by name, whichever kernel the one-shots and the hashers use.
 
 use crate::rows::{Kind, Row};
 use crate::ways::boxed;
@@ -10,7 +10,7 @@ use twox_hash::xxhash3::{
 use twox_hash::xxhash3_64::Finalize64;
 use twox_hash::xxhash3_128::Finalize128;
 
-/// Whether the one-shot by each kernel answers what the row does. Only XXH3 above 240 bytes has kernels.
+/// True if the one-shot by each kernel returns the test case's value. Only XXH3 above 240 bytes has kernels.
 pub fn agree_at_once(row: &Row, input: &[u8], secret: &[u8]) -> bool {
     if is_plain(row) || input.len() <= CUTOFF {
         return true;
@@ -24,7 +24,7 @@ pub fn agree_at_once(row: &Row, input: &[u8], secret: &[u8]) -> bool {
         && at_once(halves4::Impl {}, row, input, secret) == answer
 }
 
-/// Whether the stream by each kernel answers what the row does.
+/// True if the stream by each kernel returns the test case's value.
 pub fn agree_in_pieces(
     alloc: Global,
     row: &Row,
@@ -87,7 +87,7 @@ fn in_pieces<V: Vector>(
     })
 }
 
-// By the constructor that the row's seed and secret ask for.
+// By the constructor for the test case's seed and secret.
 fn empty_core(
     alloc: Global,
     row: &Row,

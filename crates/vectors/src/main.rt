@@ -1,5 +1,5 @@
-//! Compares every way to compute a hash with the answers of the reference library, a table that is read on
-//! standard input. `oracle/vectors.c` says how a row is written.
+//! Compares every way to compute a hash with the values of the reference library, a table on standard input.
+//! `oracle/vectors.c` documents its format.
 #![tactic(auto)]
 
 mod kernels;
@@ -10,7 +10,7 @@ use crate::rows::Row;
 use std::io;
 use std::process::ExitCode;
 
-// How many rows agree, and how many do not.
+// Number of test cases that agree, and of those that don't.
 #[derive(Clone, Copy)]
 struct Counts {
     agreeing: u64,

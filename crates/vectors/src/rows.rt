@@ -1,8 +1,8 @@
-//! A row of the table: a request and the reference library's answer.
+//! A test case: a request and the reference library's value.
 
 use std::alloc::{AllocError, Global};
 
-/// Which hash answers.
+/// The hash algorithm.
 #[derive(Clone, Copy)]
 pub enum Kind {
     X32,
@@ -11,7 +11,7 @@ pub enum Kind {
     X3_128,
 }
 
-/// Bytes that a row stands for: the highest ones of so many numbers after `start`.
+/// The bytes of a test case: the highest bytes of this many numbers after `start`.
 #[derive(Clone, Copy)]
 pub struct Recipe {
     pub length: usize,
@@ -30,7 +30,7 @@ impl Recipe {
     }
 }
 
-/// A request and its answer.
+/// A request and its value.
 #[derive(Clone, Copy)]
 pub struct Row {
     pub kind: Kind,
@@ -41,7 +41,7 @@ pub struct Row {
 }
 
 impl Row {
-    /// The row that a line holds.
+    /// Parses the test case of a line.
     pub fn parse(line: &str) -> Option<Row> {
         let (kind, rest) = line.split_once(' ')?;
         let (seed, rest) = rest.split_once(' ')?;
@@ -90,7 +90,7 @@ fn parse_recipe(length: &str, start: &str) -> Option<Recipe> {
     })
 }
 
-/// The number after `x` in the sequence that the table's bytes come from.
+/// Returns the number after `x` in the sequence that the table's bytes come from.
 pub fn next_number(x: u64) -> u64 {
     x.wrapping_mul(6_364_136_223_846_793_005)
         .wrapping_add(1_442_695_040_888_963_407)

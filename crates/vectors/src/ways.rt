@@ -1,4 +1,4 @@
-//! Every way to compute a hash: at once, byte by byte, cut at random, and by each kernel.
+//! Every way to compute a hash: at once, byte by byte, split at random, and by each kernel.
 
 use crate::kernels;
 use crate::rows::{Kind, Recipe, Row, next_number};
@@ -7,7 +7,7 @@ use std::alloc::{AllocError, Global};
 use std::boxed::BoxedSlice;
 use twox_hash::{XxHash3_64, XxHash3_128, XxHash32, XxHash64};
 
-/// Whether every way to compute the row's hash answers what the row does.
+/// True if every way to compute the test case's hash returns its value.
 pub fn agree(alloc: Global, row: &Row) -> Result<bool, AllocError> {
     let input = row.input.bytes(alloc)?;
     let none = Recipe {
@@ -28,7 +28,7 @@ pub fn agree(alloc: Global, row: &Row) -> Result<bool, AllocError> {
     )
 }
 
-// By the one-shot that the row's seed and secret ask for.
+// By the one-shot for the test case's seed and secret.
 fn at_once(row: &Row, input: &[u8], secret: &[u8]) -> Option<u128> {
     let seed = row.seed.unwrap_or(0);
     match row.kind {
@@ -62,7 +62,7 @@ fn at_once_128(row: &Row, input: &[u8], secret: &[u8]) -> Option<u128> {
     }
 }
 
-// Pieces of 0 to 299 bytes, as the input's length gives them.
+// Splits the input into pseudo-random chunks of 0 to 299 bytes, seeded by its length.
 fn cut_at_random(alloc: Global, input: &[u8]) -> Result<Vec<&[u8]>, AllocError> {
     let mut pieces = Vec::new(alloc);
     let mut rest = input;
@@ -93,7 +93,7 @@ fn in_pieces(
     })
 }
 
-// What a hasher answers after the pieces.
+// Returns a hasher's value after the chunks.
 fn after<H: Stream + Drop>(hasher: H, pieces: &[&[u8]]) -> H::Value {
     let mut hasher = hasher;
     for piece in pieces.iter() {
@@ -119,7 +119,7 @@ fn stream_64(
     })
 }
 
-// By the constructor that the row's seed and secret ask for.
+// By the constructor for the test case's seed and secret.
 fn empty_stream_64(
     alloc: Global,
     row: &Row,
@@ -147,7 +147,7 @@ fn stream_128(
     })
 }
 
-// By the constructor that the row's seed and secret ask for.
+// By the constructor for the test case's seed and secret.
 fn empty_stream_128(
     alloc: Global,
     row: &Row,
@@ -163,7 +163,7 @@ fn empty_stream_128(
     })
 }
 
-/// The secret in memory of its own, for a stream that owns it.
+/// Allocates a copy of the secret, for a stream that owns it.
 pub fn boxed(alloc: Global, secret: &[u8]) -> Result<BoxedSlice<u8>, AllocError> {
     Ok(secret.to_vec(alloc)?.into_boxed_slice())
 }

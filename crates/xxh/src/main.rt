@@ -1,4 +1,4 @@
-//! The program `xxh`: hashes standard input, as the words of the command line ask.
+//! The program `xxh`: hashes standard input as its arguments command.
 #![tactic(auto)]
 
 use std::process::ExitCode;

@@ -1,4 +1,4 @@
--- Pieces that are read from a slice and written to a sink that follows a script.
+-- Chunks that are read from a slice and written to a sink that follows a script.
 use Rattle.std.proofs.Common.{◌≡◌, ℕ, inl, inr, ◌+◌, ◌<◌, ◌≤◌, List, [], ◌∷◌, ◌++◌, length, refl, sym, ap, ◌∙◌, append-nil, append_assoc, length-append, arith, Ok, Err, Result}
 use Rattle.std.specs.List.{concat}
 use Rattle.xxh_io.specs.declared.error.DigestError.{DigestError}
@@ -11,12 +11,12 @@ use Rattle.xxh_io.specs.Script.{counted, slice_rest, sink_bytes, sink_fail_at, s
 
 -- ---- what was read
 
--- the pieces, joined, and then what is left are what was left before
+-- the chunks, joined, and then what is left are what was left before
 pub slice-pieces : (old new : SliceSource) (pieces : List (List ℕ)) → Pieces SliceGives old pieces new → slice_rest old ≡ concat pieces ++ slice_rest new
 slice-pieces old new [] led = ap slice_rest (sym led)
 slice-pieces old new (p ∷ ps) led = led.1.0 ∙ ap (λ rest. p ++ rest) (slice-pieces led.0 new ps led.2) ∙ sym (append_assoc p (concat ps) (slice_rest new))
 
--- an empty piece comes after all the bytes
+-- an empty chunk comes after all the bytes
 pub slice-end : (old new : SliceSource) (pieces : List (List ℕ)) → Pieces SliceGives old (pieces ++ [] ∷ []) new → concat pieces ≡ slice_rest old
 slice-end old new [] led = sym (led.1.0 ∙ led.1.1 refl)
 slice-end old new (p ∷ ps) led = ap (λ rest. p ++ rest) (slice-end led.0 new ps led.2) ∙ sym led.1.0
@@ -51,7 +51,7 @@ never-refused {N} line old new never room refused =
       | inr full ↦ absurd (omega (arith, size, there, full, room, refused.4.2))
     ]
 
--- ---- the answer
+-- ---- the result
 
 pub always-ok : {N : ℕ} (max_reads : ℕ) (pieces : List (List ℕ)) (line : List ℕ) (r_old r_new : SliceSource) (w_old w_new : ScriptSink N) (result : Result (Unit {0}) DigestError) → NoneEmpty pieces → length (slice_rest r_old) < max_reads → sink_fail_at w_old ≡ 0 → length (sink_bytes w_old) + length line ≤ N → ReadsOn slice_reading max_reads pieces r_old r_new result → Writes script_writing line w_old w_new result → result ≡ Ok tt
 always-ok max_reads pieces line r_old r_new w_old w_new (Ok x) some enough never room read wrote = refl

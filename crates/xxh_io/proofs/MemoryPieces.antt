@@ -1,4 +1,4 @@
--- Pieces between ends that tell their bytes.
+-- Chunks between streams that expose their bytes.
 use Rattle.std.proofs.Common.{ℕ, List, [], ◌∷◌, subst, sym, Option}
 use Rattle.std.specs.List.{concat}
 use Rattle.std.specs.Io.KnownBytes.{Appends, Consumes}

@@ -34,7 +34,7 @@ Refused-more writing a b old new first =
     let some : 0 < length (rest ++ b) = simp length-append (omega (arith, first.4.2)) in
     (first.0, first.1, first.2, first.3, (rest ++ b, ap (λ bytes. bytes ++ b) first.4.1 ∙ append_assoc (concat first.0) rest b, some))
 
--- by either answer of a write
+-- by either result of a write
 pub Writes-join : {W T : Type 0} (writing : SinkRules W) (a b : List ℕ) (old mid new : W) (result : Result T DigestError) → IfErr result (λ e. e ≡ WriteFailed) → Took writing a old mid → Writes writing b mid new result → Writes writing (a ++ b) old new result
 Writes-join writing a b old mid new (Ok x) only first second = Took-join writing a b old mid new first second
 Writes-join writing a b old mid new (Err WriteFailed) only first second = Refused-join writing a b old mid new first second

@@ -1,4 +1,4 @@
--- What the words of the command line ask for.
+-- The command that the arguments are parsed as.
 use Rattle.std.proofs.Common.{zero, suc, ℕ, ◌<◌, ◌≤◌, ◌^◌, List, [], ◌∷◌, length, ◌&&◌, nat_lt, bytes_eq, codes, if◌then◌else◌, Result, Ok, Err}
 use Rattle.std.specs.Borrow.{Bor}
 use Rattle.std.specs.Str.{all_ascii_digits}
@@ -13,7 +13,7 @@ use Rattle.xxh_io.specs.declared.fault.Fault.TheVariants.{Usage, BadSeed, BadSiz
 use Rattle.xxh_io.specs.declared.command.Command.{Command}
 use Rattle.xxh_io.specs.declared.command.Command.TheVariants.{Hash, Save32, Save64, Resume32, Resume64, Blocks}
 
--- the kind of this name
+-- the algorithm of this name
 abbrev pub kind_named : List ℕ → Result Kind Fault
 kind_named name =
     if bytes_eq name (codes "32") then Ok X32
@@ -22,7 +22,7 @@ kind_named name =
     else if bytes_eq name (codes "3-128") then Ok X3_128
     else Err Usage
 
--- the number that one or more decimal digits write, leading zeros among them, where it is below the limit
+-- the number written as one or more decimal digits, leading zeros included, if it is below the limit
 abbrev pub number_named : Fault → ℕ → List ℕ → Result ℕ Fault
 number_named fault limit word =
     if nat_lt 0 (length word) && (all_ascii_digits word && nat_lt (digits_value 10 word) limit)
@@ -32,7 +32,7 @@ number_named fault limit word =
 abbrev pub seed_named : ℕ → List ℕ → Result ℕ Fault
 seed_named limit word = number_named BadSeed limit word
 
--- the kind is tested before the seed
+-- the algorithm is tested before the seed
 abbrev pub hash_with : Kind → Result ℕ Fault → Result Command Fault
 hash_with kind (Ok seed) = Ok (Hash kind seed)
 hash_with kind (Err fault) = Err fault
@@ -44,7 +44,7 @@ hash_of (Err fault) seed = Err fault
 abbrev pub hash_command : List ℕ → List ℕ → Result Command Fault
 hash_command kind seed = hash_of (kind_named kind) seed
 
--- the kind of this name, of those whose hashers have saved states
+-- the algorithm of this name, if its hashers have saved states
 abbrev pub saved_kind_named : List ℕ → Result SavedKind Fault
 saved_kind_named name =
     if bytes_eq name (codes "32") then Ok Saved.X32
@@ -92,25 +92,25 @@ blocks_of (Err fault) = Err fault
 abbrev pub blocks_command : List ℕ → Result Command Fault
 blocks_command size = blocks_of (number_named BadSize (2 ^ 64) size)
 
--- a command of two words: the second is the size of a block, or a kind; then the seed is 0
+-- a command of two arguments: the second is the size of a block, or an algorithm with the seed 0
 abbrev pub pair_command : List ℕ → List ℕ → Result Command Fault
 pair_command name word =
     if bytes_eq name (codes "blocks") then blocks_command word
     else seeded_command name word (codes "0")
 
--- a command with a last word, which is a saved text or a seed
+-- a command with a last argument, which is a saved text or a seed
 abbrev pub last_command : List ℕ → List ℕ → Bor (List ℕ) → Result Command Fault
 last_command name kind last =
     if bytes_eq name (codes "resume") then resume_command kind last
     else seeded_command name kind last.now
 
--- the command of the words after the program's name
+-- the command of the arguments after the program's name
 abbrev pub command_of : List (Bor (List ℕ)) → Result Command Fault
 command_of (name ∷ word ∷ []) = pair_command name.now word.now
 command_of (name ∷ kind ∷ last ∷ []) = last_command name.now kind.now last
 command_of _ = Err Usage
 
--- a command's seed is one of its kind, and a block has at least one byte
+-- a command's seed is one of its algorithm, and a block has at least one byte
 abbrev pub NumberFits : Command → Type 0
 NumberFits (Hash kind seed) = seed < seed_limit kind
 NumberFits (Blocks size) = 1 ≤ size

@@ -1,4 +1,4 @@
--- The line that tells each fault, and the exit status.
+-- The line and the exit status of each error.
 use Rattle.std.specs.Prelude.{ℕ, List, [], ◌∷◌, ◌++◌, codes}
 use Rattle.xxh_io.specs.declared.error.DigestError.{DigestError}
 use Rattle.xxh_io.specs.declared.error.DigestError.TheVariants.{ReadFailed, WriteFailed, TooLong}
@@ -11,7 +11,7 @@ digest_text ReadFailed = codes "read failed"
 digest_text WriteFailed = codes "write failed"
 digest_text TooLong = codes "too long"
 
--- what is wrong
+-- the error message
 abbrev pub text_of : Fault → List ℕ
 text_of Usage = codes "usage: xxh hash|save|resume 32|64|3-64|3-128 [SEED|JSON] or xxh blocks SIZE"
 text_of BadSeed = codes "bad seed"
@@ -20,11 +20,11 @@ text_of BadState = codes "bad state"
 text_of OutOfMemory = codes "out of memory"
 text_of (Digest e) = digest_text e
 
--- the program's name, the text and a line feed
+-- the program's name, the message and a newline
 abbrev pub line_of : Fault → List ℕ
 line_of fault = codes "xxh: " ++ (text_of fault ++ 10 ∷ [])
 
--- 1 where reading or writing is at fault, 2 where the words are, 3 where memory is
+-- 1 for errors of reading or writing, 2 for errors in the arguments, 3 if out of memory
 abbrev pub status_of : Fault → ℕ
 status_of Usage = 2
 status_of BadSeed = 2

@@ -11,6 +11,6 @@ reader_of s = s.inner
 abbrev pub has_read_failed : {R : Type 0} → FromRead R → Bool
 has_read_failed s = s.failed
 
--- where the bytes that are left are known, they began with the piece, which is empty only at their end
+-- if the remaining bytes are known, they began with the chunk, which is empty only at their end
 abbrev pub ReadsPiece : Option (List ℕ) → List ℕ → Option (List ℕ) → Type 0
 ReadsPiece old piece new = Consumes old new piece × (length piece ≡ 0 → IsAtEnd new)

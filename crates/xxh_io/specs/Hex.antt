@@ -10,19 +10,19 @@ abbrev pub hex_digits : ℕ → ℕ → List ℕ
 hex_digits zero value = []
 hex_digits (suc n) value = hex_digits n (value / 16) ++ hex_digit (value % 16) ∷ []
 
--- the digits and a line feed
+-- the digits and a newline
 unfoldable pub hex_line : ℕ → ℕ → List ℕ
 hex_line digits value = hex_digits digits value ++ 10 ∷ []
 
--- the line of a block: its offset in 16 digits, a space, the value in 32 digits and a line feed
+-- the line of a block: its offset in 16 digits, a space, the value in 32 digits and a newline
 unfoldable pub offset_line : ℕ → ℕ → List ℕ
 offset_line offset value = hex_digits 16 offset ++ (32 ∷ hex_line 32 value)
 
--- the number that a lower-case digit stands for
+-- the number of a lower-case digit
 abbrev pub digit_value : ℕ → ℕ
 digit_value c = if nat_lt c 58 then c - 48 else c - 87
 
--- the number that digits stand for, after others that stand for `before`
+-- the number of the digits, after others of the number `before`
 abbrev pub hex_value_after : ℕ → List ℕ → ℕ
 hex_value_after before [] = before
 hex_value_after before (c ∷ cs) = hex_value_after (before * 16 + digit_value c) cs

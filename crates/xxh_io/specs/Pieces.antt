@@ -1,19 +1,19 @@
--- Pieces of bytes that are read from one state of an end to another, or written. `step old piece new` says
--- that one read or write of the piece leads from old to new.
+-- Chunks of bytes that are read or written, from one state of a stream to another. `step old piece new` is one read or
+-- write of the chunk that leads from old to new.
 use Rattle.std.specs.Prelude.{◌≡◌, ℕ, ◌<◌, List, [], ◌∷◌, ◌++◌, length}
 use Rattle.std.specs.List.{AllByRecursion}
 
--- one read or write of a piece: which states it leads from and to
+-- one read or write of a chunk: the states that it leads from and to
 abbrev pub Step : Type 0 → Type 1
 Step S = S → List ℕ → S → Type 0
 
--- the pieces, one step each, lead from old to new
+-- the chunks, one step each, lead from old to new
 abbrev pub Pieces : {S : Type 0} → Step S → S → List (List ℕ) → S → Type 0
 Pieces step old [] new = new ≡ old
 Pieces {S} step old (piece ∷ pieces) new =
     (mid : S) × step old piece mid × Pieces step mid pieces new
 
--- no piece is empty
+-- no chunk is empty
 abbrev pub NoneEmpty : List (List ℕ) → Type 0
 NoneEmpty pieces = AllByRecursion (λ piece. 0 < length piece) pieces
 

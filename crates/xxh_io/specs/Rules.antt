@@ -1,4 +1,4 @@
--- The rules of an end, as one record: what its reads give or its writes take, how they fail, and whether one has.
+-- The rules of a stream as one record: what its reads return or its writes take, how they fail, and whether one has.
 use Rattle.xxh_io.specs.declared.ends.Source as source
 use Rattle.xxh_io.specs.declared.ends.Sink as sink
 

@@ -1,4 +1,4 @@
--- What is told on an end, how the program tells a fault, and its exit status.
+-- What is written to standard error, the program's error messages, and its exit status.
 use Rattle.std.specs.Prelude.{◌≡◌, ℕ, List, is_err, IfErr, Result, Ok, Err}
 use Rattle.xxh_io.specs.declared.error.DigestError.{DigestError}
 use Rattle.xxh_io.specs.declared.error.DigestError.TheVariants.{WriteFailed}
@@ -13,7 +13,7 @@ Told telling bytes old new =
     (written : Result (Unit {0}) DigestError) × Writes telling bytes old new written
     × IfErr written (λ e. e ≡ WriteFailed) × (telling.has_failed new ≡ is_err written)
 
--- a fault's line was told, and nothing without a fault
+-- an error's line was written, and nothing without an error
 abbrev pub Tells : {E : Type 0} → SinkRules E → Result (Unit {0}) Fault → E → E → Type 0
 Tells telling (Ok x) old new = new ≡ old
 Tells telling (Err fault) old new = Told telling (line_of fault) old new

@@ -1,4 +1,4 @@
-//! The words of a process's arguments.
+//! The arguments of a process.
 
 ghost use Rattle.std.specs.Prelude.{IfOk, map, string_bytes, vec_items};
 ghost use Rattle.std.specs.IoError.{error_kind};
@@ -9,7 +9,7 @@ use std::alloc::{AllocError, Global};
 use std::io;
 use std::io::ErrorKind;
 
-/// Why there are no arguments: one is not UTF-8, or there is no memory.
+/// Returns the error for missing arguments: one is not UTF-8, or out of memory.
 pub fn argument_fault(error: io::Error) -> Fault
     ensures { IsArgumentFault (error_kind error) result }
 {
@@ -19,7 +19,7 @@ pub fn argument_fault(error: io::Error) -> Fault
     }
 }
 
-/// The words after the program's name. An error says that there was no memory for them.
+/// Returns the arguments after the program's name. Fails if out of memory.
 pub fn words_after_name(alloc: Global, args: &[String]) -> Result<Vec<&str>, AllocError>
     ensures { IfOk result (λ words. AreWords (map string_bytes args.now) (vec_items words)) }
 {

@@ -1,4 +1,4 @@
-//! What the words of the command line ask for.
+//! Parses the arguments.
 
 ghost use Rattle.std.specs.Prelude.{◌≡◌, ◌+◌, IfOk};
 ghost use Rattle.xxh_io.specs.Command.{blocks_command, command_of, hash_command, kind_named, last_command, number_named, pair_command, resume_command, save_command, saved_kind_named, seed_named, seeded_command, NumberFits};
@@ -7,7 +7,7 @@ ghost use Rattle.xxh_io.specs.declared.fault.Fault.TheVariants.{BadSize};
 use crate::fault::Fault;
 use crate::kind::{Kind, SavedKind};
 
-/// What the words ask for.
+/// A parsed command.
 #[derive(Clone, Copy, Debug, PartialEq, Eq)]
 pub enum Command<'w> {
     /// Prints the digest line of the input.
@@ -16,18 +16,18 @@ pub enum Command<'w> {
     Save32 { seed: u32 },
     /// Prints the saved text of XXH64 of the input.
     Save64 { seed: u64 },
-    /// Goes on from a saved text of XXH32, and prints the digest line.
+    /// Continues from a saved text of XXH32, and prints the digest line.
     Resume32 { json: &'w str },
-    /// Goes on from a saved text of XXH64, and prints the digest line.
+    /// Continues from a saved text of XXH64, and prints the digest line.
     Resume64 { json: &'w str },
     /// Prints the digest lines of the blocks of the input.
     Blocks { size: u64 },
 }
 
-// The seed where the words have none.
+// The seed if the arguments have none.
 const NO_SEED: &str = "0";
 
-/// The command that the words after the program's name ask for.
+/// Parses the arguments after the program's name.
 pub fn parse<'w>(words: &[&'w str]) -> Result<Command<'w>, Fault>
     ensures command { result ≡ command_of words.now }
     ensures number { IfOk result NumberFits }
@@ -115,7 +115,7 @@ fn blocks(size: &str) -> Result<Command<'static>, Fault>
     }
 }
 
-// The kind of this name.
+// Returns the algorithm of this name.
 fn kind_from(name: &str) -> Result<Kind, Fault>
     ensures { result ≡ kind_named name.now }
 {
@@ -128,7 +128,7 @@ fn kind_from(name: &str) -> Result<Kind, Fault>
     }
 }
 
-// The kind of this name, of those whose hashers have saved states.
+// Returns the algorithm of this name, if its hashers have saved states.
 fn saved_kind_from(name: &str) -> Result<SavedKind, Fault>
     ensures { result ≡ saved_kind_named name.now }
 {
@@ -139,18 +139,18 @@ fn saved_kind_from(name: &str) -> Result<SavedKind, Fault>
     }
 }
 
-// The seed that the word writes in decimal digits, up to the greatest of its kind.
+// Parses a seed in decimal digits, up to the maximum of its algorithm.
 fn seed_from(word: &str, most: u64) -> Result<u64, Fault>
     ensures { result ≡ seed_named (most + 1) word.now }
 {
     number_from(word, most, Fault::BadSeed)
 }
 
-// The number that the word writes in decimal digits, up to the greatest; or this fault.
+// Parses a number in decimal digits, up to the maximum, or returns this error.
 fn number_from(word: &str, most: u64, fault: Fault) -> Result<u64, Fault>
     ensures { result ≡ number_named fault (most + 1) word.now }
 {
-    // `parse` takes a sign too.
+    // `parse` also accepts a sign.
     if word.starts_with('+') {
         return Err(fault);
     }

@@ -1,14 +1,14 @@
-//! What bytes are read from and written to.
+//! Streams to read bytes from and write bytes to.
 
 ghost use Rattle.std.specs.Prelude.{◌≡◌, ◌<◌, ◌≤◌, List, ℕ, Bool, false, length, take, is_err, IfOk, OnErr};
 
-/// A read or a write failed. Why is not said.
+/// A read or a write failed, for an unspecified reason.
 #[derive(Clone, Copy, Debug, PartialEq, Eq)]
 pub struct Failed;
 
-/// What bytes are read from.
+/// A stream to read bytes from.
 ///
-/// A source that has failed once has failed for good: no call may read from it again.
+/// A source that has failed once stays failed: no call may read from it again.
 pub trait Source {
     // A read has failed.
     ghost has_failed: { Self → Bool };
@@ -19,13 +19,13 @@ pub trait Source {
     // A read that fails leads from the first source to the second.
     ghost fails: { Self → Self → Type 0 };
 
-    /// Whether a read has failed.
+    /// True if a read has failed.
     fn failed(&self) -> bool
         ensures { result ≡ has_failed self.now };
 
-    /// Reads some bytes into the front of the buffer, and answers how many. None are the end.
+    /// Reads bytes into the front of the buffer, and returns their number, or 0 at the end of the input.
     ///
-    /// The caller shows that the source has not failed and that the buffer is not empty.
+    /// The caller proves that the source has not failed and that the buffer is not empty.
     fn read(&mut self, buf: &mut [u8]) -> Result<usize, Failed>
         requires works { has_failed self.old ≡ false }
         requires room { 0 < length buf.old }
@@ -35,9 +35,9 @@ pub trait Source {
         ensures failed { has_failed self.new ≡ is_err result };
 }
 
-/// What bytes are written to.
+/// A stream to write bytes to.
 ///
-/// A sink that has failed once has failed for good: no call may write to it again.
+/// A sink that has failed once stays failed: no call may write to it again.
 pub trait Sink {
     // A write has failed.
     ghost has_failed: { Self → Bool };
@@ -48,13 +48,13 @@ pub trait Sink {
     // A write that fails leads from the first sink to the second.
     ghost refuses: { Self → Self → Type 0 };
 
-    /// Whether a write has failed.
+    /// True if a write has failed.
     fn failed(&self) -> bool
         ensures { result ≡ has_failed self.now };
 
-    /// Writes a front of the bytes, at least one of them, and answers how many.
+    /// Writes a front of the bytes, at least one of them, and returns their number.
     ///
-    /// The caller shows that the sink has not failed and that there are bytes.
+    /// The caller proves that the sink has not failed and that there are bytes.
     fn write(&mut self, bytes: &[u8]) -> Result<usize, Failed>
         requires works { has_failed self.old ≡ false }
         requires some { 0 < length bytes.now }

@@ -1,17 +1,16 @@
-//! Why there is no digest.
+//! Errors of a digest.
 
 use std::error::Error;
 use std::fmt;
 
-/// Why a call that reads to the end of a source fails. Its text is `read failed`, `write failed` or
-/// `too long`.
+/// The error of a call that reads to the end of a source. Its text is `read failed`, `write failed` or `too long`.
 #[derive(Clone, Copy, Debug, PartialEq, Eq)]
 pub enum DigestError {
     /// A read failed.
     ReadFailed,
     /// A write failed, or took nothing.
     WriteFailed,
-    /// As many reads as are allowed each gave at least one byte.
+    /// Each of the allowed reads returned at least one byte.
     TooLong,
 }
 

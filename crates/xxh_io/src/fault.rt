@@ -1,4 +1,4 @@
-//! Why a command is not carried out: the line and the exit status of each fault, and how it is told.
+//! Errors of a command: the line and the exit status of each, and how it is written to standard error.
 
 ghost use Rattle.std.specs.Prelude.{◌≡◌, false};
 ghost use Rattle.xxh_io.specs.Tells.{Tells, status_after};
@@ -8,18 +8,18 @@ use crate::error::DigestError;
 use crate::write::write_all;
 use std::alloc::AllocError;
 
-/// Why a command is not carried out.
+/// The error of a command.
 #[derive(Clone, Copy, Debug, PartialEq, Eq)]
 pub enum Fault {
-    /// The words are no command, or the kind is none of the command's.
+    /// The arguments are no command, or the command doesn't support the algorithm.
     Usage,
-    /// The seed is not one or more decimal digits, or the kind has no such seed.
+    /// The seed is not a decimal number, or is too large for the algorithm.
     BadSeed,
-    /// The size of a block is not one or more decimal digits with a value from 1 to 2^64 - 1.
+    /// The size of a block is not a decimal number from 1 to 2^64 - 1.
     BadSize,
     /// The text is not a saved state, or no hasher has that state.
     BadState,
-    /// There was no memory.
+    /// Out of memory.
     OutOfMemory,
     /// A read or a write failed, or the input was too long.
     Digest(DigestError),
@@ -28,7 +28,7 @@ pub enum Fault {
 impl Fault {
     ghost use Rattle.xxh_io.specs.Fault.{line_of, status_of};
 
-    /// The line for standard error.
+    /// Returns the line for standard error.
     pub fn line(self) -> &'static [u8]
         ensures { result.now ≡ line_of self }
     {
@@ -46,7 +46,7 @@ impl Fault {
         }
     }
 
-    /// The exit status.
+    /// Returns the exit status.
     pub fn status(self) -> u8
         ensures { result ≡ status_of self }
     {
@@ -78,7 +78,7 @@ impl From<AllocError> for Fault {
     }
 }
 
-/// Tells the fault, where there is one, and answers the exit status.
+/// Writes the error message, if there is an error, and returns the exit status.
 pub fn conclude<E: Sink>(done: Result<(), Fault>, err: &mut E) -> u8
     requires { E.has_failed err.old ≡ false }
     ensures tells { Tells E.Sink done err.old err.new }
@@ -87,7 +87,7 @@ pub fn conclude<E: Sink>(done: Result<(), Fault>, err: &mut E) -> u8
     match done {
         Ok(()) => 0,
         Err(fault) => {
-            // Whether the line could be written does not change the status.
+            // A failure to write the line does not change the status.
             let _ = write_all(fault.line(), err);
             fault.status()
         }

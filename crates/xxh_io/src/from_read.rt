@@ -10,7 +10,7 @@ ghost use Rattle.xxh_io.specs.declared.from_read.FromRead.{FromRead};
 use crate::ends::{Failed, Source};
 use std::io::Read;
 
-/// A standard reader as a source. Every error of a read is a failure, an interruption too.
+/// A standard reader as a source. Every error of a read is a failure, including an interruption.
 #[derive(Drop)]
 pub struct FromRead<R> {
     inner: R,
@@ -18,7 +18,7 @@ pub struct FromRead<R> {
 }
 
 impl<R: Read> FromRead<R> {
-    /// A source that has not failed.
+    /// Creates a source that has not failed.
     pub fn new(inner: R) -> FromRead<R>
         ensures inner { reader_of result ≡ inner }
         ensures works { ⟦<FromRead<R> as Source>⟧.has_failed result ≡ false }
@@ -29,7 +29,7 @@ impl<R: Read> FromRead<R> {
         }
     }
 
-    /// The reader.
+    /// Returns the reader.
     pub fn into_inner(self) -> R
         ensures { result ≡ reader_of self }
     {
@@ -61,8 +61,8 @@ impl<R: Read> Source for FromRead<R> {
     }
 }
 
-/// A law, with nothing to run: where a reader tells the bytes that it has left, the pieces that are read,
-/// joined, and then those that are left afterwards are those that were left before.
+/// Lemma (no code): if a reader exposes its remaining bytes, then the chunks read plus the bytes still remaining are
+/// the bytes that remained before.
 pub fn reader_pieces<R: Read>()
     ensures { (old new : FromRead R) (pieces : List (List ℕ))
         → Pieces ⟦<FromRead<R> as Source>⟧.gives old pieces new

@@ -18,7 +18,7 @@ pub struct FromWrite<W> {
 }
 
 impl<W: Write> FromWrite<W> {
-    /// A sink that has not failed.
+    /// Creates a sink that has not failed.
     pub fn new(inner: W) -> FromWrite<W>
         ensures inner { writer_of result ≡ inner }
         ensures works { ⟦<FromWrite<W> as Sink>⟧.has_failed result ≡ false }
@@ -29,7 +29,7 @@ impl<W: Write> FromWrite<W> {
         }
     }
 
-    /// Flushes the writer. Every error is a failure of the sink; the bytes that the writer holds stay.
+    /// Flushes the writer. Every error is a failure of the sink; the writer keeps the bytes that it holds.
     pub fn flush(&mut self) -> Result<(), Failed>
         ensures bytes { Keeps (W.contents (writer_of self.old)) (W.contents (writer_of self.new)) }
         ensures ok { IfOk result (λ _. has_write_failed self.new ≡ has_write_failed self.old) }
@@ -43,7 +43,7 @@ impl<W: Write> FromWrite<W> {
         }
     }
 
-    /// The writer.
+    /// Returns the writer.
     pub fn into_inner(self) -> W
         ensures { result ≡ writer_of self }
     {
@@ -75,8 +75,8 @@ impl<W: Write> Sink for FromWrite<W> {
     }
 }
 
-/// A law, with nothing to run: where a writer tells the bytes that it holds, those that it holds after it
-/// took some pieces are those that it held and then the pieces, joined.
+/// Lemma (no code): if a writer exposes the bytes that it holds, then after it took some chunks it holds those from
+/// before plus the chunks.
 pub fn writer_pieces<W: Write>()
     ensures { (old new : FromWrite W) (pieces : List (List ℕ))
         → Pieces ⟦<FromWrite<W> as Sink>⟧.takes old pieces new

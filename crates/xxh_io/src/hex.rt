@@ -3,10 +3,10 @@
 ghost use Rattle.std.specs.Prelude.{◌≡◌, ◌<◌, ◌^◌, length};
 ghost use Rattle.xxh_io.specs.Hex.{hex_digit, hex_digits, hex_value, offset_line};
 
-/// How many bytes a block's line has: 16 digits, a space, 32 digits and a line feed.
+/// Length of a block's line: 16 digits, a space, 32 digits and a newline.
 pub const LINE: usize = 50;
 
-// The lower-case digit of a number below 16.
+// Returns the lower-case digit of a number below 16.
 fn digit(n: u8) -> u8
     requires { n < 16 }
     ensures { result ≡ hex_digit n }
@@ -27,7 +27,7 @@ pub fn write_digits(value: u128, out: &mut [u8])
     }
 }
 
-/// The line of a block that begins at this offset and has this value.
+/// Returns the line of a block with this offset and this value.
 pub fn offset_line(offset: u64, value: u128) -> [u8; LINE]
     ensures { result ≡ offset_line offset value }
 {

@@ -1,17 +1,17 @@
-//! The kinds of digest.
+//! The hash algorithms.
 
 ghost use Rattle.std.specs.Prelude.{◌≡◌, ◌+◌, ◌≤◌};
 
-/// Which hash a digest line shows.
+/// The hash algorithm of a digest line.
 #[derive(Clone, Copy, Debug, PartialEq, Eq)]
 pub enum Kind {
     /// XXH32, in 8 digits. Its seeds are below 2^32.
     X32,
     /// XXH64, in 16 digits.
     X64,
-    /// XXH3 of 64 bits, in 16 digits.
+    /// XXH3 64-bit, in 16 digits.
     X3_64,
-    /// XXH3 of 128 bits, in 32 digits.
+    /// XXH3 128-bit, in 32 digits.
     X3_128,
 }
 
@@ -19,7 +19,7 @@ impl Kind {
     ghost use Rattle.xxh_io.specs.Kind.{digits_of};
     ghost use Rattle.xxh_io.specs.Kind.{seed_limit};
 
-    /// How many digits the line has.
+    /// Returns the number of digits of the line.
     pub fn digits(self) -> usize
         ensures digits { result ≡ digits_of self }
         ensures room { result ≤ 32 }
@@ -31,7 +31,7 @@ impl Kind {
         }
     }
 
-    /// The greatest seed of the kind.
+    /// Returns the maximum seed of the algorithm.
     pub fn most_seed(self) -> u64
         ensures { result + 1 ≡ seed_limit self }
     {
@@ -42,7 +42,7 @@ impl Kind {
     }
 }
 
-/// The kinds whose hashers have saved states.
+/// The algorithms whose hashers have saved states.
 #[derive(Clone, Copy, Debug, PartialEq, Eq)]
 pub enum SavedKind {
     /// XXH32.

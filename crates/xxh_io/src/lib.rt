@@ -1,5 +1,5 @@
-//! What the program `xxh` stands on and what knows no hash: ends to read from and to write to, buffers, lines in
-//! hexadecimal, the words of the command line, and how a fault is told.
+//! The part of the program `xxh` that uses no hash: streams to read from and write to, buffers, hexadecimal lines, the
+//! arguments, and error messages.
 #![tactic(auto)]
 
 pub mod arguments;

@@ -1,15 +1,13 @@
-//! A sink in memory that follows a script and tells its bytes.
+//! A sink in memory that follows a script and exposes its bytes.
 
 ghost use Rattle.std.specs.Prelude.{◌≡◌, ◌↔◌, ◌⊎◌, ◌<◌, ◌≤◌, ◌-◌, [], length, true, false, take, min, is_err, IfOk, OnErr};
 
 use crate::ends::{Failed, Sink};
 
-/// A sink that has room for `N` bytes, takes up to so many a write, and fails at one write. It takes no
-/// memory beyond its own size.
+/// A sink for `N` bytes that takes a limited number of bytes per write, and fails at one write. Allocates nothing.
 ///
-/// Write j, counted from 1, fails where j is `fail_at`, which is never where that is 0, or where it brings
-/// bytes and `N` are there already. Else it takes as many as the least of `take`, what is brought, and the
-/// room that is left.
+/// Write j, counted from 1, fails if j is `fail_at` (0 never fails), or if the sink is full and bytes are passed.
+/// Otherwise it takes as many bytes as the least of `take`, the bytes passed, and the space left.
 #[derive(Drop)]
 pub struct ScriptSink<const N: usize> {
     bytes: [u8; N],
@@ -25,7 +23,7 @@ pub struct ScriptSink<const N: usize> {
 impl<const N: usize> ScriptSink<N> {
     ghost use Rattle.xxh_io.specs.Script.{sink_bytes, sink_fail_at, sink_take, sink_writes};
 
-    /// An empty sink. The caller shows that it takes at least one byte a write.
+    /// Creates an empty sink. The caller proves that it takes at least one byte a write.
     pub fn new(take: usize, fail_at: u64) -> ScriptSink<N>
         requires { 1 ≤ take }
         ensures bytes { sink_bytes result ≡ [] }
@@ -44,7 +42,7 @@ impl<const N: usize> ScriptSink<N> {
         }
     }
 
-    /// The bytes that were taken.
+    /// Returns the bytes that were taken.
     pub fn bytes(&self) -> &[u8]
         ensures { result.now ≡ sink_bytes self.now }
     {
@@ -74,7 +72,7 @@ impl<const N: usize> Sink for ScriptSink<N> {
         ensures refuses { OnErr result (ScriptRefuses self.old self.new) }
         ensures failed { self.new.failed ≡ is_err result }
 
-        // Beyond what each sink says.
+        // Stronger than the trait's clauses.
         ensures size { IfOk result
             (λ n. n ≡ min (sink_take self.old)
             (min (length bytes.now) (N - length (sink_bytes self.old)))) }

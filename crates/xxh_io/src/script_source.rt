@@ -1,14 +1,13 @@
-//! Sources in memory, which tell their bytes: one that follows a script, and one of a slice.
+//! Sources in memory, which expose their bytes: one that follows a script, and one over a slice.
 
 ghost use Rattle.std.specs.Prelude.{◌≡◌, ◌<◌, ◌≤◌, ◌+◌, ◌==◌, [], length, false, take, is_err, IfOk, OnErr, drop, min, slice_index};
 
 use crate::ends::{Failed, Source};
 
-/// A source that gives bytes in pieces of given sizes, and fails at one read. It takes no memory.
+/// A source that returns bytes in chunks of given sizes, and fails at one read. Allocates nothing.
 ///
-/// Read j, counted from 1, fails where j is `fail_at`, and never where that is 0. Else it gives the next
-/// bytes: as many as the least of `sizes[j - 1]`, what is left, and what is offered. Past the end of `sizes`
-/// it gives none.
+/// Read j, counted from 1, fails if j is `fail_at` (0 never fails). Otherwise it returns the next bytes: as many as the
+/// least of `sizes[j - 1]`, the remaining bytes, and the buffer's length. Past the end of `sizes` it returns none.
 ///
 /// ```
 /// let mut source = ScriptSource::new(b"some bytes", &[4, 1, 5], 3);
@@ -22,7 +21,7 @@ pub struct ScriptSource<'a> {
     bytes: &'a [u8],
     sizes: &'a [usize],
     fail_at: u64,
-    // How many of the bytes were given.
+    // Number of bytes returned so far.
     at: usize,
     reads: u64,
     failed: bool,
@@ -32,7 +31,7 @@ pub struct ScriptSource<'a> {
 impl<'a> ScriptSource<'a> {
     ghost use Rattle.xxh_io.specs.Script.{next_size, script_fail_at, script_reads, script_rest, script_sizes};
 
-    /// A source that was not read yet.
+    /// Creates a source at its beginning.
     pub fn new(bytes: &'a [u8], sizes: &'a [usize], fail_at: u64) -> ScriptSource<'a>
         ensures bytes { script_rest result ≡ bytes.now }
         ensures sizes { script_sizes result ≡ sizes.now }
@@ -50,7 +49,7 @@ impl<'a> ScriptSource<'a> {
         }
     }
 
-    /// How many reads there were, failed ones among them. The count stays at the greatest `u64`.
+    /// Returns the number of reads, including failed ones, saturating at `u64::MAX`.
     pub fn reads(&self) -> u64
         ensures { result ≡ script_reads self.now }
     {
@@ -58,7 +57,7 @@ impl<'a> ScriptSource<'a> {
         reads
     }
 
-    // How many bytes the next read gives where so many are offered.
+    // Returns the number of bytes that the next read returns for a buffer of this size.
     fn next_size(&self, offered: usize) -> usize
         ensures size { result ≡ next_size self.now offered }
         ensures offered { result ≤ offered }
@@ -93,7 +92,7 @@ impl Source for ScriptSource<'_> {
         ensures fails { OnErr result (ScriptFails self.old self.new) }
         ensures failed { self.new.failed ≡ is_err result }
 
-        // Beyond what each source says.
+        // Stronger than the trait's clauses.
         ensures size { IfOk result (λ n. n ≡ next_size self.old (length buf.old)) }
         ensures fails_at { is_err result
             ≡ (counted (script_reads self.old) == script_fail_at self.old) }
@@ -110,7 +109,7 @@ impl Source for ScriptSource<'_> {
     }
 }
 
-/// The bytes of a slice as a source. Each read gives as many as are left and offered, and none fails.
+/// The bytes of a slice as a source. Each read returns as many bytes as remain and fit, and none fails.
 #[derive(Clone, Copy)]
 pub struct SliceSource<'a> {
     rest: &'a [u8],
@@ -119,7 +118,7 @@ pub struct SliceSource<'a> {
 impl<'a> SliceSource<'a> {
     ghost use Rattle.xxh_io.specs.Script.{slice_rest};
 
-    /// A source that was not read yet.
+    /// Creates a source at its beginning.
     pub fn new(bytes: &'a [u8]) -> SliceSource<'a>
         ensures { slice_rest result ≡ bytes.now }
     {
@@ -147,7 +146,7 @@ impl Source for SliceSource<'_> {
         ensures fails { OnErr result ⊥ }
         ensures failed { false ≡ is_err result }
 
-        // Beyond what each source says.
+        // Stronger than the trait's clauses.
         ensures size { IfOk result (λ n. n ≡ min (length (slice_rest self.old)) (length buf.old)) }
         ensures bytes { IfOk result (λ n. take n buf.new ≡ take n (slice_rest self.old)) }
         ensures rest { IfOk result (λ n. slice_rest self.new ≡ drop n (slice_rest self.old)) }

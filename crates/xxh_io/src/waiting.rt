@@ -1,4 +1,4 @@
-//! A buffer of bytes that wait to be written.
+//! A buffer of bytes to be written.
 
 ghost use Rattle.std.specs.Prelude.{◌≡◌, ◌↔◌, ◌+◌, ◌≤◌, ◌++◌, [], true, false, length, Err, IfErr, IfOk, OnErr};
 ghost use Rattle.xxh_io.specs.Digest.{Refused, Writes};
@@ -7,7 +7,7 @@ use crate::ends::Sink;
 use crate::error::DigestError;
 use crate::write::write_all;
 
-/// A buffer of at most `N` bytes that wait to be written.
+/// A buffer of at most `N` bytes to be written.
 #[derive(Drop)]
 pub struct Waiting<const N: usize> {
     bytes: [u8; N],
@@ -18,7 +18,7 @@ pub struct Waiting<const N: usize> {
 impl<const N: usize> Waiting<N> {
     ghost use Rattle.xxh_io.specs.Waiting.{Gathers, waiting_bytes, waiting_count};
 
-    /// An empty buffer.
+    /// Creates an empty buffer.
     pub fn new() -> Waiting<N>
         ensures bytes { waiting_bytes result ≡ [] }
         ensures count { waiting_count result ≡ 0 }
@@ -29,14 +29,14 @@ impl<const N: usize> Waiting<N> {
         }
     }
 
-    /// How many bytes wait.
+    /// Returns the number of buffered bytes.
     pub fn len(&self) -> usize
         ensures { result ≡ waiting_count self.now }
     {
         self.len
     }
 
-    /// Appends bytes for which there is capacity.
+    /// Appends bytes that fit.
     pub fn append(&mut self, bytes: &[u8])
         requires { waiting_count self.old + length bytes.now ≤ N }
         ensures bytes { waiting_bytes self.new ≡ waiting_bytes self.old ++ bytes.now }
@@ -47,8 +47,8 @@ impl<const N: usize> Waiting<N> {
         self.len += bytes.len();
     }
 
-    /// Appends bytes. Where there is no capacity for them, those that wait are written first. An error appends nothing:
-    /// what waited still waits.
+    /// Appends bytes. If they don't fit, writes the buffered ones first. An error appends nothing, and the buffered
+    /// bytes stay.
     pub fn push<W: Sink>(&mut self, bytes: &[u8], w: &mut W) -> Result<(), DigestError>
         requires works { W.has_failed w.old ≡ false }
         requires short { length bytes.now ≤ N }
@@ -69,7 +69,7 @@ impl<const N: usize> Waiting<N> {
         Ok(())
     }
 
-    /// Writes the bytes that wait. After an error they still wait.
+    /// Writes the buffered bytes. After an error they are still buffered.
     pub fn flush<W: Sink>(&mut self, w: &mut W) -> Result<(), DigestError>
         requires { W.has_failed w.old ≡ false }
         ensures writes { Writes W.Sink (waiting_bytes self.old) w.old w.new result }

@@ -8,7 +8,7 @@ use crate::ends::{Failed, Sink};
 use crate::error::DigestError;
 use crate::hex::write_digits;
 
-// The most digits that a line has.
+// Maximum number of digits of a line.
 const MOST_DIGITS: usize = 32;
 
 /// Writes all the bytes, as many at a time as the sink takes.
@@ -28,7 +28,7 @@ pub fn write_all<W: Sink>(bytes: &[u8], w: &mut W) -> Result<(), DigestError>
     Ok(())
 }
 
-/// Writes the value's lowest digits, up to 32 of them, and a line feed.
+/// Writes the value's lowest digits, up to 32 of them, and a newline.
 pub fn write_line<W: Sink>(value: u128, digits: usize, w: &mut W) -> Result<(), DigestError>
     requires works { W.has_failed w.old ≡ false }
     requires room { digits ≤ 32 }

@@ -1,4 +1,4 @@
-//! Standard readers and writers as ends.
+//! Standard readers and writers as streams.
 
 use std::io;
 use std::io::{ErrorKind, Read, Write};
@@ -9,7 +9,7 @@ use xxh_io::from_read::FromRead;
 use xxh_io::from_write::FromWrite;
 use xxh_io::write::{write_all, write_line};
 
-// A slice as a writer takes what it has room for, and then nothing.
+// A slice as a writer takes what fits, and then nothing.
 #[test]
 fn a_writer_that_takes_three_bytes_and_then_nothing(rt: HostRuntime) {
     let mut room = [0; 3];
@@ -19,7 +19,7 @@ fn a_writer_that_takes_three_bytes_and_then_nothing(rt: HostRuntime) {
     assert!(rt; room.as_slice() == b"ef4".as_slice());
 }
 
-/// Gives one byte, and is interrupted at its second read.
+/// Returns one byte, and is interrupted at its second read.
 #[derive(Drop)]
 struct Interrupted {
     is_second: bool,
@@ -49,7 +49,7 @@ fn an_interruption_is_a_failure(rt: HostRuntime) {
     assert!(rt; r.failed());
 }
 
-/// Takes some bytes a write, but fails at one write, counted from 1, and takes all bytes afterwards.
+/// Takes some bytes per write, fails at one write, counted from 1, and takes all bytes afterwards.
 #[derive(Drop)]
 struct FailsOnce {
     take: usize,
@@ -71,7 +71,7 @@ impl Write for FailsOnce {
     }
 }
 
-// The nine bytes of a line, where so many are taken a write and one write fails: that is the last.
+// Writes the nine bytes of a line, this many at a time, with one failing write: that is the last.
 fn stops(take: usize, fail_at: usize) -> bool {
     let mut w = FromWrite::new(FailsOnce {
         take,
@@ -83,7 +83,8 @@ fn stops(take: usize, fail_at: usize) -> bool {
     answer == Err(DigestError::WriteFailed) && failed && w.into_inner().writes == fail_at
 }
 
-// One error is a failure, whatever was taken before it: no write is made again. A writer that takes nothing fails too.
+// One error is a failure, whatever was taken before it: the write is not repeated. A writer that takes nothing fails
+// too.
 #[test]
 fn a_write_that_fails_once_is_a_failure(rt: HostRuntime) {
     for (take, fail_at) in [
@@ -108,7 +109,7 @@ fn a_write_that_fails_once_is_a_failure(rt: HostRuntime) {
     assert!(rt; w.failed());
 }
 
-// The bytes come through a reader and a writer as they are, and neither fails.
+// The bytes pass through a reader and a writer unchanged, and neither fails.
 fn comes_through(bytes: &[u8], w: &mut FromWrite<Vec<u8>>) -> bool {
     let mut buf = [0; 600];
     let mut r = FromRead::new(bytes);

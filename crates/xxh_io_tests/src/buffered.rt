@@ -10,7 +10,7 @@ use xxh_io::buffered::Buffered;
 use xxh_io::ends::Source;
 use xxh_io::from_read::FromRead;
 
-/// Gives up to three bytes a read, and fails once, at its second read.
+/// Returns up to three bytes a read, and fails once, at its second read.
 #[derive(Drop)]
 struct Stumbling<'a> {
     left: &'a [u8],
@@ -28,18 +28,18 @@ impl Read for Stumbling<'_> {
     }
 }
 
-// What one read of so many bytes gives.
+// The result of one read of this many bytes.
 fn given<'a>(r: &mut Buffered<Stumbling<'_>, 4>, room: &'a mut [u8]) -> &'a [u8] {
     match r.read(room) {
         Ok(count) => &room[..count],
-        // The error is the reader's own, which no clause says.
+        // The error is the reader's own (not in a clause).
         Err(error) if error.kind() == ErrorKind::Interrupted => b"interrupted",
         Err(_) => b"another error",
     }
 }
 
-// Three bytes wait, and are given by twos; the error comes after them, and the reading goes on after it, by fives, with
-// no byte lost.
+// Three bytes are buffered, and are returned by twos; the error comes after them, and the reading continues after it,
+// by fives, with no byte lost.
 #[test]
 fn bytes_in_order_and_an_error_after_those_that_wait(rt: HostRuntime) {
     let mut r = Buffered::<_, 4>::new(Stumbling {
@@ -56,7 +56,7 @@ fn bytes_in_order_and_an_error_after_those_that_wait(rt: HostRuntime) {
     }
 }
 
-/// The bytes 0 to 250 over and over.
+/// The bytes 0 to 250, repeated.
 fn cycling(alloc: Global, len: usize) -> Result<Vec<u8>, AllocError> {
     let mut bytes = Vec::new(alloc);
     for i in 0..len {
@@ -65,7 +65,7 @@ fn cycling(alloc: Global, len: usize) -> Result<Vec<u8>, AllocError> {
     Ok(bytes)
 }
 
-// Whether the bytes come behind a buffer of `N` bytes, by so many at once, and nothing after them.
+// True if the bytes come through a buffer of `N` bytes, this many at once, and nothing after them.
 fn comes_through<const N: usize>(bytes: &[u8], at_once: usize) -> bool
     requires some { 0 < N }
     requires few { N ≤ 65536 }
@@ -93,8 +93,8 @@ fn comes_through<const N: usize>(bytes: &[u8], at_once: usize) -> bool
     rest.is_empty() && ended
 }
 
-// Buffers of one byte and of four; inputs that end before the buffer's edge, at it, after it, and after many; reads
-// that are shorter than the buffer, as long, and longer.
+// Buffers of one byte and of four; inputs that end before the buffer's end, at it, after it, and after many; reads that
+// are shorter than the buffer, as long, and longer.
 #[test]
 fn inputs_around_the_edge_of_a_small_buffer(rt: HostRuntime) -> Result<(), Fail> {
     for len in [0, 1, 2, 3, 4, 5, 7, 8, 9, 40] {
@@ -128,7 +128,7 @@ fn inputs_around_the_edge_of_a_large_buffer(rt: HostRuntime) -> Result<(), Fail>
     Ok(())
 }
 
-/// Gives this many bytes once, and fails at its second read; a third would give the end.
+/// Returns this many bytes once, and fails at its second read; a third would return the end.
 #[derive(Drop)]
 struct FailsAfter {
     count: usize,
@@ -153,7 +153,7 @@ impl Read for FailsAfter {
     }
 }
 
-// The first read gives the bytes, and the second fails.
+// The first read returns the bytes, and the second fails.
 fn fails_second(count: usize, last: u8) -> bool {
     let mut buf = [0; 4096];
     let mut r = FromRead::new(FailsAfter {

@@ -1,4 +1,4 @@
-//! Tests of the ends, the buffers and the lines of `xxh_io`, over memory and with no hash.
+//! Tests of the streams, the buffers and the lines of `xxh_io`, over memory and with no hash.
 #![tactic(auto)]
 
 #[cfg(test)]

@@ -3,7 +3,7 @@
 use xxh_io::ends::Source;
 use xxh_io::script_source::ScriptSource;
 
-// What one read of six bytes gives, where the source has not failed.
+// The result of one read of six bytes, if the source has not failed.
 fn six<'a>(r: &mut ScriptSource<'_>, buf: &'a mut [u8; 6]) -> &'a [u8] {
     if r.failed() {
         return b"failed";
@@ -14,7 +14,7 @@ fn six<'a>(r: &mut ScriptSource<'_>, buf: &'a mut [u8; 6]) -> &'a [u8] {
     }
 }
 
-// Fewer are offered than the script has; then the script has fewer; then more than is left.
+// First the buffer has fewer than the script; then the script has fewer; then more than remains.
 #[test]
 fn a_source_gives_the_least_of_three(rt: HostRuntime) {
     let mut r = ScriptSource::new(b"some bytes", &[100, 3, 100], 0);

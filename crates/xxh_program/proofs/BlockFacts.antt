@@ -1,4 +1,4 @@
--- Lines of blocks, where one more piece comes.
+-- Lines of blocks, after one more chunk.
 use Rattle.std.proofs.Common.{◌≡◌, ◌↔◌, ℕ, cond, true, false, zero, suc, ◌+◌, ◌-◌, ◌*◌, ◌/◌, ◌%◌, ◌^◌, min, ◌<◌, ◌≤◌, List, [], ◌++◌, length, drop, refl, sym, ap, ◌∙◌, append-nil, append_assoc, length-append, length-drop, arith, nat_lt}
 use Rattle.std.specs.Int.{div_ceil}
 use Rattle.std.proofs.lemmas.List.{drop-append-le, take-append-le, take_rest}

@@ -1,4 +1,4 @@
--- Which value each kind of digest shows. In how many digits, and which seeds it has, say the words passed on.
+-- The value of each algorithm. Its digits and its seeds are defined where the arguments are.
 use Rattle.std.specs.Prelude.{ℕ, List}
 pub use Rattle.xxh_io.specs.Kind.{digits_of, seed_limit}
 use Rattle.twox_hash.specs.Xxh32.{xxh32}
@@ -8,7 +8,7 @@ use Rattle.twox_hash.specs.Value.{effective_secret, xxh3_64, xxh3_128}
 use Rattle.xxh_io.specs.declared.kind.Kind.{Kind}
 use Rattle.xxh_io.specs.declared.kind.Kind.TheVariants.{X32, X64, X3_64, X3_128}
 
--- XXH3 under a seed and the secret that it derives
+-- XXH3 under a seed and the secret derived from it
 abbrev pub seeded_64 : ℕ → List ℕ → ℕ
 seeded_64 seed m = xxh3_64 seed (effective_secret (derived_secret seed) m) m
 

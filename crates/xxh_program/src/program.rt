@@ -1,4 +1,4 @@
-//! Digest lines of what a source gives, and the program `xxh` over any ends.
+//! Digest lines of a source's bytes, and the program `xxh` over any streams.
 
 mod blocks;
 mod command_line;

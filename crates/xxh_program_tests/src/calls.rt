@@ -1,4 +1,4 @@
-//! The calls under test, with no promise of their own: a test that calls them has nothing to carry of what they promise.
+//! The calls under test, without contracts, so that a test that calls them has none to prove.
 
 ghost use Rattle.std.specs.Prelude.{◌≡◌, false};
 
@@ -9,7 +9,7 @@ use xxh_program::program::{
     digest_from_32, digest_from_64, read_on_32, read_on_64, run,
 };
 
-/// By what bytes are digested: by a kind under a seed, by a hasher that has read `some` under 1234, or by blocks.
+/// How bytes are digested: by an algorithm under a seed, by a hasher that has read `some` under 1234, or by blocks.
 #[derive(Clone, Copy)]
 pub(crate) enum Way {
     Fresh(Kind, u32),
@@ -57,7 +57,7 @@ pub(crate) fn run_by<R: Source, W: Sink, E: Sink>(
     run(alloc, words, r, out, err)
 }
 
-/// What a run over memory came to: the exit status, both outputs, and how much of the input it left.
+/// The result of a run over memory: the exit status, both outputs, and how much of the input was left.
 #[derive(Drop)]
 pub(crate) struct Ran {
     pub(crate) status: u8,
@@ -67,14 +67,14 @@ pub(crate) struct Ran {
 }
 
 impl Ran {
-    /// Whether all went well, all was read, and this was printed.
+    /// True if the run succeeded, read everything, and printed this.
     pub(crate) fn printed(&self, out: &[u8]) -> bool {
         let quiet = self.status == 0 && self.err.is_empty() && self.unread == 0;
         quiet && self.out.as_slice() == out
     }
 }
 
-/// Runs the program over these words, which stand between single spaces.
+/// Runs the program with these arguments, separated by single spaces.
 pub(crate) fn run_line(alloc: Global, line: &str, input: &[u8]) -> Result<Ran, AllocError> {
     let words: Vec<&str> = line.split(' ').collect(alloc)?;
     let mut r = FromRead::new(input);
@@ -89,7 +89,7 @@ pub(crate) fn run_line(alloc: Global, line: &str, input: &[u8]) -> Result<Ran, A
     })
 }
 
-/// The bytes 0 to 250 over and over.
+/// The bytes 0 to 250, repeated.
 pub(crate) fn cycling(alloc: Global, len: usize) -> Result<Vec<u8>, AllocError> {
     let mut bytes = Vec::new(alloc);
     for i in 0..len {

@@ -1,4 +1,4 @@
-//! What the program prints and answers, over memory and over ends that fail.
+//! What the program prints and returns, over memory and over streams that fail.
 
 use crate::calls::{Ran, cycling, run_by, run_line};
 use crate::digests::PAIRS;
@@ -13,7 +13,8 @@ const RESUME_32: &str =
 const RESUME_64: &str =
     "resume 64 {\"buffer\":[72,101,108,108,111,44,32,119,111,114,108,100,33,0,0,0,0,0,0,0,0,0,0,0,0,0,0,0,0,0,0,0],\"buffer_usage\":14,\"core\":{\"v1\":6983438078262162902,\"v2\":14029467366897019727,\"v3\":0,\"v4\":7046029288634856825},\"seed\":0,\"total_len\":14}";
 
-// Words, the input, and what is printed: each command, by each of its kinds. The C library has the values and states.
+// Arguments, the input, and the output: each command, with each of its algorithms. The values and states are the C
+// library's.
 const PRINTED: [(&str, &[u8], &[u8]); 15] = [
     ("hash 32", SOME, b"29f97ecd\n"),
     ("hash 64", SOME, b"55cfd3deadcabb2a\n"),
@@ -57,8 +58,8 @@ fn what_each_command_prints(rt: HostRuntime) -> Result<(), AllocError> {
     Ok(())
 }
 
-// Words and the line that tells what is wrong with them. No hasher has the states of the last three rows, by their
-// counts and by their accumulators.
+// Arguments and their error message. No hasher has the states of the last three cases, by their counts and by their
+// accumulators.
 const REFUSED: &str = "\
 |xxh: usage: xxh hash|save|resume 32|64|3-64|3-128 [SEED|JSON] or xxh blocks SIZE
 hash 64 1 2|xxh: usage: xxh hash|save|resume 32|64|3-64|3-128 [SEED|JSON] or xxh blocks SIZE
@@ -70,7 +71,7 @@ resume 64 {}|xxh: bad state
 resume 32 {\"buffer\":[0,0,0,0,0,0,0,0,0,0,0,0,0,0,0,0],\"buffer_usage\":17,\"core\":{\"v1\":606290984,\"v2\":2246822519,\"v3\":0,\"v4\":1640531535},\"seed\":0,\"total_len\":14}|xxh: bad state
 resume 64 {\"buffer\":[0,0,0,0,0,0,0,0,0,0,0,0,0,0,0,0,0,0,0,0,0,0,0,0,0,0,0,0,0,0,0,0],\"buffer_usage\":14,\"core\":{\"v1\":1,\"v2\":14029467366897019727,\"v3\":0,\"v4\":7046029288634856825},\"seed\":0,\"total_len\":14}|xxh: bad state";
 
-// This line and status 2, and nothing is read or printed.
+// True if it printed this line, with status 2, and read and printed nothing else.
 fn is_refused(ran: &Ran, line: &str) -> bool {
     let quiet = ran.status == 2 && ran.out.is_empty() && ran.unread == 10;
     quiet && ran.err.as_slice().strip_suffix(b"\n") == Some(line.as_bytes())
@@ -86,7 +87,7 @@ fn words_that_are_refused(rt: HostRuntime) -> Result<(), AllocError> {
     Ok(())
 }
 
-// Where the second read fails, nothing is printed; where there is room for eight bytes, those are. Either is told.
+// If the second read fails, nothing is printed; with space for eight bytes, those are. Both print their error message.
 fn tells(
     alloc: Global,
     line: &str,
@@ -119,7 +120,7 @@ fn ends_that_fail(rt: HostRuntime) -> Result<(), AllocError> {
     Ok(())
 }
 
-// How many reads these words make where each gives all that is offered.
+// Returns the number of reads for these arguments if each read returns all that is offered.
 fn reads_of(alloc: Global, line: &str, bytes: &[u8]) -> Result<u64, AllocError> {
     let words: Vec<&str> = line.split(' ').collect(alloc)?;
     let mut r = ScriptSource::new(bytes, &[1000000; 10], 0);
@@ -129,7 +130,7 @@ fn reads_of(alloc: Global, line: &str, bytes: &[u8]) -> Result<u64, AllocError> 
     Ok(if status == 0 { r.reads() } else { 0 })
 }
 
-// Two reads take all that is offered twice, and one byte more wants one more. Then comes the end.
+// Twice what is offered takes two reads, and one byte more takes a third. Then comes the end.
 #[test]
 fn reads_are_long_where_nothing_is_saved(rt: HostRuntime) -> Result<(), AllocError> {
     for (line, offered) in [

@@ -1,5 +1,5 @@
-//! Digests over ends that follow a script. Each expected value is published by xxHash or twox-hash, or comes from the C
-//! library 0.8.1.
+//! Digests over streams that follow a script. Each expected value is published by xxHash or twox-hash, or comes from
+//! the C library 0.8.1.
 
 use crate::calls::{Way, cycling, digest_by};
 use std::alloc::AllocError;
@@ -59,7 +59,7 @@ const SOUND: Ends = Ends {
     write_fails: 0,
 };
 
-// Whether a digest of pieces of four bytes, of one and of all that is left has this answer, and writes this by fives.
+// True if a digest of chunks of four bytes, of one and of all that is left has this result, and writes this by fives.
 fn comes_to(
     way: Way,
     bytes: &[u8],
@@ -73,7 +73,7 @@ fn comes_to(
     given == answer && w.bytes() == written
 }
 
-// A read, a write or the limit fails in mid-stream: no digest goes on, nor takes what it has for the end.
+// A read, a write or the limit fails in mid-stream: no digest continues, nor takes what it has as the end.
 #[test]
 fn each_digest_and_its_failures(rt: HostRuntime) {
     for (way, bytes, lines, count) in ROWS {
@@ -98,7 +98,7 @@ fn each_digest_and_its_failures(rt: HostRuntime) {
     }
 }
 
-// How many reads a digest makes where each gives all that is offered.
+// Returns the number of reads of a digest if each read returns all that is offered.
 fn reads_of(way: Way, bytes: &[u8]) -> u64 {
     let mut r = ScriptSource::new(bytes, &[1000000; 10], 0);
     let mut w = ScriptSink::<200>::new(200, 0);
@@ -108,7 +108,7 @@ fn reads_of(way: Way, bytes: &[u8]) -> u64 {
     }
 }
 
-// Each read is offered 4,096 bytes: two reads take 8,192 of them, and 8,193 want one more. Then comes the end.
+// Each read is offered 4,096 bytes: 8,192 bytes take two reads, and 8,193 a third. Then comes the end.
 #[test]
 fn each_read_is_offered_the_whole_buffer(rt: HostRuntime) -> Result<(), AllocError> {
     let shorter = cycling(rt.alloc(), 8192)?;
@@ -124,7 +124,7 @@ fn each_read_is_offered_the_whole_buffer(rt: HostRuntime) -> Result<(), AllocErr
     Ok(())
 }
 
-// Bytes in memory alone: no call of the digest is given an allocator, and so none can ask for memory.
+// Only bytes in memory: no call of the digest gets an allocator, so none can allocate.
 #[test]
 fn the_line_of_bytes_in_memory(rt: HostRuntime) {
     let mut sink = ScriptSink::<60>::new(7, 0);
@@ -132,7 +132,7 @@ fn the_line_of_bytes_in_memory(rt: HostRuntime) {
     assert!(rt; answer == Ok(()) && sink.bytes() == b"92f68bd9\n".as_slice());
 }
 
-// Whether the value is this, by reads that are offered 64 bytes: 157 that give some, and one that gives none.
+// True if the value is this, by reads that are offered 64 bytes: 157 that return some, and one that returns none.
 fn has_value(kind: Kind, bytes: &[u8], value: u128) -> bool {
     let mut r = ScriptSource::new(bytes, &[1000; 160], 0);
     let answer = value_of_source(kind, 0, u64::MAX, &mut r, &mut [0; 64]);

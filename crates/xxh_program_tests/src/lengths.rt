@@ -1,15 +1,15 @@
 //! Inputs of many lengths, saved and resumed.
 //!
-//! Want of memory is allowed wherever it is asked for, so that a body which gives up past some length is proved. So no
-//! length is given up: all up to the fourth stripe of XXH64, and those around where a buffer or a read ends.
+//! The contracts allow out of memory in every call that allocates, so a body that gives up past some length is proved.
+//! So these tests take every length up to the fourth stripe of XXH64, and those around where a buffer or a read ends.
 
 use crate::calls::{cycling, run_line};
 use std::alloc::{AllocError, Global};
 use std::str;
 use twox_hash::{XxHash32, XxHash64};
 
-// Saves the first part by these words, and resumes over the second: whether the line is this. The greatest seed gives
-// accumulators of many digits.
+// Saves the first part with these arguments, and resumes over the second: true if the line is this. The maximum seed
+// has accumulators of many digits.
 fn resumes(
     alloc: Global,
     kind: &str,
@@ -25,7 +25,7 @@ fn resumes(
     Ok(saved.printed(text.as_bytes()) && ran.printed(line.as_bytes()))
 }
 
-// Whether both kinds go on behind so many bytes to the line of the library's one-shot.
+// True if both algorithms continue after this many bytes to the line of the library's one-shot.
 fn is_saved_and_resumed(alloc: Global, bytes: &[u8], cut: usize) -> Result<bool, AllocError> {
     let parts = bytes.split_at_checked(cut).unwrap_or((bytes, b""));
     let value = XxHash32::oneshot(u32::MAX, bytes);
@@ -57,7 +57,7 @@ fn lengths_up_to_a_million(rt: HostRuntime) -> Result<(), AllocError> {
     Ok(())
 }
 
-// States past the first stripes, of bytes and accumulators with as many digits as there can be.
+// Saved states of maximum length: every number has its maximum number of digits.
 #[test]
 fn bytes_with_many_digits(rt: HostRuntime) -> Result<(), AllocError> {
     for cut in [31, 63, 95] {

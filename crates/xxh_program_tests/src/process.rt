@@ -43,7 +43,7 @@ impl Alloc for Arguments<'_> {
     }
 }
 
-/// Keeps what is written, and counts the flushes, of which each fails where it is to.
+/// Keeps what is written, and counts the flushes. A flush fails if it is set to.
 #[derive(Drop)]
 struct Stream {
     bytes: Vec<u8>,
@@ -77,7 +77,7 @@ impl Write for Stream {
     }
 }
 
-/// What a process came to.
+/// The result of a process.
 #[derive(Drop)]
 struct Ended {
     status: u8,
@@ -101,14 +101,14 @@ fn run_with(alloc: Global, words: &[&[u8]], flush_fails: bool) -> Ended {
 }
 
 impl Ended {
-    /// Whether all was read, the line was printed and flushed once, and no fault was told.
+    /// True if everything was read, the line was printed and flushed once, and no error was written.
     fn printed(&self) -> bool {
         let line = self.out.bytes.as_slice() == b"eab55659a496d78b\n".as_slice();
         let quiet = self.status == 0 && self.err.bytes.is_empty() && self.unread == 0;
         line && quiet && self.out.flushes == 1
     }
 
-    /// Whether this status was answered and this line told, and nothing was read or printed.
+    /// True if this status was returned and this line written to standard error, and nothing was read or printed.
     fn refused(&self, status: u8, line: &[u8]) -> bool {
         let unread = self.out.bytes.is_empty() && self.unread == 10;
         unread && self.status == status && self.err.bytes.as_slice() == line
@@ -125,7 +125,7 @@ fn the_words_are_those_after_the_name(rt: HostRuntime) {
 const USAGE: &[u8] =
     b"xxh: usage: xxh hash|save|resume 32|64|3-64|3-128 [SEED|JSON] or xxh blocks SIZE\n";
 
-// No argument, and in the name, a command, a seed and one word too many what is not UTF-8.
+// No arguments; and one that is not UTF-8 in the name, a command, a seed and one argument too many.
 const NO_WORDS: [&[&[u8]]; 5] = [
     &[],
     &[b"xxh\xff", b"hash", b"64"],
@@ -141,7 +141,7 @@ fn arguments_that_are_no_words(rt: HostRuntime) {
     }
 }
 
-// The line was printed before; what comes of it is told.
+// The line was printed before; the flush's error is reported.
 fn is_told(alloc: Global) -> bool {
     let done = run_with(alloc, &[b"xxh", b"hash", b"64", b"1234"], true);
     let line = done.out.bytes.as_slice() == b"eab55659a496d78b\n".as_slice();
@@ -152,12 +152,12 @@ fn is_told(alloc: Global) -> bool {
 #[test]
 fn a_flush_that_fails(rt: HostRuntime) {
     assert!(rt; is_told(rt.alloc()));
-    // A fault that came before stays the one that is told.
+    // An earlier error is the one that is reported.
     let done = run_with(rt.alloc(), &[b"xxh", b"hash", b"64", b"x"], true);
     assert!(rt; done.refused(2, b"xxh: bad seed\n"));
 }
 
-// A word that is longer than any buffer of the system's.
+// An argument that is longer than any buffer of the system.
 #[test]
 fn a_long_word(rt: HostRuntime) -> Result<(), AllocError> {
     let mut zeros = Vec::new(rt.alloc());

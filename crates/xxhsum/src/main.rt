@@ -1,4 +1,4 @@
-//! `xxhsum` prints and checks digests of files. The page docs/XXHSUM.md says what is proved of it.
+//! `xxhsum` prints and checks digests of files. docs/XXHSUM.md lists what is proved.
 #![tactic(auto)]
 
 use std::io::IsTerminal;
@@ -25,7 +25,7 @@ fn main(rt: HostRuntime) -> ExitCode {
         },
         screen: Screen::new(rt.stderr(), &rt),
     };
-    // On a terminal control characters are shown, and each line is written at once.
+    // On a terminal control characters are made visible, and each line is written at once.
     let output = Visible::new(FromWrite::new(rt.stdout()), shows_output);
     ExitCode::from(run(
         rt.alloc(),

@@ -50,7 +50,7 @@ split of alone side (x ∷ f) =
 abbrev MovesOf : List Found → List Found → Type 0
 MovesOf first found = HasMoves (settled_in first) (missing_in first) (new_in first) found
 
--- a side keeps its items where those that stand alone are put side by side again
+-- a side keeps its items if the unmatched ones are merged again
 keeps : (of alone : Found → List Item) → IsSide of alone → Ignores of → (first found : List Found) (moves : MovesOf first found)
     (items : List Item) → IsPermutation (flat_map alone first) items → flat_map of (moved moves.gone_ordered moves.come_ordered) ≡ items
     → IsPermutation (flat_map of first) (flat_map of found)
@@ -90,7 +90,7 @@ has_none_twice lines names found path audit = (
   not_twice names audit.ordered_names path audit.names_same audit.names_rise,
 )
 
--- ---- the classes are right
+-- ---- the classes are correct
 
 abbrev pub IsSettled : Found → Type 0
 IsSettled (Same l n) = Unit {0}
@@ -266,7 +266,7 @@ module _ (lines names : List Item) (found : List Found) (audit : IsAudit lines n
   sought : (one : Found) → IsAmong found one → IsSought one
   sought = each IsSought sought_if_settled sought_by_digest
 
-  -- a name is told to be new, or a copy, as those files say
+  -- a name is reported as new, or a copy, according to those files
   abbrev SaysOriginal : Found → Type 0
   SaysOriginal (Same l n) = Unit {0}
   SaysOriginal (Changed l n) = Unit {0}
@@ -316,7 +316,7 @@ module _ (lines names : List Item) (found : List Found) (audit : IsAudit lines n
   none_alone of alone side (x ∷ f) =
       flat_map-append alone (settled_one x) (settled_in f) ∙ ap (λ y. y ++ flat_map alone (settled_in f)) (side x).1 ∙ none_alone of alone side f
 
-  -- what stands alone is of the second putting side by side
+  -- the unmatched ones are those of the second merge
   rest_alone : (of alone : Found → List Item) → IsSide of alone → Ignores alone → flat_map alone found ≡ flat_map alone rest
   rest_alone of alone side same =
       let copies = map (with_copy moves.kept) rest in

@@ -1,4 +1,4 @@
--- Pairs by name and by digest are right, and by digest no partner is left.
+-- Pairs by name and by digest are correct, and by digest no partner is left.
 use Rattle.std.proofs.Common.{◌≡◌, false, List, [], ◌∷◌, refl, sym, subst, inl, inr, Ordering, Less, Equal, Greater}
 use Rattle.std.specs.Ordering.{is_lt, ordering_then}
 use Rattle.xxhsum_audit.proofs.FoundFacts.{Covers, by_founds, met_is, met_pair, moved_pair}
@@ -10,7 +10,7 @@ use Rattle.xxhsum_audit.specs.Item.{HasSameDigest, IsAmong, Item, path_of}
 use Rattle.xxhsum_audit.specs.Laws.{IsKept}
 use Rattle.xxhsum_audit.specs.Order.{Ascends, compare_digests, compare_lines, rank_digests, rank_lines}
 
--- what a pair by name says is right
+-- the result of a pair by name is correct
 abbrev pub FitsName : Found → Type 0
 FitsName (Same l n) = IsKept l n
 FitsName (Changed l n) = (path_of l ≡ path_of n) × (HasSameDigest l n → ⊥)

@@ -1,4 +1,4 @@
--- What stands alone side by side has no partner.
+-- An unmatched element of a merge has no partner.
 use Rattle.std.proofs.Common.{◌≡◌, ◌≢◌, ℕ, List, [], ◌∷◌, ◌++◌, append-nil, refl, sym, ap, subst, ◌∙◌, inl, inr, flat_map, Less, Equal, Greater}
 use Rattle.xxhsum_audit.proofs.AmongFacts.{among_either, among_left, among_right}
 use Rattle.xxhsum_audit.proofs.FoundFacts.{Covers, by_founds, met_is, met_pair}
@@ -8,9 +8,9 @@ use Rattle.xxhsum_audit.specs.Found.{Changed, Copied, Found, Missing, Moved, New
 use Rattle.xxhsum_audit.specs.Item.{IsAmong, Item, LacksPath, name_of, path_of}
 use Rattle.xxhsum_audit.specs.Order.{Rises, compare_lines}
 
--- ---- a side of what is found: the lines, or the names, and those of them that stand alone
+-- ---- a side of what is found: the lines, or the names, and the unmatched ones
 
--- what is found is settled, or all that it has of the side stands alone
+-- what is found is settled, or all that it has of the side is unmatched
 abbrev pub IsSide : (of alone : Found → List Item) → Type 0
 IsSide of alone = (x : Found) → (of x ≡ flat_map of (settled_one x) ++ alone x) × (flat_map alone (settled_one x) ≡ [])
 
@@ -30,7 +30,7 @@ side_of_names (Copied o n) = (refl, refl)
 side_of_names (New n) = (refl, refl)
 side_of_names (Missing l) = (refl, refl)
 
--- what stands alone is one of all
+-- an unmatched element is one of all
 alone_is : (of alone : Found → List Item) → IsSide of alone → (f : List Found) (i : Item) → IsAmong (flat_map alone f) i
     → IsAmong (flat_map of f) i
 alone_is of alone side [] i h = h
@@ -48,7 +48,7 @@ missing_line ls f all l h = subst (λ x. IsAmong x l) all (alone_is line_in miss
 pub new_name : (ns : List Item) (f : List Found) → names_in f ≡ ns → (n : Item) → IsAmong (new_in f) n → IsAmong ns n
 new_name ns f all n h = subst (λ x. IsAmong x n) all (alone_is name_in new_one side_of_names f n h)
 
--- nothing of a pair stands alone
+-- nothing of a pair is unmatched
 past_missing : (l n : Item) (f : List Found) (x : Item) → IsAmong (missing_in (met l n ∷ f)) x → IsAmong (missing_in f) x
 past_missing l n f x h =
     subst (λ o. IsAmong (o ++ missing_in f) x) (met_is (λ m. missing_one m ≡ []) l n (λ e. refl) (λ e. refl)) h

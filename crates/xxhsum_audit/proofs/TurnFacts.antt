@@ -36,7 +36,7 @@ module _ {L N : Type 0} (compare : L → N → Ordering) (P : List L → List N 
   by_turns [] ns = names ns
   by_turns (l ∷ ls) ns = row l ls (beside compare ls) (by_turns ls) ns
 
--- ---- what stands first
+-- ---- the first element
 
 module _ {A B L N : Type 0} (compare : L → N → Ordering) (f : A → L) (g : B → N) where
   abbrev sides : List A → List B → List (Side L N)

@@ -54,7 +54,7 @@ module _ {X : Type 0} (key : X → List ℕ) where
       let rest = rises xs up.1 split.1 in
       (rises_past x xs up.0 split.0 rest, rest)
 
--- ---- a name that stands twice
+-- ---- a name that occurs twice
 
 one_if : Bool → ℕ
 one_if true = 1

@@ -1,4 +1,4 @@
--- An audit: what became of the lines of a list and of the names that are there.
+-- An audit: the results of the lines of a list and of the current names.
 use Rattle.std.specs.Prelude.{ℕ, ◌≡◌, List, [], ◌∷◌, ◌++◌, Option, Some, None, map, if◌then◌else◌, flat_map, IsPermutation}
 use Rattle.std.specs.Ordering.{is_eq}
 use Rattle.xxhsum_audit.specs.declared.side.Side.{Side}
@@ -10,17 +10,17 @@ use Rattle.xxhsum_audit.specs.Side.{beside}
 
 -- ---- side by side
 
--- what became of a side, by what becomes of a line and a name
+-- the result of a side, from the result of a line and a name
 abbrev pub as_found : (Item → Item → Found) → Side Item Item → Found
 as_found pair (Line line) = Missing line
 as_found pair (Name name) = New name
 as_found pair (Both line name) = pair line name
 
--- lines and names by where they lead
+-- lines and names by path
 abbrev pub compared : List Item → List Item → List Found
 compared lines names = map (as_found met) (beside compare_lines lines names)
 
--- lines that are gone, and names that have come, by their digests
+-- lines whose names are gone and new names, by their digests
 abbrev pub moved : List Item → List Item → List Found
 moved gone come = map (as_found Moved) (beside compare_digests gone come)
 
@@ -30,7 +30,7 @@ abbrev pub missing_one : Found → List Item
 missing_one (Missing line) = line ∷ []
 missing_one found = []
 
--- a name that no line has, and that no line was moved to
+-- a name that no line has, and to which no line was moved
 abbrev pub new_one : Found → List Item
 new_one (New name) = name ∷ []
 new_one (Copied first name) = name ∷ []
@@ -46,7 +46,7 @@ settled_one (New name) = []
 settled_one (Missing line) = []
 settled_one found = found ∷ []
 
--- the lines that are missing, the names that are new or copies, the files that stayed, and what is settled by its names
+-- the missing lines, the names that are new or copies, the unchanged files, and the results settled by name
 abbrev pub missing_in : List Found → List Item
 missing_in found = flat_map missing_one found
 
@@ -70,14 +70,14 @@ abbrev pub copied : Option Item → Item → Found
 copied None name = New name
 copied (Some first) name = Copied first name
 
--- a new name is a copy of the first file that stayed and has its digest
+-- a new name is a copy of the first unchanged file with its digest
 abbrev pub with_copy : List Item → Found → Found
 with_copy kept (New name) = copied (original kept name) name
 with_copy kept found = found
 
 -- ---- an audit
 
--- where it is known what stands in both, the rest is put side by side by the digests, and copies are found
+-- with the results of the names in both lists, the rest is merged by digest, and copies are found
 pub record HasMoves (settled : List Found) (gone come : List Item) (found : List Found) : Type 0 where
   pub kept : List Item
   pub gone_ordered : List Item
@@ -87,8 +87,7 @@ pub record HasMoves (settled : List Found) (gone come : List Item) (found : List
   pub come_in_order : IsOrder rank_digests come come_ordered
   pub is : found ≡ settled ++ map (with_copy kept) (moved gone_ordered come_ordered)
 
--- The lines and the names are put in order and side by side, by where they lead: no two lines lead to one place, and no
--- two names do.
+-- The lines and the names are sorted and merged by path: no two lines have one path, and no two names do.
 pub record IsAudit (lines names : List Item) (found : List Found) : Type 0 where
   pub ordered_lines : List Item
   pub ordered_names : List Item
@@ -99,7 +98,7 @@ pub record IsAudit (lines names : List Item) (found : List Found) : Type 0 where
   pub moves : HasMoves (settled_in (compared ordered_lines ordered_names))
       (missing_in (compared ordered_lines ordered_names)) (new_in (compared ordered_lines ordered_names)) found
 
--- the names of two of the items lead there
+-- the names of two of the items have this path
 abbrev pub IsTwice : List Item → List ℕ → Type 0
 IsTwice items path =
     (a b : Item) × (rest : List Item) × IsPermutation items (a ∷ b ∷ rest) × (path_of a ≡ path) × (path_of b ≡ path)

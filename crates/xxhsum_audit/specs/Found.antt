@@ -1,4 +1,4 @@
--- What became of lines and names.
+-- The results of lines and names.
 use Rattle.std.specs.Prelude.{Bool, true, false, List, [], ◌∷◌, map, if◌then◌else◌, flat_map}
 use Rattle.std.specs.Ordering.{is_eq}
 use Rattle.xxhsum_audit.specs.declared.verdict.Class.{Class}
@@ -8,7 +8,7 @@ use Rattle.xxhsum_audit.specs.declared.verdict.Verdict.TheVariants as Told
 use Rattle.xxhsum_audit.specs.Item.{Item, item_of}
 use Rattle.xxhsum_audit.specs.Order.{compare_digests}
 
--- what became of a line, of a name, or of both; of a name that is a copy, with the file that it is a copy of
+-- the result of a line, of a name, or of both; for a name that is a copy, with the file that it is a copy of
 pub data Found : Type 0 where
   Same : Item → Item → Found
   Changed : Item → Item → Found
@@ -28,7 +28,7 @@ found_of (Told.Missing line) = Missing (item_of line)
 abbrev pub founds_of : List Verdict → List Found
 founds_of verdicts = map found_of verdicts
 
--- a line and what is found under its name
+-- a line and the file of its name
 abbrev pub met : Item → Item → Found
 met line name = if is_eq (compare_digests line name) then Same line name else Changed line name
 
@@ -52,7 +52,7 @@ is_class a b = false
 abbrev pub is_of_class : Class → Found → Bool
 is_of_class class found = is_class (class_of found) class
 
--- ---- the lines and the names that are spoken of
+-- ---- the lines and the names of a result
 
 abbrev pub line_in : Found → List Item
 line_in (Same line name) = line ∷ []

@@ -1,4 +1,4 @@
--- What the digest of a file says: a name, and a value of an algorithm.
+-- A file's digest: a name, and a value of an algorithm.
 use Rattle.std.specs.Prelude.{ℕ, ◌≡◌, ◌≢◌, ◌⊎◌, Bool, List, [], ◌∷◌, codes, map, nat_eq, take, if◌then◌else◌}
 use Rattle.std.specs.Borrow.{Bor}
 use Rattle.std.specs.Cmp.Lexicographic.{pointwise}
@@ -26,16 +26,16 @@ item_of one = Says one.name.now one.kind one.value
 abbrev pub items_of : List FileDigest → List Item
 items_of digests = map item_of digests
 
--- the bytes of texts that are lent
+-- the bytes of borrowed texts
 abbrev pub texts_of : List (Bor (List ℕ)) → List (List ℕ)
 texts_of texts = map (λ text. text.now) texts
 
--- ---- where a name leads
+-- ---- the path of a name
 
 abbrev pub is_dotted : List ℕ → Bool
 is_dotted name = pointwise nat_eq (take 2 name) (codes "./")
 
--- a `./` at the beginning counts for nothing, however often it stands there
+-- every `./` at the beginning is ignored
 unfoldable pub bare : List ℕ → List ℕ
 bare [] = []
 bare (c ∷ []) = c ∷ []
@@ -51,7 +51,7 @@ abbrev pub IsAmong : {X : Type 0} → List X → X → Type 0
 IsAmong [] x = ⊥
 IsAmong (first ∷ xs) x = (first ≡ x) ⊎ IsAmong xs x
 
--- no name of these leads there
+-- no name of these has that path
 abbrev pub LacksPath : List Item → List ℕ → Type 0
 LacksPath items path = (item : Item) → IsAmong items item → path_of item ≢ path
 

@@ -1,4 +1,4 @@
--- What holds of an audit.
+-- Laws of an audit.
 use Rattle.std.specs.Prelude.{ℕ, ◌≡◌, ◌+◌, false, List, length, count_by, IsPermutation}
 use Rattle.std.specs.Ordering.{is_lt}
 use Rattle.xxhsum_audit.specs.declared.verdict.Class.TheVariants as Of
@@ -7,7 +7,7 @@ use Rattle.xxhsum_audit.specs.Found.{Changed, Copied, Found, Missing, Moved, New
 use Rattle.xxhsum_audit.specs.Item.{HasSameDigest, IsAmong, Item, LacksPath, path_of}
 use Rattle.xxhsum_audit.specs.Order.{rank_lines}
 
--- each line is told once, and no other
+-- each line is reported once, and no other
 abbrev pub TellsEachLineOnce : Type 0
 TellsEachLineOnce =
     (lines names : List Item) (found : List Found) → IsAudit lines names found → IsPermutation lines (lines_in found)
@@ -16,21 +16,21 @@ abbrev pub TellsEachNameOnce : Type 0
 TellsEachNameOnce =
     (lines names : List Item) (found : List Found) → IsAudit lines names found → IsPermutation names (names_in found)
 
--- no two lines of an audit lead to one place, and no two names
+-- no two lines of an audit have one path, and no two names
 abbrev pub HasNoneTwice : Type 0
 HasNoneTwice =
     (lines names : List Item) (found : List Found) (path : List ℕ) → IsAudit lines names found
     → (IsTwice lines path → ⊥) × (IsTwice names path → ⊥)
 
--- the line and the name lead to one place, and have one digest
+-- the line and the name have one path and one digest
 abbrev pub IsKept : Item → Item → Type 0
 IsKept line name = (path_of line ≡ path_of name) × HasSameDigest line name
 
--- the file of this name stayed as a line says
+-- the file of this name is as a line has it
 abbrev pub StaysSame : List Item → List Item → Item → Type 0
 StaysSame lines names name = IsAmong names name × ((line : Item) × IsAmong lines line × IsKept line name)
 
--- what each class says
+-- the meaning of each class
 abbrev pub IsRight : List Item → List Item → Found → Type 0
 IsRight lines names (Same line name) = IsKept line name
 IsRight lines names (Changed line name) = (path_of line ≡ path_of name) × (HasSameDigest line name → ⊥)
@@ -46,27 +46,27 @@ TellsRight =
     (lines names : List Item) (found : List Found) → IsAudit lines names found
     → (one : Found) → IsAmong found one → IsRight lines names one
 
--- no file is told to be new, or to be a copy, that may have been moved
+-- no file is reported as new or as a copy that may have been moved
 abbrev pub LeavesNoMove : Type 0
 LeavesNoMove =
     (lines names : List Item) (found : List Found) → IsAudit lines names found
     → (line first name : Item) → IsAmong found (Missing line) → HasSameDigest line name
     → (IsAmong found (New name) → ⊥) × (IsAmong found (Copied first name) → ⊥)
 
--- no file is told to be new that is a copy of one that stayed
+-- no file is reported as new that is a copy of an unchanged one
 abbrev pub LeavesNoCopy : Type 0
 LeavesNoCopy =
     (lines names : List Item) (found : List Found) → IsAudit lines names found
     → (line kept name : Item) → IsAmong found (Same line kept) → IsAmong found (New name) → HasSameDigest kept name → ⊥
 
--- of several files that stayed and have its digest, a copy is told to be one of the first by name
+-- of several unchanged files with its digest, the first by name is reported as a copy's original
 abbrev pub CopiesTheFirst : Type 0
 CopiesTheFirst =
     (lines names : List Item) (found : List Found) → IsAudit lines names found
     → (line kept first name : Item) → IsAmong found (Same line kept) → IsAmong found (Copied first name)
     → HasSameDigest kept name → is_lt (rank_lines kept first) ≡ false
 
--- where all are the same, each line has a name with its digest that leads where its own does, and each name such a line
+-- if all are the same, each line has a name with its digest and its path, and each name has such a line
 abbrev pub SameMeansEqual : Type 0
 SameMeansEqual =
     (lines names : List Item) (found : List Found) → IsAudit lines names found
@@ -86,7 +86,7 @@ CountsAddUp =
     + count_by (is_of_class Of.Moved) found + count_by (is_of_class Of.Copied) found
     + count_by (is_of_class Of.New) found)
 
--- The order in which lines and names come changes nothing.
+-- The order of the lines and of the names changes nothing.
 abbrev pub IsOneReport : Type 0
 IsOneReport =
     (lines lines' names names' : List Item) (found found' : List Found) → IsAudit lines names found

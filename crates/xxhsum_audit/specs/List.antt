@@ -1,31 +1,31 @@
--- What the lines of a list say.
+-- The items of a list's lines.
 use Rattle.std.specs.Prelude.{ℕ, ◌≡◌, Bool, true, false, List, [], ◌∷◌, ◌++◌}
 use Rattle.xxhsum_line.specs.Entry as line
 use Rattle.xxhsum_line.specs.Entry.{SaysNothing, is_comment}
 use Rattle.xxhsum_line.specs.declared.entry.Entry.{Entry}
 use Rattle.xxhsum_audit.specs.Item.{Item, Says, kind_of, name_of, value_of}
 
--- what an entry of a list says
+-- the item of an entry
 abbrev pub said_by : Entry → Item
 said_by entry = Says entry.name.items entry.kind entry.value
 
--- what one line says: of a comment nothing
+-- the items of one line: none for a comment
 abbrev pub SaysOne : Bool → List ℕ → List Item → Type 0
 SaysOne is_little text [] = is_comment text ≡ true
 SaysOne is_little text (item ∷ []) = line.Says is_little text (kind_of item) (value_of item) (name_of item)
 SaysOne is_little text (item ∷ next ∷ items) = ⊥
 
--- what texts give, one after another
+-- the results of texts, one after another
 abbrev pub GiveAll : {X : Type 0} → (List ℕ → List X → Type 0) → List (List ℕ) → List X → Type 0
 GiveAll gives [] all = all ≡ []
 GiveAll {X} gives (text ∷ texts) all =
     (front rest : List X) × (all ≡ front ++ rest) × gives text front × GiveAll gives texts rest
 
--- what lines say
+-- the items of lines
 abbrev pub SayAll : Bool → List (List ℕ) → List Item → Type 0
 SayAll is_little lines items = GiveAll (SaysOne is_little) lines items
 
--- what a line says stands behind what was said before; or it says nothing, and is no comment
+-- the line's item is appended to those before; or the line is malformed
 abbrev pub TakesLine : Bool → List ℕ → List Item → List Item → Bool → Type 0
 TakesLine is_little text old new true = (more : List Item) × (new ≡ old ++ more) × SaysOne is_little text more
 TakesLine is_little text old new false = SaysNothing is_little text

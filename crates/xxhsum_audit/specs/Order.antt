@@ -1,4 +1,4 @@
--- The orders of names and of items, and lists that are put in order.
+-- The orders of names and of items, and sorted lists.
 use Rattle.std.specs.Prelude.{ℕ, ◌≡◌, Bool, false, List, [], ◌∷◌, Option, Some, None, if◌then◌else◌, IsPermutation}
 use Rattle.std.specs.Cmp.Lexicographic.{slice_cmp}
 use Rattle.std.specs.declared.cmp.Ordering.{Ordering}
@@ -8,18 +8,18 @@ use Rattle.xxh_io.specs.declared.kind.Kind.{Kind}
 use Rattle.xxh_io.specs.declared.kind.Kind.TheVariants.{X32, X64, X3_64, X3_128}
 use Rattle.xxhsum_audit.specs.Item.{IsAmong, Item, bare, kind_of, name_of, value_of}
 
--- the place of an algorithm among the algorithms
+-- the position of an algorithm among the algorithms
 abbrev pub rank_of : Kind → ℕ
 rank_of X32 = 0
 rank_of X64 = 1
 rank_of X3_64 = 2
 rank_of X3_128 = 3
 
--- names by where they lead
+-- names by path
 abbrev pub compare_paths : List ℕ → List ℕ → Ordering
 compare_paths a b = slice_cmp nat_cmp (bare a) (bare b)
 
--- and where that ties by all their bytes
+-- and for equal paths by all their bytes
 abbrev pub rank_names : List ℕ → List ℕ → Ordering
 rank_names a b = ordering_then (compare_paths a b) (slice_cmp nat_cmp a b)
 
@@ -36,30 +36,30 @@ compare_digests a b =
 abbrev pub rank_digests : Item → Item → Ordering
 rank_digests a b = ordering_then (compare_digests a b) (rank_lines a b)
 
--- ---- lists in order
+-- ---- sorted lists
 
 -- none is less than one before it
 abbrev pub Ascends : {X : Type 0} → (X → X → Ordering) → List X → Type 0
 Ascends compare [] = Unit {0}
 Ascends {X} compare (x ∷ xs) = ((y : X) → IsAmong xs y → is_lt (compare y x) ≡ false) × Ascends compare xs
 
--- each is less than those behind it
+-- each is less than those after it
 abbrev pub Rises : {X : Type 0} → (X → X → Ordering) → List X → Type 0
 Rises compare [] = Unit {0}
 Rises {X} compare (x ∷ xs) = ((y : X) → IsAmong xs y → compare x y ≡ Less) × Rises compare xs
 
--- those that were given, in order
+-- the same elements, sorted
 abbrev pub IsOrder : {X : Type 0} → (X → X → Ordering) → List X → List X → Type 0
 IsOrder compare given ordered = IsPermutation given ordered × Ascends compare ordered
 
--- ---- names that lead to one place
+-- ---- names with one path
 
--- the first of the others leads where this one does
+-- the first of the others has the path of this one
 abbrev pub shares_path : List ℕ → List (List ℕ) → Bool
 shares_path name [] = false
 shares_path name (next ∷ names) = is_eq (compare_paths name next)
 
--- the first name that leads where the next one does
+-- the first name with the path of the next one
 abbrev pub clash_in : List (List ℕ) → Option (List ℕ)
 clash_in [] = None
 clash_in (name ∷ names) = if shares_path name names then Some name else clash_in names

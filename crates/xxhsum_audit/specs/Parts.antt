@@ -1,13 +1,14 @@
--- Bytes that are cut at each byte of one value.
+-- Bytes that are split at each byte of one value.
 use Rattle.std.specs.Prelude.{ℕ, ◌≡◌, ◌⊎◌, ◌<◌, List, [], ◌∷◌, ◌++◌, length, flat_map}
 use Rattle.xxhsum_line.specs.Parts.{Lacks}
 use Rattle.xxhsum_audit.specs.Item.{IsAmong}
 
--- the parts, each with this byte behind it
+-- the parts, each with this byte after it
 abbrev pub ended : ℕ → List (List ℕ) → List ℕ
 ended end parts = flat_map (λ part. part ++ end ∷ []) parts
 
--- no part has the byte; the bytes are the parts, each with the byte behind it, but that the last part may end without
+-- no part has the byte; the bytes are the parts, each with the byte after it, except that the last part may end without
+-- it
 abbrev pub ArePartsOf : ℕ → List ℕ → List (List ℕ) → Type 0
 ArePartsOf end bytes parts =
     ((part : List ℕ) → IsAmong parts part → Lacks end part)

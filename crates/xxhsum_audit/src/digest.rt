@@ -2,7 +2,7 @@
 
 use xxh_io::kind::Kind;
 
-/// The file of this name has this value by this algorithm: as a line of a list says, or as it is now.
+/// The file of this name has this value by this algorithm, in a line of a list or now.
 #[derive(Clone, Copy, Debug, PartialEq, Eq)]
 pub struct FileDigest<'n> {
     /// The name of the file, in bytes.

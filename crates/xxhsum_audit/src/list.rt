@@ -6,8 +6,8 @@ ghost use Rattle.xxhsum_audit.specs.List.{TakesLine, said_by};
 use std::alloc::{AllocError, Global};
 use xxhsum_line::entry::{Entry, Meaning, meaning_of};
 
-/// Puts what a line says behind the entries; of a comment nothing. `false` where it is malformed.
-/// `AllocError` where memory runs out.
+/// Appends the entry of a line; nothing for a comment. Returns `false` if it is malformed. Returns `AllocError` if out
+/// of memory.
 pub fn take_line(
     alloc: Global,
     line: &[u8],

@@ -1,4 +1,4 @@
-//! The orders of names and of digests, in which lines and names are put side by side.
+//! The orders of names and of digests by which lines and names are merged.
 
 ghost use Rattle.std.specs.Prelude.{◌≡◌, IfOk, MatchOption, None, Some};
 ghost use Rattle.xxhsum_audit.specs.Item.{bare, item_of, items_of, names_of, texts_of};
@@ -9,7 +9,7 @@ use std::alloc::{AllocError, Global};
 use std::cmp::Ordering;
 use xxh_io::kind::Kind;
 
-// The place of an algorithm among the algorithms.
+// Returns the position of an algorithm among the algorithms.
 fn rank_of(kind: Kind) -> u8
     ensures { result ≡ rank_of kind }
 {
@@ -21,7 +21,7 @@ fn rank_of(kind: Kind) -> u8
     }
 }
 
-// The name without each `./` at its beginning.
+// Returns the name without each `./` at its beginning.
 fn bare(name: &[u8]) -> &[u8]
     ensures { result.now ≡ bare name.now }
 {
@@ -32,14 +32,14 @@ fn bare(name: &[u8]) -> &[u8]
     rest
 }
 
-/// How two names compare. A `./` at the beginning counts for nothing, however often it stands there.
+/// Compares two names. Every `./` at the beginning is ignored.
 pub fn compare_paths(a: &[u8], b: &[u8]) -> Ordering
     ensures { result ≡ compare_paths a.now b.now }
 {
     bare(a).cmp(bare(b))
 }
 
-// How two names stand in order: those that lead to one place by all their bytes.
+// Compares two names for sorting: those with one path by all their bytes.
 fn rank_names(a: &[u8], b: &[u8]) -> Ordering
     ensures { result ≡ rank_names a.now b.now }
 {
@@ -50,7 +50,7 @@ fn rank_names(a: &[u8], b: &[u8]) -> Ordering
     }
 }
 
-/// How two digests compare: first by their algorithms.
+/// Compares two digests, first by their algorithms.
 pub fn compare_digests(a: FileDigest<'_>, b: FileDigest<'_>) -> Ordering
     ensures { result ≡ compare_digests (item_of a.entry) (item_of b.entry) }
 {
@@ -61,7 +61,7 @@ pub fn compare_digests(a: FileDigest<'_>, b: FileDigest<'_>) -> Ordering
     }
 }
 
-// How two digests stand in order: those of one algorithm and value by their names.
+// Compares two digests for sorting: those of one algorithm and value by their names.
 fn rank_digests(a: FileDigest<'_>, b: FileDigest<'_>) -> Ordering
     ensures { result ≡ rank_digests (item_of a.entry) (item_of b.entry) }
 {
@@ -72,28 +72,28 @@ fn rank_digests(a: FileDigest<'_>, b: FileDigest<'_>) -> Ordering
     }
 }
 
-/// Puts names in order.
+/// Sorts names.
 pub fn put_names_in_order(names: &mut [&[u8]])
     ensures { IsOrder rank_names (texts_of names.old) (texts_of names.new) }
 {
     names.sort_unstable_by(|a, b| rank_names(a, b));
 }
 
-/// Puts what lines say in the order of their names.
+/// Sorts entries of lines by their names.
 pub fn put_lines_in_order(lines: &mut [FileDigest<'_>])
     ensures { IsOrder rank_lines (items_of lines.old) (items_of lines.new) }
 {
     lines.sort_unstable_by(|a, b| rank_names(a.name, b.name));
 }
 
-// Puts what was digested in the order of its digests.
+// Sorts digests.
 pub(crate) fn put_digests_in_order(digests: &mut [FileDigest<'_>])
     ensures { IsOrder rank_digests (items_of digests.old) (items_of digests.new) }
 {
     digests.sort_unstable_by(|a, b| rank_digests(*a, *b));
 }
 
-/// The names of these, in order. `AllocError` where memory runs out.
+/// Returns the names of these, in order. Returns `AllocError` if out of memory.
 pub fn names_of<'n>(alloc: Global, digests: &[FileDigest<'n>]) -> Result<Vec<&'n [u8]>, AllocError>
     ensures { IfOk result (λ names. texts_of names.items ≡ names_of (items_of digests.now)) }
 {
@@ -104,7 +104,7 @@ pub fn names_of<'n>(alloc: Global, digests: &[FileDigest<'n>]) -> Result<Vec<&'n
     Ok(names)
 }
 
-/// The first name that leads where the next one does, where there is such.
+/// Returns the first name with the path of the next one, if there is one.
 pub fn clash_in<'n>(names: &[&'n [u8]]) -> Option<&'n [u8]>
     ensures { MatchOption result (clash_in (texts_of names.now) ≡ None)
         (λ name. clash_in (texts_of names.now) ≡ Some name.now) }
@@ -117,7 +117,7 @@ pub fn clash_in<'n>(names: &[&'n [u8]]) -> Option<&'n [u8]>
     None
 }
 
-// Whether the first of the others leads where this one does.
+// True if the first of the others has the path of this one.
 fn shares_path(name: &[u8], behind: &[&[u8]]) -> bool
     ensures { result ≡ shares_path name.now (texts_of behind.now) }
 {

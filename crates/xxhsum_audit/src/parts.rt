@@ -1,4 +1,4 @@
-//! Bytes that are cut at each byte of one value: lines at line feeds, names at NULs.
+//! Bytes that are split at each byte of one value: lines at newlines, names at NULs.
 
 ghost use Rattle.std.specs.Prelude.{◌≡◌, ◌++◌, ◌∷◌, map, IfOk, MatchOption};
 ghost use Rattle.xxhsum_line.specs.Parts.{Lacks};
@@ -6,8 +6,8 @@ ghost use Rattle.xxhsum_audit.specs.Parts.{ArePartsOf};
 
 use std::alloc::{AllocError, Global};
 
-/// What stands before each byte of this value, and what is left behind the last one where that is anything.
-/// `AllocError` where memory runs out.
+/// Returns the parts before each byte of this value, and the part after the last one if it isn't empty. Returns
+/// `AllocError` if out of memory.
 pub fn cut_at<'b>(alloc: Global, end: u8, bytes: &'b [u8]) -> Result<Vec<&'b [u8]>, AllocError>
     ensures { IfOk result (λ parts. ArePartsOf end bytes.now
         (map (λ part. part.now) parts.items)) }
@@ -25,7 +25,7 @@ pub fn cut_at<'b>(alloc: Global, end: u8, bytes: &'b [u8]) -> Result<Vec<&'b [u8
     Ok(parts)
 }
 
-// What stands before the first byte of this value, and behind it.
+// Splits at the first byte of this value.
 fn cut(end: u8, bytes: &[u8]) -> Option<(&[u8], &[u8])>
     ensures { MatchOption result (Lacks end bytes.now)
         (λ parts. (bytes.now ≡ parts.0.now ++ end ∷ parts.1.now) × Lacks end parts.0.now) }

@@ -1,4 +1,4 @@
-//! All that a source gives.
+//! All bytes of a source.
 
 ghost use Rattle.std.specs.Prelude.{◌≡◌, false, MatchResult};
 ghost use Rattle.xxhsum_audit.specs.Read.{GivesAll, LacksAll};
@@ -6,15 +6,15 @@ ghost use Rattle.xxhsum_audit.specs.Read.{GivesAll, LacksAll};
 use std::alloc::{AllocError, Global};
 use xxh_io::ends::{Failed, Source};
 
-// How many bytes each read is offered.
+// Size of the read buffer.
 const OFFERED: usize = 65536;
 
-/// Why not all of a source is there.
+/// The error if not all of a source was read.
 #[derive(Clone, Copy, Debug, PartialEq, Eq)]
 pub enum ReadError {
     /// A read failed.
     ReadFailed,
-    /// There was no memory for it.
+    /// Out of memory.
     OutOfMemory,
 }
 
@@ -38,11 +38,12 @@ impl From<Failed> for ReadError {
     }
 }
 
-/// All bytes that a source gives, up to its end, however its reads cut them.
+/// Returns all bytes of a source, up to its end, however its reads split them.
 ///
 /// # Errors
 ///
-/// [`ReadError::ReadFailed`] where a read fails, and [`ReadError::OutOfMemory`] where memory runs out.
+/// - [`ReadError::ReadFailed`] if a read fails.
+/// - [`ReadError::OutOfMemory`] if out of memory.
 pub fn read_text<R: Source>(alloc: Global, source: &mut R) -> Result<Vec<u8>, ReadError>
     requires { R.has_failed source.old ≡ false }
     ensures { MatchResult result

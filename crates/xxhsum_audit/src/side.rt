@@ -1,4 +1,4 @@
-//! Two lists in order, side by side.
+//! Two sorted lists, merged.
 
 ghost use Rattle.std.specs.Prelude.{◌≡◌, [], MatchOption};
 ghost use Rattle.xxhsum_audit.specs.Side.{IsFirst, digest_side, digest_sides, lines_of, names_of, path_side, path_sides};
@@ -7,7 +7,7 @@ use crate::digest::FileDigest;
 use crate::order::{compare_digests, compare_paths};
 use std::cmp::Ordering;
 
-/// What stands first in two lists that are in order: in one of them alone, or in both.
+/// The first element of two sorted lists: of only one of them, or of both.
 #[derive(Clone, Copy, Debug, PartialEq, Eq)]
 pub enum Side<L, N> {
     /// A line, whose name was not given, or whose digest no name has.
@@ -19,7 +19,7 @@ pub enum Side<L, N> {
 }
 
 impl<L, N> Side<L, N> {
-    /// How many lines it is of: one or none.
+    /// Returns the number of its lines: one or none.
     pub fn lines(&self) -> usize
         ensures { result ≡ lines_of self.now }
     {
@@ -29,7 +29,7 @@ impl<L, N> Side<L, N> {
         }
     }
 
-    /// How many names it is of: one or none.
+    /// Returns the number of its names: one or none.
     pub fn names(&self) -> usize
         ensures { result ≡ names_of self.now }
     {
@@ -40,7 +40,7 @@ impl<L, N> Side<L, N> {
     }
 }
 
-/// What stands first in lines and names that are in order.
+/// Returns the first of sorted lines and names.
 pub fn first_by_path<'n>(
     lines: &[FileDigest<'n>],
     names: &[&'n [u8]],
@@ -61,7 +61,7 @@ pub fn first_by_path<'n>(
     }
 }
 
-// What stands first in lines that are gone and names that have come, both in the order of their digests.
+// Returns the first of lines whose names are gone and new names, both sorted by digest.
 pub(crate) fn first_by_digest<'n>(
     gone: &[FileDigest<'n>],
     come: &[FileDigest<'n>],

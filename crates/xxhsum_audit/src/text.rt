@@ -1,4 +1,4 @@
-//! An audit in words.
+//! An audit as text.
 
 ghost use Rattle.std.specs.Prelude.{◌≡◌, ◌++◌, IfOk};
 ghost use Rattle.xxhsum_audit.specs.Found.{found_of};
@@ -9,8 +9,8 @@ use crate::verdict::Verdict;
 use std::alloc::{AllocError, Global};
 use xxhsum_line::escapes::put_line;
 
-/// What became of a line, of a name or of both, as a line with its line feed, which is the only one in it: names stand
-/// as lists have them. `AllocError` where memory runs out.
+/// Returns the result of a line, of a name or of both, as a line with its newline, which is the only one in it. Names
+/// are as in lists. Returns `AllocError` if out of memory.
 pub fn verdict_line(alloc: Global, verdict: Verdict<'_>) -> Result<Vec<u8>, AllocError>
     ensures { IfOk result (λ line. line.items ≡ text_of (found_of verdict.entry)) }
 {
@@ -26,7 +26,7 @@ pub fn verdict_line(alloc: Global, verdict: Verdict<'_>) -> Result<Vec<u8>, Allo
     }
 }
 
-// A name, a word and another name as one line.
+// Joins a name, a word and another name to one line.
 fn line_of(alloc: Global, name: &[u8], word: &[u8], other: &[u8]) -> Result<Vec<u8>, AllocError>
     ensures { IfOk result (λ line. line.items ≡ one_line (name.now ++ word.now ++ other.now)) }
 {

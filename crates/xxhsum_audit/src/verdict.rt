@@ -1,4 +1,4 @@
-//! The verdict of an audit on a line, on a name, or on both.
+//! The result of an audit for a line, a name, or both.
 
 ghost use Rattle.std.specs.Prelude.{◌≡◌, count_by};
 ghost use Rattle.xxhsum_audit.specs.Found.{class_of, found_of, founds_of, is_of_class, met};
@@ -8,10 +8,10 @@ use crate::digest::FileDigest;
 use crate::order::compare_digests;
 use std::cmp::Ordering;
 
-/// What became of a line, of a name, or of both.
+/// The result of a line, of a name, or of both.
 #[derive(Clone, Copy, Debug, PartialEq, Eq)]
 pub enum Verdict<'n> {
-    /// The file of the name is as the line says.
+    /// The file of the name is as in the line.
     Same {
         line: FileDigest<'n>,
         name: FileDigest<'n>,
@@ -26,22 +26,22 @@ pub enum Verdict<'n> {
         line: FileDigest<'n>,
         name: FileDigest<'n>,
     },
-    /// No line has the name, and its digest is that of a file that stayed as it was.
+    /// No line has the name, and an unchanged file has its digest.
     Copied {
         original: FileDigest<'n>,
         name: FileDigest<'n>,
     },
-    /// No line has the name, and neither a line that is left nor a file that stayed its digest.
+    /// No line has the name, and neither a remaining line nor an unchanged file has its digest.
     New {
         name: FileDigest<'n>,
     },
-    /// The line's name is gone, and no name that is left has its digest.
+    /// The line's name is gone, and no remaining name has its digest.
     Missing {
         line: FileDigest<'n>,
     },
 }
 
-/// The six classes of verdicts.
+/// The six classes of results.
 #[derive(Clone, Copy, Debug, PartialEq, Eq)]
 pub enum Class {
     Same,
@@ -53,7 +53,7 @@ pub enum Class {
 }
 
 impl<'n> Verdict<'n> {
-    /// Of a line, and of the digest that the file of its name has now.
+    /// Returns the result of a line and the current digest of its file.
     pub fn met(line: FileDigest<'n>, name: FileDigest<'n>) -> Verdict<'n>
         ensures { found_of result ≡ met (item_of line.entry) (item_of name.entry) }
     {
@@ -66,7 +66,7 @@ impl<'n> Verdict<'n> {
 }
 
 impl Verdict<'_> {
-    /// Its class.
+    /// Returns its class.
     pub fn class(self) -> Class
         ensures { result ≡ class_of (found_of self.entry) }
     {
@@ -81,7 +81,7 @@ impl Verdict<'_> {
     }
 }
 
-/// How many of the verdicts are of this class.
+/// Returns how many of the results are of this class.
 pub fn count_of(class: Class, verdicts: &[Verdict<'_>]) -> usize
     ensures { result ≡ count_by (is_of_class class) (founds_of verdicts.now) }
 {

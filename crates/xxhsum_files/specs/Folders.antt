@@ -1,10 +1,10 @@
--- What clauses say of folders.
+-- What clauses state about directories.
 use Rattle.std.specs.Prelude.{ℕ, List}
 use Rattle.xxhsum_files.specs.declared.folders.FolderError.{FolderError}
 use Rattle.xxhsum_files.specs.declared.folders.FolderError.TheVariants.{Refused, OutOfMemory}
 use Rattle.xxhsum_files.specs.declared.refusal.Refusal.{Refusal}
 
--- why the names in a folder are not known
+-- the reason why the names in a directory are not known
 abbrev pub ClosesFor : {S : Type 0} → (S → List ℕ → Refusal → Type 0) → S → List ℕ → FolderError → Type 0
 ClosesFor closes store folder (Refused why) = closes store folder why
 ClosesFor closes store folder OutOfMemory = Unit {0}

@@ -1,4 +1,4 @@
--- What the names of a table open.
+-- The sources that the names of a table open.
 use Rattle.std.specs.Prelude.{◌≡◌, ℕ, List, Bool, true, false, Option, Some, option_map, find, bytes_eq, unwrap_or, MatchOption, pos}
 use Rattle.xxhsum_files.specs.declared.memory.MemoryEntry.{MemoryEntry}
 use Rattle.xxhsum_files.specs.declared.memory.MemoryFiles.{MemoryFiles}
@@ -13,11 +13,11 @@ entries_of files = files.entries.now
 abbrev pub entry_named : {S : Type 0} → MemoryFiles S → List ℕ → Option (MemoryEntry S)
 entry_named files name = find (λ entry. bytes_eq entry.name.now name) (entries_of files)
 
--- the file is the source of the name's first entry, as the table has it
+-- the file is the source of the name's first entry, as in the table
 abbrev pub LeadsTo : {S : Type 0} → MemoryFiles S → List ℕ → S → Type 0
 LeadsTo files name file = option_map (λ entry. entry.source) (entry_named files name) ≡ Some file
 
--- 2, as for a missing file, where there is no such name; 5, as for a failed read, where its source has failed
+-- 2, as for a missing file, if there is no such name; 5, as for a failed read, if its source has failed
 abbrev pub RefusedFor : {S : Type 0} → (S → Bool) → MemoryFiles S → List ℕ → Refusal → Type 0
 RefusedFor has_failed files name why =
     MatchOption (entry_named files name) (refusal_code why ≡ pos 2)

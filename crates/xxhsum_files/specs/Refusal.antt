@@ -1,4 +1,4 @@
--- What clauses read of a refusal.
+-- What clauses read of an open error.
 use Rattle.std.specs.Prelude.{ℤ, pos, ℕ, Bool, List, take}
 use Rattle.std.specs.Ordering.{int_eq}
 use Rattle.xxhsum_files.specs.declared.refusal.Refusal.{Refusal}
@@ -7,7 +7,7 @@ use Rattle.xxhsum_files.specs.declared.refusal.Refusal.{Refusal}
 abbrev pub refusal_code : Refusal → ℤ
 refusal_code refusal = refusal.code
 
--- whether the file is missing: ENOENT
+-- true if the file is missing: ENOENT
 abbrev pub is_missing : Refusal → Bool
 is_missing refusal = int_eq refusal.code (pos 2)
 

@@ -1,5 +1,5 @@
--- The rules of a store, as one record: which file a name opens, why none, and whether it is a directory's; and those of
--- folders.
+-- The rules of a store as one record: the file that a name opens, the error if it opens none, and whether it is a
+-- directory; and those of directories.
 use Rattle.xxhsum_files.specs.declared.folders.Folders as folders
 use Rattle.xxhsum_files.specs.declared.store.Store as store
 
@@ -7,6 +7,6 @@ use Rattle.xxhsum_files.specs.declared.store.Store as store
 abbrev pub StoreRules : Type 0 → Type 0 → Type 1
 StoreRules S F = store.Ghosts S F
 
--- `holds`, `closes` and `leads` of what has folders
+-- `holds`, `closes` and `leads` of a type with directories
 abbrev pub FolderRules : Type 0 → Type 1
 FolderRules S = folders.Ghosts S

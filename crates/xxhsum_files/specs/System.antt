@@ -1,4 +1,4 @@
--- What clauses say of the system's files: which bytes they have is not known here.
+-- What clauses state about the system's files: their bytes are not known here.
 use Rattle.std.specs.Prelude.{◌≡◌, Bool, ℕ, List, Option, pos, IsUtf8}
 use Rattle.xxhsum_files.specs.Refusal.{refusal_code}
 use Rattle.xxh_io.specs.declared.from_read.FromRead.{FromRead}
@@ -10,19 +10,20 @@ use Rattle.xxhsum_files.specs.declared.system.SystemFiles.{SystemFiles}
 abbrev pub AnyFile : {P F : Type 0} → SystemFiles P → List ℕ → FromRead F → Type 0
 AnyFile files name file = Unit {0}
 
--- a name that is not UTF-8 is refused by a number of its own, and is not missing; another may be refused for any reason
+-- a name that is not UTF-8 is refused by its own error number, and is not missing; another may be refused for any
+-- reason
 abbrev pub RefusesNoText : {P : Type 0} → SystemFiles P → List ℕ → Refusal → Type 0
 RefusesNoText files name why = ¬ IsUtf8 name → refusal_code why ≡ pos 84
 
--- a file may have any size, or none that is known
+-- a file may have any size, or no known one
 abbrev pub AnySize : {P : Type 0} → SystemFiles P → List ℕ → Option ℕ → Type 0
 AnySize files name size = Unit {0}
 
--- a name may be a directory's or not
+-- a name may or may not be a directory
 abbrev pub AnyAnswer : {P : Type 0} → SystemFiles P → List ℕ → Bool → Type 0
 AnyAnswer files name answer = Unit {0}
 
--- a folder may hold any names
+-- a directory may hold any names
 abbrev pub AnyNames : {P : Type 0} → SystemFiles P → List ℕ → List (List ℕ) → Type 0
 AnyNames files folder names = Unit {0}
 

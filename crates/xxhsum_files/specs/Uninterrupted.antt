@@ -2,10 +2,10 @@
 use Rattle.std.specs.Prelude.{ℕ, List, Option}
 use Rattle.xxhsum_files.specs.declared.uninterrupted.Uninterrupted.{Uninterrupted}
 
--- the reader behind it
+-- the inner reader
 abbrev pub interrupted_reader : {R : Type 0} → Uninterrupted R → R
 interrupted_reader r = r.inner
 
--- the bytes that are left: those of the reader behind it
+-- the remaining bytes: those of the inner reader
 abbrev pub remaining_behind : {R : Type 0} → (R → Option (List ℕ)) → Uninterrupted R → Option (List ℕ)
 remaining_behind remaining r = remaining r.inner

@@ -1,4 +1,4 @@
-//! The names in folders.
+//! The names in directories.
 
 ghost use Rattle.std.specs.Prelude.{◌≡◌, List, ℕ, map, MatchResult};
 ghost use Rattle.xxhsum_files.specs.Folders.{ClosesFor};
@@ -8,25 +8,25 @@ ghost use Rattle.xxhsum_files.specs.declared.refusal.Refusal.{Refusal};
 use crate::refusal::Refusal;
 use std::alloc::{AllocError, Global};
 
-/// What a name leads to, where no link is followed.
+/// The type of a path, without following links.
 #[derive(Clone, Copy, Debug, PartialEq, Eq)]
 pub enum PathKind {
-    /// A folder.
+    /// A directory.
     Folder,
-    /// A file; also a name that is not UTF-8: opening it gives the reason.
+    /// A file; also a name that is not UTF-8, for which opening returns the error.
     File,
     /// A link, a device, a pipe or a socket.
     Other,
-    /// The store can't tell, for this reason.
+    /// The store can't determine it, for this reason.
     Unknown(Refusal),
 }
 
-/// Why the names in a folder are not known.
+/// The error for a directory whose names are not known.
 #[derive(Clone, Copy, Debug, PartialEq, Eq)]
 pub enum FolderError {
-    /// The folder can't be opened or read.
+    /// The directory can't be opened or read.
     Refused(Refusal),
-    /// Memory ran out.
+    /// Out of memory.
     OutOfMemory,
 }
 
@@ -40,27 +40,27 @@ impl From<AllocError> for FolderError {
     }
 }
 
-/// Folders by name, in bytes as for files.
+/// Directories by name, in bytes as for files.
 pub trait Folders {
-    // The folder of this name has these names in it, in some order.
+    // The directory of this name has these names in it, in some order.
     ghost holds: { Self → List ℕ → List (List ℕ) → Type 0 };
 
-    // The names in the folder of this name can't be read, for this reason.
+    // The names in the directory of this name can't be read, for this reason.
     ghost closes: { Self → List ℕ → Refusal → Type 0 };
 
-    // The name itself, where no link is followed, leads to this.
+    // The name itself, without following links, leads to this.
     ghost leads: { Self → List ℕ → PathKind → Type 0 };
 
-    /// What the name leads to, where no link is followed.
+    /// Returns the type of the path, without following links.
     fn kind_of(&self, name: &[u8]) -> PathKind
         ensures { leads self.now name.now result };
 
-    /// The names in the folder of this name, which ends with a slash, in any order: neither `.` nor `..`.
+    /// Returns the names in the directory of this name, which ends with a slash, in any order, without `.` and `..`.
     ///
     /// # Errors
     ///
-    /// [`FolderError::Refused`] where the folder can't be opened or read, and [`FolderError::OutOfMemory`] where memory
-    /// runs out.
+    /// - [`FolderError::Refused`] if the directory can't be opened or read.
+    /// - [`FolderError::OutOfMemory`] if out of memory.
     fn names_in(&self, alloc: Global, folder: &[u8]) -> Result<Vec<Vec<u8>>, FolderError>
         ensures { MatchResult result
             (λ names. holds self.now folder.now (map (λ name. name.items) names.items))

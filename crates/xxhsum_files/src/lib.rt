@@ -1,4 +1,4 @@
-//! Files and folders by names that are bytes: what `xxhsum` opens, from the system or from a table in memory.
+//! Files and directories by names that are bytes: those that `xxhsum` opens, from the system or from a table in memory.
 #![tactic(auto)]
 
 pub mod folders;

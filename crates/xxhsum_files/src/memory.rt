@@ -1,4 +1,4 @@
-//! Files in memory, for tests: a table of names and of the sources that they lead to.
+//! Files in memory, for tests: a table of names and of their sources.
 
 ghost use Rattle.std.specs.Prelude.{◌≡◌, None, option_copied};
 ghost use Rattle.xxhsum_files.specs.Memory.{entries_of, entry_named, is_directory_named, LeadsTo, RefusedFor};
@@ -7,34 +7,34 @@ use crate::refusal::{MISSING, Refusal};
 use crate::store::Store;
 use xxh_io::ends::Source;
 
-/// A name, and what it leads to.
+/// A name and its source.
 #[derive(Clone, Copy)]
 pub struct MemoryEntry<'a, S> {
-    /// The name, byte for byte as `open` is given it.
+    /// The name, byte for byte as it is passed to `open`.
     pub name: &'a [u8],
-    /// What each open of this name reads, from its start.
+    /// The source that each open of this name reads, from its start.
     pub source: S,
-    /// Whether the name is a directory's.
+    /// True if the name is a directory.
     pub is_directory: bool,
 }
 
-/// A table of names as a store. Of two entries with one name the first counts.
+/// A table of names as a store. If two entries have one name, the first is used.
 ///
-/// Over `SliceSource` a name gives just the bytes of the slice; over `ScriptSource` a read may fail too.
+/// Over `SliceSource` a file has exactly the bytes of the slice; over `ScriptSource` a read may also fail.
 #[derive(Clone, Copy)]
 pub struct MemoryFiles<'a, S> {
     entries: &'a [MemoryEntry<'a, S>],
 }
 
 impl<'a, S: Copy> MemoryFiles<'a, S> {
-    /// The store of this table.
+    /// Creates the store of this table.
     pub fn new(entries: &'a [MemoryEntry<'a, S>]) -> MemoryFiles<'a, S>
         ensures { entries_of result ≡ entries.now }
     {
         MemoryFiles { entries }
     }
 
-    // The first entry of this name.
+    // Returns the first entry of this name.
     fn find(&self, name: &[u8]) -> Option<&MemoryEntry<'a, S>>
         ensures { option_copied result ≡ entry_named self.now name.now }
     {

@@ -1,4 +1,4 @@
-//! Why a file can't be opened.
+//! Errors of opening a file.
 
 ghost use Rattle.std.specs.Prelude.{◌≡◌, ◌≤◌, take};
 
@@ -8,7 +8,7 @@ const TEXT_ROOM: usize = 256;
 /// `ENOENT`, the system's error number for a missing file.
 pub const MISSING: i32 = 2;
 
-/// Why a file couldn't be opened: the system's error number and message.
+/// The error for a file that couldn't be opened: the system's error number and message.
 #[derive(Clone, Copy, Debug, PartialEq, Eq)]
 pub struct Refusal {
     code: i32,
@@ -20,7 +20,7 @@ pub struct Refusal {
 impl Refusal {
     ghost use Rattle.xxhsum_files.specs.Refusal.{is_missing, refusal_code, refusal_text};
 
-    /// The refusal of this error number, as 2, and this message, of which it takes 256 bytes at most.
+    /// Creates the error of this error number, for example 2, and the first 256 bytes of this message.
     pub fn new(code: i32, words: &[u8]) -> Refusal
         ensures code { refusal_code result ≡ code }
         ensures words { refusal_text result ≡ take 256 words.now }
@@ -31,14 +31,14 @@ impl Refusal {
         Refusal { code, text, len }
     }
 
-    /// Whether the file is missing: the number is `ENOENT`. A file that exists and can't be opened has another.
+    /// True if the file is missing: the number is `ENOENT`. A file that exists and can't be opened has another.
     pub fn is_missing(&self) -> bool
         ensures { result ≡ is_missing self.now }
     {
         self.code == MISSING
     }
 
-    /// The system's message, as `No such file or directory`.
+    /// Returns the system's message, for example `No such file or directory`.
     pub fn text(&self) -> &[u8]
         ensures { result.now ≡ refusal_text self.now }
     {

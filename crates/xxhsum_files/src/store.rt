@@ -1,4 +1,4 @@
-//! Where files are opened.
+//! The trait of file stores.
 
 ghost use Rattle.std.specs.Prelude.{◌≡◌, false, List, ℕ, Bool, Option, IfOk, IfErr};
 ghost use Rattle.xxhsum_files.specs.declared.refusal.Refusal.{Refusal};
@@ -8,7 +8,7 @@ use xxh_io::ends::Source;
 
 /// Files by name. A name is bytes, as for the system, and needn't be UTF-8.
 pub trait Store {
-    /// An open file. It is closed where it is dropped.
+    /// An open file. It is closed when it is dropped.
     type File: Source + Drop;
 
     // The name opens this file, as it is before the first read.
@@ -17,18 +17,18 @@ pub trait Store {
     // The name opens no file, for this reason.
     ghost refuses: { Self → List ℕ → Refusal → Type 0 };
 
-    // Whether the name is a directory's, as far as the store can tell.
+    // True if the name is a directory, as far as the store can determine.
     ghost holds_directory: { Self → List ℕ → Bool → Type 0 };
 
-    // The size of the file of this name, as far as the store can tell before it is read.
+    // The size of the file of this name, as far as the store can determine before reading it.
     ghost sizes: { Self → List ℕ → Option ℕ → Type 0 };
 
-    /// Whether the name is a directory's.
+    /// True if the name is a directory.
     fn is_directory(&self, name: &[u8]) -> bool
         ensures { holds_directory self.now name.now result };
 
-    /// The size in bytes of the file of this name, as far as the store can tell before it is read. Only progress uses
-    /// it.
+    /// Returns the size in bytes of the file of this name, as far as the store can determine before reading it. Only
+    /// progress uses it.
     fn size(&self, name: &[u8]) -> Option<u64>
         ensures { sizes self.now name.now result };
 

@@ -7,7 +7,7 @@ ghost use Rattle.std.specs.declared.io.ErrorKind.{ErrorKind};
 use std::io;
 use std::io::{ErrorKind, Read};
 
-/// A reader that repeats a read which a signal interrupted. It gives the bytes of the reader behind it.
+/// A reader that repeats a read which a signal interrupted. Returns the bytes of the inner reader.
 #[derive(Drop)]
 pub struct Uninterrupted<R> {
     inner: R,
@@ -16,7 +16,7 @@ pub struct Uninterrupted<R> {
 impl<R: Read> Uninterrupted<R> {
     ghost use Rattle.xxhsum_files.specs.Uninterrupted.{interrupted_reader};
 
-    /// This reader, of which nothing was read yet.
+    /// Wraps this reader, from which nothing was read yet.
     pub fn new(inner: R) -> Uninterrupted<R>
         ensures { interrupted_reader result ≡ inner }
     {

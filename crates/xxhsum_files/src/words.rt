@@ -14,7 +14,7 @@ const ROOM: usize = 256;
 // What std appends to the system's message.
 const SUFFIX: &[u8] = b" (os error ";
 
-// A text in a buffer of fixed capacity, which drops the rest.
+// A text in a buffer of fixed capacity. The rest is dropped.
 #[derive(Drop)]
 struct Words {
     text: [u8; ROOM],
@@ -32,7 +32,7 @@ impl Write for Words {
     }
 }
 
-// The refusal of this error, with the system's error number; 0 where the error is not the system's.
+// Returns the error with the system's error number and message; the number is 0 if the error is not the system's.
 pub(crate) fn words_of(error: io::Error) -> Refusal
     ensures { refusal_code result ≡ unwrap_or (raw_os_error error) (pos 0) }
 {

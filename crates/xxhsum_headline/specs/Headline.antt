@@ -1,4 +1,4 @@
--- The words of the headline.
+-- Definitions of the main theorem.
 use Rattle.std.specs.Prelude.{◌≡◌, ◌⊎◌, ℕ, List, [], ◌++◌}
 use Rattle.xxhsum_program.specs.Prelude.{Kind, Shape, SinkRules, Took}
 use Rattle.xxhsum_program.specs.declared.outcome.Outcome.{Outcome}

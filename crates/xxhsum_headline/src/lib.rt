@@ -1,6 +1,6 @@
-//! The headline of `xxhsum`, as functions whose contracts are its sentences, for whoever reads nothing else. There is
-//! nothing to run: each is a law about what the contract of `run` (`xxhsum_tree`) says that a run does, over any store of
-//! files and any ends, and is proved from the public contracts of the crates `xxhsum_*`.
+//! The main theorem of `xxhsum`, as functions with contracts, for readers of nothing else. There is no code: each is a
+//! lemma on what the contract of `run` (`xxhsum_tree`) states of a run, over any store of files and any streams, and is
+//! proved from the public contracts of the crates `xxhsum_*`.
 #![tactic(auto)]
 
 ghost use Rattle.std.specs.Prelude.{◌≡◌, ◌↔◌, ◌++◌, Bool, List, ℕ, Option, Result, true, codes, IsPermutation};
@@ -33,16 +33,17 @@ use xxhsum_program::{good_lists, printed_lists};
 
 // ---- the status
 
-/// The exit status is 0 exactly where a run came to its end and all is well. A failed write or want of memory is never 0.
+/// The exit status is 0 if and only if a run reached its end and everything is well. It is never 0 after a failed write
+/// or out of memory.
 pub fn status()
     ensures { (done : Result Bool Stop) → (status_of done ≡ 0) ↔ (done ≡ Ok true) }
 {}
 
 // ---- fingerprints
 
-/// A run over names that came to its end: each name has one outcome, in their order: the value of exactly the bytes that
-/// the reads of its file gave, or why there is none. Standard output has the lines of those with a value, standard error
-/// the messages of the others, and all is well exactly where each has a value.
+/// A run over names that reached its end: each name has one outcome, in their order: the value of exactly the bytes
+/// that the reads of its file returned, or the reason for none. Standard output has the lines of those with a value,
+/// standard error the messages of the others, and everything is well if and only if each has a value.
 pub fn each_name_once<S: Store, W: Sink, E: Sink>()
     ensures { (store : S) (kind : Kind) (style : Style) (names : List (List ℕ)) (w_old w_new : W)
         → (e_old e_new : E) (all : Bool)
@@ -63,7 +64,7 @@ pub fn one_line_a_name()
     laws_of_lines();
 }
 
-/// A run that stops has printed a beginning of the lines of the names that it came to, or of what is said of a list.
+/// A run that stops has printed a beginning of the lines of the names that it reached, or of the results of a list.
 pub fn stops_early<S: Store, R: Source, W: Sink, E: Sink>()
     ensures names { (store : S) (kind : Kind) (style : Style) (names : List (List ℕ))
         → (w_old w_new : W) (e_old e_new : E) (stop : Stop)
@@ -82,8 +83,8 @@ pub fn stops_early<S: Store, R: Source, W: Sink, E: Sink>()
 
 // ---- checks
 
-/// "OK" is said only of a file whose bytes have the line's value: what is printed of a line is "NAME: OK" only where the
-/// line says an algorithm, a value and this name, and reads of its file gave bytes with that value.
+/// "OK" is printed only for a file whose bytes have the line's value: a line's result is "NAME: OK" only if the line
+/// has an algorithm, a value and this name, and reads of its file returned bytes with that value.
 pub fn ok_means_equal<S: Store>()
     ensures { (store : S) (options : Options) (list : List ℕ) (number : ℕ) (line : List ℕ)
         → (finding : Finding) (name : List ℕ)
@@ -95,8 +96,8 @@ pub fn ok_means_equal<S: Store>()
     good_lists::ok_means_equal::<S>();
 }
 
-/// A good list means equal files: where a check comes to its end and the list is good, the file of each well-formed line
-/// has the line's value, or isn't there and was to be passed over.
+/// A good list means equal files: if a check reaches its end and the list is good, the file of each well-formed line
+/// has the line's value, or is missing and was to be ignored.
 pub fn good_means_equal<S: Store, R: Source, W: Sink, E: Sink>()
     ensures { (store : S) (options : Options) (name : List ℕ) (source : R) (w_old w_new : W)
         → (e_old e_new : E)
@@ -108,8 +109,8 @@ pub fn good_means_equal<S: Store, R: Source, W: Sink, E: Sink>()
     good_lists::good_means_equal::<S, R>();
 }
 
-/// What is printed is accepted back, line for line, of any names: the lines that a run prints are a good list while the
-/// files stay as they are.
+/// Printed lines are accepted again, line for line, for any names: the lines that a run prints are a good list while
+/// the files stay as they are.
 pub fn printed_is_accepted<S: Store, R: Source + Drop>()
     ensures { PrintedIsGood S.Store S.File.Source R.Source }
 {
@@ -118,8 +119,8 @@ pub fn printed_is_accepted<S: Store, R: Source + Drop>()
 
 // ---- audits
 
-/// An audit reports each line of the list once and each name once, each in the class that it has, and leaves no line
-/// missing that has the digest of a new name or of a copy.
+/// An audit reports each line of the list once and each name once, each in its class, and leaves no line missing that
+/// has the digest of a new name or of a copy.
 pub fn audit_classes()
     ensures { (lines names : List Item) (found : List Found) → IsAudit lines names found
         → IsPermutation lines (flat_map line_in found) × IsPermutation names (flat_map name_in found)
@@ -130,8 +131,8 @@ pub fn audit_classes()
     laws_of_audits();
 }
 
-/// Where all are the same, which is what status 0 of an audit says, each line has a file where its name leads, with the
-/// line's value, and each name has such a line.
+/// If all are the same (status 0 of an audit), each line has a file at its path, with the line's value, and each name
+/// has such a line.
 pub fn same_means_equal()
     ensures { (lines names : List Item) (found : List Found) → IsAudit lines names found
         → ((one : Found) → IsAmong found one → (line name : Item) × (one ≡ Same line name))

@@ -80,7 +80,7 @@ pub escape_is_undone : (name : List ℕ) → unescaped (escaped name) ≡ Some n
 escape_is_undone [] = refl
 escape_is_undone (c ∷ name) = escape_meant c (escaped name) ∙ ap (before (c ∷ [])) (escape_is_undone name)
 
--- a name that needs no escape stands as it is
+-- a name that needs no escape is unchanged
 pub plain_names_stay : (name : List ℕ) → needs_escape name ≡ false → escaped name ≡ name
 plain_names_stay [] h = refl
 plain_names_stay (c ∷ name) h =

@@ -1,4 +1,4 @@
--- Lists that lack a byte, and where a byte stands first or last.
+-- Lists that lack a byte, and the first or last position of a byte.
 use Rattle.std.proofs.Common.{◌≡◌, ◌≢◌, ℕ, suc, ◌+◌, ◌-◌, ◌<◌, ◌≤◌, List, [], ◌∷◌, ◌++◌, length, take, drop, get_or, refl, sym, ap, subst, ◌∙◌, inl, inr, arith}
 use Rattle.std.proofs.lemmas.List.{drop_more, take-append-drop, length-take-le, length-drop, get_or-take, get_or-drop}
 use Rattle.std.proofs.lemmas.Bool.Decides.{eqb_tells}

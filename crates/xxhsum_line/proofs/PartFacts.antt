@@ -13,7 +13,7 @@ no_parts_without_space line h = (
   (λ tag name digits p. lacks_not 32 tag (40 ∷ (name ++ 41 ∷ 32 ∷ 61 ∷ 32 ∷ digits)) (subst (Lacks 32) p.0 h)),
 )
 
--- nothing stands behind the first space
+-- nothing follows the first space
 pub no_parts_at_end : (line first : List ℕ) → line ≡ first ++ 32 ∷ [] → Lacks 32 first → HasNoParts line
 no_parts_at_end line first e h = (
   (λ digits name p.
@@ -26,7 +26,7 @@ no_parts_at_end line first e h = (
       cc),
 )
 
--- an opening bracket stands behind the first space, and no end of a tagged line behind the bracket
+-- an opening bracket follows the first space, and no end of a tagged line after the bracket
 pub no_parts_in_brackets : (line first inside : List ℕ) → line ≡ first ++ 32 ∷ 40 ∷ inside → Lacks 32 first
     → HasNoTaggedParts inside → HasNoParts line
 no_parts_in_brackets line first inside e h none = (
@@ -59,7 +59,7 @@ no_end_without_space inside h name digits p =
     let more : inside ≡ (name ++ 41 ∷ []) ++ 32 ∷ 61 ∷ 32 ∷ digits = p.0 ∙ sym (append_assoc name (41 ∷ []) (32 ∷ 61 ∷ 32 ∷ digits)) in
     lacks_not 32 (name ++ 41 ∷ []) (61 ∷ 32 ∷ digits) (subst (Lacks 32) more h)
 
--- what stands before the last space is the name and ") ="
+-- the part before the last space is the name and ") ="
 pub end_before_space : (inside before last name digits : List ℕ) → inside ≡ before ++ 32 ∷ last → Lacks 32 last
     → EndsTagged inside name digits → (before ≡ name ++ 41 ∷ 32 ∷ 61 ∷ []) × (last ≡ digits)
 end_before_space inside before last name digits e h p =

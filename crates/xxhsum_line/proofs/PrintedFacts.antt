@@ -52,7 +52,7 @@ prefix_lacks b X64 low = tt
 prefix_lacks b X3_64 low = lacks_up_to_space b (prefix_of X3_64) low refl
 prefix_lacks b X3_128 low = tt
 
--- ---- a byte that is in neither tags nor digits, and is no part of what stands between them
+-- ---- a byte that is in neither tags nor digits, and is no part of what is between them
 
 lacks_plain : (b : ℕ) (kind : Kind) (is_little : Bool) (value : ℕ) (name : List ℕ) → b < 32 → Lacks b name
     → Lacks b (plain_text kind is_little value name)
@@ -181,7 +181,7 @@ shown_bare X3_64 is_little value =
     cond-false (has_prefix digits) (drop 5 digits) digits (shown_no_prefix X3_64 is_little value)
 shown_bare X3_128 is_little value = refl
 
--- a kind that its digits alone name
+-- an algorithm that only its digits name
 counted_says : (kind : Kind) (is_little : Bool) (value : ℕ) (name : List ℕ) → kind_of_count (digits_of kind) ≡ Some kind
     → value < 16 ^ digits_of kind → SaysPlain is_little (shown kind is_little value ++ 32 ∷ 32 ∷ name) kind value name
 counted_says kind is_little value name is_plain fits =

@@ -11,7 +11,7 @@ digit_of c =
     else if nat_le 65 c && nat_le c 70 then Some (c - 55)
     else None
 
--- the value of digits after others, whose value is `before`
+-- the value of digits after others with the value `before`
 abbrev pub number_after : ℕ → List ℕ → Option ℕ
 number_after before [] = Some before
 number_after before (c ∷ cs) = option_and_then (λ digit. number_after (before * 16 + digit) cs) (digit_of c)
@@ -19,7 +19,7 @@ number_after before (c ∷ cs) = option_and_then (λ digit. number_after (before
 abbrev pub number_of : List ℕ → Option ℕ
 number_of digits = number_after 0 digits
 
--- the two digits of each byte change places
+-- the two digits of each byte are swapped
 abbrev pub pairs_swapped : List ℕ → List ℕ
 pairs_swapped (a ∷ b ∷ rest) = b ∷ a ∷ pairs_swapped rest
 pairs_swapped rest = rest
@@ -28,11 +28,11 @@ pairs_swapped rest = rest
 abbrev pub turned : List ℕ → List ℕ
 turned digits = pairs_swapped (reverse digits)
 
--- digits whose bytes are reversed where they are little-endian
+-- digits whose bytes are reversed if they are little-endian
 abbrev pub turned_if : Bool → List ℕ → List ℕ
 turned_if is_little digits = if is_little then turned digits else digits
 
--- the digest that digits write: they are as many as its algorithm has
+-- the digest of the digits: there are as many as its algorithm has
 abbrev pub value_shown : Kind → Bool → List ℕ → Option ℕ
 value_shown kind is_little digits =
     if nat_eq (length digits) (digits_of kind) then number_of (turned_if is_little digits) else None

@@ -1,4 +1,4 @@
--- What a line means: a file's digest, by which algorithm.
+-- The meaning of a line: a file's digest, by which algorithm.
 use Rattle.std.specs.Prelude.{ℕ, ◌≡◌, ◌⊎◌, Bool, false, List, [], ◌∷◌, Option, Some, nat_eq}
 use Rattle.xxh_io.specs.declared.kind.Kind.{Kind}
 use Rattle.xxhsum_line.specs.Digits.{value_shown}
@@ -6,17 +6,17 @@ use Rattle.xxhsum_line.specs.Escapes.{body_of, is_escaped, name_meant}
 use Rattle.xxhsum_line.specs.Parts.{IsPlain, IsTagged, up_to_nul, without_return}
 use Rattle.xxhsum_line.specs.Tags.{bare, kind_of_digits, kind_of_tag, is_little_tag}
 
--- the digest that digits of this algorithm write, with or without their prefix
+-- the digest of digits of this algorithm, with or without their prefix
 abbrev pub value_meant : Kind → Bool → List ℕ → Option ℕ
 value_meant kind is_little digits = value_shown kind is_little (bare kind digits)
 
--- a plain line: its digits name the algorithm, and the caller says whether they are little-endian
+-- a plain line: its digits determine the algorithm, and the caller chooses whether they are little-endian
 abbrev pub SaysPlain : Bool → List ℕ → Kind → ℕ → List ℕ → Type 0
 SaysPlain is_little text kind value name =
     (digits : List ℕ) × IsPlain text digits name
     × (kind_of_digits digits ≡ Some kind) × (value_meant kind is_little digits ≡ Some value)
 
--- a tagged line: its tag names the algorithm, and says whether the digits are little-endian
+-- a tagged line: its tag determines the algorithm, and whether the digits are little-endian
 abbrev pub SaysTagged : List ℕ → Kind → ℕ → List ℕ → Type 0
 SaysTagged text kind value name =
     (tag : List ℕ) × (digits : List ℕ) × IsTagged text tag name digits

@@ -1,7 +1,7 @@
 -- Escaped names: bytes that would end a line early are written as a backslash and another byte.
 use Rattle.std.specs.Prelude.{ℕ, Bool, true, false, ◌||◌, nat_eq, List, [], ◌∷◌, ◌++◌, drop, Option, Some, None, option_and_then, if◌then◌else◌}
 
--- a byte of a name, escaped: a backslash, a line feed and a carriage return are two bytes
+-- a byte of a name, escaped: a backslash, a newline and a carriage return are two bytes
 abbrev pub escape : ℕ → List ℕ
 escape c =
     if nat_eq c 92 then 92 ∷ 92 ∷ []
@@ -13,7 +13,7 @@ abbrev pub escaped : List ℕ → List ℕ
 escaped [] = []
 escaped (c ∷ cs) = escape c ++ escaped cs
 
--- whether a byte is escaped
+-- true if a byte is escaped
 abbrev pub is_special : ℕ → Bool
 is_special c = nat_eq c 92 || (nat_eq c 10 || nat_eq c 13)
 
@@ -21,11 +21,11 @@ abbrev pub needs_escape : List ℕ → Bool
 needs_escape [] = false
 needs_escape (c ∷ cs) = is_special c || needs_escape cs
 
--- what the line of a name begins with: a backslash where the name needs escapes
+-- the beginning of a name's line: a backslash if the name needs escapes
 abbrev pub mark_of : List ℕ → List ℕ
 mark_of name = if needs_escape name then 92 ∷ [] else []
 
--- a text as one line: each of its bytes escaped, and a backslash before them where one of them needs it
+-- a text as one line: each of its bytes escaped, and a backslash before them if one of them needs it
 abbrev pub one_line : List ℕ → List ℕ
 one_line text = mark_of text ++ escaped text ++ 10 ∷ []
 
@@ -41,7 +41,7 @@ meant_by c =
 abbrev pub before : List ℕ → Option (List ℕ) → Option (List ℕ)
 before bytes rest = option_and_then (λ others. Some (bytes ++ others)) rest
 
--- the unescaped bytes, where the byte before them was a backslash or not; a backslash at the end begins no escape
+-- the unescaped bytes, if the byte before them was a backslash or not; a backslash at the end begins no escape
 abbrev pub meant_behind : Bool → List ℕ → Option (List ℕ)
 meant_behind false [] = Some []
 meant_behind true [] = None
@@ -58,15 +58,15 @@ unescaped text = meant_behind false text
 abbrev pub is_blank : ℕ → Bool
 is_blank c = nat_eq c 32 || nat_eq c 9
 
--- Whether a line is escaped: its first byte that is no space and no tab is a backslash.
+-- True if a line is escaped: its first byte that is no space and no tab is a backslash.
 abbrev pub is_escaped : List ℕ → Bool
 is_escaped [] = false
 is_escaped (c ∷ cs) = if is_blank c then is_escaped cs else nat_eq c 92
 
--- the line, of an escaped one without its first byte
+-- the line; an escaped one without its first byte
 abbrev pub body_of : List ℕ → List ℕ
 body_of text = if is_escaped text then drop 1 text else text
 
--- the name, unescaped where the line is escaped
+-- the name, unescaped if the line is escaped
 abbrev pub name_meant : Bool → List ℕ → Option (List ℕ)
 name_meant is_escaped text = if is_escaped then unescaped text else Some text

@@ -1,4 +1,4 @@
--- What holds of printed lines and of entries.
+-- Laws of printed lines and of entries.
 use Rattle.std.specs.Prelude.{ℕ, ◌≡◌, ◌<◌, ◌^◌, Bool, false, List, [], ◌∷◌, ◌++◌, Some}
 use Rattle.xxh_io.specs.Kind.{digits_of}
 use Rattle.xxh_io.specs.declared.kind.Kind.{Kind}
@@ -8,18 +8,18 @@ use Rattle.xxhsum_line.specs.Parts.{IsPlain, IsTagged, Lacks}
 use Rattle.xxhsum_line.specs.Printed.{text_of}
 use Rattle.xxhsum_line.specs.declared.printed.Shape.{Shape}
 
--- a printed line, whose name has no NUL, means the entry that it was made of
+-- a printed line whose name has no NUL means the entry that it was made of
 abbrev pub PrintedIsAccepted : Type 0
 PrintedIsAccepted =
     (kind : Kind) (shape : Shape) (value : ℕ) (name : List ℕ) → value < 16 ^ digits_of kind → Lacks 0 name
     → Says shape.is_little (text_of kind shape value name) kind value name
 
--- a printed line has no line feed but its last byte, whatever the name
+-- a printed line has no newline except its last byte, whatever the name
 abbrev pub PrintedIsOneLine : Type 0
 PrintedIsOneLine =
     (kind : Kind) (shape : Shape) (value : ℕ) (name : List ℕ) → Lacks 10 (text_of kind shape value name)
 
--- this is one line: its last byte is a line feed, and no other is
+-- this is one line: its last byte is a newline, and no other is
 abbrev pub IsOneLine : List ℕ → Type 0
 IsOneLine line = (text : List ℕ) × (line ≡ text ++ 10 ∷ []) × Lacks 10 text
 
@@ -27,7 +27,7 @@ IsOneLine line = (text : List ℕ) × (line ≡ text ++ 10 ∷ []) × Lacks 10 t
 abbrev pub ToldIsOneLine : Type 0
 ToldIsOneLine = (text : List ℕ) → IsOneLine (one_line text)
 
--- and where nothing in it needs an escape, it is the text
+-- and if nothing in it needs an escape, it is the text
 abbrev pub PlainTextsStay : Type 0
 PlainTextsStay = (text : List ℕ) → needs_escape text ≡ false → one_line text ≡ text ++ 10 ∷ []
 

@@ -1,4 +1,4 @@
--- What a line means: an entry, a comment, or malformed.
+-- The meaning of a line: an entry, a comment, or malformed.
 use Rattle.std.specs.Prelude.{ℕ, ◌≡◌, ◌<◌, ◌^◌, Bool, true, List}
 use Rattle.xxh_io.specs.Kind.{digits_of}
 use Rattle.xxhsum_line.specs.Entry.{Says, SaysNothing, is_comment}

@@ -13,17 +13,17 @@ abbrev pub up_to_nul : List ℕ → List ℕ
 up_to_nul [] = []
 up_to_nul (c ∷ cs) = if c == 0 then [] else c ∷ up_to_nul cs
 
--- the line without the carriage return at its end, where it has one
+-- the line without the carriage return at its end, if it has one
 abbrev pub without_return : List ℕ → List ℕ
 without_return [] = []
 without_return (c ∷ []) = if c == 13 then [] else c ∷ []
 without_return (c ∷ d ∷ cs) = c ∷ without_return (d ∷ cs)
 
--- digits, a space, any byte but '(', and the name: no space is among the digits
+-- digits, a space, any byte except '(', and the name: no space is among the digits
 abbrev pub IsPlain : List ℕ → List ℕ → List ℕ → Type 0
 IsPlain line digits name = (mark : ℕ) × (line ≡ digits ++ 32 ∷ mark ∷ name) × Lacks 32 digits × (mark ≢ 40)
 
--- what follows "TAG (" in a tagged line: the name, ") = " and digits, none of them a space
+-- the bytes after "TAG (" in a tagged line: the name, ") = " and digits, none of them a space
 abbrev pub EndsTagged : List ℕ → List ℕ → List ℕ → Type 0
 EndsTagged inside name digits = (inside ≡ name ++ 41 ∷ 32 ∷ 61 ∷ 32 ∷ digits) × Lacks 32 digits
 
@@ -43,7 +43,7 @@ HasNoParts line =
     ((digits name : List ℕ) → ¬ IsPlain line digits name)
     × ((tag name digits : List ℕ) → ¬ IsTagged line tag name digits)
 
--- these are the parts of a tagged line, of which the bytes behind "TAG (" are given
+-- these are the parts of a tagged line with these bytes after "TAG ("
 abbrev pub IsTaggedWith : List ℕ → List ℕ → Parts → Type 0
 IsTaggedWith tag inside (Plain digits name) = ⊥
 IsTaggedWith tag inside (Tagged tag' name digits) = (tag'.now ≡ tag) × EndsTagged inside name.now digits.now

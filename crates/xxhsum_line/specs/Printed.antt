@@ -25,7 +25,7 @@ prefix_of X3_128 = []
 abbrev pub plain_text : Kind → Bool → ℕ → List ℕ → List ℕ
 plain_text kind is_little value name = prefix_of kind ++ (shown kind is_little value ++ 32 ∷ 32 ∷ name)
 
--- the tag, followed by "_LE" where the digits are little-endian
+-- the tag, followed by "_LE" if the digits are little-endian
 abbrev pub full_tag : Kind → Bool → List ℕ
 full_tag kind is_little = tag_of kind ++ (if is_little then codes "_LE" else [])
 
@@ -41,18 +41,18 @@ formed kind shape value name =
     then tagged_text kind shape.is_little value name
     else plain_text kind shape.is_little value name
 
--- a name as it is written in a line that a NUL ends, or in one that a line feed ends
+-- a name as it is written in a line that ends with a NUL or with a newline
 abbrev pub name_shown : Bool → List ℕ → List ℕ
 name_shown is_raw name = if is_raw then name else escaped name
 
--- a line without its line feed
+-- a line without its newline
 abbrev pub text_of : Kind → Shape → ℕ → List ℕ → List ℕ
 text_of kind shape value name = mark_of name ++ formed kind shape value (escaped name)
 
 abbrev pub line_of : Kind → Shape → ℕ → List ℕ → List ℕ
 line_of kind shape value name = text_of kind shape value name ++ 10 ∷ []
 
--- a line that a NUL ends: the name as it is, with no backslash before it
+-- a line that ends with a NUL: the name as it is, with no backslash before it
 abbrev pub nul_line : Kind → Shape → ℕ → List ℕ → List ℕ
 nul_line kind shape value name = formed kind shape value name ++ 0 ∷ []
 

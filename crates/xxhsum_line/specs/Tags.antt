@@ -1,10 +1,10 @@
--- The tags of lines, and the algorithms that they name.
+-- The tags of lines and their algorithms.
 use Rattle.std.specs.Prelude.{ℕ, Bool, false, ◌||◌, List, [], ◌∷◌, Option, Some, None, nat_eq, codes, drop, length, if◌then◌else◌}
 use Rattle.std.specs.List.{starts_with}
 use Rattle.xxh_io.specs.declared.kind.Kind.{Kind}
 use Rattle.xxh_io.specs.declared.kind.Kind.TheVariants.{X32, X64, X3_64, X3_128}
 
--- the algorithm of a plain line, by how many digits it has
+-- the algorithm of a plain line, by its number of digits
 abbrev pub kind_of_count : ℕ → Option Kind
 kind_of_count count =
     if nat_eq count 8 then Some X32
@@ -21,7 +21,7 @@ tag_of X3_128 = codes "XXH128"
 abbrev pub begins_with : List ℕ → List ℕ → Bool
 begins_with tag text = starts_with nat_eq tag text
 
--- Whether the digits of XXH3 of 64 bits have their prefix, without which they are parsed as XXH64 in a plain line.
+-- True if the digits of XXH3 64-bit have their prefix, without which they are parsed as XXH64 in a plain line.
 abbrev pub has_prefix : List ℕ → Bool
 has_prefix digits = begins_with digits (codes "XXH3_")
 

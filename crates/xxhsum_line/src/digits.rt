@@ -6,10 +6,10 @@ ghost use Rattle.xxhsum_line.specs.Digits.{digit_of, number_of, turned, value_sh
 
 use xxh_io::kind::Kind;
 
-/// The most digits that a digest has.
+/// Maximum number of digits of a digest.
 pub const MOST_DIGITS: usize = 32;
 
-/// The value of a digit of either case. `None` where the byte is no digit.
+/// Returns the value of a digit of either case. `None` if the byte is no digit.
 pub fn digit_of(byte: u8) -> Option<u8>
     ensures value { result ≡ digit_of byte }
     ensures small { IfSome result (λ digit. digit < 16) }
@@ -22,7 +22,7 @@ pub fn digit_of(byte: u8) -> Option<u8>
     }
 }
 
-/// The value of at most 32 digits, the most significant first. `None` where a byte is no digit.
+/// Returns the value of at most 32 digits, the most significant first. `None` if a byte is no digit.
 pub fn number_of(digits: &[u8]) -> Option<u128>
     requires { length digits.now ≤ 32 }
     ensures value { result ≡ number_of digits.now }
@@ -46,8 +46,8 @@ pub fn turn(digits: &mut [u8])
     }
 }
 
-/// The digest by this algorithm that the digits write, with its least significant byte first where `is_little` says so.
-/// `None` where the algorithm has another number of digits, or a byte is no digit.
+/// Returns the digest of the digits by this algorithm, with its least significant byte first if `is_little`. `None` if
+/// the algorithm has another number of digits, or a byte is no digit.
 pub fn value_shown(kind: Kind, digits: &[u8], is_little: bool) -> Option<u128>
     ensures value { result ≡ value_shown kind is_little digits.now }
     ensures in_range { IfSome result (λ value. value < 16 ^ digits_of kind) }

@@ -1,4 +1,4 @@
-//! What a line means.
+//! The meaning of a line.
 
 ghost use Rattle.std.specs.Prelude.{◌≡◌, ◌<◌, ◌^◌, IfOk, IfSome, MatchOption};
 ghost use Rattle.xxh_io.specs.Kind.{digits_of};
@@ -23,10 +23,10 @@ pub struct Entry {
     pub name: Vec<u8>,
 }
 
-/// What a line means.
+/// The meaning of a line.
 #[derive(Debug, Drop, PartialEq, Eq)]
 pub enum Meaning {
-    /// It gives a file's digest.
+    /// It has a file's digest.
     Entry(Entry),
     /// It begins with `#`.
     Comment,
@@ -34,11 +34,11 @@ pub enum Meaning {
     Malformed,
 }
 
-/// Parses a line, which is given without its line feed. One that begins with `#` is a comment. Any other loses a
-/// carriage return at its end, as lists written on Windows have it, and all from its first NUL on. The digits of a
-/// plain line are little-endian where `is_little` says so, those of a tagged line where its tag does. A line is
-/// malformed where it has neither form, where its digits are too few or too many for its algorithm or one is no digit,
-/// and where it is escaped and a backslash in its name begins no escape. `AllocError` where memory runs out.
+/// Parses a line, without its newline. A line that begins with `#` is a comment. Any other loses a carriage return at
+/// its end, as lists written on Windows have it, and everything from its first NUL on. The digits of a plain line are
+/// little-endian if `is_little`, those of a tagged line if its tag has `_LE`. A line is malformed if it has neither
+/// form, if its digits are too few or too many for its algorithm or one is no digit, or if it is escaped and a
+/// backslash in its name begins no escape. Returns `AllocError` if out of memory.
 pub fn meaning_of(alloc: Global, line: &[u8], is_little: bool) -> Result<Meaning, AllocError>
     ensures meaning { IfOk result (Means is_little line.now) }
     ensures in_range { IfOk result FitsKind }
@@ -60,7 +60,7 @@ pub fn meaning_of(alloc: Global, line: &[u8], is_little: bool) -> Result<Meaning
     }))
 }
 
-/// Whether a line is a comment.
+/// True if a line is a comment.
 pub fn is_comment(line: &[u8]) -> bool
     ensures { result ≡ is_comment line.now }
 {
@@ -95,7 +95,7 @@ fn shown_in(text: &[u8], is_little: bool) -> Option<Shown<'_>>
     }
 }
 
-// The digest that digits of this algorithm write, with or without their prefix.
+// Returns the digest of digits of this algorithm, with or without their prefix.
 fn value_meant(kind: Kind, digits: &[u8], is_little: bool) -> Option<u128>
     ensures value { result ≡ value_meant kind is_little digits.now }
     ensures in_range { IfSome result (λ value. value < 16 ^ digits_of kind) }

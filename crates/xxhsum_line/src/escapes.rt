@@ -1,5 +1,5 @@
-//! Escaped names. A backslash, a line feed and a carriage return are written as `\\`, `\n` and `\r`, and a line
-//! with such a name begins with a backslash.
+//! Escaped names. A backslash, a newline and a carriage return are written as `\\`, `\n` and `\r`, and a line with such
+//! a name begins with a backslash.
 
 ghost use Rattle.std.specs.Prelude.{◌≡◌, ◌++◌, IfOk, MatchOption, None, Some};
 ghost use Rattle.xxhsum_line.specs.Escapes.{body_of, escape, escaped, is_blank, is_escaped, is_special, mark_of, meant_by, name_meant, needs_escape, one_line, unescaped};
@@ -7,7 +7,7 @@ ghost use Rattle.xxhsum_line.specs.Escapes.{body_of, escape, escaped, is_blank, 
 use std::alloc::{AllocError, Global};
 use std::slice;
 
-/// Whether a name has a backslash, a line feed or a carriage return.
+/// True if a name has a backslash, a newline or a carriage return.
 pub fn needs_escape(name: &[u8]) -> bool
     ensures { result ≡ needs_escape name.now }
 {
@@ -19,15 +19,15 @@ pub fn needs_escape(name: &[u8]) -> bool
     false
 }
 
-// Whether a byte is escaped.
+// True if a byte is escaped.
 fn is_special(byte: u8) -> bool
     ensures { result ≡ is_special byte }
 {
     matches!(byte, b'\\' | b'\n' | b'\r')
 }
 
-/// Appends what the line of this name begins with: a backslash where the name needs escapes. `AllocError` where memory
-/// runs out.
+/// Appends the beginning of this name's line: a backslash if the name needs escapes. Returns `AllocError` if out of
+/// memory.
 pub fn put_mark(line: &mut Vec<u8>, name: &[u8]) -> Result<(), AllocError>
     ensures { IfOk result (λ _. line.new.items ≡ line.old.items ++ mark_of name.now) }
 {
@@ -37,7 +37,7 @@ pub fn put_mark(line: &mut Vec<u8>, name: &[u8]) -> Result<(), AllocError>
     Ok(())
 }
 
-/// Appends the name, escaped. `AllocError` where memory runs out.
+/// Appends the name, escaped. Returns `AllocError` if out of memory.
 pub fn put_escaped(line: &mut Vec<u8>, name: &[u8]) -> Result<(), AllocError>
     ensures { IfOk result (λ _. line.new.items ≡ line.old.items ++ escaped name.now) }
 {
@@ -47,8 +47,8 @@ pub fn put_escaped(line: &mut Vec<u8>, name: &[u8]) -> Result<(), AllocError>
     Ok(())
 }
 
-/// Appends the text as one line: escaped, after a backslash where it needs escapes, and with a line feed. `AllocError`
-/// where memory runs out.
+/// Appends `text` as one line. If it needs escaping, escapes it and prefixes a backslash. Returns `AllocError` if out
+/// of memory.
 pub fn put_line(line: &mut Vec<u8>, text: &[u8]) -> Result<(), AllocError>
     ensures { IfOk result (λ _. line.new.items ≡ line.old.items ++ one_line text.now) }
 {
@@ -57,7 +57,7 @@ pub fn put_line(line: &mut Vec<u8>, text: &[u8]) -> Result<(), AllocError>
     line.extend_from_slice(b"\n")
 }
 
-/// A byte of a name, escaped where it needs to be.
+/// Returns a byte of a name, escaped if it needs to be.
 pub fn escape(byte: &u8) -> &[u8]
     ensures { result.now ≡ escape byte.now }
 {
@@ -69,7 +69,7 @@ pub fn escape(byte: &u8) -> &[u8]
     }
 }
 
-/// Whether a line is escaped: its first byte that is no space and no tab is a backslash.
+/// True if a line is escaped: its first byte that is no space and no tab is a backslash.
 pub fn is_escaped(line: &[u8]) -> bool
     ensures { result ≡ is_escaped line.now }
 {
@@ -87,15 +87,15 @@ fn is_blank(byte: u8) -> bool
     matches!(byte, b' ' | b'\t')
 }
 
-/// The line, of an escaped one without its first byte.
+/// Returns the line; an escaped one without its first byte.
 pub fn body_of(line: &[u8]) -> &[u8]
     ensures { result.now ≡ body_of line.now }
 {
     if is_escaped(line) { &line[1..] } else { line }
 }
 
-/// The name, unescaped where the line is escaped. `None` where a backslash in an escaped line begins no escape.
-/// `AllocError` where memory runs out.
+/// Returns the name, unescaped if the line is escaped. `None` if a backslash in an escaped line begins no escape.
+/// Returns `AllocError` if out of memory.
 pub fn name_meant(
     alloc: Global,
     text: &[u8],
@@ -113,7 +113,7 @@ pub fn name_meant(
     Ok(Some(name))
 }
 
-/// Unescapes a name. `None` where a backslash begins no escape. `AllocError` where memory runs out.
+/// Unescapes a name. `None` if a backslash begins no escape. Returns `AllocError` if out of memory.
 pub fn unescaped(alloc: Global, text: &[u8]) -> Result<Option<Vec<u8>>, AllocError>
     ensures { IfOk result (λ name. MatchOption name
         (unescaped text.now ≡ None) (λ v. unescaped text.now ≡ Some v.items)) }
@@ -140,7 +140,7 @@ pub fn unescaped(alloc: Global, text: &[u8]) -> Result<Option<Vec<u8>>, AllocErr
     })
 }
 
-// The byte that a backslash and this byte represent.
+// Returns the byte that a backslash and this byte represent.
 fn meant_by(byte: u8) -> Option<u8>
     ensures { result ≡ meant_by byte }
 {

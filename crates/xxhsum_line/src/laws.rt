@@ -1,4 +1,4 @@
-//! What users rely on, as functions whose contracts are the sentences.
+//! Properties that users rely on, as functions with contracts.
 
 ghost use Rattle.std.specs.Prelude.{◌≡◌, ◌<◌, ◌^◌, true, IfOk};
 ghost use Rattle.xxh_io.specs.Kind.{digits_of};
@@ -11,9 +11,9 @@ use crate::printed::{Shape, digest_line};
 use std::alloc::{AllocError, Global};
 use xxh_io::kind::Kind;
 
-/// The laws of lines: what is printed is accepted; a printed line is one line and no comment; a text that is reported
-/// as one line is one, whatever names it has; an escape is undone; a line has at most one choice of parts, and at most
-/// one meaning. It does nothing.
+/// Lemma (no code), the laws of lines: what is printed is accepted; a printed line is one line and no comment; a text
+/// that is reported as one line is one, whatever names it has; an escape is undone; a line has at most one choice of
+/// parts, and at most one meaning.
 pub fn laws_of_lines()
     ensures printed_is_accepted { PrintedIsAccepted }
     ensures printed_is_one_line { PrintedIsOneLine }
@@ -28,8 +28,8 @@ pub fn laws_of_lines()
     ensures not_both_forms { NotBothForms }
 {}
 
-/// Whether the printed line, without its line feed, is parsed as the same algorithm, digest and name. It is, for each
-/// name with no NUL and each digest of the algorithm. `AllocError` where memory runs out.
+/// True if the printed line, without its newline, is parsed as the same algorithm, digest and name. It is, for each
+/// name with no NUL and each digest of the algorithm. Returns `AllocError` if out of memory.
 pub fn is_read_back(
     alloc: Global,
     kind: Kind,
@@ -49,7 +49,7 @@ pub fn is_read_back(
     }
 }
 
-// Whether the line is parsed as this algorithm, digest and name.
+// True if the line is parsed as this algorithm, digest and name.
 fn is_read_as(
     alloc: Global,
     text: &[u8],

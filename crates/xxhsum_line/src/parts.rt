@@ -8,7 +8,7 @@ use memchr::{memchr, memrchr};
 /// The parts of a line.
 #[derive(Clone, Copy, Debug, PartialEq, Eq)]
 pub enum Parts<'a> {
-    /// Digits, a space, any byte but `(`, and the name of a file.
+    /// Digits, a space, any byte except `(`, and the name of a file.
     Plain {
         digits: &'a [u8],
         name: &'a [u8],
@@ -21,7 +21,7 @@ pub enum Parts<'a> {
     },
 }
 
-/// The line up to its first NUL, or whole where it has none.
+/// Returns the line up to its first NUL, or all of it if it has none.
 pub fn up_to_nul(line: &[u8]) -> &[u8]
     ensures { result.now ≡ up_to_nul line.now }
 {
@@ -31,7 +31,7 @@ pub fn up_to_nul(line: &[u8]) -> &[u8]
     }
 }
 
-/// The line without the carriage return at its end, where it has one.
+/// Returns the line without the carriage return at its end, if it has one.
 pub fn without_return(line: &[u8]) -> &[u8]
     ensures { result.now ≡ without_return line.now }
 {
@@ -41,7 +41,7 @@ pub fn without_return(line: &[u8]) -> &[u8]
     }
 }
 
-/// Splits a line, which is given without its line feed, into its parts. `None` where it has neither form.
+/// Splits a line, without its newline, into its parts. `None` if it has neither form.
 pub fn parts_of(line: &[u8]) -> Option<Parts<'_>>
     ensures { MatchOption result (HasNoParts line.now) (HasParts line.now) }
 {
@@ -56,7 +56,7 @@ pub fn parts_of(line: &[u8]) -> Option<Parts<'_>>
     }
 }
 
-// The parts of a tagged line, which has this tag, a space, `(` and then these bytes.
+// Returns the parts of a tagged line with this tag, a space, `(` and then these bytes.
 fn tagged_parts<'a>(tag: &'a [u8], inside: &'a [u8]) -> Option<Parts<'a>>
     ensures { MatchOption result (HasNoTaggedParts inside.now) (IsTaggedWith tag.now inside.now) }
 {

@@ -19,18 +19,17 @@ pub struct Shape {
     pub is_little: bool,
 }
 
-/// The form of printed lines, and what each ends with.
+/// The form of printed lines, and their last byte.
 #[derive(Clone, Copy, Debug, PartialEq, Eq)]
 pub struct Style {
     /// Their form.
     pub shape: Shape,
-    /// Each ends with a NUL in place of a line feed, and its name isn't escaped.
+    /// Each line ends with a NUL instead of a newline, and its name isn't escaped.
     pub ends_in_nul: bool,
 }
 
-/// The line of this file's digest, in this style: with its line feed as [`digest_line`] has it, or with its NUL, and
-/// then no byte of the name is escaped and the line begins with no backslash of its own. `AllocError` where memory runs
-/// out.
+/// Returns the line of this file's digest, in this style: with its newline, as by [`digest_line`], or with a NUL, no
+/// byte of the name escaped and no backslash before it. Returns `AllocError` if out of memory.
 pub fn styled_line(
     alloc: Global,
     kind: Kind,
@@ -49,9 +48,9 @@ pub fn styled_line(
     Ok(line)
 }
 
-/// The line of this file's digest, with its line feed, which is the only one in it. A name with a backslash, a line
-/// feed or a carriage return is escaped, and its line begins with a backslash. Of a digest with more digits than the
-/// algorithm has, the least significant are printed. `AllocError` where memory runs out.
+/// Returns the line of this file's digest, with its newline, which is the only one in it. A name with a backslash, a
+/// newline or a carriage return is escaped, and its line begins with a backslash. If a digest has more digits than the
+/// algorithm, the least significant are printed. Returns `AllocError` if out of memory.
 pub fn digest_line(
     alloc: Global,
     kind: Kind,
@@ -135,7 +134,7 @@ fn put_tagged(
     put_value(line, kind, is_little, value)
 }
 
-// The prefix of the digits in a plain line.
+// Returns the prefix of the digits in a plain line.
 fn prefix_of(kind: Kind) -> &'static [u8]
     ensures { result.now ≡ prefix_of kind }
 {
@@ -145,7 +144,7 @@ fn prefix_of(kind: Kind) -> &'static [u8]
     }
 }
 
-// The digits of the digest.
+// Appends the digits of the digest.
 fn put_value(line: &mut Vec<u8>, kind: Kind, is_little: bool, value: u128) -> Result<(), AllocError>
     ensures { IfOk result (λ _. line.new.items ≡ line.old.items ++ shown kind is_little value) }
 {

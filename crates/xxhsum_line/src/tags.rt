@@ -1,11 +1,11 @@
-//! The tags of lines, and the algorithms that they name.
+//! The tags of lines and their algorithms.
 
 ghost use Rattle.std.specs.Prelude.{◌≡◌};
 ghost use Rattle.xxhsum_line.specs.Tags.{bare, is_little_tag, kind_of_count, kind_of_digits, kind_of_tag, tag_of};
 
 use xxh_io::kind::Kind;
 
-/// The algorithm of a plain line: XXH3 of 64 bits where its digits have the prefix, and otherwise by their number.
+/// Returns the algorithm of a plain line: XXH3 64-bit if its digits have the prefix, and otherwise by their number.
 /// `None` for any other number of digits.
 pub fn kind_of_digits(digits: &[u8]) -> Option<Kind>
     ensures { result ≡ kind_of_digits digits.now }
@@ -17,7 +17,7 @@ pub fn kind_of_digits(digits: &[u8]) -> Option<Kind>
     }
 }
 
-/// The digits without their prefix, which those of XXH3 of 64 bits may have.
+/// Returns the digits without their prefix, which those of XXH3 64-bit may have.
 pub fn bare(kind: Kind, digits: &[u8]) -> &[u8]
     ensures { result.now ≡ bare kind digits.now }
 {
@@ -27,7 +27,7 @@ pub fn bare(kind: Kind, digits: &[u8]) -> &[u8]
     }
 }
 
-// The algorithm of digits without a prefix, by their number.
+// Returns the algorithm of digits without a prefix, by their number.
 fn kind_of_count(count: usize) -> Option<Kind>
     ensures { result ≡ kind_of_count count }
 {
@@ -39,7 +39,7 @@ fn kind_of_count(count: usize) -> Option<Kind>
     }
 }
 
-/// The tag of an algorithm.
+/// Returns the tag of an algorithm.
 pub fn tag_of(kind: Kind) -> &'static [u8]
     ensures { result.now ≡ tag_of kind }
 {
@@ -51,7 +51,7 @@ pub fn tag_of(kind: Kind) -> &'static [u8]
     }
 }
 
-/// The algorithm of a line with this tag: the one whose tag it begins with, and XXH64 where there is none.
+/// Returns the algorithm of a line with this tag: the one whose tag it begins with, and XXH64 if there is none.
 pub fn kind_of_tag(tag: &[u8]) -> Kind
     ensures { result ≡ kind_of_tag tag.now }
 {
@@ -68,7 +68,7 @@ pub fn kind_of_tag(tag: &[u8]) -> Kind
     }
 }
 
-/// Whether the digits of a line with this tag are little-endian: the tag contains `_LE`.
+/// True if the digits of a line with this tag are little-endian: the tag contains `_LE`.
 pub fn is_little_tag(tag: &[u8]) -> bool
     ensures { result ≡ is_little_tag tag.now }
 {

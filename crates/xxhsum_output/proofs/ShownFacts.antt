@@ -41,7 +41,7 @@ refuses-rest writing bytes i old mid new h took refused =
 
 -- ---- the laws
 
--- what the sink behind took of some pieces
+-- what the inner sink took of some chunks
 pub shows-pieces : {W : Type 0} (writing : SinkRules W) (pieces : List (List ℕ)) (old new : Visible W) → Pieces (TakesShown writing) old pieces new → Took writing (concat (map (shown (is_shown old)) pieces)) (terminal_of old) (terminal_of new)
 shows-pieces writing [] old new led = ([], ap terminal_of led, refl)
 shows-pieces {W} writing (piece ∷ pieces) old new led =

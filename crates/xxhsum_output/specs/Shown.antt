@@ -1,19 +1,19 @@
--- How bytes are shown on a terminal.
+-- Bytes as they are displayed on a terminal.
 use Rattle.std.specs.Prelude.{ℕ, ◌/◌, ◌%◌, Bool, true, ◌||◌, ◌&&◌, not, nat_eq, nat_lt, List, [], ◌∷◌, if◌then◌else◌}
 use Rattle.std.specs.List.{flat_map}
 use Rattle.xxh_io.specs.Hex.{hex_digit}
 
--- printable ASCII, a line feed or NUL
+-- printable ASCII, a newline or NUL
 abbrev pub is_plain : ℕ → Bool
 is_plain byte = nat_eq byte 10 || (nat_eq byte 0 || (nat_lt 31 byte && nat_lt byte 127))
 
--- Behind this byte, a byte belongs to no control character. Those above 127 are two bytes in UTF-8: 194, and one from 128
--- to 159; such a byte alone is one too.
+-- After this byte, a byte belongs to no control character. Those above 127 are two bytes in UTF-8: 194, and one from
+-- 128 to 159; such a byte is one also without the 194.
 abbrev pub is_calm : ℕ → ℕ → Bool
 is_calm before byte =
     if nat_lt byte 128 then is_plain byte else (nat_lt 159 byte || (nat_lt 127 before && not (nat_eq before 194)))
 
--- behind this byte, no byte of a text belongs to a control character
+-- after this byte, no byte of a text belongs to a control character
 abbrev pub is_clean : ℕ → List ℕ → Bool
 is_clean before [] = true
 is_clean before (byte ∷ bytes) = is_calm before byte && is_clean byte bytes
@@ -28,6 +28,6 @@ shown_byte byte = if is_plain byte then byte ∷ [] else in_hex byte
 abbrev pub shown_all : List ℕ → List ℕ
 shown_all bytes = flat_map shown_byte bytes
 
--- a text as it is shown: where that is on, and it has a control character, byte by byte
+-- a text as it is displayed: byte by byte, if that is on and it has a control character
 abbrev pub shown : Bool → List ℕ → List ℕ
 shown is_on bytes = if is_on && not (is_clean 0 bytes) then shown_all bytes else bytes

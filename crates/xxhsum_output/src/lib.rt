@@ -1,4 +1,4 @@
-//! What `xxhsum` writes to: a sink that gathers lines and writes them whole.
+//! The streams that `xxhsum` writes to: a sink that buffers lines and writes them whole.
 #![tactic(auto)]
 
 pub mod output;

@@ -9,8 +9,8 @@ use xxh_io::script_sink::ScriptSink;
 
 /// A sink that may hold bytes for a while, to write many at once.
 ///
-/// Bytes that it holds count as written to it. Where their own write fails later, they are lost, and the next write to
-/// it fails.
+/// Bytes that it holds count as written to it. If their own write fails later, they are lost, and the next write to it
+/// fails.
 pub trait Output: Sink {
     // The bytes that it holds.
     ghost held: { Self → List ℕ };
@@ -18,7 +18,7 @@ pub trait Output: Sink {
     // Bytes that it held were lost.
     ghost has_lost: { Self → Bool };
 
-    /// Whether bytes that it held were lost: their write failed.
+    /// True if bytes that it held were lost because their write failed.
     fn has_lost(&self) -> bool
         ensures { result ≡ has_lost self.now };
 

@@ -1,4 +1,4 @@
-//! A sink before a terminal, which shows control characters.
+//! A sink in front of a terminal, which makes control characters visible.
 
 ghost use Rattle.std.specs.Prelude.{◌≡◌, ◌↔◌, ◌<◌, false, true, List, ℕ, Bool, Err, IfErr, map};
 ghost use Rattle.std.specs.List.{AllByRecursion, concat};
@@ -14,8 +14,8 @@ use xxh_io::write::write_all;
 // In UTF-8 a control character of two bytes is this one and one from 128 to 159.
 const BEFORE_CONTROL: u8 = 194;
 
-/// A sink before a terminal. It passes a text that has a control character with `\xHH` in place of each byte that is
-/// neither printable ASCII nor a line feed nor NUL, and any other as it is. Where it is off, it passes each as it is.
+/// A sink in front of a terminal. In a text with a control character, it replaces each byte that is neither printable
+/// ASCII nor a newline nor NUL by `\xHH`. It passes on any other text unchanged, and every text if it is off.
 #[derive(Drop)]
 pub struct Visible<W> {
     inner: W,
@@ -26,7 +26,7 @@ impl<W: Sink> Visible<W> {
     ghost use Rattle.xxhsum_output.specs.Visible.{is_shown, terminal_of};
     ghost use Rattle.xxhsum_output.specs.declared.visible.Visible.{Visible};
 
-    /// This sink behind it, to which control characters are shown where `is_on`.
+    /// Wraps this sink. Control characters are made visible if `is_on`.
     pub fn new(inner: W, is_on: bool) -> Visible<W>
         ensures terminal { terminal_of result ≡ inner }
         ensures shown { is_shown result ≡ is_on }
@@ -34,8 +34,8 @@ impl<W: Sink> Visible<W> {
         Visible { inner, is_on }
     }
 
-    /// The laws of such a sink. What it took the sink behind it took, as it is shown: nothing else where it is off, and
-    /// no control character where it is on. It does nothing.
+    /// Lemma (no code), the laws of such a sink: the inner sink took what this one took, as it is displayed: unchanged
+    /// if it is off, and without control characters if it is on.
     pub fn laws()
         ensures pieces { (old new : Visible W) (pieces : List (List ℕ))
             → Pieces ⟦<Visible<W> as Sink>⟧.takes old pieces new
@@ -68,7 +68,7 @@ impl<W: Sink> Sink for Visible<W> {
     }
 }
 
-// Writes the bytes as they are shown.
+// Writes the bytes as they are displayed.
 fn write_visible<W: Sink>(bytes: &[u8], is_on: bool, w: &mut W) -> Result<(), DigestError>
     requires { W.has_failed w.old ≡ false }
     ensures writes { Writes W.Sink (shown is_on bytes.now) w.old w.new result }
@@ -81,7 +81,7 @@ fn write_visible<W: Sink>(bytes: &[u8], is_on: bool, w: &mut W) -> Result<(), Di
     write_all(bytes, w)
 }
 
-// Whether no byte belongs to a control character.
+// True if no byte belongs to a control character.
 fn is_clean(bytes: &[u8]) -> bool
     ensures { result ≡ is_clean 0 bytes.now }
 {
@@ -95,7 +95,7 @@ fn is_clean(bytes: &[u8]) -> bool
     true
 }
 
-// Whether a byte behind this one belongs to no control character.
+// True if a byte after this one belongs to no control character.
 fn is_calm(before: u8, byte: u8) -> bool
     ensures { result ≡ is_calm before byte }
 {
@@ -105,14 +105,14 @@ fn is_calm(before: u8, byte: u8) -> bool
     byte > 159 || (before > 127 && before != BEFORE_CONTROL)
 }
 
-// Whether a byte is printable ASCII, a line feed or NUL.
+// True if a byte is printable ASCII, a newline or NUL.
 fn is_plain(byte: u8) -> bool
     ensures { result ≡ is_plain byte }
 {
     byte == b'\n' || byte == 0 || (31 < byte && byte < 127)
 }
 
-// Writes each byte as it is shown.
+// Writes each byte as it is displayed.
 fn write_shown<W: Sink>(bytes: &[u8], w: &mut W) -> Result<(), DigestError>
     requires { W.has_failed w.old ≡ false }
     ensures writes { Writes W.Sink (shown_all bytes.now) w.old w.new result }
@@ -128,7 +128,7 @@ fn write_shown<W: Sink>(bytes: &[u8], w: &mut W) -> Result<(), DigestError>
     Ok(())
 }
 
-// Writes a byte as it is shown.
+// Writes a byte as it is displayed.
 fn write_byte<W: Sink>(byte: u8, w: &mut W) -> Result<(), DigestError>
     requires { W.has_failed w.old ≡ false }
     ensures writes { Writes W.Sink (shown_byte byte) w.old w.new result }
@@ -141,14 +141,14 @@ fn write_byte<W: Sink>(byte: u8, w: &mut W) -> Result<(), DigestError>
     write_all(&in_hex(byte), w)
 }
 
-// A backslash, an x and two digits.
+// Returns a backslash, an x and two digits.
 fn in_hex(byte: u8) -> [u8; 4]
     ensures { result ≡ in_hex byte }
 {
     [b'\\', b'x', digit(byte / 16), digit(byte % 16)]
 }
 
-// The lower-case digit of a number below 16.
+// Returns the lower-case digit of a number below 16.
 fn digit(n: u8) -> u8
     requires { n < 16 }
     ensures { result ≡ hex_digit n }

@@ -1,4 +1,4 @@
-//! Names that lead to scripts.
+//! Names of scripts.
 
 use xxh_io::script_source::ScriptSource;
 use xxhsum_files::memory::MemoryEntry;

@@ -9,7 +9,7 @@ use xxhsum_files::refusal::Refusal;
 use xxhsum_files::store::Store;
 use xxhsum_files::system::SystemFiles;
 
-// What the first read of the file of this name gives, or a word where there is none.
+// Returns the result of the first read of the file of this name, or a word if there is none.
 fn first_read<'a, S: Store>(store: &S, name: &[u8], room: &'a mut [u8; 16]) -> &'a [u8] {
     let Ok(mut file) = store.open(name) else {
         return b"refused";
@@ -23,15 +23,15 @@ fn first_read<'a, S: Store>(store: &S, name: &[u8], room: &'a mut [u8; 16]) -> &
     }
 }
 
-// Whether each row is what its name gives: the first read of its file, or a word where there is none; and whether it is
-// a directory's.
+// True if each name has its case's result: the first read of its file, or a word if there is none; and whether it is a
+// directory.
 pub(crate) fn leads_to<S: Store>(store: &S, rows: &[(&[u8], &[u8], bool)]) -> bool {
     rows.iter().all(|(name, want, is_directory)| {
         first_read(store, name, &mut [0; 16]) == *want && store.is_directory(name) == *is_directory
     })
 }
 
-// The first of two entries of one name counts; a read may fail as the script has it.
+// The first of two entries of one name is used; a read may fail as in the script.
 #[test]
 fn a_table_gives_the_source_of_the_first_entry(rt: HostRuntime) {
     let entries = [
@@ -79,7 +79,7 @@ fn a_refusal_has_its_words(rt: HostRuntime) -> Result<(), Fail> {
     Ok(())
 }
 
-// What every system has: the empty file, the root folder, and names that lead to nothing.
+// What every system has: the empty file, the root directory, and names of nothing.
 #[test]
 fn the_system_gives_its_files(rt: HostRuntime) {
     assert!(rt;
@@ -96,7 +96,7 @@ fn the_system_gives_its_files(rt: HostRuntime) {
     );
 }
 
-// A refusal has the system's message alone, without the number that std appends.
+// An error has only the system's message, without the number that std appends.
 #[test]
 fn a_refusal_of_the_system_has_its_words(rt: HostRuntime) -> Result<(), Fail> {
     for (name, words) in [

@@ -1,5 +1,5 @@
-//! Lines of the original: those that it printed, and how it parsed others. Its release 0.8.3 knows each of them, 0.8.1
-//! none with an escape or the prefix of XXH3, and no comment.
+//! Lines of the original: those that it printed, and how it parsed others. Release 0.8.3 supports each of them, 0.8.1
+//! none with an escape, the prefix of XXH3 or a comment.
 
 use std::alloc::{AllocError, Global};
 use std::test::Fail;
@@ -65,7 +65,7 @@ const NAMED: [(&str, bool, &str); 6] = [
     ("", true, "XXH64 () = 55cfd3deadcabb2a"),
 ];
 
-// Whether the line is parsed as this entry.
+// True if the line is parsed as this entry.
 fn says(
     alloc: Global,
     line: &str,
@@ -129,7 +129,7 @@ fn written_names(rt: HostRuntime) -> Result<(), Fail> {
     Ok(())
 }
 
-// No clause says that there is memory for it.
+// No clause states that there is memory for it.
 #[test]
 fn a_long_name_has_a_line(rt: HostRuntime) -> Result<(), Fail> {
     let shape = Shape {

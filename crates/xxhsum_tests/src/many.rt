@@ -1,5 +1,5 @@
-//! Many arguments and many reads, beyond each constant of the code: all are taken, and no call reports that memory ran
-//! out.
+//! Many arguments and many reads, beyond each constant of the code: all are accepted, and no call reports out of
+//! memory.
 
 use std::alloc::AllocError;
 use std::env::FillError;
@@ -9,7 +9,7 @@ use xxh_io::script_source::ScriptSource;
 use xxhsum_audit::read::read_text;
 use xxhsum_program::arguments::{ProcessArguments, all_arguments};
 
-// A process with so many arguments, each of one byte, and no environment.
+// A process with this many arguments, each of one byte, and no environment.
 #[derive(Clone, Copy)]
 struct Called {
     arguments: usize,

@@ -15,11 +15,11 @@ use xxhsum_words::options::{Asked, Options, asked_by};
 const LIST: &[u8] =
     b"26c7827d889f6da3  a\ndeadbeefdeadbeef  b\nnonsense\n0123456789abcdef  gone\nXXH3 (b) = d30345fef8ac3570";
 
-// What is printed of it.
+// The output for it.
 const CHECKED: &[u8] =
     b"a: OK\nb: FAILED\nL:4: Could not open or read 'gone': No such file or directory.\nb: OK\n1 line is improperly formatted\n1 listed file could not be read\n1 computed checksum did NOT match\n";
 
-// What is reported of the file whose second read fails, as docs/XXHSUM.md has it.
+// The message for the file whose second read fails, as in docs/XXHSUM.md.
 const BAD: &[u8] = b"Error: Could not read 'bad': a failure occurred reading the input file. \n";
 
 // The files a and b, the folder d, a file whose second read fails, and a list.

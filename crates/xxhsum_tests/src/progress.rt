@@ -1,5 +1,5 @@
-//! Progress of long files. The lines have the numbers that a reader of such a terminal would work out: a line at each
-//! 64 MiB, of the MiB so far, MiB a second, and seconds left.
+//! Progress of long files. The lines have the numbers that a reader of such a terminal would calculate: a line at each
+//! 64 MiB, with the MiB so far, MiB per second, and seconds left.
 
 use crate::entry::entry;
 use crate::files::leads_to;
@@ -13,7 +13,7 @@ use xxhsum_program::watched::WatchedFiles;
 const MIB: usize = 1048576;
 
 // Counts of bytes read with the times at which the reads end (ms, from a start at 500); the size; whether progress is
-// on; and what is shown.
+// on; and the output.
 const READS: &[(&[(usize, u64)], Option<u64>, bool, &str)] = &[
     (
         &[(63 * MIB, 600), (1048575, 700), (1, 756), (0, 800)],
@@ -54,7 +54,7 @@ fn long_reads_are_shown(rt: HostRuntime) {
     }
 }
 
-// Files that are watched are the same files.
+// Files whose progress is shown have the same bytes.
 #[test]
 fn watched_files_give_what_they_have(rt: HostRuntime) {
     let entries = [

@@ -1,4 +1,4 @@
-//! Buffered lines: which writes the sink behind them gets.
+//! Buffered lines: the writes of the inner sink.
 
 use xxh_io::ends::Sink;
 use xxh_io::script_sink::ScriptSink;
@@ -6,12 +6,13 @@ use xxh_io::write::write_all;
 use xxhsum_output::output::Output;
 use xxhsum_output::whole_lines::WholeLines;
 
-// A buffer before a sink whose write of this number fails, so that the sink has what the writes before it brought.
+// Creates a buffer in front of a sink whose write of this number fails, so that the sink has the bytes of the writes
+// before it.
 fn failing_at(write: u64, gathers: bool) -> WholeLines<ScriptSink<99999>> {
     WholeLines::new(ScriptSink::new(99999, write), gathers)
 }
 
-// How many bytes the sink behind has after lines of these lengths, where its write of this number fails.
+// Returns how many bytes the inner sink has after lines of these lengths, if its write of this number fails.
 fn written(lengths: &[usize], write: u64, gathers: bool) -> usize {
     let line = [b'x'; 9999];
     let mut lines = failing_at(write, gathers);

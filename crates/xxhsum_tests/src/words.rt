@@ -1,4 +1,4 @@
-//! What the arguments ask for.
+//! The meaning of the arguments.
 
 use std::alloc::Global;
 use std::test::Fail;
@@ -6,7 +6,7 @@ use xxh_io::kind::Kind;
 use xxhsum_words::name::default_kind;
 use xxhsum_words::options::{Asked, asked_by};
 
-// Arguments, separated by a space, as `xxhsum` was given them, and how it parsed them.
+// Arguments, separated by a space, as they were passed to `xxhsum`, and how it parsed them.
 const TABLE: &[(&str, &str)] = &[
     ("a", "64 0"),
     ("a -H0", "64 0"),
@@ -71,7 +71,7 @@ const TABLE: &[(&str, &str)] = &[
     ("-i99999999999", "large"),
 ];
 
-// What was asked for, in words of the table.
+// Returns the meaning of the arguments, in the words of the table.
 fn told(alloc: Global, asked: Asked) -> Result<String, Fail> {
     let (options, names_from) = match asked {
         Asked::Run {

@@ -1,4 +1,4 @@
--- A text that does not stand at the front of a name stands in it just where it stands in the rest.
+-- A text that is not at the front of a name is in it if and only if it is in the rest.
 use Rattle.std.proofs.Common.{◌≡◌, ℕ, ◌+◌, ◌<◌, List, ◌∷◌, length, drop, false, nat_eq, refl, ap, sym, ◌∙◌, add-one}
 use Rattle.std.proofs.Math.Seq.{drop-cons}
 use Rattle.std.specs.List.{starts_with}

@@ -1,4 +1,4 @@
--- What an argument of letters does, each an option.
+-- The effect of an argument of letters, each an option.
 use Rattle.std.proofs.Common.{zero, suc, ℕ, List, [], ◌∷◌, ◌==◌, ◌||◌, Option, Some, None, if◌then◌else◌, Result, Ok, Err}
 use Rattle.xxh_io.specs.declared.kind.Kind.{Kind}
 use Rattle.xxh_io.specs.declared.kind.Kind.TheVariants.{X32, X64, X3_64, X3_128}
@@ -21,7 +21,7 @@ numbered_kind number =
     else if number == 3 then Some X3_64
     else None
 
--- a letter that no others belong to, by its step
+-- a letter with no others of its own, by its step
 abbrev pub alone : Step → Result Letter Step
 alone (Takes options) = Ok (record { options = options; taken = 0 })
 alone EndsBefore = Err EndsBefore
@@ -49,7 +49,7 @@ past_number options None = Err (Settles NumberTooLarge)
 abbrev pub skipped_number : Options → List ℕ → Result Letter Step
 skipped_number options after = past_number options (number_of after)
 
--- what a letter does, which these others follow: `-` is no letter, and H, i and B take a number
+-- the effect of a letter, which these others follow: `-` is no letter, and H, i and B take a number
 abbrev pub letter_of : Options → ℕ → List ℕ → Result Letter Step
 letter_of options letter after =
     if letter == 45 then Err IsWrong
@@ -57,12 +57,12 @@ letter_of options letter after =
     else if letter == 105 || letter == 66 then skipped_number options after
     else alone (of_letter ROWS options letter)
 
--- the letters that belong to this one are passed over
+-- the letters that belong to this one are skipped
 abbrev pub after_letter : Result Letter Step → (ℕ → Options → Step) → Step
 after_letter (Ok read) go_on = go_on read.taken read.options
 after_letter (Err step) go_on = step
 
--- what the letters do, but for this many of them, which belong to the letter before
+-- the effect of the letters, without the first ones, this many, which belong to the letter before
 abbrev pub letters_step : ℕ → Options → List ℕ → Step
 letters_step passed options [] = Takes options
 letters_step (suc passed) options (letter ∷ after) = letters_step passed options after

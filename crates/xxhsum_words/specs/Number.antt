@@ -1,4 +1,4 @@
--- A number at the start of letters: digits, and after them a unit.
+-- A number at the start of letters: digits, and a unit after them.
 use Rattle.std.specs.Prelude.{ℕ, ◌+◌, ◌*◌, ◌^◌, List, length, take, drop, take_while, nat_lt, bytes_eq, codes, Option, Some, None, Bool, if◌then◌else◌}
 use Rattle.std.specs.Char.{is_ascii_digit}
 use Rattle.std.specs.Str.Parse.{digits_value}
@@ -13,12 +13,12 @@ begins_with text letters = bytes_eq (take (length text) letters) text
 abbrev pub digits_of : List ℕ → List ℕ
 digits_of letters = take_while is_ascii_digit letters
 
--- a digit may follow 429,496,728, and nothing above it
+-- a digit may follow 429,496,728, and nothing larger
 abbrev pub value_named : List ℕ → Option ℕ
 value_named digits =
     if nat_lt (digits_value 10 digits) 4294967290 then Some (digits_value 10 digits) else None
 
--- how many letters of a unit follow its K or M
+-- the number of letters of a unit after its K or M
 abbrev pub suffix_letters : List ℕ → ℕ
 suffix_letters letters =
     if begins_with (codes "iB") letters then 2
@@ -46,7 +46,7 @@ abbrev pub number_from : Option ℕ → ℕ → unit.Unit → Option Number
 number_from (Some value) digits unit = in_unit value digits unit
 number_from None digits unit = None
 
--- the number that the letters begin with, 0 where there is no digit; none where it is too large
+-- the number that the letters begin with, 0 if there is no digit; none if it is too large
 abbrev pub number_of : List ℕ → Option Number
 number_of letters =
     let digits = digits_of letters in

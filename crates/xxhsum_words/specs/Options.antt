@@ -1,4 +1,4 @@
--- What the arguments of the command line ask for.
+-- The meaning of the arguments.
 use Rattle.std.specs.Prelude.{ℕ, ◌+◌, Bool, List, [], ◌∷◌, drop, length, true, false, bytes_eq, nat_le, nat_lt, ◌&&◌, ◌||◌, codes, if◌then◌else◌}
 use Rattle.xxh_io.specs.declared.kind.Kind.{Kind}
 use Rattle.xxhsum_words.specs.declared.options.Asked.{Asked}
@@ -32,7 +32,7 @@ no_options kind = record {
   takes_terminal = false;
 }
 
--- what the argument does to these options
+-- the effect of the argument on these options
 abbrev pub word_step : Options → List ℕ → Step
 word_step options word =
     if begins_with (codes "--") word then of_name ROWS options (drop 2 word)
@@ -51,21 +51,21 @@ abbrev pub have_input : List (List ℕ) → Bool
 have_input [] = false
 have_input (name ∷ names) = bytes_eq name (codes "-") || have_input names
 
--- how many checksum lists precede the names: that of an audit
+-- the number of checksum lists before the names: an audit has one
 abbrev pub lists_audited : Options → ℕ
 lists_audited options = if options.audits then 1 else 0
 
--- how many checksum lists precede lists of names: that of an audit
+-- the number of checksum lists before lists of names: an audit has one
 abbrev pub lists_before : Options → ℕ
 lists_before options = if options.audits && are_listed options.names_from then 1 else 0
 
--- `-` is among the names, or was given before names, beside which standard input is not read
+-- `-` is one of the names, or was given before names, with which standard input is not read
 abbrev pub leaves_input : Options → List (List ℕ) → Bool
 leaves_input options names =
     have_input names || (options.takes_terminal && nat_lt (lists_before options) (length names))
 
--- the run by these options, of these names, the arguments from this index on; `-z` is refused beside `-c` and
--- `--audit`, `-r` beside `-c`, beside lists of names and without a name, and `-` beside names
+-- the run by these options, of these names, the arguments from this index on; `-z` is refused with `-c` and `--audit`,
+-- `-r` with `-c`, with lists of names and without a name, and `-` with names
 abbrev pub run_from : Options → ℕ → List (List ℕ) → Asked
 run_from options at names =
     if options.ends_in_nul && (options.checks || options.audits) then NulsInList
@@ -74,7 +74,7 @@ run_from options at names =
     else if leaves_input options names then InputBesideNames
     else Run options at
 
--- an argument that is no option ends them
+-- an argument that is not an option ends them
 abbrev pub after_word : Step → ℕ → Options → List ℕ → List (List ℕ) → (Options → Asked) → Asked
 after_word (Takes next) at options word words go_on = go_on next
 after_word EndsBefore at options word words go_on = run_from options at (word ∷ words)
@@ -82,12 +82,12 @@ after_word EndsAfter at options word words go_on = run_from options (at + 1) wor
 after_word IsWrong at options word words go_on = WrongOption at
 after_word (Settles asked) at options word words go_on = asked
 
--- what these arguments ask for, which follow this many others that made these options
+-- the meaning of these arguments, after this many others that made these options
 abbrev pub asked_after : ℕ → Options → List (List ℕ) → Asked
 asked_after at options [] = run_from options at []
 asked_after at options (word ∷ words) =
     after_word (word_step options word) at options word words (λ next. asked_after (at + 1) next words)
 
--- what the arguments after the program's name ask for
+-- the meaning of the arguments after the program's name
 abbrev pub asked_of : Kind → List (List ℕ) → Asked
 asked_of kind words = asked_after 0 (no_options kind) words

@@ -1,4 +1,4 @@
--- What a table of options means.
+-- The meaning of a table of options.
 use Rattle.std.specs.Prelude.{ℕ, List, [], ◌∷◌, true, ◌==◌, bytes_eq, codes, length, if◌then◌else◌}
 use Rattle.std.specs.Borrow.{Bor}
 use Rattle.std.specs.List.{concat, flat_map}
@@ -8,7 +8,7 @@ use Rattle.xxhsum_words.specs.declared.options.Step.TheVariants.{EndsAfter, IsWr
 use Rattle.xxhsum_words.specs.declared.table.Does.{Does}
 use Rattle.xxhsum_words.specs.declared.table.Does.TheVariants.{Checks, Audits, Walks, Lists, Tags, TurnsRound, EndsInNul, Nothing, Quiets, Silences, IgnoresMissing, IsStrict, Warns, EndsOptions, Asks}
 
--- what an option does to these options
+-- the effect of an option on these options
 abbrev pub does_step : Does → Options → Step
 does_step Checks options = Takes (record options { checks = true })
 does_step Audits options = Takes (record options { audits = true })
@@ -26,14 +26,14 @@ does_step Warns options = Takes (record options { warns = true })
 does_step EndsOptions options = EndsAfter
 does_step (Asks asked) options = Settles asked
 
--- a letter, a name, what it does, and its help; and a row as a slice has it
+-- a letter, a name, its effect, and its help; and a row as in a slice
 abbrev pub Row : Type 0
 Row = ℕ × record { now : List ℕ } × Does × record { now : List ℕ }
 
 abbrev pub seen : ℕ × Bor (List ℕ) × Does × Bor (List ℕ) → Row
 seen row = (row.0, record { now = row.1.now }, row.2, record { now = row.3.now })
 
--- what the first row of this name does, or of this letter
+-- the effect of the first row of this name, or of this letter
 abbrev pub of_name : List Row → Options → List ℕ → Step
 of_name [] options name = IsWrong
 of_name (row ∷ rows) options name =

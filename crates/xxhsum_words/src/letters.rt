@@ -32,7 +32,7 @@ pub(crate) fn letters(word: &[u8], mut options: Options) -> Step
     Step::Takes(options)
 }
 
-// Applies a letter, which these others follow. An error is what the whole argument does, whatever follows.
+// Applies a letter, which these others follow. An error is the result of the whole argument, whatever follows.
 fn letter_at(letter: u8, after: &[u8], options: Options) -> Result<Letter, Step>
     ensures letter { result ≡ letter_of options letter after.now }
     ensures within { IfOk result (λ read. read.taken ≤ length after.now) }
@@ -45,7 +45,7 @@ fn letter_at(letter: u8, after: &[u8], options: Options) -> Result<Letter, Step>
     }
 }
 
-// A letter that no others belong to, by its step.
+// Returns a letter with no others of its own, by its step.
 fn alone(step: Step) -> Result<Letter, Step>
     ensures letter { result ≡ alone step }
     ensures within { IfOk result (λ read. read.taken ≡ 0) }
@@ -56,7 +56,7 @@ fn alone(step: Step) -> Result<Letter, Step>
     }
 }
 
-// `H`: the number after it names the algorithm.
+// Applies `H`: the number after it selects the algorithm.
 fn kind_letter(after: &[u8], options: Options) -> Result<Letter, Step>
     ensures letter { result ≡ kind_step options after.now }
     ensures within { IfOk result (λ read. read.taken ≤ length after.now) }
@@ -69,7 +69,7 @@ fn kind_letter(after: &[u8], options: Options) -> Result<Letter, Step>
     })
 }
 
-// `i` and `B`: the number after it belongs to benchmarks, and changes nothing.
+// Skips `i` or `B`: the number after it belongs to benchmarks, and changes nothing.
 fn skipped_letter(after: &[u8], options: Options) -> Result<Letter, Step>
     ensures letter { result ≡ skipped_number options after.now }
     ensures within { IfOk result (λ read. read.taken ≤ length after.now) }
@@ -81,7 +81,7 @@ fn skipped_letter(after: &[u8], options: Options) -> Result<Letter, Step>
     })
 }
 
-// The algorithm of this number of `-H`.
+// Returns the algorithm of this number of `-H`.
 fn numbered_kind(number: u32) -> Option<Kind>
     ensures { result ≡ numbered_kind number }
 {

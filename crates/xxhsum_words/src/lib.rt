@@ -1,4 +1,4 @@
-//! What the arguments of `xxhsum` ask for.
+//! Parses the arguments of `xxhsum`.
 #![tactic(auto)]
 
 mod letters;

@@ -5,8 +5,8 @@ ghost use Rattle.xxhsum_words.specs.Name.{has_part, kind_of_program};
 
 use xxh_io::kind::Kind;
 
-/// The algorithm of a program of this name, where no option names one. The name is the last part of the path by which
-/// it was called.
+/// Returns the algorithm of a program of this name, if no option selects one. The name is the last part of the path by
+/// which it was called.
 pub fn default_kind(program: &[u8]) -> Kind
     ensures { result ≡ kind_of_program program.now }
 {
@@ -23,7 +23,7 @@ pub fn default_kind(program: &[u8]) -> Kind
     }
 }
 
-// Whether the name contains the text.
+// True if the name contains the text.
 #[tactic(auto, using(crate::proofs::NameFacts::laws_of_parts))]
 fn has_part(text: &[u8], name: &[u8]) -> bool
     ensures { result ≡ has_part text.now name.now }

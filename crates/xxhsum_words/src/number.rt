@@ -8,7 +8,7 @@ ghost use Rattle.xxhsum_words.specs.Number.{digits_of, number_of, suffix_letters
 #[derive(Clone, Copy, Debug, PartialEq, Eq)]
 pub(crate) struct Number {
     pub value: u32,
-    /// How many letters it takes, with its unit.
+    /// Number of letters that it takes, with its unit.
     pub letters: usize,
 }
 
@@ -16,14 +16,14 @@ pub(crate) struct Number {
 #[derive(Clone, Copy, Debug, PartialEq, Eq)]
 pub(crate) struct Unit {
     pub factor: u32,
-    /// How many letters it takes.
+    /// Number of letters that it takes.
     pub letters: usize,
 }
 
-// The greatest number that another digit may follow.
+// The largest number that another digit may follow.
 const MOST_BEFORE_A_DIGIT: u32 = 429_496_728;
 
-/// The number at the start of the letters, 0 where they begin with no digit; `None` where it is too large.
+/// Parses the number at the start of the letters, 0 if they begin with no digit. `None` if it is too large.
 pub(crate) fn number_at(letters: &[u8]) -> Option<Number>
     ensures number { result ≡ number_of letters.now }
     ensures within { IfSome result (λ number. number.letters ≤ length letters.now) }
@@ -37,7 +37,7 @@ pub(crate) fn number_at(letters: &[u8]) -> Option<Number>
     })
 }
 
-// How many digits the letters begin with.
+// Returns the number of digits that the letters begin with.
 fn digit_count(letters: &[u8]) -> usize
     ensures count { result ≡ length (digits_of letters.now) }
     ensures within { result ≤ length letters.now }
@@ -48,7 +48,7 @@ fn digit_count(letters: &[u8]) -> usize
         .count()
 }
 
-// The value of the digits. `None` where it is too large.
+// Returns the value of the digits. `None` if it is too large.
 fn value_of(digits: &[u8]) -> Option<u32>
     requires { all_ascii_digits digits.now ≡ true }
     ensures { result ≡ value_named digits.now }
@@ -63,7 +63,7 @@ fn value_of(digits: &[u8]) -> Option<u32>
     Some(value)
 }
 
-// The unit at the start of the letters: K or M with `i`, `B`, `iB` or nothing after it; or none.
+// Parses the unit at the start of the letters: K or M with `i`, `B`, `iB` or nothing after it; or none.
 fn unit_at(letters: &[u8]) -> Unit
     ensures unit { result ≡ unit_of letters.now }
     ensures within { result.letters ≤ length letters.now }
@@ -86,7 +86,7 @@ fn unit_at(letters: &[u8]) -> Unit
     }
 }
 
-// How many letters of `iB`, `i` or `B` the letters begin with.
+// Returns how many letters of `iB`, `i` or `B` the letters begin with.
 fn suffix_letters(letters: &[u8]) -> usize
     ensures count { result ≡ suffix_letters letters.now }
     ensures within { result ≤ length letters.now }

@@ -1,18 +1,18 @@
-//! The options, each in one row: its letter, its name, what it does, and its text in the help.
+//! The options, each in one row: its letter, its name, its effect, and its text in the help.
 
 ghost use Rattle.std.specs.Prelude.{◌≡◌, map};
 ghost use Rattle.xxhsum_words.specs.Table.{does_step, of_letter, of_name, seen};
 
 use crate::options::{Asked, NamesFrom, Options, Step};
 
-/// What an option does.
+/// The effect of an option.
 #[derive(Clone, Copy, Debug, PartialEq, Eq)]
 pub enum Does {
     /// The names are lists, which are checked.
     Checks,
     /// The first name is a checksum list, with which the other files are compared.
     Audits,
-    /// Folders are walked: their names mean the files below them.
+    /// Directories are walked: their names mean the files below them.
     Walks,
     /// The names are read from lists of this form.
     Lists(NamesFrom),
@@ -28,7 +28,7 @@ pub enum Does {
     Quiets,
     /// A check prints no result.
     Silences,
-    /// Missing files are passed over.
+    /// Missing files are ignored.
     IgnoresMissing,
     /// A malformed line makes its list a bad one.
     IsStrict,
@@ -36,15 +36,15 @@ pub enum Does {
     Warns,
     /// The arguments after it are names.
     EndsOptions,
-    /// It asks for this, whatever follows.
+    /// It determines the result, whatever follows.
     Asks(Asked),
 }
 
-/// The letter of an option that has none.
+/// The letter of an option without one.
 pub const NO_LETTER: u8 = b'-';
 
-/// All options but those whose letter takes a number: the letter after `-`, the name after `--`, what it does, and its
-/// text in the help, which is empty where the help has no line for it.
+/// All options except those whose letter takes a number: the letter after `-`, the name after `--`, its effect, and its
+/// text in the help, which is empty if the help has no line for it.
 pub const ROWS: [(u8, &str, Does, &str); 19] = [
     (
         b'c',
@@ -147,14 +147,14 @@ pub const ROWS: [(u8, &str, Does, &str); 19] = [
     (b'b', "bench-all", Does::Asks(Asked::Benchmark), ""),
 ];
 
-// What `--` and this name do to these options.
+// Applies `--` and this name to these options.
 pub(crate) fn name_step(name: &[u8], options: Options) -> Step
     ensures { result ≡ of_name ROWS options name.now }
 {
     name_in(&ROWS, name, options)
 }
 
-// What the first of these rows with this name does.
+// Applies the first of these rows with this name.
 fn name_in(rows: &[(u8, &str, Does, &str)], name: &[u8], options: Options) -> Step
     ensures { result ≡ of_name (map seen rows.now) options name.now }
 {
@@ -169,14 +169,14 @@ fn name_in(rows: &[(u8, &str, Does, &str)], name: &[u8], options: Options) -> St
     }
 }
 
-// What `-` and this letter do to these options.
+// Applies `-` and this letter to these options.
 pub(crate) fn letter_step(letter: u8, options: Options) -> Step
     ensures { result ≡ of_letter ROWS options letter }
 {
     letter_in(&ROWS, letter, options)
 }
 
-// What the first of these rows with this letter does.
+// Applies the first of these rows with this letter.
 fn letter_in(rows: &[(u8, &str, Does, &str)], letter: u8, options: Options) -> Step
     ensures { result ≡ of_letter (map seen rows.now) options letter }
 {

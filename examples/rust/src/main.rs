@@ -1,4 +1,4 @@
-//! Hashes a file by XXH32, XXH64, XXH3 of 64 bits and XXH3 of 128 bits, and prints a line for each:
+//! Hashes a file with XXH32, XXH64, XXH3 64-bit and XXH3 128-bit, and prints a line for each:
 //!
 //! ```text
 //! hash-file FILE
@@ -29,7 +29,7 @@ impl Hashers {
     }
 }
 
-/// Each piece that is written goes to each stream.
+/// Hashes each written chunk with each stream.
 impl Write for Hashers {
     fn write(&mut self, piece: &[u8]) -> io::Result<usize> {
         self.xxh32.write(piece);

@@ -25,7 +25,7 @@ class CargoProgram(objects.Program):
         return ({plain(name): place for name, place in found.items()} for found in super().names())
 
     def all_names(self):
-        """The names as they stand in the text."""
+        """The names as they are in the source."""
         return {symbol.name for symbol in self.object.symbols}
 
 

@@ -1,12 +1,13 @@
-"""Changes of single instructions of the text for 64-bit ARM, each of which has to be noticed, as ../changes.py says.
+"""Changes of single instructions of the text for 64-bit ARM, each of which must be detected, as ../changes.py says.
 
-A change is one bit of an instruction's 32, whatever that bit stands for: a register, a number, a condition, a shift, a
+A change is one bit of an instruction's 32, whatever that bit means: a register, a number, a condition, a shift, a
 width, the operation. What the changed bytes are is objdump's word, as it is of the text itself. Bytes that are no
 instruction, or one that the table lacks, aren't a change: the table's refusal would say nothing of the questions."""
 import functools
 import os
 import tempfile
 
+from reasons import Reasons
 from terms.refusals import Unsupported
 
 from .. import changes
@@ -27,7 +28,7 @@ class Changed:
             file.write(program.object.data)
 
     def instruction(self, place, bit):
-        """What stands at a place where this bit is the other one, or None where that is none."""
+        """The instruction at a place with this bit inverted, or None if that is none."""
         section, at = place
         head = self.program.heads[section]
         offset, one = head.offset + at + bit // 8, 1 << bit % 8
@@ -80,11 +81,11 @@ def plain(operand):
 
 
 def noticed(program, part):
-    """(changes that were tried, those that aren't noticed and have no reason): of all a part, or few of them."""
+    """(changes that were tried, those that aren't detected and have no reason): of all a part, or few of them."""
     is_all = part is not None
     with tempfile.TemporaryDirectory(prefix="arm-text-") as room:
         changed = Changed(program, os.path.join(room, "text.o"))
         some = changes.of_draws(functools.partial(drawn, changed), MANY if is_all else FEW)
         some = changes.part_of(some, part) if is_all else some
-        texts, bad = changes.noticed_of(Processor(program), some, changes.reasons(EQUAL), is_all)
+        texts, bad = changes.noticed_of(Processor(program), some, Reasons(EQUAL), is_all)
     return len(texts), bad

@@ -40,7 +40,7 @@ def with_sign(n, width):
 
 
 def given(behind, words):
-    """What stands behind an instruction."""
+    """What follows an instruction."""
     numbers = [int(word, 0) for word in words if word not in CODES]
     if behind == "block":
         return bytes([CODES[words[0]] if words else 0x40])

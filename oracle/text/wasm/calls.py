@@ -1,5 +1,5 @@
-"""What a module answers to a request, called as web/twox_hash.js calls it: one-shots, and streams whose record is saved
-and restored on the way. A call that is answered has to write its value, and one that is refused nothing."""
+"""The values of a module for a request, called as web/twox_hash.js calls it: one-shots, and streams whose record is saved
+and restored on the way. A call that succeeds must write its value, and one that is refused nothing."""
 from terms.refusals import Unsupported
 from terms.memory import Memory, Piece
 from terms.nodes import Node
@@ -93,7 +93,7 @@ def anything(vm, name, size):
 
 
 class Stream:
-    """A record in the module's memory, with the secret that each call is handed."""
+    """A record in the module's memory, with the secret that each call gets."""
 
     def __init__(self, vm, request):
         self.vm, self.request, self.family = vm, request, family(request.hash_name)
@@ -133,7 +133,7 @@ class Stream:
                             [address(self.record), *self.secret, address(out)])
 
     def save_and_restore(self):
-        """Goes on in another record, as the JavaScript does: that of a stream started anew, of which all bytes become
+        """Continues in another record, as the JavaScript does: that of a stream started again, of which all bytes become
         those of this one, with zeros where it has padding."""
         saved = dict(self.record.cells)
         self.record = Memory("the restored record", self.record.length)

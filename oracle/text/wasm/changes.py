@@ -1,10 +1,10 @@
-"""Changes in the bytes of a module, each of which has to be noticed: a comparison that no change fails would say
+"""Changes in the bytes of a module, each of which must be detected: a comparison that no change fails would show
 nothing.
 
 A change is one instruction in place of another of the same types, or one bit of an instruction. What the reader or the
-validator refuses is counted apart. The others are asked requests that run the instruction. A change is noticed where a
+validator refuses is counted apart. The others are asked requests that run the instruction. A change is detected where a
 value differs at a point, or there is no value; where the terms differ and no such point is found it is refused. Those
-that change nothing that is promised stand in equal_changes.txt, each with its reason. A crash of this program is
+that change nothing that is promised are in equal_changes.txt, each with its reason. A crash of this program is
 neither."""
 import collections
 import copy
@@ -12,6 +12,7 @@ import itertools
 import os
 import random
 
+from reasons import CRASH, UNNOTICED, WRONG_RULE, Reasons, is_fault
 from terms import comparison, nodes
 from terms.refusals import REFUSALS
 from terms.requests import Request, differing_point
@@ -27,7 +28,7 @@ from .xxh3_streams import ModuleUpdates
 
 EQUAL = os.path.join(os.path.dirname(os.path.abspath(__file__)), "equal_changes.txt")
 LENGTHS = [*range(10), *range(14, 36, 3), 63, 64, 65, 96, 97, 120, 128, 129, 145, 200, 240, 241, 256, 257, 300, 1030]
-# Where those notice nothing: edges first, then each length, or of streams each ninth
+# Where those detect nothing: edges first, then each length, or of streams each ninth
 EDGES = [16, 17, 8, 9, 3, 4, 5, 128, 129, 240, 241, 31, 32, 33, 64, 65, 96, 97, 256, 257, 0, 1, 512, 513, 576, 1024,
          1025, 1088, 1089]
 EACH_STREAM = 9
@@ -40,9 +41,9 @@ STREAM_CUTS = [], [1], [33], [64, 65], [255, 256], [300, 1000], [500]
 STEPS = 100_000               # instructions of a call, with a change
 SECRETS = 136, 192
 TOO_SHORT = 0, 135
-NOTICED, NO_VALUE, REFUSED, UNNOTICED = "another value", "no value", "another term, no point found", "unnoticed"
+NOTICED, NO_VALUE, REFUSED = "another value", "no value", "another term, no point found"
 NOT_VALID, BY_INDUCTION = "not valid", "not shown by induction"
-# Changes by hand: what, the instruction, what stands behind it and which instruction follows (None: anything), which of
+# Changes by hand: what, the instruction, what follows it and which instruction follows (None: anything), which of
 # its bytes, counted from its end where that is negative, and the bits that change there
 BY_HAND = [
     ("a prime of XXH64, another bit 62", "i64.const", 0xC2B2AE3D27D4EB4F, None, 9, 0x40),
@@ -54,13 +55,13 @@ BY_HAND = [
     ("a store, as of bytes 8 further", "i64.store", None, None, -1, 8),
 ]
 EACH_BY_HAND = 3              # places at which each is tried
-# Streams with pieces that are taken out of line, and each so manieth case of the functions that do so
+# Streams with chunks that are taken out of line, and each so manieth case of the functions that do so
 LONG_STREAMS, EACH_TAKEN = [(2300,), *((2300, 64 - r) for r in (1, 2, 5, 9, 20, 40)), (5300, 129)], 25
 CRASHES = AttributeError, IndexError, KeyError, TypeError, ValueError, RecursionError
 
 
 class Taken:
-    """A case of the functions that take stripes of long pieces (xxh3_streams.py), as a request."""
+    """A case of the functions that take stripes of long chunks (xxh3_streams.py), as a request."""
     hash_name, kind, secret_length, what = "3-64", "seed", None, "stripes of long pieces"
 
     def __init__(self, case):
@@ -78,7 +79,7 @@ REFUSING = (calls.refused_one_shot, calls.refused_start, refusals.refuse_short_s
 
 
 def long_pieces(vm, is_all):
-    """What covers the functions that take long pieces of streams."""
+    """What covers the functions that take long chunks of streams."""
     for n, *cuts in LONG_STREAMS if is_all else LONG_STREAMS[:2]:
         yield Request("3-64", "seed", n, cuts=cuts), calls.stream
         yield Request("3-128", "both", n, SECRETS[0], cuts=cuts), calls.stream
@@ -90,7 +91,7 @@ def long_pieces(vm, is_all):
 
 
 def asked(is_all=True):
-    """What covers the modules: (request, what answers it)."""
+    """What covers the modules: (request, its machine)."""
     for kind in comparison.kinds(SECRETS if is_all else SECRETS[:1]):
         for n in LENGTHS[::1 if is_all else 3]:
             yield Request(*kind[:2], n, kind[2]), calls.one_shot
@@ -143,7 +144,7 @@ class Covered:
 # ---- changes
 
 def same_types(opcode):
-    """Those that may stand in an instruction's place, in as many bytes."""
+    """Those that may replace an instruction, in as many bytes."""
     return [x for x in OPCODES if x is not opcode and x.takes is not None and x[3:] == opcode[3:]
             and x.prefix == opcode.prefix and (x.code < 128) == (opcode.code < 128)]
 
@@ -164,7 +165,7 @@ def change_of(x, whole, draw):
 
 
 def places_of(x):
-    """The bytes of an instruction but for an alignment, which is a hint."""
+    """The bytes of an instruction except an alignment, which is a hint."""
     has_alignment = x.opcode.behind.startswith("bytes")
     alignment = x.at + 1 + (x.opcode.prefix is not None)
     return [place for place in range(x.at, x.end) if not (has_alignment and place == alignment)]
@@ -187,10 +188,10 @@ def with_change(vm, function, whole):
     return changed
 
 
-# ---- what is noticed
+# ---- what is detected
 
 def outcome(vm, texts, questions):
-    """What is noticed of a changed module by some requests."""
+    """What is detected of a changed module by some requests."""
     found = UNNOTICED
     for request, answer in questions:
         texts.make_room()
@@ -211,9 +212,9 @@ def of_request(vm, texts, request, answer):
     except REFUSALS:
         return NO_VALUE
     except WrongRule as error:
-        return f"A RULE IS WRONG: {error}"
+        return f"{WRONG_RULE}: {error}"
     except CRASHES as error:
-        return f"A CRASH: {error!r}"
+        return f"{CRASH}: {error!r}"
     if nodes.is_same(said, ours):
         return UNNOTICED
     return NOTICED if differs(request, said, ours) else REFUSED
@@ -248,7 +249,7 @@ def of_lengths(kind, lengths):
 
 
 def of_many_bytes(vm):
-    """What is noticed of one-shots of XXH3 of many bytes and of other secrets, by induction."""
+    """What is detected of one-shots of XXH3 of many bytes and of other secrets, by induction."""
     own = every_length.OWN_CASES
     try:
         for hash_name in ("3-64", "3-128"):
@@ -318,25 +319,18 @@ def shown(given):
     return given.hex() if isinstance(given, bytes) else "" if given is None else str(given)
 
 
-def reasons(name):
-    """The changes of a module that change nothing that is promised -> why."""
-    with open(EQUAL, encoding="utf-8") as file:
-        lines = [line.rstrip("\n").split(" | ") for line in file if line.strip() and not line.startswith("#")]
-    return {what: why for module, what, why in lines if module == name}
-
-
 def tell(name, vm, count, seed, is_all):
-    """What came of so many changes and of those by hand, and those that weren't noticed though nothing says why."""
-    covered, texts, known = Covered(vm, is_all), Texts(), reasons(name)
+    """The results of this many changes and of those by hand, and those that weren't detected without a reason."""
+    covered, texts, known = Covered(vm, is_all), Texts(), Reasons(EQUAL)
     counts, bad = collections.Counter(), []
     for text, changed, questions in (*drawn_by_hand(vm, covered), *drawn(vm, covered, count, seed)):
         what = NOT_VALID if changed is None else outcome(changed, texts, questions)
-        has_reason = what == UNNOTICED and text in known
+        has_reason = what == UNNOTICED and bool(known.of(f"{name}, {text}"))
         if what == UNNOTICED and not has_reason:
             what = outcome(changed, texts, more(questions))
             what = of_many_bytes(changed) if what == UNNOTICED else what
             texts.forget()
         counts["unnoticed, with a reason" if has_reason else what.partition(":")[0]] += 1
-        if what == UNNOTICED and not has_reason or what.startswith("A "):
+        if is_fault(what, has_reason):
             bad.append(f"{what}: {text}")
     return f"{covered.told(vm)}; " + ", ".join(f"{n} {what}" for what, n in counts.most_common()), bad

@@ -39,7 +39,7 @@ def with_seed_0(request):
 
 
 def compare(machines, asked, answer):
-    """Compares what each machine answers: how many answers were one term with the definition's, and what there is to
+    """Compares the values of each machine: how many were one term with the definition's, and what there is to
     say of the others. Where a module asked whether the seed is 0, that is a request of its own."""
     texts, equal, complaints = Texts(), 0, []
     for request in asked:
@@ -55,5 +55,5 @@ def compare(machines, asked, answer):
 
 
 def told_of(texts, name, vm, request, answer):
-    """What there is to say of a machine's answer, or None."""
+    """The message on a machine's value, or None."""
     return comparison.difference(request, name, texts.value(request), lambda asked: answer(vm, asked))

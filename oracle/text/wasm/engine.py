@@ -37,7 +37,7 @@ def pushed(width, draw):
 
 
 def behind(opcode, draw):
-    """What may stand behind an instruction that takes values and leaves one."""
+    """What may follow an instruction that takes values and leaves one."""
     if opcode.behind == "lanes":
         first = draw.randrange(32)
         in_order = [str((first + k) % 32) for k in range(16)]
@@ -89,7 +89,7 @@ def of_constant(opcode, draw):
 NUMBERS = "0", "1", "2", "3", "7", "0xffffffff"
 SHOW = f"{ANSWER}local.get 2; i64.store 0"
 COUNT = "local.get 2; i64.const {}; i64.add; local.set 2"
-# Functions of control and variables, for an i32 %: what they leave in variable 2, an i64, is told.
+# Functions of control and variables, for an i32 %: what they leave in variable 2, an i64, is reported.
 BODIES = {
     "block": f"block i64; i64.const 4; i64.const 9; i32.const %; br_if 0; i64.add; end; local.set 2; {SHOW}",
     "br": f"i64.const 40; block i64; i64.const 1; i64.const 2; br 0; end; i64.sub; local.set 2; {SHOW}",

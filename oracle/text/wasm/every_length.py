@@ -93,7 +93,7 @@ def facts_of(case, q, B, J):
 
 
 class Proof:
-    """A run of the induction over a machine: what it told of the loops, and how many cases it had."""
+    """A run of the induction over a machine: its report on the loops, and the number of its cases."""
 
     def __init__(self, vm):
         nodes.forget()
@@ -178,7 +178,7 @@ class Proof:
                 Family(f"XXH{hash_name}, {way}, of {n} bytes", times(BLOCK // 64, B), 8, 64, after, suppose)])
 
     def of_blocks(self, hash_name, way, n, size, families):
-        """n bytes above 240, with a secret of its own of that size, or none; `families` tells of the loops."""
+        """n bytes above 240, with a secret of its own of that size, or none; `families` reports the loops."""
         seed = seed_symbol(hash_name) if way in ("seed", "both") else 0
         source, own = Input("m", n), Input("s", size) if way in OWN_SECRET else None
         message = Bytes(source, 0, n)

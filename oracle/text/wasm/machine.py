@@ -1,7 +1,7 @@
 """The stack machine: runs the exports of a module over terms. A branch, the amount of a shift and a place in memory are
 numbers, or what facts decide; what is loaded of an input is a term.
 
-Memory is objects: the stack, and the constants of the module, at places that are numbers, and what a call is handed at
+Memory is objects: the stack, and the constants of the module, at places that are numbers, and what a call gets at
 places that aren't known (Address). Each access has to be shown to lie inside of one object."""
 from terms.refusals import Unsupported
 from terms.machine import copy
@@ -55,7 +55,7 @@ class Machine:
     has_asked   whether it was asked: then 0 is another case
     used        the instructions that were run, as (function, place), where they are wanted
     loops       asked at each loop whether it is shown by induction (induction.py)
-    replaced    what stands in the place of some of the module's functions, by their numbers
+    replaced    replacements of some of the module's functions, by their numbers
     """
 
     def __init__(self, module):

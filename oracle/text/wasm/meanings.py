@@ -1,5 +1,5 @@
-"""What the instructions do that only take values from the stack and leave one: PURE has a function of what stands
-behind the instruction and of these values."""
+"""What the instructions do that only take values from the stack and leave one: PURE has a function of what
+follows the instruction and of these values."""
 from terms.rules import ones
 
 from . import values

@@ -68,7 +68,7 @@ class Reader:
             raise Malformed(f"a name: {error}") from None
 
     def one_of(self, known, what):
-        """What the next byte stands for."""
+        """What the next byte represents."""
         b = self.byte()
         if b not in known:
             raise Malformed(f"{what} {b:#x}")
@@ -202,7 +202,7 @@ class Module:
             yield Instruction(opcode, given, at, body.at)
 
     def instruction(self, body):
-        """An instruction, and what stands behind it."""
+        """An instruction, and what follows it."""
         prefix, code = None, body.byte()
         if code in PREFIXES:
             prefix, code = code, body.unsigned()

@@ -1,7 +1,7 @@
 """The one table of WebAssembly's instructions: those that the two modules have, as the specification (release 2.0) has
 them. Any other is an error.
 
-A line has an instruction's code, its name, what stands behind the code in the file, and the types that it takes from
+A line has an instruction's code, its name, what follows the code in the file, and the types that it takes from
 the stack and leaves there. Those of control and variables have no types here, since theirs depend on more:
 validator.py has them."""
 import collections

@@ -1,11 +1,12 @@
 """The streams of XXH32 and XXH64: a start, any number of updates of any lengths, a digest, by induction over the
 updates.
 
-A record stands for the first N = stripe * a + r bytes of a message when it has N, the seed, the definition's
+A record represents the first N = stripe * a + r bytes of a message when it has N, the seed, the definition's
 accumulators after a stripes, r as the bytes that wait, and these bytes; the rest of its buffer is anything. A start
-gives a record that stands for no byte; each update leads from one that stands for stripe * a + r bytes to one for
+gives a record that represents no byte; each update leads from one that represents stripe * a + r bytes to one for
 stripe * b + s, for all numbers r and s; and a digest of one is the definition's value, and changes nothing."""
 from terms.definition import Bytes, suppositions
+from terms.induction import same
 from terms.refusals import NotShown
 from terms.requests import seed_symbol
 from terms.memory import Input, Memory, Piece
@@ -13,7 +14,7 @@ from terms.polynomials import at_most, given, minus, plus, times, variable
 
 from . import every_length
 from .calls import RECORDS, address, answered, anything, expect_kept
-from .induction import Family, same
+from .induction import Family
 
 LONGEST = (1 << 64) - 2       # bytes of a stream: its length is exact to there
 # offsets of a record's fields: total and seed are first
@@ -46,7 +47,7 @@ class PlainStreams(every_length.Proof):
     # ---- records
 
     def numbers(self, a, r, accumulators):
-        """(offset, size, value) of what a record holds that stands for stripe * a + r bytes, but for the buffer."""
+        """(offset, size, value) of a record's content that represents stripe * a + r bytes, except the buffer."""
         out = [(0, 8, plus(times(self.stripe, a), r)), (self.at["seed"], self.word, self.seed),
                (self.at["waiting"], 8, r)]
         return out + [(self.at["accumulators"] + self.word * j, self.word, x) for j, x in enumerate(accumulators)]
@@ -84,7 +85,7 @@ class PlainStreams(every_length.Proof):
             self.expect_record("a start", record, 0, 0)
 
     def updates(self, each):
-        """From stripe * a + r bytes, for each so manieth r: pieces that complete no stripe, that complete one, and that
+        """From stripe * a + r bytes, for each so manieth r: chunks that complete no stripe, that complete one, and that
         complete more."""
         d = variable("d")
         for a in (0, variable("a")):
@@ -97,7 +98,7 @@ class PlainStreams(every_length.Proof):
                     self.update(a, r, plus(a, d), s, [minus(d, 2 if r else 1)])
 
     def update(self, a, r, b, s, facts):
-        """From stripe * a + r bytes by one piece to stripe * b + s."""
+        """From stripe * a + r bytes by one chunk to stripe * b + s."""
         begun, ended = plus(times(self.stripe, a), r), plus(times(self.stripe, b), s)
         length, first = minus(ended, begun), plus(a, int(r > 0))
         of_a = [] if isinstance(a, int) else [minus(a, 1)]

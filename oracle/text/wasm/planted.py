@@ -20,7 +20,7 @@ from .xxh3_streams import ModuleUpdates
 ONE_SHOT = "twox_xxh64"             # of a seed, the message's place and its length
 OTHER_SEED = "local.get 0; {}; i64.extend_i32_u; i64.add; local.set 0"
 OF_ONE_LENGTH = "local.get 2; i32.const 0x2000000; i32.ne; i32.eqz; if; {}; end"
-# What, the export, and what stands at its begin
+# What, the export, and its first instruction
 PLANTED = [
     ("a branch on a byte", ONE_SHOT, "local.get 1; i32.load8_u 0; if; end"),
     ("a place by a byte", ONE_SHOT, "local.get 1; local.get 1; i32.load8_u 0; i32.add; i32.load8_u 0; drop"),
@@ -124,7 +124,7 @@ def with_other_byte(number, then, byte, bits):
 
 
 def long_update(proof):
-    """An update by a long piece, where stripes wait in the buffer."""
+    """An update by a long chunk, where stripes wait in the buffer."""
     return functools.partial(proof.update, *next(map(proof.with_room, proof.pieces(
         "many", proof.starts(False), [(64, [])]))))
 
@@ -149,7 +149,7 @@ def has_blocks(first, *others):
 
 POINTS = 20                         # of the cases of which one is left out
 CUT = [Request("3-64", "seed", 1088, cuts=[512, 1000])]
-# What is wrong where only long pieces of a stream come, how it is planted, what has to notice it, words of the refusal
+# What is wrong where only long chunks of a stream come, how it is planted, what must detect it, words of the refusal
 OF_STREAMS = [("another accumulator where the buffer is exactly full", of_full_buffer, long_update, "64*g == 512"),
               ("no scramble where a block ends before a fourth stripe", with_other_byte(16, "i64.ne", 1, 1),
                taken(ends_a_block), "192 of s, which has u + 192"),

@@ -72,7 +72,7 @@ def streams_with_short_secrets(machines):
 
 
 def refuse_short_secret(vm, request):
-    """An update and a digest of a stream that is there, which are handed another secret, that is too short; also where
+    """An update and a digest of a stream that is there, which get another secret, that is too short; also where
     the record is no stream's, since the secret comes first."""
     it = started(vm, Request(request.hash_name, request.kind, request.length, LEAST_SECRET), request.length)
     it.secret = calls.of_secret(request)

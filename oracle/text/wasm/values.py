@@ -14,7 +14,7 @@ from terms.rules import ones, zeros_below
 from .. import values as of_text
 
 WORD, HALF = 64, 32
-SPACE = 1 << 32          # what is handed to a call ends below
+SPACE = 1 << 32          # what is passed to a call ends below
 LEAST_PLACE = 1024       # no object begins before
 
 

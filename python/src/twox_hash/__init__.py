@@ -1,10 +1,10 @@
-"""XXH32, XXH64, XXH3 of 64 bits and XXH3 of 128 bits, by code that is proved equal to the xxHash definition.
+"""XXH32, XXH64, XXH3 64-bit and XXH3 128-bit, by code that is proved equal to the xxHash definition.
 
     import twox_hash as xxhash
 
-and what was written for the package `xxhash` runs on it. More than that package has: secrets (`secret=`), objects that
-are saved, loaded and pickled (`state`, `from_state`), `file_digest`, and `many`. None of these hashes is safe against
-an attacker who chooses the input."""
+runs programs that were written for the package `xxhash`. This package has more: secrets (`secret=`), objects that
+can be saved, loaded and pickled (`state`, `from_state`), `file_digest`, and `many`. None of these hashes is safe
+against an attacker who chooses the input."""
 from ._files import file_digest
 from ._many import many
 from ._native import (

@@ -6,7 +6,7 @@ from ._types import Hasher, OneHasher, begun
 
 Path = Union[str, bytes, 'os.PathLike[Any]']
 
-# So many bytes are read at once: reads and updates are long, so that other threads run, and stay in the second cache.
+# Size of a read: reads and updates are long, so that the GIL is released, and fit into the second-level cache.
 PIECE_BYTES = 1 << 18
 
 
@@ -15,15 +15,15 @@ def file_digest(file: Union[Path, BinaryIO], algorithm: str = ..., **key: Any) -
 @overload
 def file_digest(file: Union[Path, BinaryIO], algorithm: type[OneHasher], **key: Any) -> OneHasher: ...
 def file_digest(file: Union[Path, BinaryIO], algorithm: Any = 'xxh3_64', **key: Any) -> Hasher:
-    """The hash of a file, as an object: `file_digest(path, "xxh3_128").hexdigest()`.
+    """Returns the hash of a file, as an object: `file_digest(path, "xxh3_128").hexdigest()`.
 
-    `file` is a path, or a file that was opened for binary reading, which is read from its place to its end and stays
-    open. `seed` and `secret` are as the algorithm's type takes them. Other threads run meanwhile.
+    `file` is a path, or a file opened for binary reading, which is read from its position to its end and stays open.
+    `seed` and `secret` are as for the algorithm's type. The GIL is released meanwhile.
 
-    The errors of the system come as they are: FileNotFoundError, IsADirectoryError, PermissionError and the others.
-    OSError: `readinto` answered no number of bytes that there was room for.
-    TypeError: `file` is neither, or is open for text. BlockingIOError: it has no bytes yet, and doesn't wait.
-    ValueError: there is no such algorithm, or the secret is too short."""
+    System errors are raised unchanged: FileNotFoundError, IsADirectoryError, PermissionError and the others.
+    OSError: `readinto` returned a number out of range.
+    TypeError: `file` is neither, or is open for text. BlockingIOError: it has no bytes yet, and is non-blocking.
+    ValueError: the algorithm is unknown, or the secret is too short."""
     hasher = begun(algorithm, key)
     if isinstance(file, (str, bytes, os.PathLike)):
         with open(file, 'rb', buffering=0) as opened:
@@ -34,7 +34,7 @@ def file_digest(file: Union[Path, BinaryIO], algorithm: Any = 'xxh3_64', **key: 
 
 
 def _take_all(hasher: Hasher, file: Any) -> None:
-    """Takes what is left of a file, into one buffer where it reads so."""
+    """Hashes the rest of a file, with one buffer if it has `readinto`."""
     if not hasattr(file, 'readinto'):
         _take_pieces(hasher, file)
         return
@@ -46,18 +46,18 @@ def _take_all(hasher: Hasher, file: Any) -> None:
         if not length:
             return
         if not 0 < length <= PIECE_BYTES:
-            raise OSError(f'{file!r}.readinto() answered {length}, and there was room for {PIECE_BYTES} bytes')
+            raise OSError(f'{file!r}.readinto() returned {length}, for a buffer of {PIECE_BYTES} bytes')
         hasher.update(room[:length])
 
 
 def _take_pieces(hasher: Hasher, file: Any) -> None:
-    """Takes what is left of a file that hands out its bytes."""
+    """Hashes the rest of a file whose `read` returns bytes."""
     if not hasattr(file, 'read'):
-        raise TypeError(f'a path or a file that is open for reading is wanted, not {type(file).__name__!r}')
+        raise TypeError(f'file must be a path or a file open for reading, not {type(file).__name__!r}')
     while True:
         piece = file.read(PIECE_BYTES)
         if isinstance(piece, str):
-            raise TypeError(f'{file!r} is open for text, and its bytes are wanted')
+            raise TypeError(f'{file!r} is open for text, not for bytes')
         if piece is None:
             raise BlockingIOError(f'{file!r} has no bytes yet')
         if not piece:

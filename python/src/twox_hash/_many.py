@@ -11,7 +11,7 @@ Into = TypeVar('Into', bound=Sized)
 FIELD = re.compile(':[^:]*:')
 # Addresses of bytes, text, anything, a function and a type. Before the letter of a float, Z is a complex number.
 POINTER = re.compile('[zPX&]|Z(?![efdgFDG])')
-# Integers in the machine's order of bytes, which is little-endian wherever the package runs.
+# Integers in the machine's byte order, which is little-endian on every supported machine.
 NATIVE_INTEGER = re.compile('[@=<]?[hHiIlLqQnN]')
 
 
@@ -23,41 +23,41 @@ def many(rows: Iterable[Any], algorithm: Union[str, HasherType] = ..., *, width:
          into: Into, **key: Any) -> Into: ...
 def many(rows: Iterable[Any], algorithm: Union[str, HasherType] = 'xxh3_64', *, width: Optional[int] = None,
          into: Any = None, **key: Any) -> Any:
-    """The digests of many inputs, each what `<algorithm>_digest(row, ...)` answers, as a list of bytes.
+    """Returns the digests of many inputs, each as `<algorithm>_digest(row, ...)` returns it, as a list of bytes.
 
     `rows` is an iterable of bytes-like objects or str, or a contiguous buffer of rows of one length: of two dimensions
     or more (each item of the first is a row), of one dimension with items of several bytes (each is a row), or of any
-    form with `width`, the bytes of a row.
+    form with `width`, the length of a row in bytes.
 
-    With `into`, a contiguous buffer that can be written and has just the bytes of all digests, these go there one after
-    another, no objects are made, and `into` is the answer. Native integers get the values as numbers, and have to be of
-    a digest's size; all else gets the digests' bytes. `seed` and `secret` are as the algorithm's type takes them.
+    With `into`, a writable contiguous buffer with exactly the size of all digests, these are written there one after
+    another, no objects are created, and `into` is returned. Native integers get the values as numbers, and must have a
+    digest's size; everything else gets the digests' bytes. `seed` and `secret` are as for the algorithm's type.
 
-    ValueError: the lengths don't fit, `into` lies over a row, or there is no such algorithm. BufferError: a buffer isn't
-    contiguous, or can't be written. TypeError: the rows are a str, hold text as UTF-32, objects or addresses, or one of them has
-    no bytes. OverflowError: there are more digests than a buffer can have. What a row raises names the row, and `into` is then as
-    it was."""
+    ValueError: the lengths don't fit, `into` overlaps a row, or the algorithm is unknown. BufferError: a buffer
+    isn't contiguous or writable. TypeError: the rows are a str, contain text as UTF-32, objects or addresses, or one
+    of them has no bytes. OverflowError: there are more digests than a buffer can have. An exception for a row has
+    the row's number, and `into` is then unchanged."""
     hasher = begun(algorithm, key)
     if isinstance(rows, str):
-        raise TypeError("rows are wanted, not 'str'")
+        raise TypeError("rows must not be a 'str'")
     numbers = into is not None and _takes_numbers(into, hasher.digest_size)
     view = _view_of(rows)
     if view is None:
         if width is not None:
-            raise TypeError(f'width is for a buffer, not {type(rows).__name__!r}')
+            raise TypeError(f'width is only for a buffer, not {type(rows).__name__!r}')
         digests = hasher._many(tuple(rows), into, numbers)
     else:
         if not view.c_contiguous:
-            raise BufferError('the rows do not lie side by side: the buffer is not C-contiguous')
+            raise BufferError('the rows are not adjacent: the buffer is not C-contiguous')
         digests = hasher._many_of_width(view, _count(view, width), into, numbers)
     return digests if into is None else into
 
 
 def _takes_numbers(into: Any, digest_bytes: int) -> bool:
-    """Whether a buffer gets the values as native integers, and not the digests' bytes."""
+    """True if a buffer gets the values as native integers, and not the digests' bytes."""
     with memoryview(into) as room:
         if room.readonly or not room.c_contiguous:
-            raise BufferError(f'into {"can not be written" if room.readonly else "is not C-contiguous"}')
+            raise BufferError(f'into {"is read-only" if room.readonly else "is not C-contiguous"}')
         if not NATIVE_INTEGER.fullmatch(room.format):
             return False
         if room.itemsize == digest_bytes:
@@ -67,7 +67,7 @@ def _takes_numbers(into: Any, digest_bytes: int) -> bool:
 
 
 def _view_of(rows: Any) -> Optional[memoryview]:
-    """The rows as a buffer, or None where they are objects."""
+    """Returns the rows as a buffer, or None if they are objects."""
     try:
         view = memoryview(rows)
     except TypeError:
@@ -76,29 +76,29 @@ def _view_of(rows: Any) -> Optional[memoryview]:
     if items == 'O' and view.ndim == 1:
         return None
     if 'O' in items:
-        raise TypeError(f'these rows hold objects (format {view.format!r}) and not bytes')
+        raise TypeError(f'the rows must be bytes, not objects (format {view.format!r})')
     if POINTER.search(items):
-        raise TypeError(f'these rows hold addresses (format {view.format!r}) and not what lies there')
+        raise TypeError(f'the rows must be bytes, not addresses (format {view.format!r})')
     if 'w' in items or 'u' in items:
-        raise TypeError(f'these rows hold text as it lies in memory (format {view.format!r}), and not its bytes in UTF-8: '
-                        'rows.tolist() has it as str')
+        raise TypeError(f'the rows must be bytes, not UTF-32 text (format {view.format!r}): '
+                        'use rows.tolist() for str')
     return view
 
 
 def _count(view: memoryview, width: Optional[int]) -> int:
-    """How many rows a buffer has."""
+    """Returns the number of rows of a buffer."""
     if width is None:
         if view.ndim == 0 or view.ndim == 1 and view.itemsize == 1:
-            raise ValueError('these bytes have no rows: width is the bytes of one')
+            raise ValueError('the bytes have no rows: width must be the length of a row')
         assert view.shape
         return view.shape[0]
     if width <= 0 or view.nbytes % width:
-        raise ValueError(f'{view.nbytes} bytes are no rows of {width} bytes')
+        raise ValueError(f'{view.nbytes} bytes are not rows of {width} bytes')
     return view.nbytes // width
 
 
 def name_row(fault: Exception, row: int) -> None:
-    """Has the exception that a row raised name the row. many.c calls it."""
+    """Adds the row's number to an exception. many.c calls it."""
     if isinstance(fault, UnicodeEncodeError):
         fault.reason += f', in row {row}'
     elif fault.args:

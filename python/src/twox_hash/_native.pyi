@@ -8,7 +8,7 @@ _Self = TypeVar('_Self', bound='_Hasher')
 XXHASH_VERSION: str
 instruction_set: str
 
-# What the four types have alike. It is no class at run time.
+# The common interface of the four types. It is no class at run time.
 class _Hasher:
     @property
     def name(self) -> str: ...

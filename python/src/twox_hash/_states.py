@@ -12,14 +12,14 @@ CORE = ('v1', 'v2', 'v3', 'v4')
 
 
 def text_of(hasher: Hasher) -> str:
-    """All that the object holds, as JSON."""
+    """Returns everything that the object holds, as JSON."""
     record = _FORMS[type(hasher)].record_of(hasher._memory())
     return json.dumps(record, separators=(',', ':'), sort_keys=True)
 
 
 def from_text(kind: HasherType, text: Union[str, bytes]) -> Hasher:
-    """The object that was saved. ValueError: the text is no saved state; of XXH32 and XXH64 also one that no bytes lead
-    to, and of XXH3 one whose parts don't fit each other."""
+    """Restores a saved object. ValueError: the text is no saved state; for XXH32 and XXH64 also one that no bytes
+    lead to, and for XXH3 one whose parts don't fit each other."""
     if not isinstance(text, (str, bytes)):
         raise TypeError(f'a saved state is a str, not {type(text).__name__!r}')
     return _FORMS[kind].hasher_of(kind, _read(text))
@@ -32,16 +32,16 @@ def _not_a_state() -> ValueError:
 
 
 def _whole_number(digits: str) -> Union[int, float]:
-    """A whole number of JSON. One with a sign has no place in a state, and is none of the numbers there."""
+    """Parses an integer of JSON. One with a sign is never valid in a state, so it becomes another type."""
     return float(digits) if digits.startswith('-') else int(digits)
 
 
 def _constant(name: str) -> None:
-    raise ValueError(f'{name} is no JSON')
+    raise ValueError(f'{name} is not JSON')
 
 
 def _read(text: Union[str, bytes]) -> dict[str, Any]:
-    """The members of a text's object."""
+    """Returns the members of a text's object."""
     try:
         words = text.decode() if isinstance(text, bytes) else text
         record = json.loads(words, parse_int=_whole_number, parse_constant=_constant)
@@ -57,23 +57,23 @@ def _object(value: Any) -> dict[str, Any]:
 
 
 def _number(value: Any, limit: int = WORD) -> int:
-    """A whole number below the limit. True is none."""
+    """Returns an integer below the limit. True is none."""
     if type(value) is not int or value >= limit:
         raise _not_a_state()
     return value
 
 
 def _numbers(value: Any, least: int, most: int, limit: int = 256) -> list[int]:
-    """A list of so many whole numbers below the limit."""
+    """Returns a list of this many integers below the limit."""
     if not isinstance(value, list) or not least <= len(value) <= most:
         raise _not_a_state()
     return [_number(number, limit) for number in value]
 
 
-# ---- what lies in memory, and when bytes lead to it ----
+# ---- the state in memory, and when bytes lead to it ----
 
 def _with_fields(hasher: Hasher, layout: struct.Struct, *fields: Any) -> Hasher:
-    """The object, which is new, with these fields at the start of its state."""
+    """Returns the object, which is new, with these fields at the start of its state."""
     memory = bytearray(hasher._memory())
     layout.pack_into(memory, 0, *fields)
     hasher._set_memory(bytes(memory))
@@ -81,8 +81,8 @@ def _with_fields(hasher: Hasher, layout: struct.Struct, *fields: Any) -> Hasher:
 
 
 class _Plain:
-    """XXH32 and XXH64: a state stands for some bytes exactly where it is accepted, as `from_state` of the proved
-    hashers has it. In memory one field is the mark of a state and the number of bytes that wait."""
+    """XXH32 and XXH64: a state is accepted if and only if it represents some bytes, as by `from_state` of the proved
+    hashers. In memory one field is the mark of a state plus the number of bytes buffered."""
 
     def __init__(self, bits: int, stripe: int, mark: bytes, layout: str, fields: str):
         self.limit, self.stripe, self.mark = 1 << bits, stripe, int.from_bytes(mark, 'little')
@@ -100,7 +100,7 @@ class _Plain:
         members = _object(record.get('core'))
         core = {name: _number(members.get(name), self.limit) for name in CORE}
         seed = _number(record.get('seed'), self.limit)
-        # A length from 2^64 - 1 on is counted as that, so it says nothing of the bytes that wait.
+        # A length from 2^64 - 1 on is counted as that, so it doesn't determine the number of bytes buffered.
         if usage >= self.stripe or total < WORD - 1 and usage != total % self.stripe:
             raise ValueError(USAGE)
         hasher = kind(seed=seed)
@@ -111,10 +111,10 @@ class _Plain:
 
 
 class _Stream:
-    """XXH3 of both widths: a state is accepted where its parts fit each other and the secret. Whether some bytes lead to
-    its accumulators is known of those of no stripe alone. `seed` is null in one that was made with its secret alone."""
+    """XXH3 of both widths: a state is accepted if its parts fit each other and the secret. Whether some bytes lead
+    to its accumulators is known only for those of no stripe. `seed` is null in one that was made with only a secret."""
     taken = struct.Struct('<8QQ64sQ512sQQ')
-    # The seed, the end of the buffer and that of the secret aren't written where they say nothing.
+    # The seed, the end of the buffer and the end of the secret aren't written if they have no meaning.
     whole = struct.Struct('<8QQ64sQ512sQQ8xQ8sQ256s')
 
     def record_of(self, memory: bytes) -> dict[str, Any]:
@@ -143,8 +143,8 @@ class _Stream:
 
     @staticmethod
     def _test_place(place: int, stripes: int, secret: bytes) -> None:
-        """A stripe takes eight bytes of the secret further on, and after the last place comes the first one. From
-        2^64 - 1 stripes on they are counted as that."""
+        """Each stripe advances eight bytes in the secret, and after the last place comes the first one. From 2^64 -
+        1 stripes on they are counted as that."""
         places = (len(secret) - 64) // 8
         if place >= places or stripes < WORD - 1 and place != stripes % places:
             raise ValueError('The place in the secret does not match the stripes')

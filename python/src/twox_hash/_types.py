@@ -14,20 +14,21 @@ algorithms_available: set[str] = set(_BY_NAME)
 
 
 def type_of(algorithm: Union[str, HasherType]) -> HasherType:
-    """The type of a hash that is named, or handed over itself.
+    """Returns the type of a hash, given by name or as the type itself.
 
-    ValueError: there is no hash of that name. TypeError: it is neither a name nor one of the types."""
+    ValueError: the name is unknown. TypeError: it is neither a name nor one of the types."""
     if isinstance(algorithm, str):
         if algorithm not in _BY_NAME:
-            raise ValueError(f'there is no algorithm {algorithm!r}: there are {", ".join(sorted(_BY_NAME))}')
+            raise ValueError(f'unknown algorithm {algorithm!r}: use one of {", ".join(sorted(_BY_NAME))}')
         return _BY_NAME[algorithm]
     if algorithm not in _BY_NAME.values():
-        raise TypeError(f'an algorithm is a name or one of the types, not {algorithm!r}')
+        raise TypeError(f'algorithm must be a name or one of the types, not {algorithm!r}')
     return algorithm
 
 
 def begun(algorithm: Union[str, HasherType], key: dict[str, Any]) -> Hasher:
-    """An object of no bytes yet. Its key is a seed and a secret alone: an input would stand before all that follows."""
+    """Creates an object of no bytes. Its key is only a seed and a secret: an input would come before everything that
+    follows."""
     if 'input' in key:
-        raise TypeError("'input' is no keyword argument of this call: `seed` and `secret` are")
+        raise TypeError("'input' is an invalid keyword argument: use `seed` and `secret`")
     return type_of(algorithm)(**key)

@@ -1,4 +1,4 @@
-"""Versions: of the package `xxhash` whose interface this is, and of this package."""
+"""Versions: of the package `xxhash` that has this interface, and of this package."""
 
 VERSION = '3.2.0'
 VERSION_TUPLE = (3, 2, 0)

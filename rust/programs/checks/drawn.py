@@ -1,4 +1,4 @@
-"""Draws runs of both programs, and compares what two builds do: standard output, standard error and the status."""
+"""Draws runs of both programs, and compares two builds: standard output, standard error and the status."""
 import os
 import random
 import subprocess
@@ -6,7 +6,7 @@ import subprocess
 from report import want
 
 SECONDS = 30
-# What only the version of these programs has, in a line that the help has too.
+# Only the version of these programs has this, in a line that is also in the help.
 MADE_BY = b' compiled by rustc from proved source,'
 SHOWN = 300
 STATES = {
@@ -16,7 +16,7 @@ STATES = {
           b'"core":{"v1":6983438078262162902,"v2":14029467366897019727,"v3":0,"v4":7046029288634856825},'
           b'"seed":0,"total_len":14}',
 }
-# Each file with the greatest length that it is given, and other names: folders, links, and what is nowhere.
+# Each file with its maximum length, and other names: directories, links, and missing files.
 FILES = {b'a': 300, b'b': 5000, b'sp ace': 3, b'new\nline': 1, b'back\\slash': 100, b'd/e': 300, b'd/f': 1, b'd/deep/g': 40,
          b'\xff\xfe': 9, b'empty': 0, b'-dash': 20, b'big': 300_000, b'\xc3\xa9': 65, b'cr\r': 8, b'n' * 255: 240}
 NAMES = [*FILES, b'nowhere', b'd', b'./a', b'link', b'loop', b'broken', b'd/', b'', b'a/b', b'x' * 256, b'd//' * 300 + b'e']
@@ -50,7 +50,7 @@ def mutated(draw, text):
 
 
 def lay_out(draw, room):
-    """Files, folders and links, and a list of digests in each style by the program of the list."""
+    """Files, directories and links, and a list of digests in each style by the program of the list."""
     os.makedirs(os.path.join(room, b'd', b'deep'))
     for name, most in FILES.items():
         with open(os.path.join(room, name), 'wb') as file:
@@ -66,7 +66,7 @@ def lists_of(program, room):
 
 
 def drawn_xxh(draw):
-    """Words and input of `xxh`."""
+    """Arguments and input of `xxh`."""
     bits = draw.choice(('32', '64'))
     words = draw.choice((
         [b'resume', draw.choice((b'32', b'64')), mutated(draw, STATES[bits]).replace(b'\0', b'')],
@@ -83,7 +83,7 @@ def drawn_list(draw, lists):
 
 
 def drawn_xxhsum(draw, lists, room):
-    """Words and input of `xxhsum`. It writes two lists that the words may name."""
+    """Arguments and input of `xxhsum`. Writes two lists that the arguments may refer to."""
     listed = drawn_list(draw, lists)
     between = draw.choice((b'\n', b'\n', b'\0', b'\0', b'a\0b\n'))
     for name, text in ((b'list', listed), (b'names', mutated(draw, between.join(draw.sample(NAMES, 5))))):
@@ -92,7 +92,7 @@ def drawn_xxhsum(draw, lists, room):
     words = draw.sample(OPTIONS, draw.choice((0, 1, 1, 2, 3)))
     if draw.random() < .5:
         words.insert(0, draw.choice((b'-c', b'--audit', b'--check', b'--files-from', b'--files0-from', b'--filelist', b'-r')))
-    # Each read of a folder fails, so it is a list that can be opened and not read.
+    # Each read of a directory fails, so it is a list that can be opened and not read.
     words += [draw.choice((b'list', b'list', b'names', b'nowhere', b'd'))] * draw.randrange(2)
     return words + draw.sample(NAMES, draw.choice((0, 0, 1, 3, 6))), listed if draw.random() < .5 else b''
 
@@ -111,7 +111,7 @@ def compare(ours, proved, draw, name, words, given, room):
 
 
 def compare_runs(ours, proved, count, seed, room):
-    """So many runs of both programs, which are named 'xxh' and 'xxhsum' in both dictionaries."""
+    """Runs both programs this many times; they have the names 'xxh' and 'xxhsum' in both dictionaries."""
     draw, room = random.Random(seed), os.fsencode(room)
     lay_out(draw, room)
     lists, statuses = lists_of(proved['xxhsum'], room), {}
@@ -183,7 +183,7 @@ def drawn_json(draw, state):
 
 
 def compare_json(ours, proved, count, seed, room):
-    """So many texts for `xxh resume`."""
+    """This many texts for `xxh resume`."""
     draw, statuses = random.Random(seed), {}
     for _ in range(count):
         bits = draw.choice(('32', '64'))

@@ -1,5 +1,6 @@
-/* Refuses memory to a program that it is preloaded into, as the variable REFUSED says: "12" refuses the 12th call for memory,
-   "12.." that and all after it, and "=4096" each call by which more than 4,096 bytes would be in use. */
+/* Refuses memory to a program that it is preloaded into, according to the variable REFUSED: "12" refuses the 12th
+   allocation, "12.." that and all after it, and "=4096" each allocation by which more than 4,096 bytes would be in
+   use. */
 #include <errno.h>
 #include <malloc.h>
 #include <stddef.h>
@@ -52,7 +53,7 @@ void free(void *old) {
 void *realloc(void *old, size_t size) {
     size_t before = old ? malloc_usable_size(old) : 0;
     void *found;
-    /* It may take the new memory before it lets the old go. */
+    /* It may allocate the new memory before it frees the old. */
     if (is_refused(size)) {
         errno = ENOMEM;
         return NULL;

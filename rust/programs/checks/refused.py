@@ -1,5 +1,5 @@
-"""Refuses the memory that the programs ask for, by a preloaded library and by small limits of their address space. Each run
-ends with its message, or as if nothing had been refused."""
+"""Refuses the memory that the programs allocate, by a preloaded library and by small limits of their address space.
+Each run ends with its message, or as if nothing had been refused."""
 import os
 import resource
 import subprocess
@@ -12,7 +12,7 @@ SOURCE = os.path.join(os.path.dirname(os.path.abspath(__file__)), 'refused.c')
 ENDS = {'xxh': (3, b'xxh: out of memory\n'), 'xxhsum': (1, b'\nError: Out of memory.\n')}
 STATE = ('{"buffer":[72,101,108,108,111,44,32,119,111,114,108,100,33,0,0,0],"buffer_usage":14,'
          '"core":{"v1":606290984,"v2":2246822519,"v3":0,"v4":1640531535},"seed":0,"total_len":14}')
-# A path longer than what Rust's library copies to the stack.
+# A path longer than those that Rust's library copies to the stack.
 LONG = 'folder/' * 60 + 'file'
 TASKS = {
     'a digest': ('xxh', 'hash', '64', '1234'), 'blocks': ('xxh', 'blocks', '4'), 'a saved state': ('xxh', 'save', '32'),
@@ -21,7 +21,7 @@ TASKS = {
     'folders': ('xxhsum', '-r', 'short'), 'an audit': ('xxhsum', '--audit', '-r', 'list', 'short', 'a', 'b'),
     'the help': ('xxhsum', '--help'),
 }
-# After so many runs in a row that nothing was refused in, there is no further call.
+# After this many runs in a row in which nothing was refused, there is no further allocation.
 UNHARMED = 4
 
 
@@ -46,13 +46,13 @@ def did(programs, task, room, limit=None, **variables):
 
 
 def is_told(name, wanted, found):
-    """True if a run told that it has no memory, and printed nothing that it doesn't print with memory."""
+    """True if a run reported that it was out of memory, and printed nothing that it doesn't print with memory."""
     status, message = ENDS[name]
     return found[2] == status and found[1].endswith(message) and wanted[0].startswith(found[0])
 
 
 def refuse_each(programs, task, room, library, ending):
-    """How many calls were refused."""
+    """The number of refused allocations."""
     wanted, number, told, unharmed = did(programs, task, room), 0, 0, 0
     while unharmed < UNHARMED:
         number += 1
@@ -71,7 +71,7 @@ def both(programs, task, room, library):
 
 
 def in_little(programs, room, library):
-    """Digests of long paths in so many bytes of memory, and in 16 more each time, until nothing is refused."""
+    """Digests of long paths with this many bytes of memory, and with 16 more each time, until nothing is refused."""
     told = set()
     for words in ((LONG,), ('-r', 'folder'), ('--audit', 'list', LONG)):
         wanted, size, found = did(programs, ('xxhsum', *words), room), 0, None
@@ -85,12 +85,12 @@ def in_little(programs, room, library):
     return f'{len(told)} messages'
 
 
-# In MiB. Below 4 the loader or the stack has no room.
+# In MiB. Below 4 the loader or the stack doesn't fit.
 LIMITS = (4, 4.25, 4.5, 4.75, 5, 5.5, 6, 7, 8, 9, 10, 12, 16, 20, 32, 64)
 
 
 def many_words(programs, room):
-    """So many arguments that they need megabytes."""
+    """This many arguments, which need megabytes."""
     task = ('xxhsum', '-H3', *['a'] * 9000)
     wanted, told = did(programs, task, room), 0
     for limit in LIMITS:

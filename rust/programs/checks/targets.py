@@ -24,7 +24,7 @@ def emulated(room, programs, runner):
 
 
 def rows_of_xxhsum(program):
-    """The cases and rows of checks/xxhsum. What it plants depends on times, which an emulator stretches."""
+    """The cases and rows of checks/xxhsum. Its planted faults depend on times, which an emulator stretches."""
     words = [os.path.join(TOP, 'checks', 'xxhsum'), '--stored', program]
     done = subprocess.run(words, stdout=subprocess.PIPE, stderr=subprocess.STDOUT, text=True, errors='replace')
     counts = RIGHT.findall(done.stdout)
@@ -40,7 +40,7 @@ def check_arm(report, path, built):
     report.attempt("xxhsum's table", rows_of_xxhsum, programs['xxhsum'])
 
 
-# What is run, its input, what it prints, and its status. {a} and {b} are the lines of Debian's xxhsum, {32} that of XXH32.
+# A command, its input, its output, and its status. {a} and {b} are the lines of Debian's xxhsum, {32} that of XXH32.
 ON_WINDOWS = (
     ('xxh hash 64 1234', 'some bytes', 'eab55659a496d78b', 0),
     ('xxhsum a folder/b', '', '{a}\n{b}', 0),

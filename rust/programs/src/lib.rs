@@ -1,11 +1,11 @@
 // SPDX-License-Identifier: MIT
 //! The programs `xxh` and `xxhsum`: proved source without its contracts, and what it needs of a process.
 //!
-//! | module | what it is |
+//! | module | contents |
 //! |---|---|
 //! | [`programs`] | the proved crates of the programs without their contracts, written by `rust/erase --programs` |
-//! | [`rattle`] | Rattle's standard library, as far as they call it. Nothing there is proved |
-//! | [`streams`] | XXH3 by the kernels of the crate beside this package |
+//! | [`rattle`] | the parts of Rattle's standard library that they call. Nothing there is proved |
+//! | [`streams`] | XXH3 by the kernels of the crate next to this package |
 //! | the others | files of that crate, which has no public name for the programs |
 #![deny(rust_2018_idioms, unsafe_op_in_unsafe_fn)]
 
@@ -24,7 +24,7 @@ pub mod streams;
 #[path = "erased/mod.rs"]
 pub mod programs;
 
-// ---- The crate beside this package, by its files ----
+// ---- The crate next to this package, by its files ----
 
 #[rustfmt::skip]
 #[allow(
@@ -52,7 +52,7 @@ mod stream;
 #[path = "../../src/processor.rs"]
 mod processor;
 
-// A folder, so that the file's own modules are found.
+// A module folder, so that the file's own modules are found.
 #[path = "../../src"]
 mod crate_files {
     pub mod rattle;

@@ -1,30 +1,30 @@
 // SPDX-License-Identifier: MIT
-//! XXH3 of bytes that come in pieces, by the kernels of the crate beside this package. The names are those of the proved
-//! `twox_hash`, whose streams take one kernel: these take the one that is fastest on the processor that runs them.
+//! XXH3 of bytes that come in chunks, by the kernels of the crate next to this package. The names are those of the
+//! proved `twox_hash`, whose streams use one kernel: these use the one that is fastest on the current processor.
 //!
-//! Nothing here is proved. `rust/check` tests the kernels beside other libraries, and the tables of both programs test this
-//! file.
+//! Nothing here is proved. `rust/check` compares the kernels with other libraries, and the tables of both programs test
+//! this file.
 
 use std::convert::Infallible;
 
 use crate::library::overwrite_with_secret;
 use crate::stream::Stream;
 
-/// The bytes of a secret that a seed derives.
+/// Length of the secret derived from a seed, in bytes.
 pub const DEFAULT_SECRET_LENGTH: usize = 192;
 
-/// A secret that a seed derives.
+/// A secret derived from a seed.
 pub type DefaultSecret = [u8; DEFAULT_SECRET_LENGTH];
 
-/// A seed, and the secret that it derives.
+/// A seed, and the secret derived from it.
 pub struct SecretBuffer<S> {
     seed: u64,
     secret: S,
 }
 
 impl SecretBuffer<DefaultSecret> {
-    /// The seed and the secret that it derives, which is written to `secret`. "The buffer hasn't exactly 192 bytes" is the
-    /// one error, which an array of that length can't have.
+    /// Creates a buffer of the seed and the secret derived from it, which is written to `secret`. "The buffer hasn't
+    /// exactly 192 bytes" is the only error, which an array of that length can't cause.
     pub fn with_seed(seed: u64, secret: DefaultSecret) -> Result<Self, Infallible> {
         Ok(SecretBuffer::derived(seed, secret))
     }
@@ -34,7 +34,7 @@ impl SecretBuffer<DefaultSecret> {
         SecretBuffer { seed, secret }
     }
 
-    /// "The seed 0 and the default secret", which the seed 0 derives.
+    /// "Stores the seed 0 and the default secret", which is derived from the seed 0.
     #[allow(
         clippy::should_implement_trait,
         reason = "the source calls it by this name"
@@ -51,24 +51,24 @@ macro_rules! raw_hasher {
         pub mod $module {
             use super::{SecretBuffer, Stream, DefaultSecret};
 
-            /// A stream, beside its secret.
+            /// A stream with its secret.
             pub struct RawHasher<S> {
                 stream: Stream,
                 secret: S,
             }
 
             impl RawHasher<DefaultSecret> {
-                /// "A stream of no bytes yet, with the seed and the secret of the buffer."
+                /// "Creates a stream of no bytes, with the seed and the secret of the buffer."
                 pub fn new(buffer: SecretBuffer<DefaultSecret>) -> Self {
                     RawHasher { stream: Stream::new(buffer.seed), secret: buffer.secret }
                 }
 
-                /// "Takes the bytes of a piece after those taken before."
+                /// "Hashes a chunk after the bytes before."
                 pub fn write(&mut self, input: &[u8]) {
                     self.stream.write(&self.secret, input);
                 }
 
-                /// "The hash of the bytes taken so far, which stay."
+                /// "Returns the hash of the bytes written so far."
                 pub fn $finish(&self) -> $value {
                     self.stream.$finish_by(&self.secret)
                 }
@@ -78,10 +78,10 @@ macro_rules! raw_hasher {
 }
 
 raw_hasher! {
-    /// XXH3 of 64 bits.
+    /// XXH3 64-bit.
     xxhash3_64, finish, finish_64, u64
 }
 raw_hasher! {
-    /// XXH3 of 128 bits.
+    /// XXH3 128-bit.
     xxhash3_128, finish_128, finish_128, u128
 }

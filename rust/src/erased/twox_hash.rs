@@ -1,8 +1,8 @@
 // SPDX-License-Identifier: MIT
 // crates/twox_hash/src/lib.rt without its contracts, written by rust/erase: change that file.
 
-//! XXH32, XXH64 and XXH3 under the names of the Rust crate `twox-hash`, each call proved equal to the
-//! xxHash definition.
+//! XXH32, XXH64 and XXH3 with the API of the Rust crate `twox-hash`. Each function is proved to return the value that
+//! the xxHash specification defines.
 
 pub mod streams;
 pub mod xxhash3_128;

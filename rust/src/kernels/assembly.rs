@@ -1,10 +1,10 @@
 // SPDX-License-Identifier: MIT
 //! The kernels as assembly source of the proved functions of `crates/twox_rust`.
 //!
-//! This file and [`processor`](crate::processor) are trusted: each declaration has the arguments of the export of its name,
-//! in the same order. The names hold the number of the interface, which changes with every change of a call or of a record,
-//! so that two versions of this crate can be linked into one program. The assembler may put the sources of several versions
-//! into one module, so each local name ends in that number too.
+//! This file and [`processor`](crate::processor) are trusted: each declaration has the arguments of the export of its
+//! name, in the same order. The names contain the number of the interface, which changes with every change of a call or
+//! of a record, so that two versions of this crate can be linked into one program. The assembler may put the sources of
+//! several versions into one module, so each local name ends in that number too.
 
 use crate::erased::twox_core::width_128::Wide;
 use crate::erased::twox_core::xxhash3::{CoreState, Secret};
@@ -27,7 +27,7 @@ core::arch::global_asm!(
 #[cfg(target_arch = "aarch64")]
 core::arch::global_asm!(include_str!("../../asm/aarch64.s"), options(raw));
 
-/// Declares each export, in a module of its name with a function for each set of instructions. A slice crosses as its
+/// Declares each export, in a module of its name with a function for each instruction set. A slice is passed as its
 /// address and its length. No export keeps an address or accesses memory outside its arguments.
 macro_rules! exports {
     ($(fn $name:ident($($kind:ty),*) -> $answer:ty;)*) => {
@@ -62,7 +62,7 @@ struct Answer {
     value: u64,
 }
 
-/// Calls an export by the set of instructions of a level.
+/// Calls an export by the instruction set of a level.
 #[cfg(target_arch = "x86_64")]
 macro_rules! call {
     ($level:expr, $name:ident($($argument:expr),*)) => {
@@ -86,7 +86,7 @@ macro_rules! call {
     };
 }
 
-/// The level for a long input.
+/// Returns the level for a long input.
 #[cfg(target_arch = "x86_64")]
 #[inline(always)]
 fn level_for_input() -> Level {
@@ -97,7 +97,7 @@ fn level_for_input() -> Level {
     }
 }
 
-/// The level for a piece of so many bytes.
+/// Returns the level for a chunk of this many bytes.
 #[cfg(target_arch = "x86_64")]
 #[inline(always)]
 fn level_for_piece(length: usize) -> Level {
@@ -119,7 +119,7 @@ fn level_to_v3() -> Level {
     }
 }
 
-/// Returns the hash of 64 bits of more than 240 bytes.
+/// Returns the 64-bit hash of more than 240 bytes.
 #[inline(always)]
 pub fn long_64(input: &[u8], secret: Secret<'_>) -> u64 {
     let secret = secret.bytes;
@@ -131,7 +131,7 @@ pub fn long_64(input: &[u8], secret: Secret<'_>) -> u64 {
     answer.value
 }
 
-/// Returns the hash of 128 bits of more than 240 bytes.
+/// Returns the 128-bit hash of more than 240 bytes.
 #[inline(always)]
 pub fn long_128(input: &[u8], secret: Secret<'_>) -> Wide {
     let mut value = Wide { low: 0, high: 0 };
@@ -144,7 +144,7 @@ pub fn long_128(input: &[u8], secret: Secret<'_>) -> Wide {
     value
 }
 
-/// Takes the bytes of a piece after those taken before.
+/// Hashes a chunk after the bytes before.
 #[inline(always)]
 pub fn write(core: &mut CoreState, secret: Secret<'_>, input: &[u8]) {
     let secret = secret.bytes;
@@ -156,11 +156,11 @@ pub fn write(core: &mut CoreState, secret: Secret<'_>, input: &[u8]) {
     expect_done(code);
 }
 
-/// The fewest bytes of whole stripes of XXH32 that [`stripes_32`] takes.
+/// Minimum number of bytes of whole stripes of XXH32 for which [`stripes_32`] is called.
 pub const STRIPES_32: usize = 512;
 
-/// Returns the accumulators of XXH32 after whole stripes. They cross by value: if the address of a stream's record left its
-/// caller, the record would stay in memory.
+/// Returns the accumulators of XXH32 after whole stripes. They are passed by value: if the address of a stream's record
+/// left its caller, the record would stay in memory.
 #[cold]
 #[inline(never)]
 pub fn stripes_32(core: Core, stripes: &[u8]) -> Core {

@@ -7,7 +7,7 @@ use crate::erased::twox_core::width_64::Finalize64;
 use crate::erased::twox_core::xxhash3::{Algorithm, CoreState, Kernel, Secret, Vector};
 use crate::erased::twox_plain::xxhash32::Core;
 
-/// The fewest bytes of whole stripes of XXH32 that [`stripes_32`] takes: here none.
+/// Minimum number of bytes of whole stripes of XXH32 for which [`stripes_32`] is called: none here.
 pub const STRIPES_32: usize = usize::MAX;
 
 /// Is not called.

@@ -1,3 +1,3 @@
-/* What SIMDe names of the C library's header. */
+/* The parts of the C library's header that SIMDe uses. */
 #define NAN __builtin_nan("")
 #define INFINITY __builtin_inf()

@@ -1,4 +1,4 @@
-//! Parts of an input or a secret, lent: where the caller shows that they lie within it, with no test.
+//! Borrowed parts of an input or a secret, without a test: the caller proves that they lie within it.
 
 ghost use Rattle.std.specs.Prelude.{◌≡◌, ◌+◌, ◌-◌, ◌*◌, ◌/◌, ◌<◌, ◌≤◌, length, take, drop};
 ghost use Rattle.std.specs.Simd.{first_chunks};
@@ -8,7 +8,7 @@ ghost use Rattle.twox_core.specs.SecretBytes.{secret_bytes};
 use super::Secret;
 use twox_words::words::bp_as_chunks;
 
-// The `n` bytes from byte `from` on.
+// Borrows the `n` bytes from byte `from` on.
 #[inline(always)]
 fn part_at(bytes: &[u8], from: usize, n: usize) -> &[u8]
     requires { from + n ≤ length bytes.now }
@@ -20,7 +20,7 @@ fn part_at(bytes: &[u8], from: usize, n: usize) -> &[u8]
     part
 }
 
-// The `N` bytes from byte `from` on. `N` isn't 0.
+// Borrows the `N` bytes from byte `from` on. `N` isn't 0.
 #[inline(always)]
 pub(crate) fn array_at<const N: usize>(bytes: &[u8], from: usize) -> &[u8; N]
     requires some { 0 < N }
@@ -31,7 +31,7 @@ pub(crate) fn array_at<const N: usize>(bytes: &[u8], from: usize) -> &[u8; N]
     &arrays[0]
 }
 
-// The eight chunks of 16 bytes from byte `from` on.
+// Borrows the eight chunks of 16 bytes from byte `from` on.
 #[tactic(auto, using(crate::proofs::PartFacts::part_laws))]
 #[inline(always)]
 pub(crate) fn chunks_at(bytes: &[u8], from: usize) -> &[[u8; 16]]
@@ -43,7 +43,7 @@ pub(crate) fn chunks_at(bytes: &[u8], from: usize) -> &[[u8; 16]]
     chunks
 }
 
-// The four pairs of chunks of 16 bytes from byte `from` on.
+// Borrows the four pairs of chunks of 16 bytes from byte `from` on.
 #[tactic(auto, using(crate::proofs::PartFacts::part_laws))]
 #[inline(always)]
 pub(crate) fn pairs_at(bytes: &[u8], from: usize) -> &[[[u8; 16]; 2]]
@@ -55,7 +55,7 @@ pub(crate) fn pairs_at(bytes: &[u8], from: usize) -> &[[[u8; 16]; 2]]
     pairs
 }
 
-// The 32 bytes from byte `from` on, as two chunks of 16.
+// Borrows the 32 bytes from byte `from` on, as two chunks of 16.
 #[inline(always)]
 pub(crate) fn pair_at(bytes: &[u8], from: usize) -> &[[u8; 16]; 2]
     requires { from + 32 ≤ length bytes.now }
@@ -66,9 +66,9 @@ pub(crate) fn pair_at(bytes: &[u8], from: usize) -> &[[u8; 16]; 2]
     &pairs[0]
 }
 
-/// Chunk `c` of 16 bytes from the front, chunk `c` from the back, and the secret's 32 bytes at `32 * c`.
+/// Borrows chunk `c` of 16 bytes from the front, chunk `c` from the back, and the secret's 32 bytes at `32 * c`.
 ///
-/// The caller shows that there are 17 to 128 bytes and that `c` is at most a 32nd of their number less one.
+/// The caller proves that there are 17 to 128 bytes, and that `c` is at most (n - 1) / 32 for n bytes.
 #[inline(always)]
 pub fn chunks_17_to_128<'a>(
     secret: Secret<'a>,
@@ -88,7 +88,7 @@ pub fn chunks_17_to_128<'a>(
     (forward, backward, &words[c])
 }
 
-/// The whole pairs of 16 bytes from the front; fewer than 32 bytes are left out.
+/// Borrows the whole pairs of 16 bytes from the front, without the fewer than 32 bytes after them.
 #[inline(always)]
 pub fn pairs_of_u64_bytes(bytes: &[u8]) -> &[[[u8; 16]; 2]]
     ensures pairs { result.now ≡ pairs_at bytes.now 0 (length bytes.now / 32) }
@@ -99,8 +99,8 @@ pub fn pairs_of_u64_bytes(bytes: &[u8]) -> &[[[u8; 16]; 2]]
     pairs
 }
 
-/// All whole stripes of 64 bytes but a last one that ends the block, and the 1 to 64 bytes after them. Of
-/// an empty block both are empty.
+/// Splits off all whole stripes of 64 bytes, except a last one that ends the block, and returns them and the 1 to 64
+/// bytes after them. For an empty block both are empty.
 #[tactic(auto, using(twox_words::proofs::WordFacts::first_chunks_take))]
 #[inline(always)]
 pub fn stripes_with_tail(block: &[u8]) -> (&[[u8; 64]], &[u8])

@@ -1,4 +1,4 @@
-//! Secrets of at least 136 bytes, and the parts that each range of lengths reads of them.
+//! Secrets of at least 136 bytes, and the parts of them that each range of lengths reads.
 
 ghost use Rattle.std.specs.Prelude.{◌≤◌, length};
 
@@ -10,7 +10,7 @@ use twox_words::words::{u32_at, u64_at};
 /// The minimum length of a secret.
 pub const SECRET_MINIMUM_LENGTH: usize = 136;
 
-/// A secret: at least 136 bytes, lent.
+/// A borrowed secret of at least 136 bytes.
 #[derive(Clone, Copy)]
 pub struct Secret<'a> {
     bytes: &'a [u8],
@@ -33,7 +33,7 @@ impl fmt::Display for Error {
 
 impl error::Error for Error {}
 
-/// A one-shot was handed a secret of fewer than 136 bytes.
+/// The error of a one-shot for a secret of fewer than 136 bytes.
 #[derive(Clone, Copy, Debug, PartialEq, Eq)]
 pub struct OneshotWithSecretError(Error);
 
@@ -61,11 +61,11 @@ impl<'a> Secret<'a> {
     ghost use Rattle.twox_core.specs.Parts.{chunks_at, stripe_at};
     ghost use Rattle.twox_core.specs.SecretBytes.{secret_bytes, viewed_by_64, viewed_by_128};
 
-    /// The bytes as a secret.
+    /// Wraps `bytes` as a secret.
     ///
     /// # Errors
     ///
-    /// The bytes are fewer than 136.
+    /// `Error` if there are fewer than 136 bytes.
     #[inline(always)]
     pub fn new(bytes: &'a [u8]) -> Result<Secret<'a>, Error>
         ensures { MatchResult result (λ s. (136 ≤ length bytes.now) × (secret_bytes s
@@ -78,7 +78,7 @@ impl<'a> Secret<'a> {
         }
     }
 
-    /// The words that XXH3 of 64 bits reads.
+    /// Returns the view of the words that XXH3 64-bit reads.
     #[inline(always)]
     pub fn for_64(self) -> Secret64BitView<'a>
         ensures { viewed_by_64 result ≡ secret_bytes self.entry }
@@ -86,7 +86,7 @@ impl<'a> Secret<'a> {
         Secret64BitView { secret: self }
     }
 
-    /// The words that XXH3 of 128 bits reads.
+    /// Returns the view of the words that XXH3 128-bit reads.
     #[inline(always)]
     pub fn for_128(self) -> Secret128BitView<'a>
         ensures { viewed_by_128 result ≡ secret_bytes self.entry }
@@ -94,7 +94,7 @@ impl<'a> Secret<'a> {
         Secret128BitView { secret: self }
     }
 
-    /// The first 136 bytes, which are all that inputs of up to 240 bytes read.
+    /// Returns the first 136 bytes. Inputs of up to 240 bytes read no others.
     #[inline(always)]
     pub fn minimum(self) -> &'a [u8; SECRET_MINIMUM_LENGTH]
         ensures { result.now ≡ take 136 (secret_bytes self.entry) }
@@ -102,7 +102,7 @@ impl<'a> Secret<'a> {
         array_at(self.bytes, 0)
     }
 
-    // The bytes of a secret that is as long as the default one.
+    // Returns the bytes of a secret as long as the default one.
     #[inline(always)]
     pub(crate) fn of_default_length(self) -> &'a DefaultSecret
         requires { length (secret_bytes self) ≡ 192 }
@@ -111,7 +111,7 @@ impl<'a> Secret<'a> {
         array_at::<DEFAULT_SECRET_LENGTH>(self.bytes, 0)
     }
 
-    /// The first eight chunks of 16 bytes.
+    /// Returns the first eight chunks of 16 bytes.
     #[inline(always)]
     pub fn words_for_17_to_128(self) -> &'a [[u8; 16]]
         ensures chunks { result.now ≡ chunks_at (secret_bytes self.entry) 0 8 }
@@ -120,7 +120,7 @@ impl<'a> Secret<'a> {
         chunks_at(self.bytes, 0)
     }
 
-    /// The 64 bytes from byte `8 * i` on. The caller shows that `i` is below `n_stripes()`.
+    /// Returns the 64 bytes from byte `8 * i` on. The caller proves that `i` is below `n_stripes()`.
     #[inline(always)]
     pub fn stripe(self, i: usize) -> &'a [u8; 64]
         requires { i < stripes_of (secret_bytes self) }
@@ -129,7 +129,7 @@ impl<'a> Secret<'a> {
         array_at(self.bytes, 8 * i)
     }
 
-    // The 88 bytes from byte `8 * i` on: four stripes are taken under them.
+    // Returns the 88 bytes from byte `8 * i` on, which four stripes use.
     #[inline(always)]
     pub(crate) fn four_stripes(self, i: usize) -> &'a [u8; 88]
         requires { i + 4 ≤ stripes_of (secret_bytes self) }
@@ -138,7 +138,7 @@ impl<'a> Secret<'a> {
         array_at(self.bytes, i * 8)
     }
 
-    /// The last 64 bytes.
+    /// Returns the last 64 bytes.
     #[inline(always)]
     pub fn last_stripe(self) -> &'a [u8; 64]
         ensures { result.now
@@ -147,7 +147,7 @@ impl<'a> Secret<'a> {
         array_at(self.bytes, self.len() - 64)
     }
 
-    /// The 64 bytes that end seven bytes before the secret's end.
+    /// Returns the 64 bytes that end seven bytes before the secret's end.
     #[inline(always)]
     pub fn last_stripe_secret_better_name(self) -> &'a [u8; 64]
         ensures { result.now
@@ -156,7 +156,7 @@ impl<'a> Secret<'a> {
         array_at(self.bytes, self.len() - 71)
     }
 
-    /// The 64 bytes from byte 11 on.
+    /// Returns the 64 bytes from byte 11 on.
     #[inline(always)]
     pub fn final_secret(self) -> &'a [u8; 64]
         ensures { result.now ≡ stripe_at (secret_bytes self.entry) 11 }
@@ -164,7 +164,7 @@ impl<'a> Secret<'a> {
         array_at(self.bytes, 11)
     }
 
-    /// The number of bytes.
+    /// Returns the number of bytes.
     #[inline(always)]
     pub fn len(self) -> usize
         ensures { result ≡ length (secret_bytes self.entry) }
@@ -172,7 +172,7 @@ impl<'a> Secret<'a> {
         self.bytes.len()
     }
 
-    /// How many stripes are accumulated from one scramble to the next.
+    /// Returns the number of stripes from one scramble to the next.
     #[inline(always)]
     pub fn n_stripes(self) -> usize
         ensures { result ≡ stripes_of (secret_bytes self.entry) }
@@ -180,7 +180,7 @@ impl<'a> Secret<'a> {
         (self.len() - 64) / 8
     }
 
-    /// Whether there are at least 136 bytes, which holds of every secret.
+    /// True if there are at least 136 bytes, as in every secret.
     #[inline(always)]
     pub fn is_valid(self) -> bool
         ensures { result ≡ true }
@@ -189,7 +189,7 @@ impl<'a> Secret<'a> {
     }
 }
 
-/// The words and chunks of a secret that XXH3 of 64 bits reads of it, up to 240 bytes.
+/// The words and chunks that XXH3 64-bit reads of a secret, up to 240 bytes of input.
 #[derive(Clone, Copy)]
 pub struct Secret64BitView<'a> {
     secret: Secret<'a>,
@@ -202,7 +202,7 @@ impl<'a> Secret64BitView<'a> {
     ghost use Rattle.twox_core.specs.Parts.{chunk_at, chunks_at};
     ghost use Rattle.twox_core.specs.SecretBytes.{viewed_by_64};
 
-    /// The eight-byte words at 56 and 64.
+    /// Returns the eight-byte words at 56 and 64.
     #[inline(always)]
     pub fn words_for_0(self) -> [u64; 2]
         ensures { let s = viewed_by_64 self.entry in
@@ -212,7 +212,7 @@ impl<'a> Secret64BitView<'a> {
         [u64_at(bytes, 56), u64_at(bytes, 64)]
     }
 
-    /// The four-byte words at 0 and 4.
+    /// Returns the four-byte words at 0 and 4.
     #[inline(always)]
     pub fn words_for_1_to_3(self) -> [u32; 2]
         ensures { let s = viewed_by_64 self.entry in
@@ -222,7 +222,7 @@ impl<'a> Secret64BitView<'a> {
         [u32_at(bytes, 0), u32_at(bytes, 4)]
     }
 
-    /// The eight-byte words at 8 and 16.
+    /// Returns the eight-byte words at 8 and 16.
     #[inline(always)]
     pub fn words_for_4_to_8(self) -> [u64; 2]
         ensures { let s = viewed_by_64 self.entry in
@@ -232,7 +232,7 @@ impl<'a> Secret64BitView<'a> {
         [u64_at(bytes, 8), u64_at(bytes, 16)]
     }
 
-    /// The eight-byte words at 24, 32, 40 and 48.
+    /// Returns the eight-byte words at 24, 32, 40 and 48.
     #[inline(always)]
     pub fn words_for_9_to_16(self) -> [u64; 4]
         ensures { let s = viewed_by_64 self.entry in
@@ -248,7 +248,7 @@ impl<'a> Secret64BitView<'a> {
         ]
     }
 
-    /// Eight chunks of 16 bytes from byte 0 on.
+    /// Returns eight chunks of 16 bytes from byte 0 on.
     #[inline(always)]
     pub fn words_for_129_to_240_part1(self) -> &'a [[u8; 16]]
         ensures chunks { result.now ≡ chunks_at (viewed_by_64 self.entry) 0 8 }
@@ -257,7 +257,7 @@ impl<'a> Secret64BitView<'a> {
         chunks_at(self.secret.bytes, 0)
     }
 
-    /// Eight chunks of 16 bytes from byte 3 on.
+    /// Returns eight chunks of 16 bytes from byte 3 on.
     #[inline(always)]
     pub fn words_for_129_to_240_part2(self) -> &'a [[u8; 16]]
         ensures chunks { result.now ≡ chunks_at (viewed_by_64 self.entry) 3 8 }
@@ -266,7 +266,7 @@ impl<'a> Secret64BitView<'a> {
         chunks_at(self.secret.bytes, 3)
     }
 
-    /// The 16 bytes from byte 119 on.
+    /// Returns the 16 bytes from byte 119 on.
     #[inline(always)]
     pub fn words_for_129_to_240_part3(self) -> &'a [u8; 16]
         ensures { result.now ≡ chunk_at (viewed_by_64 self.entry) 119 }
@@ -275,7 +275,7 @@ impl<'a> Secret64BitView<'a> {
     }
 }
 
-/// The words and chunks of a secret that XXH3 of 128 bits reads of it.
+/// The words and chunks that XXH3 128-bit reads of a secret.
 #[derive(Clone, Copy)]
 pub struct Secret128BitView<'a> {
     secret: Secret<'a>,
@@ -288,7 +288,7 @@ impl<'a> Secret128BitView<'a> {
     ghost use Rattle.twox_core.specs.Parts.{pair_at, pairs_at, stripe_at};
     ghost use Rattle.twox_core.specs.SecretBytes.{viewed_by_128};
 
-    /// The eight-byte words at 64, 72, 80 and 88.
+    /// Returns the eight-byte words at 64, 72, 80 and 88.
     #[inline(always)]
     pub fn words_for_0(self) -> [u64; 4]
         ensures { let s = viewed_by_128 self.entry in
@@ -304,7 +304,7 @@ impl<'a> Secret128BitView<'a> {
         ]
     }
 
-    /// The four-byte words at 0, 4, 8 and 12.
+    /// Returns the four-byte words at 0, 4, 8 and 12.
     #[inline(always)]
     pub fn words_for_1_to_3(self) -> [u32; 4]
         ensures { let s = viewed_by_128 self.entry in
@@ -319,7 +319,7 @@ impl<'a> Secret128BitView<'a> {
         ]
     }
 
-    /// The eight-byte words at 16 and 24.
+    /// Returns the eight-byte words at 16 and 24.
     #[inline(always)]
     pub fn words_for_4_to_8(self) -> [u64; 2]
         ensures { let s = viewed_by_128 self.entry in
@@ -329,7 +329,7 @@ impl<'a> Secret128BitView<'a> {
         [u64_at(bytes, 16), u64_at(bytes, 24)]
     }
 
-    /// The eight-byte words at 32, 40, 48 and 56.
+    /// Returns the eight-byte words at 32, 40, 48 and 56.
     #[inline(always)]
     pub fn words_for_9_to_16(self) -> [u64; 4]
         ensures { let s = viewed_by_128 self.entry in
@@ -345,7 +345,7 @@ impl<'a> Secret128BitView<'a> {
         ]
     }
 
-    /// Four pairs of 16 bytes from byte 0 on.
+    /// Returns four pairs of 16 bytes from byte 0 on.
     #[inline(always)]
     pub fn words_for_129_to_240_part1(self) -> &'a [[[u8; 16]; 2]]
         ensures pairs { result.now ≡ pairs_at (viewed_by_128 self.entry) 0 4 }
@@ -354,7 +354,7 @@ impl<'a> Secret128BitView<'a> {
         pairs_at(self.secret.bytes, 0)
     }
 
-    /// Four pairs of 16 bytes from byte 3 on.
+    /// Returns four pairs of 16 bytes from byte 3 on.
     #[inline(always)]
     pub fn words_for_129_to_240_part2(self) -> &'a [[[u8; 16]; 2]]
         ensures pairs { result.now ≡ pairs_at (viewed_by_128 self.entry) 3 4 }
@@ -363,7 +363,7 @@ impl<'a> Secret128BitView<'a> {
         pairs_at(self.secret.bytes, 3)
     }
 
-    /// The 32 bytes from byte 103 on, as a pair of 16 bytes.
+    /// Returns the 32 bytes from byte 103 on, as a pair of 16 bytes.
     #[inline(always)]
     pub fn words_for_129_to_240_part3(self) -> &'a [[u8; 16]; 2]
         ensures { result.now ≡ pair_at (viewed_by_128 self.entry) 103 }
@@ -371,7 +371,7 @@ impl<'a> Secret128BitView<'a> {
         pair_at(self.secret.bytes, 103)
     }
 
-    /// The 64 bytes that end eleven bytes before the secret's end.
+    /// Returns the 64 bytes that end eleven bytes before the secret's end.
     #[inline(always)]
     pub fn final_secret(self) -> &'a [u8; 64]
         ensures { let s = viewed_by_128 self.entry in result.now ≡ stripe_at s (length s - 75) }

@@ -1,4 +1,4 @@
-//! Streams of XXH3: bytes that come in pieces, hashed under a secret that the stream holds.
+//! Streams of XXH3: bytes that come in chunks, hashed under a secret that the stream holds.
 
 mod buffers;
 mod core_state;

@@ -1,4 +1,4 @@
-//! What a kernel is: the xxHash specification, "XXH3 algorithm description (for large inputs)", steps 1 and 2.
+//! The trait of kernels: the xxHash specification, "XXH3 algorithm description (for large inputs)", steps 1 and 2.
 
 ghost use Rattle.std.specs.Prelude.{◌≡◌};
 ghost use Rattle.twox_core.specs.Ending.{accumulate_block};
@@ -9,18 +9,19 @@ use super::primes::{
     PRIME32_1, PRIME32_2, PRIME32_3, PRIME64_1, PRIME64_2, PRIME64_3, PRIME64_4, PRIME64_5,
 };
 
-/// A kernel: the two operations of XXH3 on its eight accumulators, and four of the second at once, which it need not
-/// have. All kernels compute the same.
+/// A kernel: the two operations of XXH3 on its eight accumulators, and optionally four of the second at once. All
+/// kernels compute the same.
 pub trait Vector: Copy {
     /// Scrambles the accumulators under the secret's last 64 bytes.
     fn round_scramble(&self, acc: &mut [u64; 8], secret_end: &[u8; 64])
         ensures { acc.new ≡ round_scramble acc.old secret_end.now };
 
-    /// Takes a stripe into the accumulators, under 64 bytes of the secret.
+    /// Accumulates a stripe, under 64 bytes of the secret.
     fn accumulate(&self, acc: &mut [u64; 8], stripe: &[u8; 64], secret: &[u8; 64])
         ensures { acc.new ≡ accumulate acc.old stripe.now secret.now };
 
-    /// Takes four stripes one after another, each under the 64 bytes that begin 8 bytes behind those of the one before.
+    /// Accumulates four stripes one after another, each under the 64 bytes that begin 8 bytes after those of the one
+    /// before.
     #[tactic(auto, unfolding(crate::specs::Ending::accumulate_block))]
     #[inline(always)]
     fn accumulate_four_stripes(&self, acc: &mut [u64; 8], stripes: &[u8; 256], secret: &[u8; 88])
@@ -32,14 +33,14 @@ pub trait Vector: Copy {
         self.accumulate(acc, array_at(stripes, 192), array_at(secret, 24));
     }
 
-    /// Whether many stripes are taken by `lanes8` in this kernel's place, which changes the time alone.
+    /// True if `lanes8` takes many stripes instead of this kernel. Changes only the time.
     #[inline(always)]
     fn is_widened(&self) -> bool {
         false
     }
 }
 
-/// The accumulators before the first stripe.
+/// Returns the accumulators before the first stripe.
 pub const INITIAL_ACCUMULATORS: [u64; 8] = [
     PRIME32_3, PRIME64_1, PRIME64_2, PRIME64_3, PRIME64_4, PRIME32_2, PRIME64_5, PRIME32_1,
 ];

@@ -1,5 +1,4 @@
-//! The rounds and the last step of XXH32, and its one-shot: the xxHash specification, "XXH32 algorithm
-//! description".
+//! Rounds, last step and one-shot of XXH32: the xxHash specification, "XXH32 algorithm description".
 
 ghost use Rattle.std.specs.Prelude.{◌≡◌, ℕ, ◌+◌, ◌*◌, ◌/◌, ◌<◌, ◌≤◌, List, drop, length, slice_index};
 ghost use Rattle.std.specs.Int.{w32};
@@ -36,7 +35,7 @@ fn round(accumulator: u32, word: u32) -> u32
     add_product(accumulator, word.wrapping_mul(PRIME32_2))
 }
 
-// The round of a word whose product is known.
+// Does the round of a word whose product is known.
 #[inline(always)]
 fn add_product(accumulator: u32, product: u32) -> u32
     ensures { (word : ℕ) → product ≡ wrap_mul w32 word p2 → result ≡ round accumulator word }
@@ -47,9 +46,9 @@ fn add_product(accumulator: u32, product: u32) -> u32
         .wrapping_mul(PRIME32_1)
 }
 
-// The products of the words of a block. They wait for no accumulator, so they are made many at once, in vectors, and
-// the rounds are left with half of their multiplications. It is a call of its own because the rounds then read each
-// product from memory: a product that they took out of a vector would cost what the vector saved.
+// Multiplies the words of a block. The products depend on no accumulator, so many are made at once, in vectors, and the
+// rounds have half of their multiplications left. A separate call, because the rounds then read each product from
+// memory: taking a product out of a vector would cost what the vector saved.
 #[inline(never)]
 fn products_of_block(block: &[u8; BYTES_IN_BLOCK]) -> [u32; WORDS_IN_BLOCK]
     ensures { (i : ℕ) → i < 32
@@ -62,8 +61,8 @@ fn products_of_block(block: &[u8; BYTES_IN_BLOCK]) -> [u32; WORDS_IN_BLOCK]
     products
 }
 
-// The word at byte `i + 4`, taken out of the eight bytes before its end, which is one load too. LLVM then doesn't see the
-// words of a stripe as a vector: on 64-bit ARM it would make a vector of the accumulators, which is slower.
+// Returns the word at byte `i + 4`, from the eight bytes before its end, which is one load too. LLVM then doesn't see
+// the words of a stripe as a vector: on 64-bit ARM it would make a vector of the accumulators, which is slower.
 #[tactic(auto, using(crate::proofs::UpperWords::upper_word))]
 #[inline(always)]
 fn upper_word_at(bytes: &[u8], i: usize) -> u32
@@ -105,7 +104,7 @@ fn avalanche(mut value: u32) -> u32
 }
 
 impl Core {
-    // The accumulators before the first stripe.
+    // Returns the accumulators before the first stripe.
     #[tactic(auto, unfolding(crate::specs::Core32::core_of_stripes, crate::specs::Xxh32::accumulator, crate::specs::Units::after_units))]
     #[inline(always)]
     pub(super) fn new(seed: u32) -> Core
@@ -119,7 +118,7 @@ impl Core {
         }
     }
 
-    // Takes a stripe.
+    // Adds a stripe.
     #[tactic(auto, unfolding(crate::specs::Core32::core_after_stripes, crate::specs::Units::after_units))]
     #[inline(always)]
     pub(super) fn write(&mut self, stripe: &[u8; BYTES_IN_STRIPE])
@@ -131,7 +130,7 @@ impl Core {
         self.v4 = round(self.v4, upper_word_at(stripe, 8));
     }
 
-    // Takes a block.
+    // Adds a block.
     #[inline(always)]
     fn write_block(&mut self, block: &[u8; BYTES_IN_BLOCK])
         ensures { self.new ≡ core_after_stripes self.old block.now 8 }
@@ -145,7 +144,7 @@ impl Core {
         }
     }
 
-    // Takes the whole blocks of the input, and gives the bytes after them.
+    // Adds the whole blocks of the input, and returns the bytes after them.
     #[inline(always)]
     fn write_blocks<'d>(&mut self, input: &'d [u8]) -> &'d [u8]
         ensures rest { result.now ≡ drop (length input.now / 128 * 8 * 16) input.now }
@@ -160,8 +159,8 @@ impl Core {
         rest
     }
 
-    // Takes the whole stripes of the input, and gives the bytes after them. The loop holds the rest and no count: short
-    // inputs then have less to do before it and after it.
+    // Adds the whole stripes of the input, and returns the bytes after them. The loop keeps the rest and no count, so
+    // short inputs have less to do before and after it.
     #[inline(always)]
     fn write_stripes<'d>(&mut self, input: &'d [u8]) -> &'d [u8]
         ensures rest { result.now ≡ drop (length input.now / 16 * 16) input.now }
@@ -176,7 +175,7 @@ impl Core {
         rest
     }
 
-    // Takes the whole stripes of the input, and gives the bytes after them. With `BLOCKS` it takes whole blocks first.
+    // Adds the whole stripes of the input, and returns the bytes after them. With `BLOCKS` it adds whole blocks first.
     #[inline(always)]
     pub(super) fn write_many<'d, const BLOCKS: bool>(&mut self, input: &'d [u8]) -> &'d [u8]
         ensures rest { result.now ≡ drop (length input.now / 16 * 16) input.now }
@@ -191,7 +190,7 @@ impl Core {
         }
     }
 
-    // The four accumulators as one value.
+    // Converges the four accumulators to one value.
     #[inline(always)]
     pub(super) fn finish(&self) -> u32
         ensures { result ≡ convergence self.now.v1 self.now.v2 self.now.v3 self.now.v4 }
@@ -204,7 +203,7 @@ impl Core {
     }
 }
 
-// Takes the bytes that fill no stripe: four at a time, then one.
+// Mixes in the bytes that fill no stripe: four at a time, then one.
 #[inline(always)]
 fn after_tail(value: u32, rest: &[u8]) -> u32
     ensures { result ≡ after_tail rest.now 0 value (length rest.now) }
@@ -219,8 +218,8 @@ fn after_tail(value: u32, rest: &[u8]) -> u32
     value
 }
 
-// The value from the seed, the counted length, the accumulators and the bytes that fill no stripe. Of the length
-// the low 32 bits enter.
+// Returns the value from the seed, the counted length (of which it uses the low 32 bits), the accumulators and the
+// bytes that fill no stripe.
 #[tactic(auto, using(std::proofs::lemmas::Bool::Decides::nat_tests), unfolding(crate::specs::Record32::value_of))]
 #[inline(always)]
 pub(super) fn finish_with(seed: u32, len: u64, core: &Core, rest: &[u8]) -> u32
@@ -247,7 +246,7 @@ pub(super) fn impl_oneshot(seed: u32, input: &[u8]) -> u32
     }
 }
 
-// The value of fewer bytes than a stripe, in a function of its own, so that short inputs pay for no accumulators.
+// Hashes fewer bytes than a stripe. A separate function, so that short inputs don't pay for accumulators.
 #[tactic(auto, using(crate::proofs::Message32::short_message))]
 #[inline(always)]
 pub(super) fn impl_short(seed: u32, input: &[u8]) -> u32
@@ -260,7 +259,7 @@ pub(super) fn impl_short(seed: u32, input: &[u8]) -> u32
     avalanche(after_tail(value, input))
 }
 
-// Blocks are in a function of their own, so that shorter inputs keep no registers for its calls.
+// Separate function, so that shorter inputs save no registers for its calls.
 #[inline(never)]
 fn impl_from_128(seed: u32, input: &[u8]) -> u32
     ensures { result ≡ xxh32 seed input.now }
@@ -274,7 +273,7 @@ pub(super) fn impl_long<const BLOCKS: bool>(seed: u32, input: &[u8]) -> u32
 {
     let mut core = Core::new(seed);
     let rest = core.write_many::<BLOCKS>(input);
-    // Its length, said by the input's, tells the compiler that few words are left, for which it unrolls no loop.
+    // Its length, computed from the input's, shows the compiler that few words are left, so it doesn't unroll the loop.
     let rest = &rest[..input.len() % BYTES_IN_STRIPE];
     finish_with(seed, input.len().into_u64(), &core, rest)
 }

@@ -13,12 +13,12 @@ use std::alloc::{AllocError, Global};
 use std::error::Error;
 use std::fmt;
 
-/// Why a text gave no record.
+/// The error for a text without a record.
 #[derive(Clone, Copy, Debug, PartialEq, Eq)]
 pub enum FormError {
-    /// The text is not a saved state's.
+    /// The text is not one of a saved state.
     Text,
-    /// There was no memory to read it.
+    /// Out of memory while reading it.
     Memory,
 }
 
@@ -66,12 +66,12 @@ fn record_of_value(value: &Value) -> Option<SavedState>
 }
 
 impl SavedState {
-    /// The saved text: the compact JSON of an object with the members `buffer` (an array of numbers),
+    /// Writes the saved text: the compact JSON of an object with the members `buffer` (an array of numbers),
     /// `buffer_usage`, `core` (an object of `v1` to `v4`), `seed` and `total_len`, in this order.
     ///
     /// # Errors
     ///
-    /// There is no memory for the text.
+    /// `AllocError` if out of memory.
     pub fn to_json(&self, alloc: Global) -> Result<String, AllocError>
         ensures text { IfOk result (λ text. string_bytes text ≡ saved_text self.now) }
         ensures reads_back { IfOk result (λ text.
@@ -84,14 +84,14 @@ impl SavedState {
         record_value(alloc, buffer, core, usage, seed as u64, total_len)?.to_string(alloc)
     }
 
-    /// The record of a saved text: of an object with the members that [`SavedState::to_json`] writes, in any
-    /// order and with any white space, each number whole and in its type's range, and exactly 16 of them in
-    /// the buffer. Other members are passed over.
+    /// Reads the record of a saved text: an object with the members that [`SavedState::to_json`] writes, in any order
+    /// and with any white space, each number whole and in its type's range, and exactly 16 of them in the buffer. Other
+    /// members are ignored.
     ///
     /// # Errors
     ///
-    /// - [`FormError::Text`]: `serde_json` reads no such object.
-    /// - [`FormError::Memory`]: memory ran out, perhaps before the text was judged.
+    /// - [`FormError::Text`] if `serde_json` reads no such object.
+    /// - [`FormError::Memory`] if out of memory, possibly for a text that is invalid.
     pub fn from_json(alloc: Global, text: &str) -> Result<SavedState, FormError>
         ensures read { IfOk result (λ state. record_of_text text.now ≡ Some state) }
         ensures refused { IsErrOf result FormError.Text → record_of_text text.now ≡ None }

@@ -1,4 +1,4 @@
-//! A stream of XXH32: its accumulators, the bytes that wait for a stripe, and the length.
+//! A stream of XXH32: its accumulators, the buffered bytes of the next stripe, and the length.
 
 ghost use Rattle.std.specs.Prelude.{◌≡◌, ℕ, ◌+◌, ◌-◌, ◌^◌, ◌<◌, ◌≤◌, List, ◌++◌, drop, length, min};
 ghost use Rattle.twox_plain.specs.Xxh32.{xxh32};
@@ -12,9 +12,9 @@ use twox_words::copies::{copy_front, copy_short};
 impl StateInMemory {
     ghost use Rattle.twox_plain.specs.Record32.{StandsFor, after_write, finish_value};
 
-    /// The record's fields in their places.
+    /// Puts the record's fields in their places.
     ///
-    /// The caller shows that less than a stripe waits.
+    /// The caller proves that less than a stripe is buffered.
     #[inline(always)]
     pub fn of_record(state: SavedState) -> StateInMemory
         requires { state.buffer_usage < 16 }
@@ -35,7 +35,7 @@ impl StateInMemory {
         }
     }
 
-    /// The record that lies here.
+    /// Returns the record in this memory.
     #[inline(always)]
     pub fn record(&self) -> SavedState
         ensures { result ≡ record_of self.now }
@@ -50,7 +50,7 @@ impl StateInMemory {
         }
     }
 
-    /// How many bytes of the buffer wait. Memory without the mark seems to have a stripe or more.
+    /// Returns the number of bytes buffered: a stripe or more if the memory has no mark.
     #[inline(always)]
     pub fn usage(&self) -> usize
         ensures { result ≡ usage_of self.now }
@@ -58,7 +58,7 @@ impl StateInMemory {
         self.marked_usage.wrapping_sub(MARK) as usize
     }
 
-    // Sets how many bytes of the buffer wait, and with it the mark.
+    // Sets the number of bytes buffered, and the mark with it.
     #[inline(always)]
     fn set_usage(&mut self, usage: usize)
         requires { usage ≤ 16 }
@@ -67,7 +67,7 @@ impl StateInMemory {
         self.marked_usage = MARK + usage as u32;
     }
 
-    /// The number of bytes that were hashed, or `u64::MAX` where there were more.
+    /// Total bytes hashed, saturating at `u64::MAX`.
     #[inline(always)]
     pub fn total_len(&self) -> u64
         ensures { result ≡ total_of self.now }
@@ -75,7 +75,7 @@ impl StateInMemory {
         (self.total_high.into_u64() << 32) + self.total_low.into_u64()
     }
 
-    // Adds to the number of bytes that were hashed.
+    // Adds to the number of bytes hashed.
     #[inline(always)]
     fn count(&mut self, more: usize)
         ensures total { total_of self.new ≡ min (total_of self.old + more) (2 ^ 64 - 1) }
@@ -89,7 +89,7 @@ impl StateInMemory {
         self.total_high = total.upper_half();
     }
 
-    // The accumulators.
+    // Returns the accumulators.
     #[inline(always)]
     pub(super) fn core(&self) -> Core
         ensures { result ≡ (record_of self.now).core }
@@ -102,7 +102,7 @@ impl StateInMemory {
         }
     }
 
-    // Puts the accumulators back.
+    // Stores the accumulators.
     #[inline(always)]
     fn set_core(&mut self, core: Core)
         ensures { self.new ≡
@@ -114,9 +114,9 @@ impl StateInMemory {
         self.v4 = core.v4;
     }
 
-    /// Adds a piece to the bytes that are hashed.
+    /// Hashes a chunk.
     ///
-    /// The caller shows that less than a stripe waits.
+    /// The caller proves that less than a stripe is buffered.
     #[inline(always)]
     pub fn add_piece(&mut self, input: &[u8])
         requires { usage_of self.old < 16 }
@@ -129,7 +129,7 @@ impl StateInMemory {
         self.take_piece::<true>(input);
     }
 
-    // Adds a piece. With `BLOCKS` a long one is taken by blocks.
+    // Hashes a chunk. With `BLOCKS` a long one is taken by blocks.
     #[inline(always)]
     pub(super) fn take_piece<const BLOCKS: bool>(&mut self, input: &[u8])
         requires { usage_of self.old < 16 }
@@ -154,7 +154,7 @@ impl StateInMemory {
         self.add_rest::<BLOCKS>(rest);
     }
 
-    // Adds bytes that are counted already, where none wait.
+    // Hashes bytes that are already counted, if none are buffered.
     #[inline(always)]
     fn add_rest<const BLOCKS: bool>(&mut self, input: &[u8])
         ensures { AfterRest self.old input.now self.new }
@@ -166,7 +166,7 @@ impl StateInMemory {
         }
     }
 
-    // Takes the whole stripes, and keeps the bytes after them.
+    // Adds the whole stripes, and buffers the bytes after them.
     #[inline(always)]
     #[tactic(auto, unfolding(crate::specs::StateInMemory32::after_rest))]
     fn add_stripes(&mut self, input: &[u8])
@@ -181,7 +181,7 @@ impl StateInMemory {
         self.keep(rest);
     }
 
-    // The same with blocks, out of line, so that shorter pieces keep no registers for its calls.
+    // Does the same with blocks. A separate function, so that shorter chunks save no registers for its calls.
     #[inline(never)]
     #[tactic(auto, unfolding(crate::specs::StateInMemory32::after_rest))]
     fn add_blocks(&mut self, input: &[u8])
@@ -193,7 +193,7 @@ impl StateInMemory {
         self.keep(rest);
     }
 
-    // Keeps the bytes that fill no stripe.
+    // Buffers the bytes that fill no stripe.
     #[inline(always)]
     fn keep(&mut self, rest: &[u8])
         requires { length rest.now ≤ 16 }
@@ -206,9 +206,9 @@ impl StateInMemory {
         self.set_usage(rest.len());
     }
 
-    /// The hash of the bytes so far.
+    /// Returns the hash of the bytes so far.
     ///
-    /// The caller shows that less than a stripe waits.
+    /// The caller proves that less than a stripe is buffered.
     #[tactic(auto, using(crate::proofs::Message32::finish_value_of_message))]
     #[inline(always)]
     pub fn finish(&self) -> u32

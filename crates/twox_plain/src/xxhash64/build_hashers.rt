@@ -7,13 +7,13 @@ use rand_core::Rng;
 use std::hash::BuildHasher;
 use std::marker::Model;
 
-/// Builds hashers of one seed, as for the keys of a map.
+/// Builds hashers of one seed, for example for the keys of a map.
 ///
 /// ```
 /// let mut map = HashMap::with_hasher(alloc, xxhash64::State::with_seed(0xdead_cafe));
 /// ```
 ///
-/// A contract sees a state as its seed.
+/// In contracts a state is its seed.
 #[derive(Clone, Copy, Debug)]
 pub struct State(u64);
 
@@ -26,7 +26,7 @@ impl Model for State {
 }
 
 impl State {
-    /// The state whose hashers have this seed.
+    /// Creates the state whose hashers have this seed.
     pub fn with_seed(seed: u64) -> State
         ensures { result ≡ seed }
     {
@@ -46,9 +46,9 @@ impl BuildHasher for State {
     }
 }
 
-/// Builds hashers of one seed that a generator of random numbers gave.
+/// Builds hashers of one seed from a random number generator.
 ///
-/// A contract sees it as its seed.
+/// In contracts it is its seed.
 #[derive(Clone, Copy, Debug)]
 pub struct RandomState(State);
 
@@ -63,7 +63,7 @@ impl Model for RandomState {
 impl RandomState {
     ghost use Rattle.rand_core.specs.Stream.{next_u64};
 
-    /// The state whose seed is the generator's next `u64`. One word is taken, and nothing else.
+    /// Creates the state whose seed is the generator's next `u64`. Takes nothing else from the generator.
     pub fn from_rng<R: Rng>(rng: &mut R) -> RandomState
         ensures { (result, R.stream rng.new) ≡ next_u64 (R.stream rng.old) }
     {

@@ -1,5 +1,4 @@
-//! The rounds and the last step of XXH64, and its one-shot: the xxHash specification, "XXH64 algorithm
-//! description".
+//! Rounds, last step and one-shot of XXH64: the xxHash specification, "XXH64 algorithm description".
 
 ghost use Rattle.std.specs.Prelude.{◌≡◌, ℕ, ◌*◌, ◌/◌, ◌<◌, List, drop, length};
 ghost use Rattle.std.specs.Int.{w64, rotate_left};
@@ -30,8 +29,8 @@ fn round(accumulator: u64, word: u64) -> u64
     rotate_left_by_31(sum).wrapping_mul(PRIME64_1)
 }
 
-// A function that LLVM sees by itself first: it then rotates by one instruction. Where it sees that a product
-// is rotated, it makes two products instead.
+// Separate function that LLVM optimizes first: it then rotates by one instruction. If LLVM sees that a product is
+// rotated, it makes two products instead.
 #[inline]
 fn rotate_left_by_31(x: u64) -> u64
     ensures { result ≡ rotate_left w64 x 31 }
@@ -89,7 +88,7 @@ fn avalanche(mut value: u64) -> u64
 }
 
 impl Core {
-    // The accumulators before the first stripe.
+    // Returns the accumulators before the first stripe.
     #[tactic(auto, unfolding(crate::specs::Core64::core_of_stripes, crate::specs::Xxh64::accumulator, crate::specs::Units::after_units))]
     #[inline(always)]
     pub(super) fn new(seed: u64) -> Core
@@ -103,7 +102,7 @@ impl Core {
         }
     }
 
-    // Takes a stripe.
+    // Adds a stripe.
     #[tactic(auto, unfolding(crate::specs::Core64::core_after_stripes, crate::specs::Units::after_units))]
     #[inline(always)]
     pub(super) fn write(&mut self, stripe: &[u8; BYTES_IN_STRIPE])
@@ -115,8 +114,8 @@ impl Core {
         self.v4 = round(self.v4, u64_at(stripe, 24));
     }
 
-    // Takes the whole stripes of the input, and gives the bytes after them. The loop holds the rest and no count: short
-    // inputs then have less to do before it and after it.
+    // Adds the whole stripes of the input, and returns the bytes after them. The loop keeps the rest and no count, so
+    // short inputs have less to do before and after it.
     #[inline(always)]
     pub(super) fn write_many<'d>(&mut self, input: &'d [u8]) -> &'d [u8]
         ensures rest { result.now ≡ drop (length input.now / 32 * 32) input.now }
@@ -131,7 +130,7 @@ impl Core {
         rest
     }
 
-    // The four accumulators as one value.
+    // Converges the four accumulators to one value.
     #[inline(always)]
     pub(super) fn finish(&self) -> u64
         ensures { result ≡ convergence self.now.v1 self.now.v2 self.now.v3 self.now.v4 }
@@ -149,7 +148,7 @@ impl Core {
     }
 }
 
-// Takes the bytes that fill no stripe: eight at a time, then four, then one.
+// Mixes in the bytes that fill no stripe: eight at a time, then four, then one.
 #[inline(always)]
 fn after_tail(value: u64, rest: &[u8]) -> u64
     ensures { result ≡ after_tail rest.now 0 value (length rest.now) }
@@ -167,7 +166,7 @@ fn after_tail(value: u64, rest: &[u8]) -> u64
     value
 }
 
-// The value from the seed, the counted length, the accumulators and the bytes that fill no stripe.
+// Returns the value from the seed, the counted length, the accumulators and the bytes that fill no stripe.
 #[tactic(auto, using(std::proofs::lemmas::Bool::Decides::nat_tests), unfolding(crate::specs::Record64::value_of))]
 #[inline(always)]
 pub(super) fn finish_with(seed: u64, len: u64, core: &Core, rest: &[u8]) -> u64
@@ -192,7 +191,7 @@ pub(super) fn impl_oneshot(seed: u64, input: &[u8]) -> u64
     }
 }
 
-// The value of fewer bytes than a stripe, in a function of its own, so that short inputs pay for no accumulators.
+// Hashes fewer bytes than a stripe. A separate function, so that short inputs don't pay for accumulators.
 #[tactic(auto, using(crate::proofs::Message64::short_message))]
 #[inline(always)]
 fn impl_short(seed: u64, input: &[u8]) -> u64
@@ -211,7 +210,7 @@ fn impl_long(seed: u64, input: &[u8]) -> u64
 {
     let mut core = Core::new(seed);
     let rest = core.write_many(input);
-    // Its length, said by the input's, tells the compiler that few words are left, for which it unrolls no loop.
+    // Its length, computed from the input's, shows the compiler that few words are left, so it doesn't unroll the loop.
     let rest = &rest[..input.len() % BYTES_IN_STRIPE];
     finish_with(seed, input.len().into_u64(), &core, rest)
 }

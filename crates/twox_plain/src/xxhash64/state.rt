@@ -1,4 +1,4 @@
-//! A stream of XXH64: its accumulators, the bytes that wait for a stripe, and the length.
+//! A stream of XXH64: its accumulators, the buffered bytes of the next stripe, and the length.
 
 ghost use Rattle.std.specs.Prelude.{◌≡◌, ℕ, ◌+◌, ◌<◌, ◌≤◌, List, ◌++◌, drop, length};
 ghost use Rattle.twox_plain.specs.Xxh64.{xxh64};
@@ -12,9 +12,9 @@ use twox_words::copies::{copy_front, copy_short};
 impl StateInMemory {
     ghost use Rattle.twox_plain.specs.Record64.{StandsFor, after_write, finish_value};
 
-    /// The record's fields in their places.
+    /// Puts the record's fields in their places.
     ///
-    /// The caller shows that less than a stripe waits.
+    /// The caller proves that less than a stripe is buffered.
     #[inline(always)]
     pub fn of_record(state: SavedState) -> StateInMemory
         requires { state.buffer_usage < 32 }
@@ -34,7 +34,7 @@ impl StateInMemory {
         }
     }
 
-    /// The record that lies here.
+    /// Returns the record in this memory.
     #[inline(always)]
     pub fn record(&self) -> SavedState
         ensures { result ≡ record_of self.now }
@@ -49,7 +49,7 @@ impl StateInMemory {
         }
     }
 
-    /// How many bytes of the buffer wait. Memory without the mark seems to have a stripe or more.
+    /// Returns the number of bytes buffered: a stripe or more if the memory has no mark.
     #[inline(always)]
     pub fn usage(&self) -> usize
         ensures { result ≡ usage_of self.now }
@@ -57,7 +57,7 @@ impl StateInMemory {
         self.marked_usage.wrapping_sub(MARK) as usize
     }
 
-    // Sets how many bytes of the buffer wait, and with it the mark.
+    // Sets the number of bytes buffered, and the mark with it.
     #[inline(always)]
     fn set_usage(&mut self, usage: usize)
         requires { usage ≤ 32 }
@@ -66,7 +66,7 @@ impl StateInMemory {
         self.marked_usage = MARK + usage as u32;
     }
 
-    // The accumulators.
+    // Returns the accumulators.
     #[inline(always)]
     pub(super) fn core(&self) -> Core
         ensures { result ≡ (record_of self.now).core }
@@ -79,7 +79,7 @@ impl StateInMemory {
         }
     }
 
-    // Puts the accumulators back.
+    // Stores the accumulators.
     #[inline(always)]
     fn set_core(&mut self, core: Core)
         ensures { self.new ≡
@@ -91,9 +91,9 @@ impl StateInMemory {
         self.v4 = core.v4;
     }
 
-    /// Adds a piece to the bytes that are hashed.
+    /// Hashes a chunk.
     ///
-    /// The caller shows that less than a stripe waits.
+    /// The caller proves that less than a stripe is buffered.
     #[inline(always)]
     pub fn add_piece(&mut self, input: &[u8])
         requires { usage_of self.old < 32 }
@@ -122,7 +122,8 @@ impl StateInMemory {
         self.add_stripes(rest);
     }
 
-    // Adds bytes that are counted already, where none wait: takes the whole stripes, and keeps the bytes after them.
+    // Hashes bytes that are already counted, if none are buffered: adds the whole stripes, and buffers the bytes after
+    // them.
     #[inline(always)]
     #[tactic(auto, unfolding(crate::specs::StateInMemory64::after_rest))]
     fn add_stripes(&mut self, input: &[u8])
@@ -138,9 +139,9 @@ impl StateInMemory {
         self.set_usage(rest.len());
     }
 
-    /// The hash of the bytes so far.
+    /// Returns the hash of the bytes so far.
     ///
-    /// The caller shows that less than a stripe waits.
+    /// The caller proves that less than a stripe is buffered.
     #[tactic(auto, using(crate::proofs::Message64::finish_value_of_message))]
     #[inline(always)]
     pub fn finish(&self) -> u64

@@ -1,4 +1,4 @@
-//! The chunks of a slice, to be read or written in place.
+//! Chunks of a slice, to be read or written in place.
 
 ghost use Rattle.std.specs.Prelude.{◌≡◌, ◌*◌, ◌/◌, ◌%◌, ◌-◌, ◌<◌, ◌≤◌, ◌++◌, flat_map, length, take, drop};
 ghost use Rattle.std.specs.Borrow.{sem, Array, LendsBoth};
@@ -6,9 +6,9 @@ ghost use Rattle.std.specs.Simd.{first_chunks};
 
 use std::slice::from_raw_parts_mut;
 
-/// The chunks of `N` items from the front, and the fewer than `N` items after them. Nothing is copied.
+/// Splits the slice into chunks of `N` items and a rest of fewer than `N` items. Copies nothing.
 ///
-/// Chunk `i` is items `N * i` to `N * i + N - 1`. The caller shows that `N` is not 0.
+/// Chunk `i` is items `N * i` to `N * i + N - 1`. The caller proves that `N` is not 0.
 #[inline(always)]
 pub fn bp_as_chunks<T, const N: usize>(items: &[T]) -> (&[[T; N]], &[T])
     requires { 0 < N }
@@ -20,7 +20,7 @@ pub fn bp_as_chunks<T, const N: usize>(items: &[T]) -> (&[[T; N]], &[T])
     items.as_chunks()
 }
 
-// The first `count` chunks of N items, which end at item `mid`, beside the rest.
+// Splits off the first `count` chunks of N items, which end at item `mid`.
 fn chunks_and_rest_mut<T, const N: usize>(
     items: &mut [T],
     count: usize,
@@ -43,10 +43,10 @@ fn chunks_and_rest_mut<T, const N: usize>(
     }
 }
 
-/// The chunks of `N` items from the front, and the fewer than `N` items after them, to be written. Nothing
-/// is copied, and what is written through them is the slice afterwards.
+/// Splits the slice into mutable chunks of `N` items and a rest of fewer than `N` items. Copies nothing: what is
+/// written through them is in the slice afterwards.
 ///
-/// Chunk `i` is items `N * i` to `N * i + N - 1`. The caller shows that `N` is not 0.
+/// Chunk `i` is items `N * i` to `N * i + N - 1`. The caller proves that `N` is not 0.
 #[inline(always)]
 pub fn bp_as_chunks_mut<T, const N: usize>(items: &mut [T]) -> (&mut [[T; N]], &mut [T])
     requires { 0 < N }

@@ -1,9 +1,9 @@
-//! The halves of a word.
+//! Halves of a word.
 
 ghost use Rattle.std.specs.Prelude.{◌≡◌};
 ghost use Rattle.twox_words.specs.Word.{low32, high32, low64, high64};
 
-/// The two halves of a word.
+/// Splits a word into its two halves.
 pub trait Halves {
     /// A word of half the width.
     type Output;
@@ -12,11 +12,11 @@ pub trait Halves {
 
     ghost lower: { Self → Self.Output };
 
-    /// The upper half of the bits.
+    /// Returns the upper half of the bits.
     fn upper_half(self) -> Self::Output
         ensures { result ≡ upper self };
 
-    /// The lower half of the bits.
+    /// Returns the lower half of the bits.
     fn lower_half(self) -> Self::Output
         ensures { result ≡ lower self };
 }

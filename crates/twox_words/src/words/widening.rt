@@ -1,13 +1,13 @@
-//! Conversions to a wider type, which keep the value.
+//! Conversions to a wider type that keep the value.
 
 ghost use Rattle.std.specs.Prelude.{◌≡◌, ℕ};
 
-/// A conversion to `u32` that keeps the value.
+/// Converts to `u32` without changing the value.
 pub trait IntoU32 {
-    // The number that is kept.
+    // The number that the conversion keeps.
     ghost number: { Self → ℕ };
 
-    /// This number as a `u32`.
+    /// Returns this number as a `u32`.
     fn into_u32(self) -> u32
         ensures { result ≡ number self };
 }
@@ -21,12 +21,12 @@ impl IntoU32 for u8 {
     }
 }
 
-/// A conversion to `u64` that keeps the value.
+/// Converts to `u64` without changing the value.
 pub trait IntoU64 {
-    // The number that is kept.
+    // The number that the conversion keeps.
     ghost number: { Self → ℕ };
 
-    /// This number as a `u64`.
+    /// Returns this number as a `u64`.
     fn into_u64(self) -> u64
         ensures { result ≡ number self };
 }
@@ -58,12 +58,12 @@ impl IntoU64 for usize {
     }
 }
 
-/// A conversion to `u128` that keeps the value.
+/// Converts to `u128` without changing the value.
 pub trait IntoU128 {
-    // The number that is kept.
+    // The number that the conversion keeps.
     ghost number: { Self → ℕ };
 
-    /// This number as a `u128`.
+    /// Returns this number as a `u128`.
     fn into_u128(self) -> u128
         ensures { result ≡ number self };
 }

@@ -1,4 +1,4 @@
-//! The program `xxh` over any ends: what the words ask for is done, and a fault is told.
+//! The program `xxh` over any streams: runs the command of the arguments, and writes the error message.
 
 ghost use Rattle.std.specs.Prelude.{◌≡◌, ◌≤◌, false, Result, Ok};
 ghost use Rattle.xxh_io.specs.Command.{command_of, NumberFits};
@@ -14,27 +14,26 @@ use xxh_io::ends::{Sink, Source};
 use xxh_io::error::DigestError;
 use xxh_io::fault::{Fault, conclude};
 
-// How many bytes each read is offered for digests and lines of blocks: more than the buffer of a process's input has,
-// so that they are not copied from there.
+// Size of the read buffer for digests and lines of blocks: larger than the buffer of a process's input, so that the
+// bytes are not copied from there.
 const READ: usize = 131072;
 
-// How many bytes of lines of blocks are written at once.
+// Number of bytes of lines of blocks that are written at once.
 const BLOCKS_WRITE: usize = 6400;
 
-/// Does what the words after the program's name ask for, and answers the exit status.
+/// Runs the command of the arguments after the program's name, and returns the exit status.
 ///
-/// | words | does |
+/// | arguments | effect |
 /// |---|---|
 /// | `hash KIND [SEED]` | prints the digest line of the input |
-/// | `save KIND [SEED]` | prints the saved text of the input's hasher, and a line feed |
-/// | `resume KIND JSON` | goes on from a saved text, and prints the digest line |
+/// | `save KIND [SEED]` | prints the saved text of the input's hasher, and a newline |
+/// | `resume KIND JSON` | continues from a saved text, and prints the digest line |
 /// | `blocks SIZE` | prints the digest line of each block of the input, as [`digest_blocks`](super::digest_blocks) does |
 ///
-/// KIND is `32`, `64`, `3-64` or `3-128` for `hash`, and `32` or `64` for `save` and `resume`. SEED is one or
-/// more decimal digits, below 2^32 for `32` and below 2^64 otherwise; without it the seed is 0. JSON is a
-/// saved text. SIZE is one or more decimal digits with a value from 1 to 2^64 - 1. The words are tested
-/// first: their number, the command and the kind, and then the seed, the size or the state. Where they are at
-/// fault, nothing is read.
+/// KIND is `32`, `64`, `3-64` or `3-128` for `hash`, and `32` or `64` for `save` and `resume`. SEED is one or more
+/// decimal digits, below 2^32 for `32` and below 2^64 otherwise; without it the seed is 0. JSON is a saved text. SIZE
+/// is one or more decimal digits with a value from 1 to 2^64 - 1. The arguments are tested first: their number, the
+/// command and the algorithm, and then the seed, the size or the state. If they are invalid, nothing is read.
 ///
 /// | status | line on `err` |
 /// |---|---|
@@ -43,7 +42,7 @@ const BLOCKS_WRITE: usize = 6400;
 /// | 2 | `xxh: usage: ..`, `xxh: bad seed`, `xxh: bad size` or `xxh: bad state` |
 /// | 3 | `xxh: out of memory` |
 ///
-/// A line that `err` refuses does not change the status. The caller shows that no end has failed.
+/// A line that can't be written to `err` does not change the status. The caller proves that no stream has failed.
 pub fn run<R: Source, W: Sink, E: Sink>(
     alloc: Global,
     words: &[&str],
@@ -66,7 +65,7 @@ pub fn run<R: Source, W: Sink, E: Sink>(
     conclude(answer, err)
 }
 
-// Large reads and writes, so that the system calls of small blocks cost little.
+// Uses large buffers, to reduce system calls for small blocks.
 fn print_blocks<R: Source, W: Sink>(size: u64, r: &mut R, out: &mut W) -> Result<(), DigestError>
     requires reader { R.has_failed r.old ≡ false }
     requires writer { W.has_failed out.old ≡ false }

@@ -5,7 +5,7 @@ ghost use Rattle.twox_hash.specs.Secret.{derived_secret};
 
 use twox_hash::xxhash3::{DEFAULT_SECRET_LENGTH, DefaultSecret, SecretBuffer};
 
-// The seed and the secret that it derives.
+// Returns the seed and the secret derived from it.
 pub(crate) fn derived_secret_of(seed: u64) -> SecretBuffer<DefaultSecret>
     ensures seed { result.seed ≡ Some seed }
     ensures secret { result.secret ≡ derived_secret seed }

@@ -14,10 +14,10 @@ use xxh_io::error::DigestError;
 use xxh_io::kind::Kind;
 use xxh_io::write::write_line;
 
-// How many bytes each read of the public calls is offered.
+// Size of the read buffer of the public calls.
 pub(crate) const OFFERED: usize = 4096;
 
-// Feeds the hasher what is read, until a read gives nothing. Each read is offered the whole buffer.
+// Feeds the hasher what is read, until a read returns nothing. Each read is offered the whole buffer.
 pub(crate) fn read_all<H: Feed, R: Source>(
     hasher: H,
     max_reads: u64,
@@ -43,7 +43,7 @@ pub(crate) fn read_all<H: Feed, R: Source>(
     Err(DigestError::TooLong)
 }
 
-// Feeds the hasher what is read, and writes the line of what it then answers.
+// Feeds the hasher what is read, and writes the line of its value.
 pub(crate) fn digest_on<H: Feed, R: Source, W: Sink, const READ: usize>(
     hasher: H,
     digits: usize,
@@ -70,7 +70,7 @@ pub(crate) fn digest_on<H: Feed, R: Source, W: Sink, const READ: usize>(
     write_line(hasher.value(), digits, w)
 }
 
-// What `digest` does, with reads that are offered so many bytes.
+// Does what `digest` does, with a read buffer of this size.
 pub(crate) fn digest_reading<R: Source, W: Sink, const READ: usize>(
     kind: Kind,
     seed: u64,
@@ -94,19 +94,19 @@ pub(crate) fn digest_reading<R: Source, W: Sink, const READ: usize>(
     write_line(value, kind.digits(), w)
 }
 
-/// Reads to the end of the source and writes the digest line of what was read: the hash of the kind under
-/// the seed, in lower-case hexadecimal with leading zeros, and a line feed. Each read is offered 4,096
-/// bytes, which is tested and no clause says, and no memory is taken: there is no allocator to take it from.
+/// Reads to the end of the source and writes the digest line of what was read: the hash by this algorithm under the
+/// seed, in lower-case hexadecimal with leading zeros, and a newline. Each read is offered 4,096 bytes (tested, not in
+/// a clause). Allocates nothing: there is no allocator.
 ///
-/// The caller shows that neither end has failed and that the seed of [`Kind::X32`] is below 2^32.
+/// The caller proves that neither stream has failed and that the seed of [`Kind::X32`] is below 2^32.
 ///
 /// # Errors
 ///
-/// - [`DigestError::ReadFailed`] exactly where the source has failed afterwards. Nothing was written.
-/// - [`DigestError::WriteFailed`] exactly where the sink has failed afterwards. A beginning of the line was
-///   written, and not all of it.
-/// - [`DigestError::TooLong`] exactly where `max_reads` reads each gave at least one byte. Nothing was
-///   written, and no further read was made. With `max_reads` 0 that is at once.
+/// - [`DigestError::ReadFailed`] if and only if the source has failed afterwards. Nothing was written.
+/// - [`DigestError::WriteFailed`] if and only if the sink has failed afterwards. A beginning of the line was written,
+///   and not all of it.
+/// - [`DigestError::TooLong`] if and only if `max_reads` reads each returned at least one byte. Nothing was written,
+///   and no further read was made. With `max_reads` 0 that is immediate.
 ///
 /// ```
 /// let mut input = FromRead::new(b"some bytes".as_slice());
@@ -124,13 +124,13 @@ pub fn digest<R: Source, W: Sink>(
     requires writer { W.has_failed w.old ≡ false }
     requires seed { kind ≡ Kind.X32 → seed < 2 ^ 32 }
 
-    // What was read and what was written, `pieces` being the pieces read that are not empty.
+    // What was read and what was written, where `pieces` is the chunks read that are not empty.
     ensures digests { (pieces : List (List ℕ))
         × ReadsTo R.Source max_reads pieces r.old r.new result
         × Writes W.Sink (hex_line (digits_of kind) (value_of kind seed (concat pieces)))
         w.old w.new result }
 
-    // When each end fails.
+    // When each stream fails.
     ensures read_failed { (result ≡ Err DigestError.ReadFailed) ↔ (R.has_failed r.new ≡ true) }
     ensures write_failed { (result ≡ Err DigestError.WriteFailed) ↔ (W.has_failed w.new ≡ true) }
 {

@@ -1,24 +1,24 @@
-//! What the digest engine asks of a hasher.
+//! The interface of hashers for the digest engine.
 
 ghost use Rattle.std.specs.Prelude.{◌≡◌, List, ℕ};
 ghost use Rattle.xxh_program.specs.Feeding.{IsFed};
 
-/// A hasher of any kind, as the engine uses it.
+/// A hasher of any algorithm, as the engine uses it.
 pub(crate) trait Feed: Drop {
-    // The hasher has this seed and was given these bytes.
+    // The hasher has this seed and has hashed these bytes.
     ghost follows: { Self → ℕ → List ℕ → Type 0 };
 
-    // The hasher has this seed, whatever it was given. A stream that says this of no seed alone says nothing.
+    // The hasher has this seed, whatever it has hashed. For a stream that defines it for no seed it is always true.
     ghost has_seed: { Self → ℕ → Type 0 };
 
-    // What a hasher with this seed answers where it was given these bytes.
+    // The digest of these bytes with this seed.
     ghost value_at: { ℕ → List ℕ → ℕ };
 
-    /// Takes one piece more.
+    /// Hashes one more chunk.
     fn feed(&mut self, piece: &[u8])
         ensures { IsFed follows has_seed self.old piece.now self.new };
 
-    /// The hash of the pieces so far.
+    /// Returns the hash of the chunks so far.
     fn value(&self) -> u128
         ensures { (seed : ℕ) (m : List ℕ) → follows self.now seed m → result ≡ value_at seed m };
 }

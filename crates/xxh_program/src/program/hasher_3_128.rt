@@ -1,4 +1,4 @@
-//! XXH3 of 128 bits in the digest engine.
+//! XXH3 128-bit in the digest engine.
 
 ghost use Rattle.std.specs.Prelude.{[]};
 ghost use Rattle.xxh_program.specs.Kind.{seeded_128};
@@ -25,7 +25,7 @@ impl Feed for RawHasher<DefaultSecret> {
     }
 }
 
-// The stream of no bytes.
+// Returns the stream of no bytes.
 pub(crate) fn with_seed_128(seed: u64) -> RawHasher<DefaultSecret>
     ensures { FollowsDerived result seed [] }
 {

@@ -1,4 +1,4 @@
-//! XXH3 of 64 bits in the digest engine.
+//! XXH3 64-bit in the digest engine.
 
 ghost use Rattle.std.specs.Prelude.{[]};
 ghost use Rattle.xxh_program.specs.Kind.{seeded_64};
@@ -25,7 +25,7 @@ impl Feed for RawHasher<DefaultSecret> {
     }
 }
 
-// The stream of no bytes.
+// Returns the stream of no bytes.
 pub(crate) fn with_seed_64(seed: u64) -> RawHasher<DefaultSecret>
     ensures { FollowsDerived result seed [] }
 {

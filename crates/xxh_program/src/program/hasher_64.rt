@@ -29,8 +29,8 @@ impl Feed for XxHash64 {
     }
 }
 
-/// Goes on from the hasher as `digest` goes on from a fresh one, with the same errors: the line is that of
-/// the bytes that the hasher was given, followed by what is read.
+/// Continues from the hasher as `digest` does from a new one, with the same errors: the line is that of the bytes
+/// hashed before followed by what is read.
 pub fn digest_from_64<R: Source, W: Sink>(
     hasher: XxHash64,
     max_reads: u64,
@@ -40,13 +40,13 @@ pub fn digest_from_64<R: Source, W: Sink>(
     requires reader { R.has_failed r.old ≡ false }
     requires writer { W.has_failed w.old ≡ false }
 
-    // What was read and what was written, for every list of bytes that the hasher stands for.
+    // What was read and what was written, for every list of bytes that the hasher represents.
     ensures digests { (pieces : List (List ℕ))
         × ReadsTo R.Source max_reads pieces r.old r.new result
         × ((m : List ℕ) → StandsFor hasher m
         → Writes W.Sink (hex_line 16 (xxh64 hasher.seed (m ++ concat pieces))) w.old w.new result) }
 
-    // When each end fails, and when nothing is written, whatever the hasher stands for.
+    // When each stream fails, and when nothing is written, whatever the hasher represents.
     ensures read_failed { (result ≡ Err DigestError.ReadFailed) ↔ (R.has_failed r.new ≡ true) }
     ensures write_failed { (result ≡ Err DigestError.WriteFailed) ↔ (W.has_failed w.new ≡ true) }
     ensures unwritten { (result ≡ Err DigestError.ReadFailed) ⊎ (result ≡ Err DigestError.TooLong)
@@ -55,7 +55,7 @@ pub fn digest_from_64<R: Source, W: Sink>(
     digest_on::<_, _, _, OFFERED>(hasher, 16, max_reads, r, w)
 }
 
-/// Reads as `digest` does, with the same errors of reading, and answers the hasher after what was read.
+/// Reads as `digest` does, with the same read errors, and returns the hasher after what was read.
 pub fn read_on_64<R: Source>(
     hasher: XxHash64,
     max_reads: u64,
@@ -63,7 +63,7 @@ pub fn read_on_64<R: Source>(
 ) -> Result<XxHash64, DigestError>
     requires { R.has_failed r.old ≡ false }
 
-    // What was read, and what the hasher then stands for.
+    // What was read, and what the hasher then represents.
     ensures reads { (pieces : List (List ℕ))
         × ReadsTo R.Source max_reads pieces r.old r.new result
         × IfOk result (λ after. (after.seed ≡ hasher.seed)

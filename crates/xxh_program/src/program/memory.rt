@@ -1,4 +1,4 @@
-//! The digest line of bytes in memory, with no relation of an end in its contract.
+//! The digest line of bytes in memory, with no relation of a stream in its contract.
 
 ghost use Rattle.std.specs.Prelude.{◌≡◌, ◌<◌, ◌≤◌, ◌+◌, ◌^◌, ◌++◌, length, false, Ok};
 ghost use Rattle.xxh_io.specs.Hex.{hex_line};
@@ -12,17 +12,17 @@ use xxh_io::kind::Kind;
 use xxh_io::script_sink::ScriptSink;
 use xxh_io::script_source::SliceSource;
 
-/// Writes the digest line of the bytes into the sink, as [`digest`] does from a source that gives them all and
-/// never fails. The caller shows that the sink has not failed, that no write of its script fails, and that
-/// it has room for the line; so the answer is `Ok`, and the sink then holds what it held and the line.
+/// Writes the digest line of the bytes into the sink, as [`digest`] does from a source that returns them all and never
+/// fails. The caller proves that the sink has not failed, that no write of its script fails, and that it has space for
+/// the line. So the result is `Ok`, and the sink then holds what it held and the line.
 ///
-/// It is `digest` over memory, and shows what its clauses say where both ends tell their bytes. What is in a
-/// file that standard input reads, no contract can say.
+/// It is `digest` over memory, and shows what its clauses mean if both streams expose their bytes. No contract can
+/// state what is in a file that standard input reads.
 ///
 /// ```
 /// let mut sink = ScriptSink::<17>::new(17, 0);
 /// digest_of_bytes(Kind::X64, 1234, b"some bytes", &mut sink)?;
-/// sink.bytes() // eab55659a496d78b and a line feed
+/// sink.bytes() // eab55659a496d78b and a newline
 /// ```
 pub fn digest_of_bytes<const N: usize>(
     kind: Kind,

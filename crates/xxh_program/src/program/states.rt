@@ -1,4 +1,4 @@
-//! Saved texts of the input's hasher, and digests that go on from one.
+//! Saved texts of the input's hasher, and digests that continue from one.
 
 ghost use Rattle.std.specs.Prelude.{◌≡◌, [], ◌∷◌, ◌++◌, false, string_bytes};
 ghost use Rattle.xxh_program.specs.StateFaults.{form_fault_32, form_fault_64};
@@ -12,10 +12,10 @@ use xxh_io::ends::{Sink, Source};
 use xxh_io::fault::Fault;
 use xxh_io::write::write_all;
 
-// How many reads the program makes at most.
+// Maximum number of reads that the program makes.
 pub(crate) const MAX_READS: u64 = u64::MAX;
 
-// Prints the saved text of XXH32 of the input, and a line feed.
+// Prints the saved text of XXH32 of the input, and a newline.
 pub(crate) fn save_32<R: Source, W: Sink>(
     alloc: Global,
     seed: u32,
@@ -31,7 +31,7 @@ pub(crate) fn save_32<R: Source, W: Sink>(
     print_line(text, out)
 }
 
-// Prints the saved text of XXH64 of the input, and a line feed.
+// Prints the saved text of XXH64 of the input, and a newline.
 pub(crate) fn save_64<R: Source, W: Sink>(
     alloc: Global,
     seed: u64,
@@ -47,7 +47,7 @@ pub(crate) fn save_64<R: Source, W: Sink>(
     print_line(text, out)
 }
 
-// Writes the text and a line feed.
+// Writes the text and a newline.
 fn print_line<W: Sink>(text: String, out: &mut W) -> Result<(), Fault>
     requires { W.has_failed out.old ≡ false }
     ensures { Prints W.Sink (string_bytes text ++ 10 ∷ []) out.old out.new result }
@@ -57,7 +57,7 @@ fn print_line<W: Sink>(text: String, out: &mut W) -> Result<(), Fault>
     Ok(write_all(line.as_bytes(), out)?)
 }
 
-// Goes on from a saved text of XXH32, and prints the digest line.
+// Continues from a saved text of XXH32, and prints the digest line.
 pub(crate) fn resume_32<R: Source, W: Sink>(
     alloc: Global,
     json: &str,
@@ -72,7 +72,7 @@ pub(crate) fn resume_32<R: Source, W: Sink>(
     Ok(digest_from_32(hasher, MAX_READS, r, out)?)
 }
 
-// Goes on from a saved text of XXH64, and prints the digest line.
+// Continues from a saved text of XXH64, and prints the digest line.
 pub(crate) fn resume_64<R: Source, W: Sink>(
     alloc: Global,
     json: &str,
@@ -113,7 +113,7 @@ fn restored_64(alloc: Global, json: &str) -> Result<XxHash64, Fault>
     }
 }
 
-// What is wrong with a saved text of XXH32.
+// Returns the error of an invalid saved text of XXH32.
 fn form_fault_32(error: xxhash32::FormError) -> Fault
     ensures { result ≡ form_fault_32 error }
 {
@@ -123,7 +123,7 @@ fn form_fault_32(error: xxhash32::FormError) -> Fault
     }
 }
 
-// What is wrong with a saved text of XXH64.
+// Returns the error of an invalid saved text of XXH64.
 fn form_fault_64(error: xxhash64::FormError) -> Fault
     ensures { result ≡ form_fault_64 error }
 {

@@ -1,4 +1,4 @@
-//! The hash of what a source gives, by the kind of digest.
+//! The hash of a source's bytes, by algorithm.
 
 ghost use Rattle.std.specs.Prelude.{◌≡◌, ◌≢◌, ◌↔◌, ◌<◌, ◌≤◌, ◌^◌, [], true, false, List, ℕ, length, Err, IfOk};
 ghost use Rattle.std.specs.List.{concat};
@@ -14,7 +14,7 @@ use xxh_io::ends::Source;
 use xxh_io::error::DigestError;
 use xxh_io::kind::Kind;
 
-// The value of what is read, by a hasher that was given no bytes and answers the kind's value under the seed.
+// Returns the value of what is read, by a hasher of no bytes whose value is the algorithm's under the seed.
 fn value_by<H: Feed, R: Source>(
     kind: Kind,
     seed: u64,
@@ -37,17 +37,17 @@ fn value_by<H: Feed, R: Source>(
     Ok(hasher.value())
 }
 
-/// Reads to the end of the source and answers the hash of what was read: that of the kind under the seed, its number
-/// of digits saying how many of the value's bits it has. Each read is offered the whole buffer, which no clause says.
+/// Reads to the end of the source and returns the hash of what was read, by this algorithm under the seed. Its number
+/// of digits determines how many of the value's bits it has. Each read is offered the whole buffer (not in a clause).
 ///
-/// The caller shows that the source has not failed, that the buffer is not empty, and that the seed of [`Kind::X32`] is
-/// below 2^32.
+/// The caller proves that the source has not failed, that the buffer is not empty, and that the seed of [`Kind::X32`]
+/// is below 2^32.
 ///
 /// # Errors
 ///
-/// - [`DigestError::ReadFailed`] exactly where the source has failed afterwards.
-/// - [`DigestError::TooLong`] exactly where `max_reads` reads each gave at least one byte. No further read was made.
-///   With `max_reads` 0 that is at once.
+/// - [`DigestError::ReadFailed`] if and only if the source has failed afterwards.
+/// - [`DigestError::TooLong`] if and only if `max_reads` reads each returned at least one byte. No further read was
+///   made. With `max_reads` 0 that is immediate.
 pub fn value_of_source<R: Source>(
     kind: Kind,
     seed: u64,

@@ -1,18 +1,19 @@
-//! What a turn of calls is handed, and what a call answers.
+//! Inputs and results of a round of calls.
 
-/// What a call answers.
+/// The result of a call.
 #[derive(Clone, Debug, PartialEq)]
 pub enum Outcome {
     Value(u128),
     Refused(String),
 }
 
-/// A turn of calls: each hash in each way, of one input.
+/// A round of calls: each hash in each way, of one input.
 pub struct Case<'a> {
     pub seed: u64,
     pub secret: Vec<u8>,
     pub input: &'a [u8],
-    /// Where a stream's input is cut, in order. At an even one the stream is cloned, and the clone goes on.
+    /// The places at which a stream's input is split, in order. At an even one the stream is cloned, and the clone
+    /// continues.
     pub cuts: Vec<usize>,
 }
 
@@ -60,7 +61,7 @@ impl<'a> Case<'a> {
         }
     }
 
-    /// The input's pieces, and whether the stream is cloned before each.
+    /// The input's chunks, and whether the stream is cloned before each.
     pub fn pieces(&self) -> impl Iterator<Item = (&'a [u8], bool)> + '_ {
         let starts = std::iter::once(0).chain(self.cuts.iter().copied());
         let ends = self
@@ -74,7 +75,7 @@ impl<'a> Case<'a> {
     }
 }
 
-/// Numbers that look random, from a seed: the generator splitmix64.
+/// Pseudo-random numbers from a seed: the generator splitmix64.
 pub struct Random(u64);
 
 impl Random {

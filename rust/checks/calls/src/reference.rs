@@ -1,4 +1,4 @@
-//! The calls of `under_test` by the C library and by `xxhash-rust`: their one-shots, whatever way the bytes come in.
+//! The calls of `under_test` by the C library and by `xxhash-rust`: their one-shots, however the bytes come in.
 
 use crate::case::{Case, Outcome};
 
@@ -47,7 +47,7 @@ struct Width<'a> {
     keyed: &'a dyn Fn() -> u128,
 }
 
-/// What the C library answers.
+/// The results of the C library.
 pub fn c_library(case: &Case<'_>) -> Vec<(&'static str, Outcome)> {
     let Case {
         seed,
@@ -57,7 +57,7 @@ pub fn c_library(case: &Case<'_>) -> Vec<(&'static str, Outcome)> {
     } = case;
     let (at, length, key, size) = (input.as_ptr(), input.len(), secret.as_ptr(), secret.len());
     let wide = |hash: ffi::Hash128| u128::from(hash.high) << 64 | u128::from(hash.low);
-    // SAFETY: each address and length is of one slice, and a secret is handed over only with enough bytes.
+    // SAFETY: each address and length is of one slice, and a secret is passed only with enough bytes.
     unsafe {
         expected(
             case,
@@ -79,7 +79,7 @@ pub fn c_library(case: &Case<'_>) -> Vec<(&'static str, Outcome)> {
     }
 }
 
-/// What `xxhash-rust` answers.
+/// The results of `xxhash-rust`.
 pub fn xxhash_rust(case: &Case<'_>) -> Vec<(&'static str, Outcome)> {
     use xxhash_rust::{xxh3, xxh32::xxh32, xxh64::xxh64};
     let Case {
@@ -107,8 +107,8 @@ pub fn xxhash_rust(case: &Case<'_>) -> Vec<(&'static str, Outcome)> {
     )
 }
 
-// What each call has to answer, from a peer's values. A seed and a secret make the seed's value up to 240 bytes, and
-// the secret's above; a stream refuses a short secret at every length, a one-shot only where it needs it.
+// The expected result of each call, from a peer's values. A seed and a secret give the seed's value up to 240 bytes,
+// and the secret's above; a stream refuses a short secret at every length, a one-shot only if it needs it.
 fn expected(case: &Case<'_>, peer: Peer<'_>) -> Vec<(&'static str, Outcome)> {
     use Outcome::{Refused, Value};
     let is_long = case.input.len() > 240;

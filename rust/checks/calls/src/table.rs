@@ -1,10 +1,10 @@
-//! The oracle's table through the crate: its rows are requests to the reference library and what that answered.
+//! The oracle's table through the crate: requests to the reference library and its results.
 
 use std::hash::Hasher as _;
 
 use twox_hash::{XxHash32, XxHash3_128, XxHash3_64, XxHash64};
 
-/// A row: the hash's name, a seed, a secret, the input, and the answer.
+/// A test case: the hash's name, a seed, a secret, the input, and the result.
 struct Row<'a> {
     hash: &'a str,
     seed: Option<u64>,
@@ -13,7 +13,7 @@ struct Row<'a> {
     answer: u128,
 }
 
-/// Compares each row with a one-shot and, where the crate has one for it, a stream. It answers their number, or the
+/// Compares each test case with a one-shot and, if the crate has one for it, a stream. Returns their number, or the
 /// first line that differs.
 pub fn agrees(table: &str) -> Result<usize, String> {
     let mut compared = 0;
@@ -50,7 +50,7 @@ fn read(line: &str) -> Option<Row<'_>> {
     })
 }
 
-// The highest bytes of the numbers after the start, as oracle/vectors.c has them.
+// The highest bytes of the numbers after the start, as in oracle/vectors.c.
 fn bytes(length: usize, start: u64) -> Vec<u8> {
     let next = |x: &u64| {
         Some(
@@ -107,7 +107,7 @@ fn answers(row: &Row<'_>) -> Option<Vec<u128>> {
     })
 }
 
-// In pieces of 1, 2, 3 and so on bytes.
+// In chunks of 1, 2, 3 and so on bytes.
 fn pieces(mut input: &[u8]) -> impl Iterator<Item = &[u8]> {
     (1..).map_while(move |length| {
         let (piece, rest) = input.split_at(input.len().min(length));

@@ -24,7 +24,7 @@ macro_rules! under_test {
                 }
             }
 
-            // Writes all pieces, to a clone from some cuts on.
+            // Writes all chunks, to a clone from some splits on.
             fn streamed<H: Clone>(
                 mut hasher: H,
                 case: &Case<'_>,
@@ -39,7 +39,7 @@ macro_rules! under_test {
                 hasher
             }
 
-            // A piece of eight bytes as a word, as a map hands over its key.
+            // Writes a chunk of eight bytes as a word, as a map passes its key.
             fn write_piece<H: std::hash::Hasher>(hasher: &mut H, piece: &[u8]) {
                 match piece.try_into() {
                     Ok(bytes) => hasher.write_u64(u64::from_ne_bytes(bytes)),
@@ -181,7 +181,7 @@ macro_rules! under_test {
                 ]
             }
 
-            /// What a reader sees of hashers and errors, and whether a saved hasher goes on as it was.
+            /// The `Display` and `Debug` texts of hashers and errors, and whether a saved hasher continues unchanged.
             #[allow(dead_code)]
             pub fn texts(case: &Case<'_>) -> Vec<String> {
                 let mut texts = Vec::new();

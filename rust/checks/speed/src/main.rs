@@ -1,13 +1,13 @@
-//! Times calls of the crate beside `xxhash-rust` and, with the feature `original`, the crate whose names these are.
-//! It prints a line a row: the row's name, and the nanoseconds a call of each peer, the best of many turns.
+//! Times calls of the crate, of `xxhash-rust` and, with the feature `original`, of the crate that has these names. It
+//! prints one line per measurement: its name, and the nanoseconds per call of each peer, the best of many turns.
 //!
 //! ```text
 //! speed TURNS
 //! speed count CALLS
 //! ```
 //!
-//! The second form makes so many calls for each row and peer, with a call of `mark` before and after them, and prints
-//! the rows' names alone: rust/count has callgrind count the instructions between the marks.
+//! The second form makes this many calls for each measurement and peer, with a call of `mark` before and after them,
+//! and prints only the names: rust/count has callgrind count the instructions between the marks.
 
 use std::hash::{BuildHasher, Hasher};
 use std::hint::black_box;
@@ -34,13 +34,13 @@ const LENGTHS: [usize; 17] = [
     1 << 20,
 ];
 const PIECES: [usize; 13] = [1, 4, 8, 16, 24, 32, 40, 64, 128, 240, 256, 1000, 4096];
-// A turn takes some 20 microseconds, so that a turn that nothing interrupts is among a few hundred.
+// A turn takes some 20 microseconds, so that one without an interruption is among a few hundred.
 const TURN: Duration = Duration::from_micros(20);
 
-/// A map's key that is a string, and the bytes that the other keys are made of.
+/// A map's key that is a string, and the bytes of the other keys.
 const TEXT: &str = "a key of 20 bytes...";
 
-/// A call on bytes, of which a row has one a peer.
+/// A call on bytes. Each measurement has one for each peer.
 type Call<'a> = Box<dyn Fn(&[u8]) -> u64 + 'a>;
 
 /// The least time of a call in nanoseconds, over many turns.
@@ -77,16 +77,16 @@ fn time(call: &Call<'_>, input: &[u8], calls: u32) -> Duration {
     start.elapsed()
 }
 
-/// What is done with a row's calls.
+/// What is measured.
 #[derive(Clone, Copy)]
 enum Measure {
-    /// So many turns, of which the best counts.
+    /// This many turns, of which the best counts.
     Turns(u32),
-    /// So many calls between two marks.
+    /// This many calls between two marks.
     Calls(u32),
 }
 
-/// Where callgrind begins to count anew.
+/// Callgrind starts a new count here.
 #[no_mangle]
 #[inline(never)]
 extern "C" fn mark() {
@@ -107,7 +107,7 @@ fn row(name: &str, measure: Measure, input: &[u8], calls: Vec<Call<'_>>) {
     }
 }
 
-// The peers take turns, so that what disturbs the machine disturbs each.
+// The peers take turns, so that disturbances affect each.
 fn times(turns: u32, input: &[u8], calls: Vec<Call<'_>>) -> Vec<String> {
     let mut peers: Vec<Least<'_>> = calls
         .into_iter()
@@ -122,7 +122,7 @@ fn times(turns: u32, input: &[u8], calls: Vec<Call<'_>>) -> Vec<String> {
         .collect()
 }
 
-// Both halves, since a peer that is inlined would leave out one that nothing reads.
+// Uses both halves, since an inlined peer would not compute one that nothing reads.
 fn folded(value: u128) -> u64 {
     (value >> 64) as u64 ^ value as u64
 }
@@ -254,7 +254,7 @@ mod peer {
     }
 }
 
-// One row for each call, with that call of each peer.
+// Measures each call, with that call of each peer.
 fn rows(names: &[&str], of: &str, measure: Measure, input: &[u8], mut peers: Vec<Vec<Call<'_>>>) {
     for name in names.iter().rev() {
         let calls = peers.iter_mut().filter_map(Vec::pop).collect();

@@ -1,6 +1,6 @@
 // SPDX-License-Identifier: MIT
-//! One number made of 18,802 hashes, which has to be the same on every target: one-shots of 0 to 1,099 bytes and of some
-//! more by each hash, with seeds and secrets, and streams that are cut anywhere.
+//! One number from 18,802 hashes, which must be the same on every target: one-shots of 0 to 1,099 bytes and of some
+//! more by each hash, with seeds and secrets, and streams that are split anywhere.
 #![no_std]
 
 use core::hash::Hasher as _;

@@ -1,7 +1,7 @@
 // SPDX-License-Identifier: MIT
 // crates/xxh/src/main.rt without its contracts, written by rust/erase --programs: change that file.
 
-//! The program `xxh`: hashes standard input, as the words of the command line ask.
+//! The program `xxh`: hashes standard input as its arguments command.
 
 use crate::rattle::prelude::HostRuntime;
 use crate::rattle::process::ExitCode;

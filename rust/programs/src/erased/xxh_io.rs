@@ -1,8 +1,8 @@
 // SPDX-License-Identifier: MIT
 // crates/xxh_io/src/lib.rt without its contracts, written by rust/erase --programs: change that file.
 
-//! What the program `xxh` stands on and what knows no hash: ends to read from and to write to, buffers, lines in
-//! hexadecimal, the words of the command line, and how a fault is told.
+//! The part of the program `xxh` that uses no hash: streams to read from and write to, buffers, hexadecimal lines, the
+//! arguments, and error messages.
 
 pub mod arguments;
 pub mod buffered;

@@ -1,7 +1,7 @@
 // SPDX-License-Identifier: MIT
 // crates/xxhsum/src/main.rt without its contracts, written by rust/erase --programs: change that file.
 
-//! `xxhsum` prints and checks digests of files. The page docs/XXHSUM.md says what is proved of it.
+//! `xxhsum` prints and checks digests of files. docs/XXHSUM.md lists what is proved.
 
 use crate::rattle::prelude::HostRuntime;
 use crate::rattle::io::IsTerminal;
@@ -28,7 +28,7 @@ pub fn main(rt: HostRuntime) -> ExitCode {
         },
         screen: Screen::new(rt.stderr(), &rt),
     };
-    // On a terminal control characters are shown, and each line is written at once.
+    // On a terminal control characters are made visible, and each line is written at once.
     let output = Visible::new(FromWrite::new(rt.stdout()), shows_output);
     ExitCode::from(run(
         rt.alloc(),

@@ -1,9 +1,9 @@
 // SPDX-License-Identifier: MIT
 // crates/xxhsum_audit/src/lib.rt without its contracts, written by rust/erase --programs: change that file.
 
-//! The audit of a tree of files against a list of digests: what is the same, changed, moved, copied, new and missing. It
-//! is a function of values: of what the lines say, and of the digests that the names have now. With it come lists and
-//! names that are read whole.
+//! The audit of a directory tree against a checksum list: which files are the same, changed, moved, copied, new and
+//! missing. A function of values: the entries of the lines, and the current digests of the names. Also reads whole
+//! lists and names.
 
 pub mod digest;
 pub mod laws;

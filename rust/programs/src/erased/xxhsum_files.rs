@@ -1,7 +1,7 @@
 // SPDX-License-Identifier: MIT
 // crates/xxhsum_files/src/lib.rt without its contracts, written by rust/erase --programs: change that file.
 
-//! Files and folders by names that are bytes: what `xxhsum` opens, from the system or from a table in memory.
+//! Files and directories by names that are bytes: those that `xxhsum` opens, from the system or from a table in memory.
 
 pub mod folders;
 pub mod memory;

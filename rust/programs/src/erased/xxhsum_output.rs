@@ -1,7 +1,7 @@
 // SPDX-License-Identifier: MIT
 // crates/xxhsum_output/src/lib.rt without its contracts, written by rust/erase --programs: change that file.
 
-//! What `xxhsum` writes to: a sink that gathers lines and writes them whole.
+//! The streams that `xxhsum` writes to: a sink that buffers lines and writes them whole.
 
 pub mod output;
 pub mod visible;

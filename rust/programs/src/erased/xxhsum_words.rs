@@ -1,7 +1,7 @@
 // SPDX-License-Identifier: MIT
 // crates/xxhsum_words/src/lib.rt without its contracts, written by rust/erase --programs: change that file.
 
-//! What the arguments of `xxhsum` ask for.
+//! Parses the arguments of `xxhsum`.
 
 mod letters;
 pub mod name;

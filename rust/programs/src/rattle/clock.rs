@@ -11,7 +11,7 @@ pub trait Clock {
     fn monotonic(&self) -> Result<Duration>;
 }
 
-/// The time since some start.
+/// Returns the time since some start.
 #[cfg(target_os = "linux")]
 pub fn monotonic() -> Result<Duration> {
     use core::ffi::{c_int, c_long};
@@ -30,7 +30,7 @@ pub fn monotonic() -> Result<Duration> {
         seconds: 0,
         nanoseconds: 0,
     };
-    // SAFETY: it writes one record, which in C has these fields.
+    // SAFETY: it writes one record, which has these fields in C.
     if unsafe { clock_gettime(CLOCK_MONOTONIC, &mut time) } != 0 {
         return Err(Error::last_os_error());
     }
@@ -40,7 +40,7 @@ pub fn monotonic() -> Result<Duration> {
     }
 }
 
-/// The time since the first call.
+/// Returns the time since the first call.
 #[cfg(not(target_os = "linux"))]
 pub fn monotonic() -> Result<Duration> {
     use std::sync::OnceLock;

@@ -5,18 +5,18 @@ use super::io::{ErrorKind, Result as IoResult};
 use super::vec::{String, Vec};
 use super::{AllocError, Global};
 
-/// Why an argument isn't copied.
+/// The error for an argument that isn't copied.
 #[derive(Clone, Copy, Debug, PartialEq, Eq)]
 pub enum FillError {
-    /// There is none of this index.
+    /// There is no argument of this index.
     NotPresent,
     /// It is longer than the buffer.
     TooLong,
 }
 
-/// What has arguments.
+/// A process with arguments.
 pub trait Env {
-    /// The argument of this index, the program's name first.
+    /// Returns the argument of this index, the program's name first.
     fn argument(&self, index: usize) -> Option<&[u8]>;
 
     /// "Copies the argument of this index to the front of `buf`, and returns its length." It returns `NotPresent` if there is

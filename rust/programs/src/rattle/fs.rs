@@ -1,15 +1,15 @@
 // SPDX-License-Identifier: MIT
-//! Files and folders.
+//! Files and directories.
 
 use std::fs::Metadata;
 
 use super::io::{Error, ErrorKind, Read, Result};
 
-/// What has files.
+/// A process with files.
 pub trait Files {
     /// An open file.
     type File: Read;
-    /// An open folder. Its reads give the names in it, each with a NUL at its end, and none ends within a name.
+    /// An open directory. Its reads return the names in it, each with a NUL at its end, and none ends within a name.
     type Dir: Read;
 
     /// "The file of this name, opened to be read; or the system's error."
@@ -43,9 +43,9 @@ pub fn symlink_metadata<P: Files>(process: &P, path: &str) -> Result<Metadata> {
 /// Rust's library copies paths below this length to the stack.
 const ON_STACK: usize = 384;
 
-/// Calls a function of Rust's library with a path. It copies a long path into memory of its own, and stops the process if
-/// there is none. So the same memory is asked for here first, and an error if it is refused: a process of one thread gets
-/// again what it has just let go.
+/// Calls a function of Rust's library with a path. That function copies a long path into allocated memory, and stops
+/// the process if there is none. So the same memory is allocated here first, with an error if it is refused: a process
+/// of one thread gets again what it has just freed.
 pub fn with_memory_for<'a, T>(path: &'a str, call: impl FnOnce(&'a str) -> Result<T>) -> Result<T> {
     if path.len() >= ON_STACK {
         let mut probe = std::vec::Vec::<u8>::new();
@@ -55,7 +55,8 @@ pub fn with_memory_for<'a, T>(path: &'a str, call: impl FnOnce(&'a str) -> Resul
     call(path).map_err(as_of_posix)
 }
 
-/// Windows has another number if a folder of the path is missing than if the file is. The programs know `ENOENT`.
+/// Windows has another error number if a directory of the path is missing than if the file is. The programs use
+/// `ENOENT`.
 fn as_of_posix(error: Error) -> Error {
     const ENOENT: i32 = 2;
     if cfg!(windows) && error.kind() == ErrorKind::NotFound {
@@ -74,7 +75,7 @@ fn as_of_posix(error: Error) -> Error {
     )
 ))]
 mod dir {
-    //! Folders by the system's own call, which needs no memory.
+    //! Directories by the system's own call, which needs no memory.
 
     use core::ffi::{c_int, c_long};
     use std::fs::{File, OpenOptions};
@@ -83,7 +84,7 @@ mod dir {
 
     use crate::rattle::io::{Error, Read, Result};
 
-    /// The number of the call `getdents64`, and the flag that refuses what is no folder.
+    /// The number of the call `getdents64`, and the flag that refuses everything except directories.
     #[cfg(target_arch = "x86_64")]
     const GETDENTS64: (c_long, c_int) = (217, 0o200_000);
     #[cfg(target_arch = "x86")]
@@ -97,19 +98,19 @@ mod dir {
         fn syscall(number: c_long, ...) -> c_long;
     }
 
-    /// An open folder.
+    /// An open directory.
     pub struct Dir(File);
 
     // The records of one call, aligned as the system writes them.
     #[repr(align(8))]
     struct Records([u8; 32768]);
 
-    // Where a record has its length, and where its name begins.
+    // The offset of a record's length, and of its name.
     const LENGTH: usize = 16;
     const NAME: usize = 19;
 
     impl Dir {
-        /// Opens a folder.
+        /// Opens a directory.
         pub fn open(path: &str) -> Result<Dir> {
             let folder = OpenOptions::new()
                 .read(true)
@@ -122,7 +123,7 @@ mod dir {
     impl Read for Dir {
         fn read(&mut self, buf: &mut [u8]) -> Result<usize> {
             let mut records = Records([0; 32768]);
-            // The names have fewer bytes than their records, so they have room in the buffer.
+            // The names have fewer bytes than their records, so they fit the buffer.
             let room = buf.len().min(records.0.len());
             // SAFETY: the call writes at most `room` bytes there.
             let count = unsafe {
@@ -145,7 +146,7 @@ mod dir {
         }
     }
 
-    /// The name of the first record with its NUL, and the records behind it.
+    /// Returns the name of the first record with its NUL, and the records after it.
     fn first_name(records: &[u8]) -> Option<(&[u8], &[u8])> {
         let length = u16::from_ne_bytes(*records.get(LENGTH..)?.first_chunk()?);
         let name = records.get(NAME..usize::from(length))?;
@@ -164,21 +165,21 @@ mod dir {
     )
 )))]
 mod dir {
-    //! Folders by Rust's library.
+    //! Directories by Rust's library.
 
     use std::fs::ReadDir;
 
     use crate::rattle::io::{ErrorKind, Read, Result};
 
-    /// An open folder.
+    /// An open directory.
     pub struct Dir {
         entries: ReadDir,
-        // A name for which the last read had no room, with its NUL.
+        // A name that didn't fit the last read, with its NUL.
         waiting: std::vec::Vec<u8>,
     }
 
     impl Dir {
-        /// Opens a folder.
+        /// Opens a directory.
         pub fn open(path: &str) -> Result<Dir> {
             Ok(Dir {
                 entries: std::fs::read_dir(path)?,
@@ -218,7 +219,7 @@ pub use dir::Dir;
 mod tests {
     use super::*;
 
-    /// The names in a folder, read with a buffer of this size.
+    /// Returns the names in a directory, read with a buffer of this size.
     fn names_in(path: &str, size: usize) -> std::vec::Vec<std::vec::Vec<u8>> {
         let (mut folder, mut buf, mut names) = (Dir::open(path).unwrap(), vec![0; size], vec![]);
         loop {

@@ -2,13 +2,13 @@
 //! The standard streams: values that are copied, without buffers, which fail if the process was started without them.
 //!
 //! On a Unix each call reads or writes the descriptor itself. Those of Rust's library have buffers, and treat a closed
-//! stream as one that takes everything.
+//! stream as one that accepts everything.
 
 use std::fmt;
 pub use std::io::{Error, ErrorKind, Read, Result, Write};
 
-/// The text of an error: "the system's message, and ` (os error N)`". That of Rust's library is the same, but it takes memory,
-/// and stops the process if there is none.
+/// The text of an error: "the system's message, and ` (os error N)`". That of Rust's library is the same, but allocates
+/// memory, and stops the process if there is none.
 pub struct Shown<'a>(pub &'a Error);
 
 impl fmt::Display for Shown<'_> {
@@ -21,7 +21,7 @@ impl fmt::Display for Shown<'_> {
         write!(f, "{} (os error {code})", message_of(code, &mut room))
     }
 
-    // Windows has its messages in the language of the user. These are POSIX's, and else Rust's.
+    // Windows has its messages in the language of the user. These are POSIX's, or otherwise Rust's.
     #[cfg(not(unix))]
     fn fmt(&self, f: &mut fmt::Formatter<'_>) -> fmt::Result {
         match self.0.kind() {
@@ -32,7 +32,7 @@ impl fmt::Display for Shown<'_> {
     }
 }
 
-/// The system's message for an error of this number.
+/// Returns the system's message for an error of this number.
 #[cfg(unix)]
 fn message_of(code: i32, room: &mut [u8; 256]) -> &str {
     use core::ffi::{c_char, c_int, CStr};
@@ -50,7 +50,7 @@ fn message_of(code: i32, room: &mut [u8; 256]) -> &str {
     text.to_str().unwrap_or("unknown error")
 }
 
-/// What may be a terminal.
+/// A stream that may be a terminal.
 pub trait IsTerminal {
     /// "True if it is a terminal."
     fn is_terminal(&self) -> bool;
@@ -74,7 +74,7 @@ mod streams {
     use std::mem::ManuallyDrop;
     use std::os::fd::FromRawFd;
 
-    /// Defines how the stream of a descriptor is reached.
+    /// Defines access to the stream of a descriptor.
     macro_rules! stream {
         ($name:ident, $descriptor:literal) => {
             impl super::$name {
@@ -94,7 +94,7 @@ mod streams {
 
 #[cfg(not(unix))]
 mod streams {
-    /// Defines how a stream of Rust's library is reached.
+    /// Defines access to a stream of Rust's library.
     macro_rules! stream {
         ($name:ident, $function:ident) => {
             impl super::$name {
@@ -136,7 +136,7 @@ macro_rules! output {
                 Ok(bytes.len())
             }
 
-            /// No bytes wait.
+            /// No bytes are buffered.
             fn flush(&mut self) -> Result<()> {
                 Ok(())
             }
@@ -146,7 +146,7 @@ macro_rules! output {
 
 output!(Stdout, Stderr);
 
-/// Defines the question for a terminal.
+/// Defines the test for a terminal.
 macro_rules! is_terminal {
     ($($name:ident),*) => {$(
         impl IsTerminal for $name {
@@ -155,7 +155,7 @@ macro_rules! is_terminal {
                 std::io::IsTerminal::is_terminal(&*self.inner())
             }
 
-            // Progress is written with escapes, which a console of Windows may show as they are.
+            // Progress is written with escapes, which a console of Windows may display as they are.
             #[cfg(not(unix))]
             fn is_terminal(&self) -> bool {
                 cfg!(not(windows)) && std::io::IsTerminal::is_terminal(&self.inner())

@@ -1,9 +1,9 @@
 // SPDX-License-Identifier: MIT
 //! Numbers in decimal digits, as the crate `itoa` writes them.
 
-/// A number that is written.
+/// A number that can be written.
 pub trait Integer {
-    /// The same number.
+    /// Returns the same number.
     fn wide(self) -> u64;
 }
 
@@ -20,11 +20,11 @@ impl Integer for usize {
     }
 }
 
-/// Room for the digits of a number.
+/// A buffer for the digits of a number.
 pub struct Buffer([u8; 20]);
 
 impl Buffer {
-    /// No number was written yet.
+    /// Creates an empty buffer.
     #[allow(clippy::new_without_default, reason = "the source calls `new`")]
     pub fn new() -> Buffer {
         Buffer([b'0'; 20])

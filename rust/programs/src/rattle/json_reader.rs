@@ -1,14 +1,14 @@
 // SPDX-License-Identifier: MIT
-//! A reader of JSON, as RFC 8259 has it. A number that no `f64` holds is refused, as the crate `serde_json` refuses it.
+//! A reader of JSON by RFC 8259. A number that doesn't fit an `f64` is refused, as by the crate `serde_json`.
 
 use super::serde_json::{Error, Value};
 use super::vec::{String, Vec};
 use super::Global;
 
-/// How deep arrays and objects may be nested.
+/// Maximum depth of nested arrays and objects.
 const DEEPEST: usize = 127;
 
-/// A text of which a part is read.
+/// A text of which a part has been read.
 pub struct Reader<'a> {
     alloc: Global,
     text: &'a str,
@@ -16,12 +16,12 @@ pub struct Reader<'a> {
 }
 
 impl<'a> Reader<'a> {
-    /// Nothing was read yet.
+    /// Starts at the beginning.
     pub fn new(alloc: Global, text: &'a str) -> Self {
         Reader { alloc, text, at: 0 }
     }
 
-    /// The value that the whole text writes.
+    /// Parses the whole text as one value.
     pub fn whole_value(mut self) -> Result<Value, Error> {
         let value = self.value(DEEPEST)?;
         if self.next_mark().is_some() {
@@ -38,7 +38,7 @@ impl<'a> Reader<'a> {
         self.text.as_bytes().get(self.at).copied()
     }
 
-    // The next byte that is no white space. It isn't taken.
+    // Returns the next byte that is no white space, without consuming it.
     fn next_mark(&mut self) -> Option<u8> {
         while let Some(b' ' | b'\n' | b'\r' | b'\t') = self.next_byte() {
             self.at += 1;
@@ -46,7 +46,7 @@ impl<'a> Reader<'a> {
         self.next_byte()
     }
 
-    // Takes these characters, if they are next.
+    // Consumes these characters, if they are next.
     fn takes(&mut self, word: &str) -> bool {
         let is_next = self.rest().starts_with(word);
         if is_next {
@@ -112,7 +112,7 @@ impl<'a> Reader<'a> {
         Ok(Value::Object(members))
     }
 
-    // One or more decimal digits.
+    // Parses one or more decimal digits.
     fn digits(&mut self) -> Result<(), Error> {
         let count = self.rest().bytes().take_while(u8::is_ascii_digit).count();
         self.at += count;
@@ -163,7 +163,7 @@ impl<'a> Reader<'a> {
         Ok(next)
     }
 
-    // The character that an escape writes, behind its backslash.
+    // Parses the character of an escape, after its backslash.
     fn escaped(&mut self) -> Result<char, Error> {
         Ok(match self.next_char()? {
             mark @ ('"' | '\\' | '/') => mark,
@@ -177,7 +177,7 @@ impl<'a> Reader<'a> {
         })
     }
 
-    // The character of the number behind `\u`, or of two such numbers if it takes two units of UTF-16.
+    // Parses the character of the number after `\u`, or of two such numbers if it takes two units of UTF-16.
     fn by_number(&mut self) -> Result<char, Error> {
         let first = self.unit()?;
         let mut second = None;
@@ -192,7 +192,7 @@ impl<'a> Reader<'a> {
         }
     }
 
-    // The number that four hexadecimal digits write.
+    // Parses the number of four hexadecimal digits.
     fn unit(&mut self) -> Result<u16, Error> {
         let digits = self.rest().get(..4).ok_or(Error::Text)?;
         if !digits.bytes().all(|byte| byte.is_ascii_hexdigit()) {

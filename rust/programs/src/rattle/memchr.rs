@@ -1,7 +1,7 @@
 // SPDX-License-Identifier: MIT
 //! Searches for a byte or for a part of a text, by the names of the crate `memchr`.
 
-/// So many bytes are compared at once.
+/// This many bytes are compared at once.
 const AT_ONCE: usize = 32;
 
 /// "The first place of the byte."

@@ -2,9 +2,9 @@
 //! Replaces the parts of Rattle's standard library and of its ports of crates that the programs call.
 //!
 //! Nothing here is proved. The proofs of the programs rest on the contracts of Rattle's library. The comment of each
-//! function quotes the sentence that it has to keep.
+//! function quotes the sentence that it must satisfy.
 //!
-//! No function here panics, and none stops the process if memory runs out: each asks for its memory by `try_reserve`.
+//! No function here panics, and none stops the process if out of memory: each allocates with `try_reserve`.
 
 pub mod clock;
 pub mod env;
@@ -20,7 +20,7 @@ pub mod vec;
 
 pub use crate::crate_files::rattle::*;
 
-/// The names of Rattle's prelude that Rust's lacks, or has for something else.
+/// The names of Rattle's prelude that Rust's lacks, or uses for something else.
 pub mod prelude {
     pub use super::rt::{AllocGlobal, HostRuntime};
     pub use super::vec::{String, Vec};

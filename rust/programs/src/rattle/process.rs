@@ -1,5 +1,5 @@
 // SPDX-License-Identifier: MIT
-//! How the programs start and end.
+//! Start and end of the programs.
 
 #[cfg(unix)]
 use core::ffi::{c_char, CStr};
@@ -18,13 +18,13 @@ impl From<u8> for ExitCode {
 }
 
 impl ExitCode {
-    /// The status that the process ends with.
+    /// Returns the exit status of the process.
     pub fn status(self) -> u8 {
         self.0
     }
 }
 
-/// The arguments where C's `main` received them. Nothing is copied, so they need no memory.
+/// The arguments in the memory that C's `main` received. Nothing is copied, so they need no memory.
 #[cfg(unix)]
 #[derive(Clone, Copy)]
 pub struct Arguments {
@@ -36,30 +36,30 @@ pub struct Arguments {
 impl Arguments {
     /// # Safety
     ///
-    /// `first` points to `count` texts, each with a NUL at its end, which nobody changes while the process runs.
+    /// `first` points to `count` strings, each with a NUL at its end, which don't change while the process runs.
     pub unsafe fn new(count: usize, first: *const *const c_char) -> Self {
         Arguments { count, first }
     }
 
-    /// The argument of this index.
+    /// Returns the argument of this index.
     pub fn get(&self, index: usize) -> Option<&[u8]> {
         if index >= self.count {
             return None;
         }
-        // SAFETY: `new` was promised so many texts.
+        // SAFETY: the caller of `new` promised this many strings.
         Some(unsafe { CStr::from_ptr(*self.first.add(index)) }.to_bytes())
     }
 }
 
-/// The arguments as Rust's library has them. On Windows their bytes are WTF-8.
+/// The arguments from Rust's library. On Windows their bytes are WTF-8.
 #[cfg(not(unix))]
 #[derive(Clone, Copy)]
 pub struct Arguments(&'static [std::ffi::OsString]);
 
 #[cfg(not(unix))]
 impl Arguments {
-    /// Those of this process. The first is a path with `/`, and on Windows without `.exe`: the name at its end decides what
-    /// the program does.
+    /// Returns those of this process. The first is a path with `/`, and on Windows without `.exe`: the name at its end
+    /// determines what the program does.
     pub fn of_process() -> Self {
         let mut arguments: std::vec::Vec<_> = std::env::args_os().collect();
         if let Some(first) = arguments.first_mut().filter(|_| cfg!(windows)) {
@@ -69,7 +69,7 @@ impl Arguments {
         Arguments(arguments.leak())
     }
 
-    /// The argument of this index.
+    /// Returns the argument of this index.
     pub fn get(&self, index: usize) -> Option<&[u8]> {
         self.0
             .get(index)
@@ -77,8 +77,8 @@ impl Arguments {
     }
 }
 
-/// Runs a program without the start of Rust's library. That opens /dev/null in place of a closed stream, so what is written
-/// there would seem to be written.
+/// Runs a program without the startup code of Rust's library. That opens /dev/null instead of a closed stream, so
+/// writes to it would seem to succeed.
 ///
 /// # Safety
 ///
@@ -90,14 +90,15 @@ pub unsafe fn run(argc: i32, argv: *const *const c_char, main: fn(HostRuntime) -
     extern "C" {
         fn signal(number: i32, handler: usize) -> usize;
     }
-    // SAFETY: it changes no memory of the process. A write to a pipe without a reader then fails, and ends no process.
+    // SAFETY: it changes no memory of the process. A write to a pipe without a reader then fails instead of ending the
+    // process.
     unsafe { signal(SIGPIPE, SIG_IGN) };
     // SAFETY: these are the arguments of C's `main`.
     let arguments = unsafe { Arguments::new(usize::try_from(argc).unwrap_or(0), argv) };
     i32::from(main(HostRuntime::new(arguments)).status())
 }
 
-/// Defines `main`: C's on a Unix, and else Rust's.
+/// Defines `main`: C's on a Unix, and otherwise Rust's.
 #[macro_export]
 macro_rules! program {
     ($main:path) => {

@@ -18,7 +18,7 @@ pub struct HostRuntime {
     arguments: Arguments,
 }
 
-/// What has the global allocator.
+/// A process with the global allocator.
 pub trait AllocGlobal {
     /// "The global allocator."
     fn alloc(&self) -> Global {
@@ -35,7 +35,7 @@ impl Clock for HostRuntime {
 }
 
 impl HostRuntime {
-    /// The process with these arguments.
+    /// Returns the process with these arguments.
     pub fn new(arguments: Arguments) -> Self {
         HostRuntime { arguments }
     }

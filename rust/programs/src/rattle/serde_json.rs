@@ -14,11 +14,11 @@ pub enum Value {
     Array(Vec<Value>),
     /// The members as they were read, of which the last of a name counts.
     Object(Vec<(String, Value)>),
-    /// A text, a truth value, null, or another number.
+    /// A string, a boolean, null, or another number.
     Other,
 }
 
-/// Why a text gives no value.
+/// The error for a text without a value.
 #[derive(Clone, Copy, Debug, PartialEq, Eq)]
 pub enum Error {
     /// It isn't JSON, or is nested deeper than 127 lists.

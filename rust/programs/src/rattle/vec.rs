@@ -1,5 +1,5 @@
 // SPDX-License-Identifier: MIT
-//! `Vec` and `String` that return an error if memory runs out.
+//! `Vec` and `String` that return an error if out of memory.
 
 use std::ops::{Deref, DerefMut};
 

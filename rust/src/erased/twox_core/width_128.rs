@@ -1,7 +1,7 @@
 // SPDX-License-Identifier: MIT
 // crates/twox_core/src/width_128.rt without its contracts, written by rust/erase: change that file.
 
-//! The values of XXH3 of 128 bits: the ranges of lengths, the finalizer, and the one-shots of every length.
+//! XXH3 128-bit: the ranges of lengths, the finalizer, and the one-shots of every length.
 
 use crate::erased::twox_core::xxhash3::primes::{PRIME_MX2, PRIME32_2, PRIME64_1, PRIME64_2, PRIME64_4};
 use crate::erased::twox_core::xxhash3::{
@@ -12,7 +12,7 @@ use crate::erased::twox_core::xxhash3::{
 };
 use crate::erased::twox_words::words::{Halves, IntoU64, IntoU128, bp_as_chunks, u32_at, u64_at};
 
-/// The finalizer of 128 bits: what is made of short inputs and of long ones.
+/// Finalizes 128-bit values, of short and of long inputs.
 #[derive(Clone, Copy)]
 pub struct Finalize128;
 
@@ -38,10 +38,9 @@ impl Finalize for Finalize128 {
     }
 }
 
-/// The value with the default secret and the seed 0.
+/// Returns the value with the default secret and the seed 0.
 ///
-/// Inputs above 64 bytes are a call of their own: they need more registers than there are to spare, and the shortest
-/// inputs then save none.
+/// Inputs above 64 bytes are a separate call: they need more registers than are free, so the shortest inputs save none.
 #[inline(always)]
 pub fn oneshot(input: &[u8]) -> Wide {
     if input.len() <= 16 {
@@ -64,7 +63,8 @@ fn oneshot_from_65(input: &[u8]) -> Wide {
     }
 }
 
-/// The value with a seed: up to 240 bytes with the default secret, above with the one that the seed derives.
+/// Returns the value with a seed: up to 240 bytes with the default secret, above that with the one derived from the
+/// seed.
 #[inline(always)]
 pub fn oneshot_with_seed(seed: u64, input: &[u8]) -> Wide {
     if input.len() <= 16 {
@@ -76,7 +76,7 @@ pub fn oneshot_with_seed(seed: u64, input: &[u8]) -> Wide {
     }
 }
 
-// The seed comes last, where C's calls have it: no register then changes its place on the way.
+// The seed comes last, as in C's calls, so no register moves on the way.
 #[inline(never)]
 fn oneshot_with_seed_from_65(input: &[u8], seed: u64) -> Wide {
     if input.len() <= 128 {
@@ -88,7 +88,7 @@ fn oneshot_with_seed_from_65(input: &[u8], seed: u64) -> Wide {
     }
 }
 
-/// The value with a secret and the seed 0.
+/// Returns the value with a secret and the seed 0.
 #[inline(always)]
 pub fn oneshot_with_secret(secret: Secret<'_>, input: &[u8]) -> Wide {
     if input.len() <= 16 {
@@ -111,22 +111,22 @@ fn oneshot_with_secret_from_65(input: &[u8], secret: Secret<'_>) -> Wide {
     }
 }
 
-/// The value above 240 bytes, with a secret. No seed enters, so it is that of any.
+/// Returns the value above 240 bytes, with a secret. No seed is used, so it is the value for every seed.
 ///
-/// It is a call of its own, so that short inputs pay nothing for the room that long ones take. Where the secret's length is
-/// known, nothing is divided or tested for it.
+/// A separate call, so that short inputs don't pay for the stack frame of long ones. If the secret's length is known,
+/// nothing is divided or tested for it.
 #[inline(never)]
 pub fn oneshot_long(secret: Secret<'_>, input: &[u8]) -> Wide {
     crate::kernels::long_128(input, secret)
 }
 
-// As a last call, so that the default's length keeps no register for the division.
+// A tail call, so that the default length keeps no register for the division.
 #[inline(never)]
 fn oneshot_long_of_any_length(secret: Secret<'_>, input: &[u8]) -> Wide {
     oneshot_above_240::<AnyLength>(secret, input)
 }
 
-// Each `Caller` has code of its own: see `Algorithm::oneshot_of`.
+// Each `Caller` has its own copy of the code: see `Algorithm::oneshot_of`.
 #[inline(always)]
 fn oneshot_above_240<Caller>(secret: Secret<'_>, input: &[u8]) -> Wide {
     if input.len() < MANY_BYTES {
@@ -137,20 +137,20 @@ fn oneshot_above_240<Caller>(secret: Secret<'_>, input: &[u8]) -> Wide {
     }
 }
 
-// Many bytes, as a tail call of `oneshot_above_240`, which so keeps no register for them.
+// Hashes many bytes, as a tail call of `oneshot_above_240`, which then keeps no register for them.
 #[inline(never)]
 fn oneshot_many(secret: Secret<'_>, input: &[u8]) -> Wide {
     let algorithm = Algorithm(Kernel {});
     halves(algorithm.oneshot_of::<Finalize128, AnyLength, true>(secret, input, Finalize128))
 }
 
-// By eight lanes, as another tail call, of `oneshot_long`.
+// Hashes by eight lanes, as another tail call, of `oneshot_long`.
 #[inline(never)]
 fn oneshot_by_eight_lanes(secret: Secret<'_>, input: &[u8]) -> Wide {
     halves(oneshot_widened(secret, input, Finalize128))
 }
 
-// Long inputs with the secret that a seed derives. The seed 0 derives the default one.
+// Hashes long inputs with the secret derived from the seed. The seed 0 derives the default one.
 #[inline(always)]
 fn oneshot_long_with_seed(seed: u64, input: &[u8]) -> Wide {
     if seed == DEFAULT_SEED {
@@ -162,24 +162,25 @@ fn oneshot_long_with_seed(seed: u64, input: &[u8]) -> Wide {
     }
 }
 
-// The derived secret stands on the stack. Taken in place, it is known to have 192 bytes, so nothing is tested for that.
+// The derived secret is on the stack. Built in place, it is known to have 192 bytes, so nothing tests that.
 #[inline(never)]
 fn oneshot_long_derived(seed: u64, input: &[u8]) -> Wide {
     let secret = derived_secret(seed);
     oneshot_long(Secret::new(&secret).unwrap(), input)
 }
 
-// Those that eight lanes take, in code of its own: whoever has fewer bytes then keeps no register for this call.
+// Hashes inputs that eight lanes take. A separate function, so that callers with fewer bytes save no register for this
+// call.
 #[inline(never)]
 fn oneshot_derived_by_eight_lanes(seed: u64, input: &[u8]) -> Wide {
     let derived = derived_secret(seed);
     halves(oneshot_widened(Secret::new(&derived).unwrap(), input, Finalize128))
 }
 
-/// A value of 128 bits as its halves.
+/// A 128-bit value as its halves.
 ///
-/// Only the callers make one number of them: whoever wants the halves again, as the exports for C do, then jumps to the
-/// call that answers them.
+/// Only the callers join them, so that callers that need the halves, such as the exports for C, can tail call the
+/// function that returns them.
 #[derive(Clone, Copy)]
 #[repr(C)]
 pub struct Wide {
@@ -189,7 +190,7 @@ pub struct Wide {
     pub high: u64,
 }
 
-/// The value's halves.
+/// Splits the value into its halves.
 #[inline(always)]
 pub fn halves(value: u128) -> Wide {
     Wide {
@@ -205,7 +206,7 @@ impl IntoU128 for Wide {
     }
 }
 
-/// The value up to 240 bytes, with a secret and a seed.
+/// Returns the value up to 240 bytes, with a secret and a seed.
 #[inline(always)]
 pub fn oneshot_short(secret: Secret<'_>, seed: u64, input: &[u8]) -> Wide {
     if input.len() <= 16 {
@@ -286,7 +287,7 @@ fn impl_9_to_16_bytes(secret: Secret<'_>, seed: u64, input: &[u8]) -> Wide {
     let low = product
         .lower_half()
         .wrapping_add((input.len() - 1).into_u64() << 54);
-    // The lower half of `two` counts times the prime, and the upper half in its place.
+    // The lower half of `two` counts times the prime, and the upper half unmultiplied.
     let high = product
         .upper_half()
         .wrapping_add(two)
@@ -301,14 +302,14 @@ fn impl_9_to_16_bytes(secret: Secret<'_>, seed: u64, input: &[u8]) -> Wide {
     }
 }
 
-// The two accumulators of 17 to 240 bytes.
+// The two accumulators for 17 to 240 bytes.
 #[derive(Clone, Copy)]
 struct Accumulators {
     first: u64,
     second: u64,
 }
 
-// The accumulators before the first chunk.
+// Returns the accumulators before the first chunk.
 #[inline(always)]
 fn initial_accumulators(input: &[u8]) -> Accumulators {
     Accumulators {
@@ -317,7 +318,7 @@ fn initial_accumulators(input: &[u8]) -> Accumulators {
     }
 }
 
-// An accumulator after the 16 bytes `own` under the secret's, and then the words of the 16 bytes `other`.
+// Returns an accumulator after the 16 bytes `own` under the secret's, and then the words of the 16 bytes `other`.
 #[inline(always)]
 fn accumulator_step(
     accumulator: u64,
@@ -330,7 +331,7 @@ fn accumulator_step(
     accumulator.wrapping_add(mix_step(own, words, seed)) ^ other[0].wrapping_add(other[1])
 }
 
-// The accumulators after chunk `c` from the front and from the back, where there is one.
+// Returns the accumulators after chunk `c` from the front and from the back, if there is one.
 #[inline(always)]
 fn mix_two_chunks(
     accumulators: Accumulators,
@@ -349,7 +350,7 @@ fn mix_two_chunks(
     }
 }
 
-// Up to 64 bytes have the last two steps alone.
+// Up to 64 bytes have only the last two steps.
 #[inline(always)]
 fn impl_17_to_64_bytes(secret: Secret<'_>, seed: u64, input: &[u8]) -> Wide {
     let accumulators = mix_two_chunks(initial_accumulators(input), secret, seed, input, 1);
@@ -362,7 +363,7 @@ fn impl_65_to_128_bytes(secret: Secret<'_>, seed: u64, input: &[u8]) -> Wide {
     mix_last(accumulators, secret, seed, input)
 }
 
-// The accumulators after all steps but the last, from those before the first.
+// Returns the accumulators after all steps except the last, from those before the first.
 #[inline(always)]
 fn mix_above_32(initial: Accumulators, secret: Secret<'_>, seed: u64, input: &[u8]) -> Accumulators {
     let mut accumulators = initial;
@@ -372,7 +373,7 @@ fn mix_above_32(initial: Accumulators, secret: Secret<'_>, seed: u64, input: &[u
     accumulators
 }
 
-// The value from the accumulators before the last step, which takes the chunks at both ends.
+// Returns the value from the accumulators before the last step, which takes the chunks at both ends.
 #[inline(always)]
 fn mix_last(accumulators: Accumulators, secret: Secret<'_>, seed: u64, input: &[u8]) -> Wide {
     let accumulators = mix_two_chunks(accumulators, secret, seed, input, 0);
@@ -413,7 +414,7 @@ fn impl_129_to_240_bytes(secret: Secret<'_>, seed: u64, input: &[u8]) -> Wide {
         );
     }
 
-    // the halves of the last 32 bytes go in the other way round, and the seed with its sign turned
+    // the halves of the last 32 bytes are swapped, and the seed is negated
     let (_, tail) = input.split_at(input.len() - 32);
     let (tail, _) = bp_as_chunks(tail);
     let words = secret.for_128().words_for_129_to_240_part3();
@@ -425,7 +426,7 @@ fn impl_129_to_240_bytes(secret: Secret<'_>, seed: u64, input: &[u8]) -> Wide {
     finalize_medium(accumulators, input.len().into_u64(), seed)
 }
 
-// The value of the accumulators.
+// Returns the value of the accumulators.
 #[inline(always)]
 fn finalize_medium(accumulators: Accumulators, input_len: u64, seed: u64) -> Wide {
     let low = accumulators.first.wrapping_add(accumulators.second);

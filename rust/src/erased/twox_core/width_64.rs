@@ -1,7 +1,7 @@
 // SPDX-License-Identifier: MIT
 // crates/twox_core/src/width_64.rt without its contracts, written by rust/erase: change that file.
 
-//! The values of XXH3 of 64 bits: the ranges of lengths, the finalizer, and the one-shots of every length.
+//! XXH3 64-bit: the ranges of lengths, the finalizer, and the one-shots of every length.
 
 use crate::erased::twox_core::xxhash3::primes::{PRIME_MX2, PRIME64_1};
 use crate::erased::twox_core::xxhash3::{
@@ -12,7 +12,7 @@ use crate::erased::twox_core::xxhash3::{
 };
 use crate::erased::twox_words::words::{Halves, IntoU64, u32_at, u64_at};
 
-/// The finalizer of 64 bits: what is made of short inputs and of long ones.
+/// Finalizes 64-bit values, of short and of long inputs.
 #[derive(Clone, Copy)]
 pub struct Finalize64;
 
@@ -38,16 +38,16 @@ impl Finalize for Finalize64 {
     }
 }
 
-/// The value with the default secret and the seed 0.
+/// Returns the value with the default secret and the seed 0.
 #[inline(always)]
 pub fn oneshot(input: &[u8]) -> u64 {
     oneshot_with_secret(default_secret(), input)
 }
 
-/// The value with a secret and the seed 0.
+/// Returns the value with a secret and the seed 0.
 ///
-/// The shortest inputs come first: they then pay nothing for the room that longer ones take. Each range is named here, so
-/// that no length is compared with 240 before 128.
+/// The shortest inputs come first, so that they don't pay for the stack frame of longer ones. Each range is tested
+/// here, so that no length is compared with 240 before 128.
 #[inline(always)]
 pub fn oneshot_with_secret(secret: Secret<'_>, input: &[u8]) -> u64 {
     if input.len() <= 16 {
@@ -61,9 +61,10 @@ pub fn oneshot_with_secret(secret: Secret<'_>, input: &[u8]) -> u64 {
     }
 }
 
-/// The value with a seed: up to 240 bytes with the default secret, above with the one that the seed derives.
+/// Returns the value with a seed: up to 240 bytes with the default secret, above that with the one derived from the
+/// seed.
 ///
-/// The shortest inputs come first, so that they pay nothing for the room that longer ones take.
+/// The shortest inputs come first, so that they don't pay for the stack frame of longer ones.
 #[inline(always)]
 pub fn oneshot_with_seed(seed: u64, input: &[u8]) -> u64 {
     if input.len() <= 16 {
@@ -77,22 +78,22 @@ pub fn oneshot_with_seed(seed: u64, input: &[u8]) -> u64 {
     }
 }
 
-/// The value above 240 bytes, with a secret. No seed enters, so it is that of any.
+/// Returns the value above 240 bytes, with a secret. No seed is used, so it is the value for every seed.
 ///
-/// It is a call of its own, so that short inputs pay nothing for the room that long ones take. Where the secret's length is
-/// known, nothing is divided or tested for it.
+/// A separate call, so that short inputs don't pay for the stack frame of long ones. If the secret's length is known,
+/// nothing is divided or tested for it.
 #[inline(never)]
 pub fn oneshot_long(secret: Secret<'_>, input: &[u8]) -> u64 {
     crate::kernels::long_64(input, secret)
 }
 
-// As a last call, so that the default's length keeps no register for the division.
+// A tail call, so that the default length keeps no register for the division.
 #[inline(never)]
 fn oneshot_long_of_any_length(secret: Secret<'_>, input: &[u8]) -> u64 {
     oneshot_above_240::<AnyLength>(secret, input)
 }
 
-// Each `Caller` has code of its own: see `Algorithm::oneshot_of`.
+// Each `Caller` has its own copy of the code: see `Algorithm::oneshot_of`.
 #[inline(always)]
 fn oneshot_above_240<Caller>(secret: Secret<'_>, input: &[u8]) -> u64 {
     if input.len() < MANY_BYTES {
@@ -102,19 +103,19 @@ fn oneshot_above_240<Caller>(secret: Secret<'_>, input: &[u8]) -> u64 {
     }
 }
 
-// Many bytes, as a tail call of `oneshot_above_240`, which so keeps no register for them.
+// Hashes many bytes, as a tail call of `oneshot_above_240`, which then keeps no register for them.
 #[inline(never)]
 fn oneshot_many(secret: Secret<'_>, input: &[u8]) -> u64 {
     Algorithm(Kernel {}).oneshot_of::<Finalize64, AnyLength, true>(secret, input, Finalize64)
 }
 
-// By eight lanes, as another tail call, of `oneshot_long`.
+// Hashes by eight lanes, as another tail call, of `oneshot_long`.
 #[inline(never)]
 fn oneshot_by_eight_lanes(secret: Secret<'_>, input: &[u8]) -> u64 {
     oneshot_widened(secret, input, Finalize64)
 }
 
-// Long inputs with the secret that a seed derives. The seed 0 derives the default one.
+// Hashes long inputs with the secret derived from the seed. The seed 0 derives the default one.
 #[inline(always)]
 fn oneshot_long_with_seed(seed: u64, input: &[u8]) -> u64 {
     if seed == DEFAULT_SEED {
@@ -126,21 +127,22 @@ fn oneshot_long_with_seed(seed: u64, input: &[u8]) -> u64 {
     }
 }
 
-// The derived secret stands on the stack. Taken in place, it is known to have 192 bytes, so nothing is tested for that.
+// The derived secret is on the stack. Built in place, it is known to have 192 bytes, so nothing tests that.
 #[inline(never)]
 fn oneshot_long_derived(seed: u64, input: &[u8]) -> u64 {
     let secret = derived_secret(seed);
     oneshot_long(Secret::new(&secret).unwrap(), input)
 }
 
-// Those that eight lanes take, in code of its own: whoever has fewer bytes then keeps no register for this call.
+// Hashes inputs that eight lanes take. A separate function, so that callers with fewer bytes save no register for this
+// call.
 #[inline(never)]
 fn oneshot_derived_by_eight_lanes(seed: u64, input: &[u8]) -> u64 {
     let derived = derived_secret(seed);
     oneshot_widened(Secret::new(&derived).unwrap(), input, Finalize64)
 }
 
-/// The value up to 240 bytes, with a secret and a seed.
+/// Returns the value up to 240 bytes, with a secret and a seed.
 #[inline(always)]
 pub fn oneshot_short(secret: Secret<'_>, seed: u64, input: &[u8]) -> u64 {
     if input.len() <= 16 {
@@ -189,7 +191,7 @@ fn impl_4_to_8_bytes(secret: Secret<'_>, seed: u64, input: &[u8]) -> u64 {
     strong(value, input.len().into_u64())
 }
 
-// The stronger mixing of 4 to 8 bytes, with their number.
+// Does the stronger mixing of 4 to 8 bytes, with their number.
 #[inline(always)]
 fn strong(value: u64, len: u64) -> u64 {
     let value = value ^ value.rotate_left(49) ^ value.rotate_left(24);
@@ -219,7 +221,7 @@ fn impl_17_to_128_bytes(secret: Secret<'_>, seed: u64, input: &[u8]) -> u64 {
     avalanche(sum_17_to_128(secret, seed, input))
 }
 
-// No loop: so the secret's words are constants of the code where the secret is the default one.
+// No loop, so that the secret's words are constants of the code for the default secret.
 #[inline(always)]
 fn sum_17_to_128(secret: Secret<'_>, seed: u64, input: &[u8]) -> u64 {
     let sum = input.len().into_u64().wrapping_mul(PRIME64_1);
@@ -238,7 +240,7 @@ fn sum_17_to_128(secret: Secret<'_>, seed: u64, input: &[u8]) -> u64 {
     add_both_ends(sum, secret, seed, input, 3)
 }
 
-// The sum of the first `c` steps and of step `c`: chunk `c` from the front, and from the back.
+// Adds step `c` to the sum of the first `c` steps: chunk `c` from the front and from the back.
 #[inline(always)]
 fn add_both_ends(sum: u64, secret: Secret<'_>, seed: u64, input: &[u8], c: usize) -> u64 {
     let (forward, backward, words) = chunks_17_to_128(secret, input, c);
@@ -246,14 +248,14 @@ fn add_both_ends(sum: u64, secret: Secret<'_>, seed: u64, input: &[u8], c: usize
     sum.wrapping_add(mix_step(backward, &words[1], seed))
 }
 
-// The 16 bytes at `i`, of which `from_8` gives the second word, mixed with 16 bytes of the secret.
+// Mixes the 16 bytes at `i` with 16 bytes of the secret. The second word is read from `from_8`.
 #[inline(always)]
 fn mix_at(input: &[u8], from_8: &[u8], i: usize, words: &[u8; 16], seed: u64) -> u64 {
     mix_words(u64_at(input, i), u64_at(from_8, i), words, seed)
 }
 
-// `from_8` is the input from byte 8 on. In its own function LLVM can't tell that the two words of a chunk are
-// neighbours; it would make vectors of them, and taking the words out again costs more than it saves.
+// `from_8` is the input from byte 8 on. In its own function LLVM can't see that the two words of a chunk are adjacent;
+// it would make vectors of them, and taking the words out again costs more than it saves.
 #[inline(never)]
 fn impl_129_to_240_bytes(secret: Secret<'_>, seed: u64, input: &[u8], from_8: &[u8]) -> u64 {
     crate::rattle::expect_middle(input, from_8);
@@ -265,7 +267,7 @@ fn impl_129_to_240_bytes(secret: Secret<'_>, seed: u64, input: &[u8], from_8: &[
     }
     acc = avalanche(acc);
 
-    // A number of turns that LLVM knows, so that it makes no vectors of them either.
+    // LLVM knows this number of iterations, so it doesn't make vectors of them either.
     let words = secret.for_64().words_for_129_to_240_part2();
     let count = input.len() / 16 - 8;
     'later: for c in 0..7 {

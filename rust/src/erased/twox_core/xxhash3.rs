@@ -1,10 +1,9 @@
 // SPDX-License-Identifier: MIT
 // crates/twox_core/src/xxhash3.rt without its contracts, written by rust/erase: change that file.
 
-//! XXH3: what both widths share. The modules stand on one another in this order: the constants (`primes`), the
-//! steps (`mixing`), parts of an input (`parts`), secrets (`secret`, `derivation`), what a kernel is
-//! (`vector`), the accumulators and their place in the secret (`stripes`), long inputs and the kernels
-//! (`large`), and streams (`streaming`).
+//! XXH3: code shared by both widths. Each module uses those before it: constants (`primes`), mixing steps (`mixing`),
+//! parts of an input (`parts`), secrets (`secret`, `derivation`), the trait of kernels (`vector`), accumulators and
+//! their place in the secret (`stripes`), long inputs and kernels (`large`), and streams (`streaming`).
 
 mod derivation;
 pub mod large;
@@ -36,8 +35,8 @@ pub(crate) use stripes::MANY_BYTES;
 pub use stripes::StripeAccumulator;
 pub use vector::{INITIAL_ACCUMULATORS, Vector};
 
-/// The greatest length that is hashed with the default secret and no stripes.
+/// The maximum length that is hashed with the default secret and no stripes.
 pub const CUTOFF: usize = 240;
 
-/// The seed of a call that takes none.
+/// The seed of a call without one.
 pub const DEFAULT_SEED: u64 = 0;

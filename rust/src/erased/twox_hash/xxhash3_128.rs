@@ -1,7 +1,7 @@
 // SPDX-License-Identifier: MIT
 // crates/twox_hash/src/xxhash3_128.rt without its contracts, written by rust/erase: change that file.
 
-//! XXH3 of 128 bits.
+//! XXH3 128-bit.
 
 use crate::erased::twox_hash::streams::{BoxedStream, RawStream};
 use crate::rattle::{Allocator, Global, TryClone};
@@ -14,8 +14,8 @@ pub use crate::erased::twox_core::xxhash3::{
 use crate::erased::twox_core::xxhash3::{CUTOFF, Secret, default_secret};
 use crate::erased::twox_words::words::IntoU128;
 
-/// Calculates the 128-bit hash: of all bytes at once, or of bytes that come in pieces. The secret of a stream
-/// is in memory of its own.
+/// Calculates the 128-bit hash, of all bytes at once or of chunks one after another. The secret of a stream is
+/// allocated.
 ///
 /// ```text
 /// let mut hasher = Hasher::with_seed(alloc, 7)?;
@@ -25,7 +25,7 @@ use crate::erased::twox_words::words::IntoU128;
 /// ```
 pub type Hasher<A = Global> = BoxedStream<Finalize128, A>;
 
-/// A stream over a secret of the caller's, which takes no memory.
+/// A stream over a secret of the caller. Allocates nothing.
 ///
 /// ```text
 /// let secret = SecretBuffer::with_seed(7, [0; DEFAULT_SECRET_LENGTH])?;
@@ -36,40 +36,40 @@ pub type Hasher<A = Global> = BoxedStream<Finalize128, A>;
 pub type RawHasher<S> = RawStream<Finalize128, S>;
 
 impl Hasher<Global> {
-    /// The hash of all bytes at once, with the default secret and the seed 0.
+    /// Hashes all bytes at once, with the default secret and the seed 0.
     ///
-    /// Other bytes are noticed: no two different inputs of one length up to 16 bytes have the same hash. So is
-    /// another seed, up to 16 bytes. Of 1 to 3 bytes and above 240 the low half is the hash of 64 bits. All that
-    /// holds of the other one-shots too, under their secrets.
+    /// No two different inputs of one length up to 16 bytes have the same hash, and an input of up to 16 bytes has
+    /// another hash under every other seed. For 1 to 3 bytes and above 240 the low half is the 64-bit hash. All this is
+    /// also true of the other one-shots, under their secrets.
     #[inline]
     pub fn oneshot(input: &[u8]) -> u128 {
         width_128::oneshot(input).into_u128()
     }
 
-    /// The hash of all bytes at once, with a seed: up to 240 bytes with the default secret, above with the
-    /// secret that the seed derives.
+    /// Hashes all bytes at once, with a seed: up to 240 bytes with the default secret, above that with the secret
+    /// derived from the seed.
     #[inline]
     pub fn oneshot_with_seed(seed: u64, input: &[u8]) -> u128 {
         width_128::oneshot_with_seed(seed, input).into_u128()
     }
 
-    /// The hash of all bytes at once, with a secret and the seed 0, at every length.
+    /// Hashes all bytes at once, with a secret and the seed 0, at every length.
     ///
     /// # Errors
     ///
-    /// The secret has fewer than 136 bytes.
+    /// `OneshotWithSecretError` if the secret has fewer than 136 bytes.
     #[inline]
     pub fn oneshot_with_secret(secret: &[u8], input: &[u8]) -> Result<u128, OneshotWithSecretError> {
         let secret = Secret::new(secret)?;
         Ok(width_128::oneshot_with_secret(secret, input).into_u128())
     }
 
-    /// The hash of all bytes at once, with a seed and a secret. Only one of the two has an effect: up to 240
-    /// bytes the seed, with the default secret, whatever secret is handed in; above, the secret.
+    /// Hashes all bytes at once, with a seed and a secret, of which only one has an effect: up to 240 bytes the seed,
+    /// with the default secret, whatever secret is passed; above that the secret.
     ///
     /// # Errors
     ///
-    /// The input has more than 240 bytes and the secret fewer than 136.
+    /// `OneshotWithSecretError` if the input has more than 240 bytes and the secret fewer than 136.
     #[inline]
     pub fn oneshot_with_seed_and_secret(
         seed: u64,
@@ -85,9 +85,9 @@ impl Hasher<Global> {
 }
 
 impl<A: Allocator> Hasher<A> {
-    /// The hash of the bytes taken so far, which stay: up to 240 bytes with the default secret and the seed or, in
-    /// a stream that was made with its secret alone, with that secret and the seed 0; above with the stream's
-    /// secret, where no seed enters.
+    /// Returns the hash of the bytes written so far. More can be written afterwards. Up to 240 bytes it uses the
+    /// default secret and the seed or, if the stream was made with only a secret, that secret and the seed 0; above
+    /// that it uses the stream's secret and no seed.
     #[inline]
     pub fn finish_128(&self) -> u128 {
         self.inner().finish(Finalize128)
@@ -95,9 +95,9 @@ impl<A: Allocator> Hasher<A> {
 }
 
 impl<S: FixedBuffer> RawHasher<S> {
-    /// The hash of the bytes taken so far, which stay: up to 240 bytes with the default secret and the seed or, in
-    /// a stream that was made with its secret alone, with that secret and the seed 0; above with the stream's
-    /// secret, where no seed enters.
+    /// Returns the hash of the bytes written so far. More can be written afterwards. Up to 240 bytes it uses the
+    /// default secret and the seed or, if the stream was made with only a secret, that secret and the seed 0; above
+    /// that it uses the stream's secret and no seed.
     #[inline]
     pub fn finish_128(&self) -> u128 {
         self.core().finish(Finalize128)

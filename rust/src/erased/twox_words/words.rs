@@ -1,8 +1,8 @@
 // SPDX-License-Identifier: MIT
 // crates/twox_words/src/words.rt without its contracts, written by rust/erase: change that file.
 
-//! Little-endian words of a slice, by absolute position, and what belongs to them: conversions that keep the
-//! value, the halves of a word, and the chunks of a slice.
+//! Little-endian words of a slice by absolute position, value-preserving conversions, halves of a word, and chunks of a
+//! slice.
 
 mod chunks;
 mod halves;
@@ -12,36 +12,36 @@ pub use chunks::{bp_as_chunks, bp_as_chunks_mut};
 pub use halves::Halves;
 pub use widening::{IntoU32, IntoU64, IntoU128};
 
-/// The eight-byte word at byte `i`, low byte first.
+/// Returns the eight-byte word at byte `i`, low byte first.
 ///
-/// The caller shows that the slice has eight bytes from `i` on, so the load has no test.
+/// The caller proves that the slice has eight bytes from `i` on, so the load has no test.
 #[inline]
 pub fn u64_at(bytes: &[u8], i: usize) -> u64 {
     u64::from_le_bytes(*crate::rattle::array_at(bytes, i))
 }
 
-/// The four-byte word at byte `i`, low byte first.
+/// Returns the four-byte word at byte `i`, low byte first.
 ///
-/// The caller shows that the slice has four bytes from `i` on, so the load has no test.
+/// The caller proves that the slice has four bytes from `i` on, so the load has no test.
 #[inline]
 pub fn u32_at(bytes: &[u8], i: usize) -> u32 {
     u32::from_le_bytes(*crate::rattle::array_at(bytes, i))
 }
 
-/// The words at both ends of a slice of bytes, low byte first.
+/// Words at both ends of a slice of bytes, low byte first.
 ///
-/// Each call answers `None` exactly where the slice has fewer bytes than the word.
+/// Each method returns `None` if and only if the slice has fewer bytes than the word.
 pub trait U8SliceExt {
-    /// The word of the first four bytes.
+    /// Returns the word of the first four bytes.
     fn first_u32(self) -> Option<u32>;
 
-    /// The word of the last four bytes.
+    /// Returns the word of the last four bytes.
     fn last_u32(self) -> Option<u32>;
 
-    /// The word of the first eight bytes.
+    /// Returns the word of the first eight bytes.
     fn first_u64(self) -> Option<u64>;
 
-    /// The word of the last eight bytes.
+    /// Returns the word of the last eight bytes.
     fn last_u64(self) -> Option<u64>;
 }
 

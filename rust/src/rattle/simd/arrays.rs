@@ -57,7 +57,7 @@ macro_rules! vector {
                 $name(out)
             }
 
-            /// The same over the items of both, `other`'s behind those of `self`.
+            /// The same over the items of both, `other`'s after those of `self`.
             #[inline(always)]
             pub fn shuffle(self, other: Self, places: [usize; $n]) -> Self {
                 let mut out = self.0;
@@ -116,7 +116,7 @@ macro_rules! bytes {
         pub struct $name([u8; $count]);
 
         impl $name {
-            /// The first bytes of a slice, which has as many.
+            /// Returns the first bytes of a slice, which must be long enough.
             #[inline(always)]
             pub fn from_slice(bytes: &[u8]) -> Self {
                 let mut out = [0; $count];
@@ -145,7 +145,7 @@ vector!(u32x4, u32, 4, u8x16, 16);
 vector!(u32x8, u32, 8, u8x32, 32);
 
 impl u32x4 {
-    /// The items as wider ones.
+    /// Returns the items as wider ones.
     #[inline(always)]
     #[allow(
         clippy::extra_unused_type_parameters,

@@ -14,7 +14,7 @@ use core::ops::{Add, BitAnd, BitXor, Mul, Shl, Shr, Sub};
 vectors! { uint64x2_t, by, u64x2 u32x4 u8x16 1 2 4 16; u64x4 u32x8 u8x32 2 4 8 32; u64x8 u32x16 u8x64 4 8 16 64; }
 
 impl u32x4 {
-    /// The items as wider ones.
+    /// Returns the items as wider ones.
     #[inline(always)]
     #[allow(
         clippy::extra_unused_type_parameters,
@@ -38,7 +38,7 @@ mod by {
         vaddq_u64 as add64, vandq_u64 as and, veorq_u64 as xor, vsubq_u64 as sub64,
     };
 
-    /// The register as four halves: bits are bits.
+    /// Returns the register as four halves: bits are bits.
     #[inline(always)]
     pub fn halves(a: uint64x2_t) -> uint32x4_t {
         // SAFETY: as above.
@@ -55,17 +55,17 @@ mod by {
     }
     by_halves! { add32 vaddq_u32 sub32 vsubq_u32 mul32 vmulq_u32 }
 
-    /// The product modulo 2^64: the low halves multiplied, plus 2^32 times the two mixed products.
+    /// Returns the product modulo 2^64: the low halves multiplied, plus 2^32 times the two mixed products.
     #[inline(always)]
     pub unsafe fn mul64(a: uint64x2_t, b: uint64x2_t) -> uint64x2_t {
         let (al, bl) = (vmovn_u64(a), vmovn_u64(b));
         let (ah, bh) = (vshrn_n_u64::<32>(a), vshrn_n_u64::<32>(b));
-        // Those of 32 bits suffice for the upper's place.
+        // Products of 32 bits are enough for the upper half.
         let upper = vadd_u32(vmul_u32(ah, bl), vmul_u32(al, bh));
         vaddq_u64(vmull_u32(al, bl), vshll_n_u32::<32>(upper))
     }
 
-    // Lane by lane: of a count that is the same constant in each LLVM makes one instruction.
+    // Lane by lane: for a count that is the same constant in each, LLVM makes one instruction.
     #[inline(always)]
     pub unsafe fn shr64(a: uint64x2_t, b: uint64x2_t) -> uint64x2_t {
         let (a, b) = (

@@ -36,13 +36,13 @@ macro_rules! vector {
 
             #[inline(always)]
             pub fn from_array(items: [$item; $items]) -> Self {
-                // SAFETY: registers have any bits, and the sizes are equal.
+                // SAFETY: registers may have any bits, and the sizes are equal.
                 $name(unsafe { transmute::<[$item; $items], [$register; $n]>(items) })
             }
 
             #[inline(always)]
             pub fn to_array(self) -> [$item; $items] {
-                // SAFETY: integers have any bits, and the sizes are equal.
+                // SAFETY: integers may have any bits, and the sizes are equal.
                 unsafe { transmute::<[$register; $n], [$item; $items]>(self.0) }
             }
 
@@ -58,7 +58,7 @@ macro_rules! vector {
                 Self::from_array(out)
             }
 
-            /// The same over the items of both, `other`'s behind those of `self`.
+            /// The same over the items of both, `other`'s after those of `self`.
             #[inline(always)]
             pub fn shuffle(self, other: Self, places: [usize; $items]) -> Self {
                 let (a, b, mut out) = (self.to_array(), other.to_array(), [0; $items]);
@@ -100,10 +100,10 @@ macro_rules! bytes {
         pub struct $name([$register; $n]);
 
         impl $name {
-            /// The first bytes of a slice, which has as many.
+            /// Returns the first bytes of a slice, which must be long enough.
             #[inline(always)]
             pub fn from_slice(bytes: &[u8]) -> Self {
-                // SAFETY: the slice has so many bytes, and the address needs no alignment.
+                // SAFETY: the slice has this many bytes, and the address needs no alignment.
                 $name(unsafe {
                     bytes[..$count]
                         .as_ptr()

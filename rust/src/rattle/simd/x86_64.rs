@@ -18,7 +18,7 @@ pub mod sse2 {
     vectors! { __m128i, by, u64x2 u32x4 u8x16 1 2 4 16; u64x4 u32x8 u8x32 2 4 8 32; u64x8 u32x16 u8x64 4 8 16 64; }
 
     impl u32x4 {
-        /// The items as wider ones.
+        /// Returns the items as wider ones.
         #[inline(always)]
         #[allow(
             clippy::extra_unused_type_parameters,
@@ -36,7 +36,7 @@ pub mod sse2 {
             _mm_sub_epi32 as sub32, _mm_sub_epi64 as sub64, _mm_xor_si128 as xor,
         };
 
-        /// The product modulo 2^64: the low halves multiplied, plus 2^32 times the two mixed products.
+        /// Returns the product modulo 2^64: the low halves multiplied, plus 2^32 times the two mixed products.
         #[inline(always)]
         pub unsafe fn mul64(a: __m128i, b: __m128i) -> __m128i {
             let (ah, bh) = (_mm_srli_epi64(a, 32), _mm_srli_epi64(b, 32));

@@ -1,4 +1,4 @@
-//! What the kernels of four accumulators at a time share: all but how they multiply and scramble.
+//! Code shared by the kernels of four accumulators at a time: everything except how they multiply and scramble.
 
 ghost use Rattle.std.specs.Prelude.{◌≡◌, ◌+◌, ◌*◌, ◌%◌, ◌^◌, ◌≤◌, [], ◌∷◌, slice_index, bit_xor};
 ghost use Rattle.twox_core.specs.Kernel.{four, sum_with_words_at, sum_with_four_stripes};
@@ -10,14 +10,15 @@ use std::simd::u64x4;
 
 // A kernel that multiplies the halves of four words at a time.
 pub(super) trait HalvesProducts: Copy {
-    // The product of the halves of each word under its key.
+    // Returns the product of the halves of each word under its key.
     fn halves_products(&self, words: [u64; 4], keys: [u64; 4]) -> [u64; 4]
         ensures { result
             ≡ four (λ i. halves_product (bit_xor (slice_index words i) (slice_index keys i)) % 2 ^ 64) };
 }
 
-// Four accumulators: each gains its neighbour's word and the product of the halves of its own word under its key.
-// The neighbours come first, so that the accumulators before are done with and their registers are free.
+// Accumulates into four accumulators: adds to each its neighbour's word and the product of the halves of its own word
+// under its key. The neighbours come first, so that the old accumulators are no longer needed and their registers are
+// free.
 #[inline]
 pub(super) fn accumulate_four<K: HalvesProducts>(
     kernel: K,
@@ -35,9 +36,9 @@ pub(super) fn accumulate_four<K: HalvesProducts>(
     (sums + u64x4::from_array([p0, p1, p2, p3])).to_array()
 }
 
-// Four accumulators, from accumulator `i` on, after four stripes. The words are summed where they stand, so that
-// neighbours exchange them once. Each stripe is read behind the product of the one before: of words that were all read
-// first, LLVM adds the sum first and keeps four products in registers meanwhile.
+// Accumulates four stripes into four accumulators, from accumulator `i` on. Sums the words in place, so that neighbours
+// exchange them once. Reads each stripe after the product of the one before: if all words are read first, LLVM does the
+// sum first and keeps four products in registers meanwhile.
 #[tactic(auto, using(crate::proofs::KernelFacts::four_sums))]
 #[inline(always)]
 pub(super) fn accumulate_four_by_four<K: HalvesProducts>(
@@ -82,7 +83,7 @@ fn sum(a: [u64; 4], b: [u64; 4]) -> [u64; 4]
     (u64x4::from_array([a0, a1, a2, a3]) + u64x4::from_array([b0, b1, b2, b3])).to_array()
 }
 
-// Four accumulators, each with its neighbour's word.
+// Adds its neighbour's word to each of four accumulators.
 #[inline]
 fn sum_with_exchange(acc: [u64; 4], words: [u64; 4]) -> [u64; 4]
     ensures { result ≡ (slice_index acc 0 + slice_index words 1) % 2 ^ 64

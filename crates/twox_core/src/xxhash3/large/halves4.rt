@@ -1,5 +1,5 @@
 //! The kernel that works on four accumulators at a time and multiplies the halves of a word as words of 32 bits, by
-//! `std::simd`: WebAssembly has an instruction for that product, and its product of words of 64 bits is made of many.
+//! `std::simd`: WebAssembly has an instruction for that product, and needs many for a product of words of 64 bits.
 
 ghost use Rattle.std.specs.Prelude.{◌≡◌, ◌/◌, ◌%◌, ◌^◌, [], ◌∷◌, slice_index};
 ghost use Rattle.twox_core.specs.Kernel.{four, scramble_with_word};
@@ -10,7 +10,7 @@ use crate::xxhash3::Vector;
 use crate::xxhash3::primes::PRIME32_1;
 use std::simd::{u32x4, u64x2, u64x4};
 
-/// The kernel of four accumulators at a time whose products are of the halves of words.
+/// The kernel of four accumulators at a time that multiplies halves of words.
 #[derive(Clone, Copy)]
 pub struct Impl;
 
@@ -49,8 +49,8 @@ impl Vector for Impl {
 struct Products;
 
 impl HalvesProducts for Products {
-    // The halves of two vectors are put together before they are made wide: of the halves of one LLVM makes a mask and a
-    // shift again, and of these no product of words of 32 bits.
+    // Joins the halves of two vectors before widening them: from the halves of one LLVM would make a mask and a shift
+    // again, and from these no product of words of 32 bits.
     #[inline(always)]
     fn halves_products(&self, words: [u64; 4], keys: [u64; 4]) -> [u64; 4] {
         let [w0, w1, w2, w3] = words;
@@ -67,7 +67,7 @@ impl HalvesProducts for Products {
     }
 }
 
-// The halves of two words, the lower one first.
+// Splits two words into their halves, the lower one first.
 #[tactic(auto, using(crate::proofs::HalvesFacts::split_two))]
 #[inline]
 fn halves_of(words: [u64; 2]) -> [u32; 4]

@@ -37,8 +37,9 @@ impl Vector for Impl {
     }
 }
 
-// Two accumulators: each gains its neighbour's word and the product of the halves of its own word under its key.
-// The neighbours come first, so that the accumulators before are done with and their registers are free.
+// Accumulates into two accumulators: adds to each its neighbour's word and the product of the halves of its own word
+// under its key. The neighbours come first, so that the old accumulators are no longer needed and their registers are
+// free.
 #[inline]
 pub(super) fn accumulate_two(acc: [u64; 2], words: [u64; 2], keys: [u64; 2]) -> [u64; 2]
     ensures a { slice_index result 0
@@ -69,7 +70,7 @@ fn scramble_two(acc: [u64; 2], keys: [u64; 2]) -> [u64; 2]
     ((acc ^ (acc >> u64x2::splat(47)) ^ keys) * u64x2::splat(PRIME32_1)).to_array()
 }
 
-// Two words from word `i` on.
+// Returns two words from word `i` on.
 #[inline]
 pub(super) fn words(bytes: &[u8; 64], i: usize) -> [u64; 2]
     requires { i + 2 ≤ 8 }

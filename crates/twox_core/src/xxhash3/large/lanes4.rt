@@ -52,7 +52,7 @@ impl Vector for Impl {
         *acc = [a, b, c, d, e, f, g, h];
     }
 
-    // A build for vectors of 512 bits answers `true` in its place (`assembly/wide.py`). No clause says which it is, so each
+    // A build for vectors of 512 bits returns `true` instead (`assembly/wide.py`). No clause fixes the result, so each
     // caller is proved for both.
     #[inline(always)]
     fn is_widened(&self) -> bool {
@@ -60,7 +60,7 @@ impl Vector for Impl {
     }
 }
 
-// Products of words of 64 bits, whose upper halves are 0.
+// Products of words of 64 bits whose upper halves are 0.
 #[derive(Clone, Copy)]
 struct Products;
 
@@ -87,8 +87,8 @@ fn scramble_four(acc: [u64; 4], keys: [u64; 4]) -> [u64; 4]
     times_prime((acc ^ (acc >> u64x4::splat(47)) ^ keys).to_array())
 }
 
-// Each word times the prime, modulo 2^64. A processor's vectors mostly have no product of 64 bits, and LLVM makes one
-// outside of vectors on 64-bit ARM. So the upper half is multiplied as a word of 32 bits, where it stands.
+// Multiplies each word by the prime, modulo 2^64. Most processors have no vector product of 64 bits, and on 64-bit ARM
+// LLVM makes one outside of vectors. So the upper half is multiplied as a word of 32 bits, in place.
 #[inline]
 fn times_prime(words: [u64; 4]) -> [u64; 4]
     ensures { result ≡ slice_index words 0 * prime32_1 % 2 ^ 64
@@ -105,7 +105,7 @@ fn times_prime(words: [u64; 4]) -> [u64; 4]
     (upper + lower * u64x4::splat(PRIME32_1)).to_array()
 }
 
-// The halves of each word, the lower one first.
+// Splits each word into its halves, the lower one first.
 #[tactic(auto, using(crate::proofs::HalvesFacts::split_four))]
 #[inline]
 fn halves_of(words: [u64; 4]) -> u32x8
@@ -118,7 +118,7 @@ fn halves_of(words: [u64; 4]) -> u32x8
     u32x8::from_le_bytes(u64x4::from_array([a, b, c, d]).to_le_bytes())
 }
 
-// The words of these halves.
+// Joins the halves to words.
 #[tactic(auto, using(crate::proofs::HalvesFacts::join_eight))]
 #[inline]
 fn joined(halves: [u32; 8]) -> [u64; 4]

@@ -34,7 +34,8 @@ impl Vector for Impl {
     }
 }
 
-// Eight accumulators: each gains its neighbour's word and the product of the halves of its own word under its key.
+// Accumulates into eight accumulators: adds to each its neighbour's word and the product of the halves of its own word
+// under its key.
 #[inline]
 fn accumulate_eight(acc: [u64; 8], words: [u64; 8], keys: [u64; 8]) -> [u64; 8]
     ensures { result ≡ eight (sum_with_words_at acc words keys) }
@@ -42,7 +43,7 @@ fn accumulate_eight(acc: [u64; 8], words: [u64; 8], keys: [u64; 8]) -> [u64; 8]
     sum(sum(acc, exchanged(words)), halves_products(words, keys))
 }
 
-// Eight accumulators after four stripes. The words are summed where they stand, so that neighbours exchange them once.
+// Accumulates four stripes into eight accumulators. Sums the words in place, so that neighbours exchange them once.
 #[tactic(auto, using(crate::proofs::KernelFacts::four_sums))]
 #[inline(always)]
 fn accumulate_eight_by_four(acc: [u64; 8], stripes: &[u8; 256], secret: &[u8; 88]) -> [u64; 8]
@@ -62,7 +63,7 @@ fn accumulate_eight_by_four(acc: [u64; 8], stripes: &[u8; 256], secret: &[u8; 88
     sum(own, exchanged(sum(sum(sum(first, second), third), fourth)))
 }
 
-// The product of the halves of each word under its key.
+// Returns the product of the halves of each word under its key.
 #[inline]
 fn halves_products(words: [u64; 8], keys: [u64; 8]) -> [u64; 8]
     ensures { result
@@ -87,7 +88,7 @@ fn sum(a: [u64; 8], b: [u64; 8]) -> [u64; 8]
     (a + u64x8::from_array([b0, b1, b2, b3, b4, b5, b6, b7])).to_array()
 }
 
-// Each word in its neighbour's place.
+// Swaps each word with its neighbour.
 #[inline]
 fn exchanged(words: [u64; 8]) -> [u64; 8]
     ensures { result ≡ eight (λ i. slice_index words (bit_xor i 1)) }

@@ -43,7 +43,7 @@ impl Vector for Impl {
     }
 }
 
-// Accumulator `i`, which gains its neighbour's word of the stripe and the product of the halves of its own.
+// Accumulates into accumulator `i`: adds its neighbour's word of the stripe and the product of the halves of its own.
 #[inline(always)]
 #[tactic(auto, unfolding(crate::specs::Long::accumulate_one))]
 fn accumulate_one(accumulator: u64, stripe: &[u8; 64], secret: &[u8; 64], i: usize) -> u64

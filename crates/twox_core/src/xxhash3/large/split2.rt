@@ -1,4 +1,4 @@
-//! The kernel that works on two accumulators at a time and multiplies no two words of 64 bits, by `std::simd`.
+//! The kernel that works on two accumulators at a time and never multiplies two words of 64 bits, by `std::simd`.
 
 ghost use Rattle.std.specs.Prelude.{◌≡◌, ◌*◌, ◌%◌, ◌^◌, List, [], ◌∷◌, slice_index};
 ghost use Rattle.twox_core.specs.Kernel.{scramble_with_word};
@@ -48,7 +48,7 @@ fn scramble_two(acc: [u64; 2], keys: [u64; 2]) -> [u64; 2]
     mul_u32_u64(mixed.to_array(), PRIME32_1 as u32)
 }
 
-/// Each lane times the factor, modulo 2^64, from two products of 32 bits by 32 bits.
+/// Multiplies each lane by the factor, modulo 2^64, with two products of 32 bits by 32 bits.
 #[tactic(auto, using(crate::proofs::KernelFacts::split_product))]
 #[inline]
 pub fn mul_u32_u64(lanes: [u64; 2], factor: u32) -> [u64; 2]

@@ -1,4 +1,4 @@
-//! What kernels share: the words of a stripe and of the secret.
+//! Code shared by kernels: the words of a stripe and of the secret.
 
 ghost use Rattle.std.specs.Prelude.{◌≡◌, List, [], ◌∷◌, ◌+◌, ◌*◌, ◌<◌, ◌≤◌};
 ghost use Rattle.twox_core.specs.Kernel.{eight};
@@ -6,7 +6,7 @@ ghost use Rattle.twox_core.specs.Steps.{word64};
 
 use std::simd::{u8x32, u8x64, u64x4, u64x8};
 
-// Word `i`, read whole, so that the compiler can load several words at once.
+// Returns word `i`, read whole, so that the compiler can load several words at once.
 #[tactic(auto, using(twox_words::proofs::WordFacts::first_chunks_at), unfolding(twox_words::specs::Word::word_at))]
 #[inline(always)]
 pub(super) fn word(bytes: &[u8; 64], i: usize) -> u64
@@ -17,8 +17,8 @@ pub(super) fn word(bytes: &[u8; 64], i: usize) -> u64
     u64::from_le_bytes(words[i])
 }
 
-// Four words from word `i` on, read as one vector: read one by one, LLVM takes those that two stripes share only once,
-// and then spends more on putting vectors together than it saves.
+// Returns four words from word `i` on, read as one vector. If they are read one by one, LLVM takes those that two
+// stripes share only once, and then spends more on building vectors than it saves.
 #[inline(always)]
 pub(super) fn words(bytes: &[u8; 64], i: usize) -> [u64; 4]
     requires { i + 4 ≤ 8 }
@@ -28,7 +28,7 @@ pub(super) fn words(bytes: &[u8; 64], i: usize) -> [u64; 4]
     u64x4::from_le_bytes(u8x32::from_slice(&bytes[8 * i..8 * i + 32])).to_array()
 }
 
-// All eight words, read as one vector.
+// Returns all eight words, read as one vector.
 #[inline(always)]
 pub(super) fn all_words(bytes: &[u8; 64]) -> [u64; 8]
     ensures { result ≡ eight (λ i. word64 bytes.now (8 * i)) }

@@ -1,4 +1,4 @@
-//! What may hold a secret.
+//! Buffers that can hold a secret.
 
 ghost use Rattle.std.specs.Prelude.{◌≡◌, ℕ, List, length, refl};
 ghost use Rattle.std.specs.Borrow.{sem, Lends, Array, u8};
@@ -10,32 +10,32 @@ ghost use Rattle.std.proofs.lemmas.List.{with_items_is};
 use std::alloc::Allocator;
 use std::boxed::BoxedSlice;
 
-/// A type that lends a fixed number of bytes, the same at every call.
+/// A type that holds a fixed number of bytes. Every call returns the same ones.
 pub trait FixedBuffer {
     // The bytes.
     ghost bytes: { Self → List ℕ };
 
-    /// The bytes.
+    /// Returns the bytes.
     fn as_ref(&self) -> &[u8]
         ensures { result.now ≡ bytes self.now };
 }
 
-/// Such a type whose bytes can be written. Both calls lend the same bytes, and their number stays.
+/// A fixed buffer whose bytes can be written. Both calls return the same bytes, and their number stays the same.
 pub trait FixedMutBuffer: FixedBuffer {
     // The buffer with other bytes.
     ghost with_bytes: { Self → List ℕ → Self };
 
-    /// The bytes, to be written.
+    /// Returns the bytes for writing.
     fn as_mut(&mut self) -> &mut [u8]
         ensures value { result.now ≡ Self.bytes self.old }
         ensures* writes_back { sem 𝓛 (Lends
             Self.row (Array u8 0) self.entry result (with_bytes self.old)) };
 
-    // What was written is what is lent afterwards.
+    // After a write the calls return what was written.
     ghost lends_back: { (x : Self) (w : List ℕ) → length w ≡ length (Self.bytes x) → Self.bytes (with_bytes x w) ≡ w };
 }
 
-/// A buffer whose copies lend the same bytes.
+/// A buffer whose clones hold the same bytes.
 pub trait ClonedBuffer: FixedBuffer + Clone {
     ghost copies: { (x y : Self) → Self.is_clone x y → Self.bytes y ≡ Self.bytes x };
 }

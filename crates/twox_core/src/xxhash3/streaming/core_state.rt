@@ -1,4 +1,4 @@
-//! What a stream holds beside its secret and its seed: the stripes taken, and the bytes after them.
+//! The state of a stream without its secret and its seed: the stripes taken, and the bytes after them.
 
 ghost use Rattle.std.specs.Prelude.{◌≡◌, ◌↔◌, ℕ, List, ◌++◌, ◌+◌, ◌-◌, ◌*◌, ◌/◌, ◌<◌, ◌≤◌, min, take, drop, length, IsTrue};
 ghost use Rattle.twox_core.specs.Long.{stripes_of};
@@ -11,14 +11,14 @@ use crate::xxhash3::{CUTOFF, DEFAULT_SEED, Finalize, Secret, Vector, default_sec
 use twox_words::copies::{copy_short, copy_up_to_128};
 use twox_words::words::IntoU64;
 
-/// How many bytes a stream keeps for later: whole stripes, and more than the greatest length that is hashed
-/// with no stripes.
+/// Size of a stream's buffer in bytes: whole stripes, and more than the maximum length that is hashed with no stripes.
 pub const BUFFERED_BYTES: usize = 512;
 
-/// Pieces of up to so many bytes are kept with no call.
+/// Chunks of up to this many bytes are buffered without a call.
 const FEW_BYTES: usize = 32;
 
-/// Stripes of pieces of so many bytes or more are taken out of line, in the way that is fastest for their number.
+/// From this many bytes on, the stripes of a chunk are taken in a separate function, in the way that is fastest for
+/// their number.
 const LONG_PIECE_BYTES: usize = 2_048;
 
 const _: () = prove!(BUFFERED_BYTES > CUTOFF);
@@ -27,22 +27,22 @@ const _: () = prove!(BUFFERED_BYTES % 64 == 0);
 
 const _: () = prove!(size_of::<CoreState>() == 672);
 
-/// What a stream holds beside its secret and its seed. [`RawHasherCore`](super::RawHasherCore) keeps all three and
-/// is what to use; this is for a stream that lies in memory of another layout, such as one that C holds.
+/// The state of a stream without its secret and its seed. [`RawHasherCore`](super::RawHasherCore) holds all three and
+/// is the type to use; this one is for streams in memory of another layout, such as one that C holds.
 ///
-/// The calls have the secret handed in, and it has to be the same at each. They ask for three things, which hold
-/// of a new state and after each call: the accumulators' place lies in the secret, at most `BUFFERED_BYTES` bytes
-/// wait, and if any bytes were taken, one at least waits. No call reads a byte of the buffer that is not in use.
+/// The calls take the secret as an argument, which must be the same at each. They require three things, which are true
+/// of a new state and after each call: the accumulators' place lies in the secret; at most `BUFFERED_BYTES` bytes are
+/// buffered; and after the first byte, at least one is buffered. No call reads a byte of the buffer that is not in use.
 #[repr(C)]
 #[derive(Clone, Copy)]
 pub struct CoreState {
     /// The stripes taken.
     pub taken: TakenStripes,
-    /// Begins with the bytes that wait.
+    /// The buffer. Begins with the bytes that are in use.
     pub buffer: [u8; BUFFERED_BYTES],
-    /// How many bytes wait.
+    /// Number of bytes buffered.
     pub buffer_usage: usize,
-    /// The number of bytes taken so far; from 2^64 - 1 on it stays there.
+    /// Total bytes taken, saturating at 2^64 - 1.
     pub total_bytes: u64,
 }
 
@@ -52,7 +52,7 @@ impl CoreState {
     ghost use Rattle.twox_core.specs.InRange.{IsInRange};
     ghost use Rattle.twox_core.specs.Value.{short_secret, stream_seed};
 
-    /// The state of no bytes yet.
+    /// Returns the state of no bytes.
     #[inline(always)]
     pub fn new() -> CoreState
         ensures { result ≡ empty_state }
@@ -65,8 +65,7 @@ impl CoreState {
         }
     }
 
-    /// Forgets all bytes taken: the state is one of no bytes yet, but for bytes of the buffer, which stay as they
-    /// are.
+    /// Resets to the state of no bytes. The bytes of the buffer stay, unused.
     #[inline(always)]
     pub fn clear(&mut self)
         ensures { self.new ≡ record empty_state { buffer = self.old.buffer } }
@@ -76,7 +75,7 @@ impl CoreState {
         self.total_bytes = 0;
     }
 
-    /// Whether the calls go on from the state over that secret: a state from elsewhere is tested by it.
+    /// True if the calls can continue from this state under that secret: the test for a state from elsewhere.
     #[inline(always)]
     pub fn is_in_range(&self, secret: Secret<'_>) -> bool
         ensures in_range { IsTrue result ↔ IsInRange (secret_bytes secret.entry) self.now }
@@ -88,7 +87,7 @@ impl CoreState {
             && (0 < self.buffer_usage || self.total_bytes == 0)
     }
 
-    /// Takes the bytes of `input` after those taken before.
+    /// Hashes `input` after the bytes before.
     #[inline(always)]
     pub fn write<V: Vector>(&mut self, v: V, input: &[u8], secret: Secret<'_>)
         requires { IsInRange (secret_bytes secret) self.old }
@@ -99,8 +98,8 @@ impl CoreState {
         ensures in_place { 512 < length input.now
             → (64 ≤ self.new.buffer_usage) × (self.new.buffer_usage ≤ 127) }
     {
-        // A piece that the buffer has room for is kept, even if it fills the buffer, since the last stripe of a stream
-        // is taken by `finish` alone.
+        // A chunk that fits the buffer is buffered, even if it fills it, since only `finish` takes the last stripe of a
+        // stream.
         self.total_bytes = self.total_bytes.saturating_add(input.len().into_u64());
         if input.len() <= BUFFERED_BYTES - self.buffer_usage {
             self.keep(input);
@@ -111,7 +110,7 @@ impl CoreState {
         }
     }
 
-    // Takes a piece of a few bytes that the buffer has room for, with no call, over whatever secret.
+    // Buffers a chunk of a few bytes that fits, without a call and for any secret.
     #[tactic(auto, using(std::proofs::lemmas::Bool::Decides::nat_tests), unfolding(crate::specs::AfterWrite::state_after_write))]
     #[inline(always)]
     pub(crate) fn keep_few(&mut self, input: &[u8])
@@ -124,9 +123,9 @@ impl CoreState {
         self.add_few(input);
     }
 
-    // Fills the buffered bytes up to whole stripes, takes these, and goes on with the rest where it lies. A call
-    // of its own, so that small pieces pay no frame, and one for many bytes, so that others keep no register for
-    // the call that takes their stripes.
+    // Fills the buffer up to whole stripes, takes these, and takes the rest in place. A separate function, so that
+    // small chunks have no frame, and a separate one for many bytes, so that others keep no register for the call that
+    // takes their stripes.
     #[tactic(auto, unfolding(crate::specs::AfterWrite::after_long_piece))]
     #[inline(never)]
     fn write_through<V: Vector, const MANY: bool>(&mut self, v: V, input: &[u8], secret: Secret<'_>)
@@ -144,20 +143,20 @@ impl CoreState {
         self.restart::<V, MANY>(v, rest, secret);
     }
 
-    // Puts `head`, which may be empty, after the buffered bytes.
+    // Appends `head`, which may be empty, to the buffered bytes.
     #[inline(always)]
     fn fill_stripe(&mut self, head: &[u8])
         requires room { self.old.buffer_usage + length head.now ≤ 512 }
         requires few { length head.now ≤ 64 }
         ensures { self.new ≡ with_buffered self.old head.now }
     {
-        // Of a piece of whole stripes there are none.
+        // A chunk of whole stripes has no head.
         if !head.is_empty() {
             self.add_few(head);
         }
     }
 
-    // Puts a few bytes after the buffered ones.
+    // Appends a few bytes to the buffered ones.
     #[inline(always)]
     fn add_few(&mut self, input: &[u8])
         requires room { self.old.buffer_usage + length input.now ≤ 512 }
@@ -170,8 +169,8 @@ impl CoreState {
         self.buffer_usage = end;
     }
 
-    // Puts a piece after the buffered bytes. Their number is stored first: a call that moves bytes is the last step then,
-    // and `write` keeps no register for what comes after it.
+    // Appends a chunk to the buffered bytes. Stores their number first: the call that copies bytes is then the last
+    // step, and `write` keeps no register for what comes after it.
     #[inline(always)]
     fn keep(&mut self, input: &[u8])
         requires { self.old.buffer_usage + length input.now ≤ 512 }
@@ -201,7 +200,7 @@ impl CoreState {
         self.buffer_usage = 0;
     }
 
-    // Takes whole stripes of `rest` where they lie, and buffers what is left: of 64 bytes or more, at least 64.
+    // Takes whole stripes of `rest` in place, and buffers the rest: for 64 bytes or more, at least 64.
     #[inline(always)]
     fn restart<V: Vector, const MANY: bool>(&mut self, v: V, rest: &[u8], secret: Secret<'_>)
         requires { self.old.taken.stripes.current_stripe < stripes_of (secret_bytes secret) }
@@ -232,8 +231,8 @@ impl CoreState {
         self.buffer_usage = last.len();
     }
 
-    /// What `finalize` makes of the bytes taken, which stay. Up to 240 bytes that is with the default secret and
-    /// the seed or, where there is none, with the secret and the seed 0; above with the secret.
+    /// Returns the value of the bytes taken, by `finalize`. The state stays. Up to 240 bytes it uses the default secret
+    /// and the seed or, without a seed, the secret and the seed 0; above that it uses the secret.
     #[inline(always)]
     pub fn finish<V: Vector, F: Finalize>(
         &self,
@@ -265,7 +264,7 @@ impl CoreState {
         )
     }
 
-    // The value of up to 240 bytes: with the default secret and the seed or, where there is none, with the secret.
+    // Returns the value of up to 240 bytes: with the default secret and the seed or, without a seed, with the secret.
     #[inline(always)]
     fn finish_short<F: Finalize>(
         &self,
@@ -284,7 +283,8 @@ impl CoreState {
         }
     }
 
-    // The last 64 bytes of the stream: of the buffered ones, or the end of the last stripe taken and these.
+    // Returns the last 64 bytes of the stream: the end of the buffered ones, or the end of the last stripe taken and
+    // these.
     #[inline(always)]
     #[tactic(auto, unfolding(crate::specs::Finish::last_bytes))]
     fn last_stripe(&self) -> [u8; 64]
@@ -300,7 +300,7 @@ impl CoreState {
     }
 }
 
-// A call of its own, so that the default secret's words are constants of the other code.
+// Separate function, so that the default secret's words are constants of the other code.
 #[inline(never)]
 fn finish_keyed<F: Finalize>(finalize: &F, secret: Secret<'_>, input: &[u8]) -> F::Output
     requires { length input.now ≤ 240 }
@@ -309,7 +309,7 @@ fn finish_keyed<F: Finalize>(finalize: &F, secret: Secret<'_>, input: &[u8]) -> 
     finalize.small(secret, DEFAULT_SEED, input)
 }
 
-// A stripe of two parts.
+// Joins two parts to a stripe.
 #[inline(always)]
 fn stripe_of_parts(front: &[u8], back: &[u8]) -> [u8; 64]
     requires { length front.now + length back.now ≡ 64 }

@@ -1,4 +1,4 @@
-//! A secret that is held, with its seed, and what is answered where it hasn't the right length.
+//! A stored secret with its seed, and the errors for a secret of the wrong length.
 
 use super::{ClonedBuffer, FixedBuffer, FixedMutBuffer};
 use crate::xxhash3::{
@@ -11,10 +11,10 @@ use std::error::Error;
 use std::fmt;
 use std::marker::Model;
 
-/// A secret of at least 136 bytes, and the seed that goes with it, if it was made with one.
+/// A secret of at least 136 bytes, and its seed, if it was made with one.
 ///
-/// A stream over a buffer that was made with a seed hashes up to 240 bytes with the default secret and the seed,
-/// and more with the secret. One over a buffer that was made with the secret alone uses that at every length.
+/// A stream over a buffer that was made with a seed hashes up to 240 bytes with the default secret and the seed, and
+/// more with the secret. A stream over a buffer that was made with only a secret uses that at every length.
 #[derive(Drop)]
 pub struct SecretBuffer<S: FixedBuffer> {
     seed: Option<u64>,
@@ -37,11 +37,11 @@ impl<S: FixedBuffer> SecretBuffer<S> {
     ghost use Rattle.twox_core.specs.StreamKey.{StreamKey};
     ghost use Rattle.twox_core.specs.SecretBytes.{secret_bytes};
 
-    /// Holds the seed and the secret as they are.
+    /// Stores the seed and the secret as they are.
     ///
     /// # Errors
     ///
-    /// The secret has fewer than 136 bytes; it is handed back.
+    /// Returns the secret in the error if it has fewer than 136 bytes.
     pub fn new(seed: u64, secret: S) -> Result<SecretBuffer<S>, SecretTooShortError<S>>
         ensures { MatchResult result (λ b. (136 ≤ length (S.bytes secret)) × (b.seed
             ≡ Some seed) × (b.secret ≡ secret))
@@ -50,11 +50,11 @@ impl<S: FixedBuffer> SecretBuffer<S> {
         SecretBuffer::checked(Some(seed), secret)
     }
 
-    /// Holds the secret alone: it is used at every length, with the seed 0.
+    /// Stores only the secret, used at every length with the seed 0.
     ///
     /// # Errors
     ///
-    /// The secret has fewer than 136 bytes; it is handed back.
+    /// Returns the secret in the error if it has fewer than 136 bytes.
     pub fn with_secret(secret: S) -> Result<SecretBuffer<S>, SecretTooShortError<S>>
         ensures { let s = S.bytes secret in
             MatchResult result (λ b. (136 ≤ length s) × (b.seed ≡ None) × (b.secret ≡ secret))
@@ -63,7 +63,7 @@ impl<S: FixedBuffer> SecretBuffer<S> {
         SecretBuffer::checked(None, secret)
     }
 
-    // Holds both, if the secret has its minimum length.
+    // Stores both, if the secret has its minimum length.
     fn checked(seed: Option<u64>, secret: S) -> Result<SecretBuffer<S>, SecretTooShortError<S>>
         ensures { let s = S.bytes secret in
             MatchResult result (λ b. (136 ≤ length s) × (b.seed ≡ seed) × (b.secret ≡ secret))
@@ -76,7 +76,7 @@ impl<S: FixedBuffer> SecretBuffer<S> {
         }
     }
 
-    /// The secret, as it is held.
+    /// Returns the secret.
     pub fn into_secret(self) -> S
         ensures { result ≡ self.secret }
     {
@@ -84,7 +84,7 @@ impl<S: FixedBuffer> SecretBuffer<S> {
         secret
     }
 
-    // The seed, if the buffer was made with one.
+    // Returns the seed, if the buffer was made with one.
     #[inline(always)]
     pub(super) fn seed(&self) -> Option<u64>
         ensures { result ≡ self.now.seed }
@@ -92,7 +92,7 @@ impl<S: FixedBuffer> SecretBuffer<S> {
         self.seed
     }
 
-    // The secret, lent.
+    // Borrows the secret.
     #[inline(always)]
     pub(super) fn secret(&self) -> Secret<'_>
         ensures { secret_bytes result ≡ S.bytes self.now.secret }
@@ -106,11 +106,11 @@ impl<S: FixedMutBuffer> SecretBuffer<S> {
     ghost use Rattle.twox_core.specs.Secret.{derived_secret};
     ghost use Rattle.twox_core.specs.StreamKey.{StreamKey};
 
-    /// Overwrites the buffer with the secret that the seed derives, and holds it.
+    /// Overwrites the buffer with the secret derived from the seed, and stores it.
     ///
     /// # Errors
     ///
-    /// The buffer hasn't exactly 192 bytes; it is handed back as it was.
+    /// Returns the unchanged buffer in the error if it is not exactly 192 bytes long.
     pub fn with_seed(seed: u64, mut secret: S) -> Result<SecretBuffer<S>, SecretWithSeedError<S>>
         ensures { MatchResult result (λ b. (length (S.FixedBuffer.bytes secret) ≡ 192) × (b.seed
             ≡ Some seed) × (S.FixedBuffer.bytes b.secret ≡ derived_secret seed))
@@ -132,7 +132,7 @@ impl SecretBuffer<DefaultSecret> {
     ghost use Rattle.twox_core.specs.Secret.{default_secret};
     ghost use Rattle.twox_core.specs.StreamKey.{StreamKey};
 
-    /// The seed 0 and the default secret.
+    /// Stores the seed 0 and the default secret.
     #[tactic(auto, unfolding(crate::specs::Secret::default_secret))]
     pub fn default() -> SecretBuffer<DefaultSecret>
         ensures seed { result.seed ≡ Some 0 }
@@ -151,11 +151,11 @@ impl<A: Allocator> SecretBuffer<BoxedSlice<u8, A>> {
     ghost use Rattle.twox_core.specs.Secret.{default_secret, derived_secret};
     ghost use Rattle.twox_core.specs.StreamKey.{StreamKey};
 
-    /// The seed 0 and the default secret, in memory of its own.
+    /// Stores the seed 0 and the default secret, allocated.
     ///
     /// # Errors
     ///
-    /// There is no memory for the secret.
+    /// `AllocError` if out of memory.
     #[tactic(auto, unfolding(crate::specs::Secret::default_secret))]
     pub fn allocate_default(alloc: A) -> Result<SecretBuffer<BoxedSlice<u8, A>>, AllocError>
         ensures { IfOk result (λ b. (b.seed ≡ Some 0) × (boxed_slice_items b.secret
@@ -167,11 +167,11 @@ impl<A: Allocator> SecretBuffer<BoxedSlice<u8, A>> {
         })
     }
 
-    /// The seed and the secret that it derives, in memory of its own.
+    /// Stores the seed and the secret derived from it, allocated.
     ///
     /// # Errors
     ///
-    /// There is no memory for the secret.
+    /// `AllocError` if out of memory.
     pub fn allocate_with_seed(
         alloc: A,
         seed: u64,
@@ -185,11 +185,11 @@ impl<A: Allocator> SecretBuffer<BoxedSlice<u8, A>> {
         })
     }
 
-    /// Holds the seed and the secret as they are, and takes no memory.
+    /// Stores the seed and the secret as they are. Allocates nothing.
     ///
     /// # Errors
     ///
-    /// The secret has fewer than 136 bytes; it is handed back.
+    /// Returns the secret in the error if it has fewer than 136 bytes.
     pub fn allocate_with_seed_and_secret(
         seed: u64,
         secret: BoxedSlice<u8, A>,
@@ -201,11 +201,11 @@ impl<A: Allocator> SecretBuffer<BoxedSlice<u8, A>> {
         SecretBuffer::new(seed, secret)
     }
 
-    /// Holds the secret alone, and takes no memory: it is used at every length, with the seed 0.
+    /// Stores only the secret, used at every length with the seed 0. Allocates nothing.
     ///
     /// # Errors
     ///
-    /// The secret has fewer than 136 bytes; it is handed back.
+    /// Returns the secret in the error if it has fewer than 136 bytes.
     pub fn allocate_with_secret(
         secret: BoxedSlice<u8, A>,
     ) -> Result<SecretBuffer<BoxedSlice<u8, A>>, SecretTooShortError<BoxedSlice<u8, A>>>
@@ -249,7 +249,7 @@ impl<S> Model for SecretTooShortError<S> {
 impl<S> SecretTooShortError<S> {
     ghost use Rattle.std.specs.Prelude.{◌≡◌};
 
-    /// The secret, as it was handed in.
+    /// Returns the secret that was passed in.
     pub fn into_secret(self) -> S
         ensures { result ≡ self }
     {
@@ -276,7 +276,7 @@ impl<S> fmt::Display for SecretTooShortError<S> {
 
 impl<S: Drop> Error for SecretTooShortError<S> {}
 
-/// The buffer for a derived secret hasn't exactly 192 bytes.
+/// The buffer for a derived secret is not exactly 192 bytes long.
 #[derive(Drop)]
 pub struct SecretWithSeedError<S> {
     secret: S,
@@ -291,7 +291,7 @@ impl<S> Model for SecretWithSeedError<S> {
 impl<S> SecretWithSeedError<S> {
     ghost use Rattle.std.specs.Prelude.{◌≡◌};
 
-    /// The buffer, as it was handed in.
+    /// Returns the buffer that was passed in.
     pub fn into_secret(self) -> S
         ensures { result ≡ self }
     {

@@ -8,15 +8,15 @@ use crate::xxhash3::parts::array_at;
 use crate::xxhash3::{Secret, StripeAccumulator, Vector};
 use twox_words::words::IntoU64;
 
-/// The stripes that a stream has taken, as what they left.
+/// The stripes that a stream has taken, as their effect.
 #[repr(C)]
 #[derive(Clone, Copy)]
 pub struct TakenStripes {
     /// The accumulators, and their place in the secret.
     pub stripes: StripeAccumulator,
-    /// The last stripe, of which a short last one of the stream is made.
+    /// The last stripe, from which a short last stripe of the stream is completed.
     pub last: [u8; 64],
-    /// How many there were; from 2^64 - 1 on it stays there.
+    /// Their number, saturating at 2^64 - 1.
     pub count: u64,
 }
 
@@ -34,7 +34,7 @@ impl TakenStripes {
         }
     }
 
-    // Takes the whole stripes of `bytes`. `MANY` says that these are so many that a call of its own pays.
+    // Takes the whole stripes of `bytes`. `MANY` if there are so many that a separate call pays.
     #[inline(always)]
     pub(crate) fn process<V: Vector, const MANY: bool>(
         &mut self,

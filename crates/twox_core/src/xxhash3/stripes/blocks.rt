@@ -1,5 +1,5 @@
-//! Whole blocks under a secret of 192 bytes, the length of the default secret and of all derived ones: a block has
-//! 16 stripes then, which are taken four at a time.
+//! Whole blocks under a secret of 192 bytes, the length of the default secret and of all derived ones: a block then has
+//! 16 stripes, which are taken four at a time.
 
 ghost use Rattle.std.specs.Prelude.{◌≡◌, ◌*◌, ◌/◌, length};
 ghost use Rattle.twox_core.specs.Ending.{accumulate_block};
@@ -11,13 +11,13 @@ use crate::xxhash3::parts::array_at;
 use crate::xxhash3::{Secret, Vector};
 use twox_words::words::bp_as_chunks;
 
-/// The stripes of a block.
+/// Stripes of a block.
 pub(in crate::xxhash3) const STRIPES_IN_BLOCK: usize = 16;
 
-/// The bytes of a block.
+/// Bytes of a block.
 pub(in crate::xxhash3) const BYTES_IN_BLOCK: usize = 64 * STRIPES_IN_BLOCK;
 
-// The accumulators after many whole blocks, out of line.
+// Returns the accumulators after many whole blocks. A separate function, so that callers stay small.
 #[inline(never)]
 pub(super) fn take_many_blocks<V: Vector>(
     acc: [u64; 8],
@@ -32,8 +32,8 @@ pub(super) fn take_many_blocks<V: Vector>(
     process_blocks::<V, true>(acc, v, bytes, secret)
 }
 
-// The accumulators after whole blocks. The caller says whether they are many: those have code of their own, to which
-// `assembly/prefetch.py` adds prefetches.
+// Returns the accumulators after whole blocks. The caller sets `MANY` if there are many: these have their own code, to
+// which `assembly/prefetch.py` adds prefetches.
 #[inline(always)]
 pub(super) fn process_blocks<V: Vector, const MANY: bool>(
     acc: [u64; 8],
@@ -55,8 +55,8 @@ pub(super) fn process_blocks<V: Vector, const MANY: bool>(
     taken
 }
 
-// The accumulators with the 16 stripes of a block, four at a time: written out as 16, a block leaves no room between
-// them for a prefetch.
+// Returns the accumulators after the 16 stripes of a block, four at a time: with all 16 written out, there would be no
+// place in a block for a prefetch.
 #[inline(always)]
 fn process_block<V: Vector, const MANY: bool>(
     acc: [u64; 8],

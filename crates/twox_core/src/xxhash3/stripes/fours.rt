@@ -1,5 +1,5 @@
 //! Four stripes at a time under a secret of 192 bytes, the length of the default secret and of all derived ones: a
-//! block has 16 stripes then, so that it can end at every fourth one alone.
+//! block then has 16 stripes, so that it can end only at every fourth one.
 
 ghost use Rattle.std.specs.Prelude.{◌≡◌, ◌+◌, ◌*◌, ◌/◌, ◌%◌, ◌<◌, ◌≤◌, length};
 ghost use Rattle.twox_core.specs.Long.{stripes_of};
@@ -11,7 +11,8 @@ use crate::xxhash3::{Secret, Vector};
 use twox_words::words::bp_as_chunks;
 
 impl StripeAccumulator {
-    // Takes the whole stripes of `bytes`: first those before a fourth one, and last those that are fewer than four.
+    // Takes the whole stripes of `bytes`: first those before a place that is a multiple of four, and last those that
+    // are fewer than four.
     #[inline(always)]
     pub(super) fn process_by_fours<V: Vector>(&mut self, v: V, bytes: &[u8], secret: Secret<'_>)
         requires all { stripes_of (secret_bytes secret) ≡ 16 }
@@ -28,7 +29,7 @@ impl StripeAccumulator {
         *self = taken;
     }
 
-    // Takes each four stripes of `bytes`, from a place on that four divides.
+    // Takes each four stripes of `bytes`, from a place that is a multiple of four.
     #[inline(always)]
     fn process_fours<V: Vector>(&mut self, v: V, bytes: &[u8], secret: Secret<'_>)
         requires all { stripes_of (secret_bytes secret) ≡ 16 }
@@ -46,7 +47,7 @@ impl StripeAccumulator {
         *self = taken;
     }
 
-    // Takes four stripes, of which the last alone can end the block.
+    // Takes four stripes, of which only the last can end the block.
     #[inline(always)]
     fn process_four<V: Vector>(&mut self, v: V, stripes: &[u8; 256], secret: Secret<'_>)
         requires all { stripes_of (secret_bytes secret) ≡ 16 }

@@ -1,4 +1,4 @@
-//! Stripes of one block: a scramble comes after the block's last alone, so that the loop has no test for one, and its
+//! Stripes of one block: a scramble comes only after the block's last stripe, so the loop has no test for one, and its
 //! accumulators stay in registers.
 
 ghost use Rattle.std.specs.Prelude.{◌≡◌, ◌+◌, ◌*◌, ◌/◌, ◌<◌, ◌≤◌, drop, length};
@@ -11,7 +11,8 @@ use super::{STRIPES_IN_BLOCK, StripeAccumulator};
 use crate::xxhash3::{Secret, Vector};
 use twox_words::words::bp_as_chunks;
 
-/// The accumulators after the first `count` stripes of `bytes`, from a place in the secret on and with no scramble.
+/// Returns the accumulators after the first `count` stripes of `bytes`, from a place in the secret on and with no
+/// scramble.
 #[inline(always)]
 pub(in crate::xxhash3) fn accumulate_within<V: Vector>(
     acc: [u64; 8],
@@ -34,7 +35,8 @@ pub(in crate::xxhash3) fn accumulate_within<V: Vector>(
     taken
 }
 
-// The accumulators with all stripes of `bytes`, of which the last alone may end the block, under a secret of 192 bytes.
+// Returns the accumulators after all stripes of `bytes`, of which only the last may end the block, under a secret of
+// 192 bytes.
 #[inline(always)]
 pub(super) fn process_within<V: Vector>(
     from: StripeAccumulator,

@@ -3,7 +3,7 @@ use Rattle.std.specs.List.{concat}
 use Rattle.xxh_io.specs.Pieces.{Pieces}
 use Rattle.xxh_io.proofs.write.write_all.Given as goal
 
--- pieces of the bytes up to the rest were taken, and no write has failed
+-- chunks of the bytes up to the rest were taken, and no write has failed
 abbrev pub invariant-loop-rest : goal.invariant-loop-rest
 invariant-loop-rest g l = record {
   works : g.W.Sink.has_failed l.w ≡ false;

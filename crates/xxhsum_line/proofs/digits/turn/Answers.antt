@@ -16,7 +16,7 @@ at_pair l i h =
     ∙ ap (λ r. get_or l i 0 ∷ r) (drop_more l (i + 1) 0 h)
     ∙ ap (λ n. get_or l i 0 ∷ get_or l (i + 1) 0 ∷ drop n l) next
 
--- a swap of two neighbours that stand behind i others
+-- a swap of two neighbours after i others
 swap_pair : (p q : List ℕ) (a b i : ℕ) → length p ≡ i
     → set (set (p ++ a ∷ b ∷ q) i b) (i + 1) a ≡ p ++ b ∷ a ∷ q
 swap_pair p q a b i len =

@@ -1,40 +1,40 @@
 // SPDX-License-Identifier: MIT
 // crates/twox_plain/src/saved_text.rt without its contracts, written by rust/erase --programs: change that file.
 
-//! What the saved texts of both hashes share: numbers and bytes as members of a JSON object, and that object.
+//! Code shared by the saved texts of both hashes: numbers and bytes as members of a JSON object, and that object.
 
 use crate::rattle::prelude::Vec;
 use crate::rattle::serde_json::{Value, json};
 use crate::rattle::{AllocError, Global};
 
-// The whole number, where it is below the limit.
+// Returns the whole number, if it is below the limit.
 fn whole_number_below(value: &Value, limit: u64) -> Option<u64> {
     let number = value.as_u64()?;
     if number < limit { Some(number) } else { None }
 }
 
-// The whole number, where it fits.
+// Returns the whole number, if it fits.
 fn whole_number(value: &Value) -> Option<u64> {
     value.as_u64()
 }
 
-/// The member of that name, a whole number below 2^32.
+/// Returns the member of this name, a whole number below 2^32.
 pub(crate) fn u32_member(value: &Value, name: &str) -> Option<u32> {
     let number = whole_number_below(value.get(name)?, 0x1_0000_0000)?;
     Some(number as u32)
 }
 
-/// The member of that name, a whole number below 2^64.
+/// Returns the member of this name, a whole number below 2^64.
 pub(crate) fn u64_member(value: &Value, name: &str) -> Option<u64> {
     whole_number(value.get(name)?)
 }
 
-/// The member of that name, a whole number that is a length: below 2^64, and no more than the target's `usize` holds.
+/// Returns the member of this name, a length: a whole number below 2^64 that fits the target's `usize`.
 pub(crate) fn usize_member(value: &Value, name: &str) -> Option<usize> {
     usize::try_from(u64_member(value, name)?).ok()
 }
 
-/// The array of exactly N whole numbers below 256.
+/// Parses an array of exactly N integers from 0 to 255.
 pub(crate) fn byte_array<const N: usize>(value: &Value) -> Option<[u8; N]> {
     let list = value.as_array()?;
     if list.len() != N {
@@ -55,12 +55,12 @@ fn byte_values(alloc: Global, bytes: &[u8]) -> Result<Vec<Value>, AllocError> {
     Ok(list)
 }
 
-/// The array of these bytes as numbers.
+/// Returns the bytes as an array of numbers.
 pub(crate) fn byte_array_value(alloc: Global, bytes: &[u8]) -> Result<Value, AllocError> {
     Ok(Value::Array(byte_values(alloc, bytes)?))
 }
 
-/// The object of four accumulators.
+/// Returns the object of four accumulators.
 pub(crate) fn core_value(
     alloc: Global,
     v1: u64,
@@ -71,7 +71,7 @@ pub(crate) fn core_value(
     json!(in alloc; {"v1": v1, "v2": v2, "v3": v3, "v4": v4})
 }
 
-/// The object of a record's members, of which the buffer and the core are values already.
+/// Returns the object of a record's members, from the values of the buffer and the core.
 pub(crate) fn record_value(
     alloc: Global,
     buffer: Value,

@@ -1,7 +1,7 @@
 // SPDX-License-Identifier: MIT
 // crates/xxh_io/src/arguments.rt without its contracts, written by rust/erase --programs: change that file.
 
-//! The words of a process's arguments.
+//! The arguments of a process.
 
 use crate::rattle::prelude::{String, Vec};
 use crate::programs::xxh_io::fault::Fault;
@@ -9,7 +9,7 @@ use crate::rattle::{AllocError, Global};
 use crate::rattle::io;
 use crate::rattle::io::ErrorKind;
 
-/// Why there are no arguments: one is not UTF-8, or there is no memory.
+/// Returns the error for missing arguments: one is not UTF-8, or out of memory.
 pub fn argument_fault(error: io::Error) -> Fault {
     match error.kind() {
         ErrorKind::InvalidData => Fault::Usage,
@@ -17,7 +17,7 @@ pub fn argument_fault(error: io::Error) -> Fault {
     }
 }
 
-/// The words after the program's name. An error says that there was no memory for them.
+/// Returns the arguments after the program's name. Fails if out of memory.
 pub fn words_after_name(alloc: Global, args: &[String]) -> Result<Vec<&str>, AllocError> {
     let after_name = match args.split_first() {
         Some((_, rest)) => rest,

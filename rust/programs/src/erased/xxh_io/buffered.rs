@@ -6,22 +6,21 @@
 use crate::rattle::io;
 use crate::rattle::io::Read;
 
-/// A reader behind a buffer of `N` bytes, so that many short reads cost the reader few long ones. It takes
-/// no memory beyond its own size.
+/// A reader with a buffer of `N` bytes, so that many short reads become few long ones of the reader. Allocates nothing.
 ///
-/// A read gives bytes that wait in the buffer. Only where none wait does it read from the reader behind,
-/// once, and straight into the caller's buffer where that is as long; so an error of that reader comes after
-/// all the bytes that it gave before, and loses none.
+/// A read returns bytes of the buffer. Only if the buffer is empty does it read from the reader, once, and directly
+/// into the caller's buffer if that is as long. An error of the reader therefore comes after all the bytes before it,
+/// and loses none.
 pub struct Buffered<R, const N: usize> {
     inner: R,
     buf: [u8; N],
-    // `buf[start..end]` waits.
+    // `buf[start..end]` is unread.
     start: usize,
     end: usize,
 }
 
 impl<R: Read, const N: usize> Buffered<R, N> {
-    /// An empty buffer in front of the reader.
+    /// Creates an empty buffer in front of the reader.
     pub fn new(inner: R) -> Buffered<R, N> {
         Buffered {
             inner,
@@ -31,7 +30,7 @@ impl<R: Read, const N: usize> Buffered<R, N> {
         }
     }
 
-    // Reads once into the whole buffer, unless bytes wait there.
+    // Reads once into the whole buffer, unless it has unread bytes.
     fn fill(&mut self) -> io::Result<()> {
         if self.start < self.end {
             return Ok(());

@@ -1,12 +1,12 @@
 // SPDX-License-Identifier: MIT
 // crates/xxh_io/src/command.rt without its contracts, written by rust/erase --programs: change that file.
 
-//! What the words of the command line ask for.
+//! Parses the arguments.
 
 use crate::programs::xxh_io::fault::Fault;
 use crate::programs::xxh_io::kind::{Kind, SavedKind};
 
-/// What the words ask for.
+/// A parsed command.
 #[derive(Clone, Copy, Debug, PartialEq, Eq)]
 pub enum Command<'w> {
     /// Prints the digest line of the input.
@@ -15,18 +15,18 @@ pub enum Command<'w> {
     Save32 { seed: u32 },
     /// Prints the saved text of XXH64 of the input.
     Save64 { seed: u64 },
-    /// Goes on from a saved text of XXH32, and prints the digest line.
+    /// Continues from a saved text of XXH32, and prints the digest line.
     Resume32 { json: &'w str },
-    /// Goes on from a saved text of XXH64, and prints the digest line.
+    /// Continues from a saved text of XXH64, and prints the digest line.
     Resume64 { json: &'w str },
     /// Prints the digest lines of the blocks of the input.
     Blocks { size: u64 },
 }
 
-// The seed where the words have none.
+// The seed if the arguments have none.
 const NO_SEED: &str = "0";
 
-/// The command that the words after the program's name ask for.
+/// Parses the arguments after the program's name.
 pub fn parse<'w>(words: &[&'w str]) -> Result<Command<'w>, Fault> {
     match words {
         [name, word] => pair(name, word),
@@ -90,7 +90,7 @@ fn blocks(size: &str) -> Result<Command<'static>, Fault> {
     }
 }
 
-// The kind of this name.
+// Returns the algorithm of this name.
 fn kind_from(name: &str) -> Result<Kind, Fault> {
     match name {
         "32" => Ok(Kind::X32),
@@ -101,7 +101,7 @@ fn kind_from(name: &str) -> Result<Kind, Fault> {
     }
 }
 
-// The kind of this name, of those whose hashers have saved states.
+// Returns the algorithm of this name, if its hashers have saved states.
 fn saved_kind_from(name: &str) -> Result<SavedKind, Fault> {
     match name {
         "32" => Ok(SavedKind::X32),
@@ -110,14 +110,14 @@ fn saved_kind_from(name: &str) -> Result<SavedKind, Fault> {
     }
 }
 
-// The seed that the word writes in decimal digits, up to the greatest of its kind.
+// Parses a seed in decimal digits, up to the maximum of its algorithm.
 fn seed_from(word: &str, most: u64) -> Result<u64, Fault> {
     number_from(word, most, Fault::BadSeed)
 }
 
-// The number that the word writes in decimal digits, up to the greatest; or this fault.
+// Parses a number in decimal digits, up to the maximum, or returns this error.
 fn number_from(word: &str, most: u64, fault: Fault) -> Result<u64, Fault> {
-    // `parse` takes a sign too.
+    // `parse` also accepts a sign.
     if word.starts_with('+') {
         return Err(fault);
     }

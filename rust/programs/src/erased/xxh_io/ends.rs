@@ -1,34 +1,34 @@
 // SPDX-License-Identifier: MIT
 // crates/xxh_io/src/ends.rt without its contracts, written by rust/erase --programs: change that file.
 
-//! What bytes are read from and written to.
+//! Streams to read bytes from and write bytes to.
 
-/// A read or a write failed. Why is not said.
+/// A read or a write failed, for an unspecified reason.
 #[derive(Clone, Copy, Debug, PartialEq, Eq)]
 pub struct Failed;
 
-/// What bytes are read from.
+/// A stream to read bytes from.
 ///
-/// A source that has failed once has failed for good: no call may read from it again.
+/// A source that has failed once stays failed: no call may read from it again.
 pub trait Source {
-    /// Whether a read has failed.
+    /// True if a read has failed.
     fn failed(&self) -> bool;
 
-    /// Reads some bytes into the front of the buffer, and answers how many. None are the end.
+    /// Reads bytes into the front of the buffer, and returns their number, or 0 at the end of the input.
     ///
-    /// The caller shows that the source has not failed and that the buffer is not empty.
+    /// The caller proves that the source has not failed and that the buffer is not empty.
     fn read(&mut self, buf: &mut [u8]) -> Result<usize, Failed>;
 }
 
-/// What bytes are written to.
+/// A stream to write bytes to.
 ///
-/// A sink that has failed once has failed for good: no call may write to it again.
+/// A sink that has failed once stays failed: no call may write to it again.
 pub trait Sink {
-    /// Whether a write has failed.
+    /// True if a write has failed.
     fn failed(&self) -> bool;
 
-    /// Writes a front of the bytes, at least one of them, and answers how many.
+    /// Writes a front of the bytes, at least one of them, and returns their number.
     ///
-    /// The caller shows that the sink has not failed and that there are bytes.
+    /// The caller proves that the sink has not failed and that there are bytes.
     fn write(&mut self, bytes: &[u8]) -> Result<usize, Failed>;
 }

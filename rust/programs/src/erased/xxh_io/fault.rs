@@ -1,32 +1,32 @@
 // SPDX-License-Identifier: MIT
 // crates/xxh_io/src/fault.rt without its contracts, written by rust/erase --programs: change that file.
 
-//! Why a command is not carried out: the line and the exit status of each fault, and how it is told.
+//! Errors of a command: the line and the exit status of each, and how it is written to standard error.
 
 use crate::programs::xxh_io::ends::Sink;
 use crate::programs::xxh_io::error::DigestError;
 use crate::programs::xxh_io::write::write_all;
 use crate::rattle::AllocError;
 
-/// Why a command is not carried out.
+/// The error of a command.
 #[derive(Clone, Copy, Debug, PartialEq, Eq)]
 pub enum Fault {
-    /// The words are no command, or the kind is none of the command's.
+    /// The arguments are no command, or the command doesn't support the algorithm.
     Usage,
-    /// The seed is not one or more decimal digits, or the kind has no such seed.
+    /// The seed is not a decimal number, or is too large for the algorithm.
     BadSeed,
-    /// The size of a block is not one or more decimal digits with a value from 1 to 2^64 - 1.
+    /// The size of a block is not a decimal number from 1 to 2^64 - 1.
     BadSize,
     /// The text is not a saved state, or no hasher has that state.
     BadState,
-    /// There was no memory.
+    /// Out of memory.
     OutOfMemory,
     /// A read or a write failed, or the input was too long.
     Digest(DigestError),
 }
 
 impl Fault {
-    /// The line for standard error.
+    /// Returns the line for standard error.
     pub fn line(self) -> &'static [u8] {
         match self {
             Fault::Usage => {
@@ -42,7 +42,7 @@ impl Fault {
         }
     }
 
-    /// The exit status.
+    /// Returns the exit status.
     pub fn status(self) -> u8 {
         match self {
             Fault::Digest(_) => 1,
@@ -64,12 +64,12 @@ impl From<AllocError> for Fault {
     }
 }
 
-/// Tells the fault, where there is one, and answers the exit status.
+/// Writes the error message, if there is an error, and returns the exit status.
 pub fn conclude<E: Sink>(done: Result<(), Fault>, err: &mut E) -> u8 {
     match done {
         Ok(()) => 0,
         Err(fault) => {
-            // Whether the line could be written does not change the status.
+            // A failure to write the line does not change the status.
             let _ = write_all(fault.line(), err);
             fault.status()
         }

@@ -6,14 +6,14 @@
 use crate::programs::xxh_io::ends::{Failed, Source};
 use crate::rattle::io::Read;
 
-/// A standard reader as a source. Every error of a read is a failure, an interruption too.
+/// A standard reader as a source. Every error of a read is a failure, including an interruption.
 pub struct FromRead<R> {
     inner: R,
     failed: bool,
 }
 
 impl<R: Read> FromRead<R> {
-    /// A source that has not failed.
+    /// Creates a source that has not failed.
     pub fn new(inner: R) -> FromRead<R> {
         FromRead {
             inner,
@@ -21,7 +21,7 @@ impl<R: Read> FromRead<R> {
         }
     }
 
-    /// The reader.
+    /// Returns the reader.
     pub fn into_inner(self) -> R {
         let FromRead { inner, failed: _ } = self;
         inner
@@ -44,6 +44,6 @@ impl<R: Read> Source for FromRead<R> {
     }
 }
 
-/// A law, with nothing to run: where a reader tells the bytes that it has left, the pieces that are read,
-/// joined, and then those that are left afterwards are those that were left before.
+/// Lemma (no code): if a reader exposes its remaining bytes, then the chunks read plus the bytes still remaining are
+/// the bytes that remained before.
 pub fn reader_pieces<R: Read>() {}

@@ -13,7 +13,7 @@ pub struct FromWrite<W> {
 }
 
 impl<W: Write> FromWrite<W> {
-    /// A sink that has not failed.
+    /// Creates a sink that has not failed.
     pub fn new(inner: W) -> FromWrite<W> {
         FromWrite {
             inner,
@@ -21,7 +21,7 @@ impl<W: Write> FromWrite<W> {
         }
     }
 
-    /// Flushes the writer. Every error is a failure of the sink; the bytes that the writer holds stay.
+    /// Flushes the writer. Every error is a failure of the sink; the writer keeps the bytes that it holds.
     pub fn flush(&mut self) -> Result<(), Failed> {
         let flushed = self.inner.flush();
         self.failed = self.failed || flushed.is_err();
@@ -31,7 +31,7 @@ impl<W: Write> FromWrite<W> {
         }
     }
 
-    /// The writer.
+    /// Returns the writer.
     pub fn into_inner(self) -> W {
         let FromWrite { inner, failed: _ } = self;
         inner
@@ -54,6 +54,6 @@ impl<W: Write> Sink for FromWrite<W> {
     }
 }
 
-/// A law, with nothing to run: where a writer tells the bytes that it holds, those that it holds after it
-/// took some pieces are those that it held and then the pieces, joined.
+/// Lemma (no code): if a writer exposes the bytes that it holds, then after it took some chunks it holds those from
+/// before plus the chunks.
 pub fn writer_pieces<W: Write>() {}

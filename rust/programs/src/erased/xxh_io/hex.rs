@@ -3,10 +3,10 @@
 
 //! Numbers in hexadecimal, and lines of them.
 
-/// How many bytes a block's line has: 16 digits, a space, 32 digits and a line feed.
+/// Length of a block's line: 16 digits, a space, 32 digits and a newline.
 pub const LINE: usize = 50;
 
-// The lower-case digit of a number below 16.
+// Returns the lower-case digit of a number below 16.
 fn digit(n: u8) -> u8 {
     if n < 10 { b'0' + n } else { b'a' - 10 + n }
 }
@@ -20,7 +20,7 @@ pub fn write_digits(value: u128, out: &mut [u8]) {
     }
 }
 
-/// The line of a block that begins at this offset and has this value.
+/// Returns the line of a block with this offset and this value.
 pub fn offset_line(offset: u64, value: u128) -> [u8; LINE] {
     let mut line = [b'\n'; LINE];
     write_digits(u128::from(offset), &mut line[..16]);

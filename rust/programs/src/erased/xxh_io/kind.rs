@@ -1,23 +1,23 @@
 // SPDX-License-Identifier: MIT
 // crates/xxh_io/src/kind.rt without its contracts, written by rust/erase --programs: change that file.
 
-//! The kinds of digest.
+//! The hash algorithms.
 
-/// Which hash a digest line shows.
+/// The hash algorithm of a digest line.
 #[derive(Clone, Copy, Debug, PartialEq, Eq)]
 pub enum Kind {
     /// XXH32, in 8 digits. Its seeds are below 2^32.
     X32,
     /// XXH64, in 16 digits.
     X64,
-    /// XXH3 of 64 bits, in 16 digits.
+    /// XXH3 64-bit, in 16 digits.
     X3_64,
-    /// XXH3 of 128 bits, in 32 digits.
+    /// XXH3 128-bit, in 32 digits.
     X3_128,
 }
 
 impl Kind {
-    /// How many digits the line has.
+    /// Returns the number of digits of the line.
     pub fn digits(self) -> usize {
         match self {
             Kind::X32 => 8,
@@ -26,7 +26,7 @@ impl Kind {
         }
     }
 
-    /// The greatest seed of the kind.
+    /// Returns the maximum seed of the algorithm.
     pub fn most_seed(self) -> u64 {
         match self {
             Kind::X32 => u64::from(u32::MAX),
@@ -35,7 +35,7 @@ impl Kind {
     }
 }
 
-/// The kinds whose hashers have saved states.
+/// The algorithms whose hashers have saved states.
 #[derive(Clone, Copy, Debug, PartialEq, Eq)]
 pub enum SavedKind {
     /// XXH32.

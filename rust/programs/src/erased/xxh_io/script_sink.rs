@@ -1,16 +1,14 @@
 // SPDX-License-Identifier: MIT
 // crates/xxh_io/src/script_sink.rt without its contracts, written by rust/erase --programs: change that file.
 
-//! A sink in memory that follows a script and tells its bytes.
+//! A sink in memory that follows a script and exposes its bytes.
 
 use crate::programs::xxh_io::ends::{Failed, Sink};
 
-/// A sink that has room for `N` bytes, takes up to so many a write, and fails at one write. It takes no
-/// memory beyond its own size.
+/// A sink for `N` bytes that takes a limited number of bytes per write, and fails at one write. Allocates nothing.
 ///
-/// Write j, counted from 1, fails where j is `fail_at`, which is never where that is 0, or where it brings
-/// bytes and `N` are there already. Else it takes as many as the least of `take`, what is brought, and the
-/// room that is left.
+/// Write j, counted from 1, fails if j is `fail_at` (0 never fails), or if the sink is full and bytes are passed.
+/// Otherwise it takes as many bytes as the least of `take`, the bytes passed, and the space left.
 pub struct ScriptSink<const N: usize> {
     bytes: [u8; N],
     len: usize,
@@ -21,7 +19,7 @@ pub struct ScriptSink<const N: usize> {
 }
 
 impl<const N: usize> ScriptSink<N> {
-    /// An empty sink. The caller shows that it takes at least one byte a write.
+    /// Creates an empty sink. The caller proves that it takes at least one byte a write.
     pub fn new(take: usize, fail_at: u64) -> ScriptSink<N> {
         ScriptSink {
             bytes: [0; N],
@@ -33,7 +31,7 @@ impl<const N: usize> ScriptSink<N> {
         }
     }
 
-    /// The bytes that were taken.
+    /// Returns the bytes that were taken.
     pub fn bytes(&self) -> &[u8] {
         &self.bytes[..self.len]
     }

@@ -1,15 +1,14 @@
 // SPDX-License-Identifier: MIT
 // crates/xxh_io/src/script_source.rt without its contracts, written by rust/erase --programs: change that file.
 
-//! Sources in memory, which tell their bytes: one that follows a script, and one of a slice.
+//! Sources in memory, which expose their bytes: one that follows a script, and one over a slice.
 
 use crate::programs::xxh_io::ends::{Failed, Source};
 
-/// A source that gives bytes in pieces of given sizes, and fails at one read. It takes no memory.
+/// A source that returns bytes in chunks of given sizes, and fails at one read. Allocates nothing.
 ///
-/// Read j, counted from 1, fails where j is `fail_at`, and never where that is 0. Else it gives the next
-/// bytes: as many as the least of `sizes[j - 1]`, what is left, and what is offered. Past the end of `sizes`
-/// it gives none.
+/// Read j, counted from 1, fails if j is `fail_at` (0 never fails). Otherwise it returns the next bytes: as many as the
+/// least of `sizes[j - 1]`, the remaining bytes, and the buffer's length. Past the end of `sizes` it returns none.
 ///
 /// ```rattle
 /// let mut source = ScriptSource::new(b"some bytes", &[4, 1, 5], 3);
@@ -23,14 +22,14 @@ pub struct ScriptSource<'a> {
     bytes: &'a [u8],
     sizes: &'a [usize],
     fail_at: u64,
-    // How many of the bytes were given.
+    // Number of bytes returned so far.
     at: usize,
     reads: u64,
     failed: bool,
 }
 
 impl<'a> ScriptSource<'a> {
-    /// A source that was not read yet.
+    /// Creates a source at its beginning.
     pub fn new(bytes: &'a [u8], sizes: &'a [usize], fail_at: u64) -> ScriptSource<'a> {
         ScriptSource {
             bytes,
@@ -42,13 +41,13 @@ impl<'a> ScriptSource<'a> {
         }
     }
 
-    /// How many reads there were, failed ones among them. The count stays at the greatest `u64`.
+    /// Returns the number of reads, including failed ones, saturating at `u64::MAX`.
     pub fn reads(&self) -> u64 {
         let ScriptSource { reads, .. } = *self;
         reads
     }
 
-    // How many bytes the next read gives where so many are offered.
+    // Returns the number of bytes that the next read returns for a buffer of this size.
     fn next_size(&self, offered: usize) -> usize {
         let size = match usize::try_from(self.reads) {
             Ok(read) if read < self.sizes.len() => self.sizes[read],
@@ -76,14 +75,14 @@ impl Source for ScriptSource<'_> {
     }
 }
 
-/// The bytes of a slice as a source. Each read gives as many as are left and offered, and none fails.
+/// The bytes of a slice as a source. Each read returns as many bytes as remain and fit, and none fails.
 #[derive(Clone, Copy)]
 pub struct SliceSource<'a> {
     rest: &'a [u8],
 }
 
 impl<'a> SliceSource<'a> {
-    /// A source that was not read yet.
+    /// Creates a source at its beginning.
     pub fn new(bytes: &'a [u8]) -> SliceSource<'a> {
         SliceSource { rest: bytes }
     }

@@ -7,7 +7,7 @@ use crate::programs::xxh_io::ends::{Failed, Sink};
 use crate::programs::xxh_io::error::DigestError;
 use crate::programs::xxh_io::hex::write_digits;
 
-// The most digits that a line has.
+// Maximum number of digits of a line.
 const MOST_DIGITS: usize = 32;
 
 /// Writes all the bytes, as many at a time as the sink takes.
@@ -22,7 +22,7 @@ pub fn write_all<W: Sink>(bytes: &[u8], w: &mut W) -> Result<(), DigestError> {
     Ok(())
 }
 
-/// Writes the value's lowest digits, up to 32 of them, and a line feed.
+/// Writes the value's lowest digits, up to 32 of them, and a newline.
 pub fn write_line<W: Sink>(value: u128, digits: usize, w: &mut W) -> Result<(), DigestError> {
     let mut line = [b'\n'; MOST_DIGITS + 1];
     write_digits(value, &mut line[..digits]);

@@ -1,7 +1,7 @@
 // SPDX-License-Identifier: MIT
 // crates/xxh_program/src/program.rt without its contracts, written by rust/erase --programs: change that file.
 
-//! Digest lines of what a source gives, and the program `xxh` over any ends.
+//! Digest lines of a source's bytes, and the program `xxh` over any streams.
 
 mod blocks;
 mod command_line;

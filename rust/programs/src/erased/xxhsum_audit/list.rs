@@ -7,8 +7,8 @@ use crate::rattle::prelude::Vec;
 use crate::rattle::{AllocError, Global};
 use crate::programs::xxhsum_line::entry::{Entry, Meaning, meaning_of};
 
-/// Puts what a line says behind the entries; of a comment nothing. `false` where it is malformed.
-/// `AllocError` where memory runs out.
+/// Appends the entry of a line; nothing for a comment. Returns `false` if it is malformed. Returns `AllocError` if out
+/// of memory.
 pub fn take_line(
     alloc: Global,
     line: &[u8],

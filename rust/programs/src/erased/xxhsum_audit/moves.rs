@@ -1,7 +1,7 @@
 // SPDX-License-Identifier: MIT
 // crates/xxhsum_audit/src/moves.rt without its contracts, written by rust/erase --programs: change that file.
 
-//! What became of files, once lines and names stand side by side and the names have their digests.
+//! The results of files, once lines and names are merged and the names have their digests.
 
 use crate::rattle::prelude::Vec;
 use crate::programs::xxhsum_audit::digest::FileDigest;
@@ -11,20 +11,20 @@ use crate::programs::xxhsum_audit::verdict::Verdict;
 use crate::rattle::{AllocError, Global};
 use std::cmp::Ordering;
 
-/// Lines and names, of which it is known what stands in both.
+/// Lines and names, of which those in both lists are known.
 pub struct Compared<'n> {
-    /// What became of those that stand in both.
+    /// The results of those in both lists.
     pub settled: Vec<Verdict<'n>>,
     /// The lines whose names were not given.
     pub gone: Vec<FileDigest<'n>>,
     /// The names that no line has, with their digests.
     pub come: Vec<FileDigest<'n>>,
-    /// Whether each name that was given has a digest.
+    /// True if each given name has a digest.
     pub are_all: bool,
 }
 
-/// What became of all lines and names: of those that stand in both first, and of the others in the order of their digests.
-/// `AllocError` where memory runs out.
+/// Returns the results of all lines and names: those in both lists first, and the others in the order of their digests.
+/// Returns `AllocError` if out of memory.
 pub fn verdicts<'n>(alloc: Global, compared: Compared<'n>) -> Result<Vec<Verdict<'n>>, AllocError> {
     let Compared {
         settled,
@@ -43,7 +43,7 @@ pub fn verdicts<'n>(alloc: Global, compared: Compared<'n>) -> Result<Vec<Verdict
     Ok(found)
 }
 
-// The files that stayed as they were.
+// Returns the unchanged files.
 fn same_in<'n>(alloc: Global, settled: &[Verdict<'n>]) -> Result<Vec<FileDigest<'n>>, AllocError> {
     let mut kept = Vec::new(alloc);
     for verdict in settled {
@@ -54,7 +54,7 @@ fn same_in<'n>(alloc: Global, settled: &[Verdict<'n>]) -> Result<Vec<FileDigest<
     Ok(kept)
 }
 
-// Puts what became of the lines that are gone and the names that have come behind what is known.
+// Appends the results of the lines whose names are gone and of the new names.
 fn add_moves<'n>(
     gone: &[FileDigest<'n>],
     come: &[FileDigest<'n>],
@@ -71,7 +71,7 @@ fn add_moves<'n>(
     Ok(())
 }
 
-// What became of a line that is gone, of a name that has come, or of both.
+// Returns the result of a line whose name is gone, of a new name, or of both.
 fn verdict_of<'n>(
     kept: &[FileDigest<'n>],
     side: Side<FileDigest<'n>, FileDigest<'n>>,
@@ -86,7 +86,7 @@ fn verdict_of<'n>(
     }
 }
 
-// The first of these that has the digest of the name.
+// Returns the first of these with the digest of the name.
 fn original_in<'n>(kept: &[FileDigest<'n>], name: FileDigest<'_>) -> Option<FileDigest<'n>> {
     let place = kept.partition_point(|one| compare_digests(*one, name) == Ordering::Less);
     let first = *kept.get(place)?;

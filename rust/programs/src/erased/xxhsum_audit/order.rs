@@ -1,7 +1,7 @@
 // SPDX-License-Identifier: MIT
 // crates/xxhsum_audit/src/order.rt without its contracts, written by rust/erase --programs: change that file.
 
-//! The orders of names and of digests, in which lines and names are put side by side.
+//! The orders of names and of digests by which lines and names are merged.
 
 use crate::rattle::prelude::Vec;
 use crate::programs::xxhsum_audit::digest::FileDigest;
@@ -9,7 +9,7 @@ use crate::rattle::{AllocError, Global};
 use std::cmp::Ordering;
 use crate::programs::xxh_io::kind::Kind;
 
-// The place of an algorithm among the algorithms.
+// Returns the position of an algorithm among the algorithms.
 fn rank_of(kind: Kind) -> u8 {
     match kind {
         Kind::X32 => 0,
@@ -19,7 +19,7 @@ fn rank_of(kind: Kind) -> u8 {
     }
 }
 
-// The name without each `./` at its beginning.
+// Returns the name without each `./` at its beginning.
 fn bare(name: &[u8]) -> &[u8] {
     let mut rest = name;
     while let Some(behind) = rest.strip_prefix(b"./") {
@@ -28,12 +28,12 @@ fn bare(name: &[u8]) -> &[u8] {
     rest
 }
 
-/// How two names compare. A `./` at the beginning counts for nothing, however often it stands there.
+/// Compares two names. Every `./` at the beginning is ignored.
 pub fn compare_paths(a: &[u8], b: &[u8]) -> Ordering {
     bare(a).cmp(bare(b))
 }
 
-// How two names stand in order: those that lead to one place by all their bytes.
+// Compares two names for sorting: those with one path by all their bytes.
 fn rank_names(a: &[u8], b: &[u8]) -> Ordering {
     match compare_paths(a, b) {
         Ordering::Less => Ordering::Less,
@@ -42,7 +42,7 @@ fn rank_names(a: &[u8], b: &[u8]) -> Ordering {
     }
 }
 
-/// How two digests compare: first by their algorithms.
+/// Compares two digests, first by their algorithms.
 pub fn compare_digests(a: FileDigest<'_>, b: FileDigest<'_>) -> Ordering {
     match rank_of(a.kind).cmp(&rank_of(b.kind)) {
         Ordering::Less => Ordering::Less,
@@ -51,7 +51,7 @@ pub fn compare_digests(a: FileDigest<'_>, b: FileDigest<'_>) -> Ordering {
     }
 }
 
-// How two digests stand in order: those of one algorithm and value by their names.
+// Compares two digests for sorting: those of one algorithm and value by their names.
 fn rank_digests(a: FileDigest<'_>, b: FileDigest<'_>) -> Ordering {
     match compare_digests(a, b) {
         Ordering::Less => Ordering::Less,
@@ -60,22 +60,22 @@ fn rank_digests(a: FileDigest<'_>, b: FileDigest<'_>) -> Ordering {
     }
 }
 
-/// Puts names in order.
+/// Sorts names.
 pub fn put_names_in_order(names: &mut [&[u8]]) {
     names.sort_unstable_by(|a, b| rank_names(a, b));
 }
 
-/// Puts what lines say in the order of their names.
+/// Sorts entries of lines by their names.
 pub fn put_lines_in_order(lines: &mut [FileDigest<'_>]) {
     lines.sort_unstable_by(|a, b| rank_names(a.name, b.name));
 }
 
-// Puts what was digested in the order of its digests.
+// Sorts digests.
 pub(crate) fn put_digests_in_order(digests: &mut [FileDigest<'_>]) {
     digests.sort_unstable_by(|a, b| rank_digests(*a, *b));
 }
 
-/// The names of these, in order. `AllocError` where memory runs out.
+/// Returns the names of these, in order. Returns `AllocError` if out of memory.
 pub fn names_of<'n>(alloc: Global, digests: &[FileDigest<'n>]) -> Result<Vec<&'n [u8]>, AllocError> {
     let mut names = Vec::new(alloc);
     for one in digests {
@@ -84,7 +84,7 @@ pub fn names_of<'n>(alloc: Global, digests: &[FileDigest<'n>]) -> Result<Vec<&'n
     Ok(names)
 }
 
-/// The first name that leads where the next one does, where there is such.
+/// Returns the first name with the path of the next one, if there is one.
 pub fn clash_in<'n>(names: &[&'n [u8]]) -> Option<&'n [u8]> {
     for at in 0..names.len() {
         if shares_path(names[at], &names[at + 1..]) {
@@ -94,7 +94,7 @@ pub fn clash_in<'n>(names: &[&'n [u8]]) -> Option<&'n [u8]> {
     None
 }
 
-// Whether the first of the others leads where this one does.
+// True if the first of the others has the path of this one.
 fn shares_path(name: &[u8], behind: &[&[u8]]) -> bool {
     match behind.first() {
         Some(next) => compare_paths(name, next) == Ordering::Equal,

@@ -1,13 +1,13 @@
 // SPDX-License-Identifier: MIT
 // crates/xxhsum_audit/src/parts.rt without its contracts, written by rust/erase --programs: change that file.
 
-//! Bytes that are cut at each byte of one value: lines at line feeds, names at NULs.
+//! Bytes that are split at each byte of one value: lines at newlines, names at NULs.
 
 use crate::rattle::prelude::Vec;
 use crate::rattle::{AllocError, Global};
 
-/// What stands before each byte of this value, and what is left behind the last one where that is anything.
-/// `AllocError` where memory runs out.
+/// Returns the parts before each byte of this value, and the part after the last one if it isn't empty. Returns
+/// `AllocError` if out of memory.
 pub fn cut_at<'b>(alloc: Global, end: u8, bytes: &'b [u8]) -> Result<Vec<&'b [u8]>, AllocError> {
     let mut parts = Vec::new(alloc);
     let mut left = bytes;
@@ -22,7 +22,7 @@ pub fn cut_at<'b>(alloc: Global, end: u8, bytes: &'b [u8]) -> Result<Vec<&'b [u8
     Ok(parts)
 }
 
-// What stands before the first byte of this value, and behind it.
+// Splits at the first byte of this value.
 fn cut(end: u8, bytes: &[u8]) -> Option<(&[u8], &[u8])> {
     let place = crate::rattle::memchr::memchr(end, bytes)?;
     Some((&bytes[..place], &bytes[place + 1..]))

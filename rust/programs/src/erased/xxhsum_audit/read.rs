@@ -1,21 +1,21 @@
 // SPDX-License-Identifier: MIT
 // crates/xxhsum_audit/src/read.rt without its contracts, written by rust/erase --programs: change that file.
 
-//! All that a source gives.
+//! All bytes of a source.
 
 use crate::rattle::prelude::Vec;
 use crate::rattle::{AllocError, Global};
 use crate::programs::xxh_io::ends::{Failed, Source};
 
-// How many bytes each read is offered.
+// Size of the read buffer.
 const OFFERED: usize = 65536;
 
-/// Why not all of a source is there.
+/// The error if not all of a source was read.
 #[derive(Clone, Copy, Debug, PartialEq, Eq)]
 pub enum ReadError {
     /// A read failed.
     ReadFailed,
-    /// There was no memory for it.
+    /// Out of memory.
     OutOfMemory,
 }
 
@@ -31,11 +31,12 @@ impl From<Failed> for ReadError {
     }
 }
 
-/// All bytes that a source gives, up to its end, however its reads cut them.
+/// Returns all bytes of a source, up to its end, however its reads split them.
 ///
 /// # Errors
 ///
-/// [`ReadError::ReadFailed`] where a read fails, and [`ReadError::OutOfMemory`] where memory runs out.
+/// - [`ReadError::ReadFailed`] if a read fails.
+/// - [`ReadError::OutOfMemory`] if out of memory.
 pub fn read_text<R: Source>(alloc: Global, source: &mut R) -> Result<Vec<u8>, ReadError> {
     let mut bytes = Vec::new(alloc);
     let mut buf = [0; OFFERED];

@@ -1,15 +1,15 @@
 // SPDX-License-Identifier: MIT
 // crates/xxhsum_audit/src/text.rt without its contracts, written by rust/erase --programs: change that file.
 
-//! An audit in words.
+//! An audit as text.
 
 use crate::rattle::prelude::Vec;
 use crate::programs::xxhsum_audit::verdict::Verdict;
 use crate::rattle::{AllocError, Global};
 use crate::programs::xxhsum_line::escapes::put_line;
 
-/// What became of a line, of a name or of both, as a line with its line feed, which is the only one in it: names stand
-/// as lists have them. `AllocError` where memory runs out.
+/// Returns the result of a line, of a name or of both, as a line with its newline, which is the only one in it. Names
+/// are as in lists. Returns `AllocError` if out of memory.
 pub fn verdict_line(alloc: Global, verdict: Verdict<'_>) -> Result<Vec<u8>, AllocError> {
     match verdict {
         Verdict::Same { name, .. } => line_of(alloc, name.name, b": same", b""),
@@ -23,7 +23,7 @@ pub fn verdict_line(alloc: Global, verdict: Verdict<'_>) -> Result<Vec<u8>, Allo
     }
 }
 
-// A name, a word and another name as one line.
+// Joins a name, a word and another name to one line.
 fn line_of(alloc: Global, name: &[u8], word: &[u8], other: &[u8]) -> Result<Vec<u8>, AllocError> {
     let mut text = Vec::new(alloc);
     text.extend_from_slice(name)?;

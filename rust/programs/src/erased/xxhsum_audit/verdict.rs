@@ -1,16 +1,16 @@
 // SPDX-License-Identifier: MIT
 // crates/xxhsum_audit/src/verdict.rt without its contracts, written by rust/erase --programs: change that file.
 
-//! The verdict of an audit on a line, on a name, or on both.
+//! The result of an audit for a line, a name, or both.
 
 use crate::programs::xxhsum_audit::digest::FileDigest;
 use crate::programs::xxhsum_audit::order::compare_digests;
 use std::cmp::Ordering;
 
-/// What became of a line, of a name, or of both.
+/// The result of a line, of a name, or of both.
 #[derive(Clone, Copy, Debug, PartialEq, Eq)]
 pub enum Verdict<'n> {
-    /// The file of the name is as the line says.
+    /// The file of the name is as in the line.
     Same {
         line: FileDigest<'n>,
         name: FileDigest<'n>,
@@ -25,22 +25,22 @@ pub enum Verdict<'n> {
         line: FileDigest<'n>,
         name: FileDigest<'n>,
     },
-    /// No line has the name, and its digest is that of a file that stayed as it was.
+    /// No line has the name, and an unchanged file has its digest.
     Copied {
         original: FileDigest<'n>,
         name: FileDigest<'n>,
     },
-    /// No line has the name, and neither a line that is left nor a file that stayed its digest.
+    /// No line has the name, and neither a remaining line nor an unchanged file has its digest.
     New {
         name: FileDigest<'n>,
     },
-    /// The line's name is gone, and no name that is left has its digest.
+    /// The line's name is gone, and no remaining name has its digest.
     Missing {
         line: FileDigest<'n>,
     },
 }
 
-/// The six classes of verdicts.
+/// The six classes of results.
 #[derive(Clone, Copy, Debug, PartialEq, Eq)]
 pub enum Class {
     Same,
@@ -52,7 +52,7 @@ pub enum Class {
 }
 
 impl<'n> Verdict<'n> {
-    /// Of a line, and of the digest that the file of its name has now.
+    /// Returns the result of a line and the current digest of its file.
     pub fn met(line: FileDigest<'n>, name: FileDigest<'n>) -> Verdict<'n> {
         if compare_digests(line, name) == Ordering::Equal {
             Verdict::Same { line, name }
@@ -63,7 +63,7 @@ impl<'n> Verdict<'n> {
 }
 
 impl Verdict<'_> {
-    /// Its class.
+    /// Returns its class.
     pub fn class(self) -> Class {
         match self {
             Verdict::Same { .. } => Class::Same,
@@ -76,7 +76,7 @@ impl Verdict<'_> {
     }
 }
 
-/// How many of the verdicts are of this class.
+/// Returns how many of the results are of this class.
 pub fn count_of(class: Class, verdicts: &[Verdict<'_>]) -> usize {
     let mut count = 0;
     for verdict in verdicts {

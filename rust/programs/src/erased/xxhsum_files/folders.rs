@@ -1,31 +1,31 @@
 // SPDX-License-Identifier: MIT
 // crates/xxhsum_files/src/folders.rt without its contracts, written by rust/erase --programs: change that file.
 
-//! The names in folders.
+//! The names in directories.
 
 use crate::rattle::prelude::Vec;
 use crate::programs::xxhsum_files::refusal::Refusal;
 use crate::rattle::{AllocError, Global};
 
-/// What a name leads to, where no link is followed.
+/// The type of a path, without following links.
 #[derive(Clone, Copy, Debug, PartialEq, Eq)]
 pub enum PathKind {
-    /// A folder.
+    /// A directory.
     Folder,
-    /// A file; also a name that is not UTF-8: opening it gives the reason.
+    /// A file; also a name that is not UTF-8, for which opening returns the error.
     File,
     /// A link, a device, a pipe or a socket.
     Other,
-    /// The store can't tell, for this reason.
+    /// The store can't determine it, for this reason.
     Unknown(Refusal),
 }
 
-/// Why the names in a folder are not known.
+/// The error for a directory whose names are not known.
 #[derive(Clone, Copy, Debug, PartialEq, Eq)]
 pub enum FolderError {
-    /// The folder can't be opened or read.
+    /// The directory can't be opened or read.
     Refused(Refusal),
-    /// Memory ran out.
+    /// Out of memory.
     OutOfMemory,
 }
 
@@ -35,16 +35,16 @@ impl From<AllocError> for FolderError {
     }
 }
 
-/// Folders by name, in bytes as for files.
+/// Directories by name, in bytes as for files.
 pub trait Folders {
-    /// What the name leads to, where no link is followed.
+    /// Returns the type of the path, without following links.
     fn kind_of(&self, name: &[u8]) -> PathKind;
 
-    /// The names in the folder of this name, which ends with a slash, in any order: neither `.` nor `..`.
+    /// Returns the names in the directory of this name, which ends with a slash, in any order, without `.` and `..`.
     ///
     /// # Errors
     ///
-    /// [`FolderError::Refused`] where the folder can't be opened or read, and [`FolderError::OutOfMemory`] where memory
-    /// runs out.
+    /// - [`FolderError::Refused`] if the directory can't be opened or read.
+    /// - [`FolderError::OutOfMemory`] if out of memory.
     fn names_in(&self, alloc: Global, folder: &[u8]) -> Result<Vec<Vec<u8>>, FolderError>;
 }

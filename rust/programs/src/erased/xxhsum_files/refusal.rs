@@ -1,7 +1,7 @@
 // SPDX-License-Identifier: MIT
 // crates/xxhsum_files/src/refusal.rt without its contracts, written by rust/erase --programs: change that file.
 
-//! Why a file can't be opened.
+//! Errors of opening a file.
 
 // Capacity for the system's message, which is shorter.
 const TEXT_ROOM: usize = 256;
@@ -9,7 +9,7 @@ const TEXT_ROOM: usize = 256;
 /// `ENOENT`, the system's error number for a missing file.
 pub const MISSING: i32 = 2;
 
-/// Why a file couldn't be opened: the system's error number and message.
+/// The error for a file that couldn't be opened: the system's error number and message.
 #[derive(Clone, Copy, Debug, PartialEq, Eq)]
 pub struct Refusal {
     code: i32,
@@ -18,7 +18,7 @@ pub struct Refusal {
 }
 
 impl Refusal {
-    /// The refusal of this error number, as 2, and this message, of which it takes 256 bytes at most.
+    /// Creates the error of this error number, for example 2, and the first 256 bytes of this message.
     pub fn new(code: i32, words: &[u8]) -> Refusal {
         let len = words.len().min(TEXT_ROOM);
         let mut text = [0; TEXT_ROOM];
@@ -26,12 +26,12 @@ impl Refusal {
         Refusal { code, text, len }
     }
 
-    /// Whether the file is missing: the number is `ENOENT`. A file that exists and can't be opened has another.
+    /// True if the file is missing: the number is `ENOENT`. A file that exists and can't be opened has another.
     pub fn is_missing(&self) -> bool {
         self.code == MISSING
     }
 
-    /// The system's message, as `No such file or directory`.
+    /// Returns the system's message, for example `No such file or directory`.
     pub fn text(&self) -> &[u8] {
         &self.text[..self.len]
     }

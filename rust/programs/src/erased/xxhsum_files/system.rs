@@ -1,8 +1,8 @@
 // SPDX-License-Identifier: MIT
 // crates/xxhsum_files/src/system.rt without its contracts, written by rust/erase --programs: change that file.
 
-//! The system's files, by names that std opens. No clause can say which bytes they have; it says that a name that is
-//! not UTF-8 is refused.
+//! The system's files, by names that std opens. No clause can state which bytes they have; the clauses state that a
+//! name that is not UTF-8 is refused.
 
 use crate::rattle::prelude::Vec;
 use crate::programs::xxhsum_files::folders::{FolderError, Folders, PathKind};
@@ -19,7 +19,7 @@ use crate::programs::xxh_io::from_read::FromRead;
 // `EILSEQ`, the system's error number for an illegal byte sequence.
 const NOT_A_TEXT: i32 = 84;
 
-// The capacity of each read of a folder, in bytes.
+// Size of the buffer of each read of a directory, in bytes.
 const OFFERED: usize = 32768;
 
 /// The files that a process may open. A name that is not UTF-8 is refused, since std opens no such name.
@@ -29,7 +29,7 @@ pub struct SystemFiles<'a, P> {
 }
 
 impl<'a, P: Files> SystemFiles<'a, P> {
-    /// The files of this process.
+    /// Creates the store of this process's files.
     pub fn new(process: &'a P) -> SystemFiles<'a, P> {
         SystemFiles { process }
     }
@@ -44,7 +44,7 @@ impl<P: Files> Store for SystemFiles<'_, P> {
         };
         match fs::metadata(self.process, path) {
             Ok(found) => found.is_dir(),
-            // What opens as a folder is one, though it could not be looked up.
+            // A path that opens as a directory is one, even if it could not be looked up.
             Err(_) => self.process.open_dir(path).is_ok(),
         }
     }
@@ -94,7 +94,8 @@ impl<P: Files> Folders for SystemFiles<'_, P> {
     }
 }
 
-// The names in an open folder, whose reads give them each with a NUL at its end. No read ends within a name.
+// Returns the names in an open directory. Its reads return each name with a NUL at its end, and no read ends within a
+// name.
 fn names_of<D: Read >(alloc: Global, dir: D) -> Result<Vec<Vec<u8>>, FolderError> {
     let mut dir = Uninterrupted::new(dir);
     let mut names = Vec::new(alloc);
@@ -109,7 +110,7 @@ fn names_of<D: Read >(alloc: Global, dir: D) -> Result<Vec<Vec<u8>>, FolderError
     Err(FolderError::OutOfMemory)
 }
 
-// Appends the names, each with a NUL at its end in the text, but for `.` and `..`.
+// Appends the names, each with a NUL at its end in the text, except `.` and `..`.
 fn add_names(alloc: Global, text: &[u8], names: &mut Vec<Vec<u8>>) -> Result<(), AllocError> {
     for name in text.split(|byte| *byte == 0) {
         if !name.is_empty() && name != b".".as_slice() && name != b"..".as_slice() {

@@ -6,13 +6,13 @@
 use crate::rattle::io;
 use crate::rattle::io::{ErrorKind, Read};
 
-/// A reader that repeats a read which a signal interrupted. It gives the bytes of the reader behind it.
+/// A reader that repeats a read which a signal interrupted. Returns the bytes of the inner reader.
 pub struct Uninterrupted<R> {
     inner: R,
 }
 
 impl<R: Read> Uninterrupted<R> {
-    /// This reader, of which nothing was read yet.
+    /// Wraps this reader, from which nothing was read yet.
     pub fn new(inner: R) -> Uninterrupted<R> {
         Uninterrupted { inner }
     }

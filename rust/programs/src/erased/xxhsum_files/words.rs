@@ -14,7 +14,7 @@ const ROOM: usize = 256;
 // What std appends to the system's message.
 const SUFFIX: &[u8] = b" (os error ";
 
-// A text in a buffer of fixed capacity, which drops the rest.
+// A text in a buffer of fixed capacity. The rest is dropped.
 struct Words {
     text: [u8; ROOM],
     len: usize,
@@ -30,7 +30,7 @@ impl Write for Words {
     }
 }
 
-// The refusal of this error, with the system's error number; 0 where the error is not the system's.
+// Returns the error with the system's error number and message; the number is 0 if the error is not the system's.
 pub(crate) fn words_of(error: io::Error) -> Refusal {
     let code = error.raw_os_error().unwrap_or(0);
     let mut words = Words {

@@ -1,20 +1,20 @@
 // SPDX-License-Identifier: MIT
 // crates/xxhsum_line/src/laws.rt without its contracts, written by rust/erase --programs: change that file.
 
-//! What users rely on, as functions whose contracts are the sentences.
+//! Properties that users rely on, as functions with contracts.
 
 use crate::programs::xxhsum_line::entry::{Entry, Meaning, meaning_of};
 use crate::programs::xxhsum_line::printed::{Shape, digest_line};
 use crate::rattle::{AllocError, Global};
 use crate::programs::xxh_io::kind::Kind;
 
-/// The laws of lines: what is printed is accepted; a printed line is one line and no comment; a text that is reported
-/// as one line is one, whatever names it has; an escape is undone; a line has at most one choice of parts, and at most
-/// one meaning. It does nothing.
+/// Lemma (no code), the laws of lines: what is printed is accepted; a printed line is one line and no comment; a text
+/// that is reported as one line is one, whatever names it has; an escape is undone; a line has at most one choice of
+/// parts, and at most one meaning.
 pub fn laws_of_lines() {}
 
-/// Whether the printed line, without its line feed, is parsed as the same algorithm, digest and name. It is, for each
-/// name with no NUL and each digest of the algorithm. `AllocError` where memory runs out.
+/// True if the printed line, without its newline, is parsed as the same algorithm, digest and name. It is, for each
+/// name with no NUL and each digest of the algorithm. Returns `AllocError` if out of memory.
 pub fn is_read_back(
     alloc: Global,
     kind: Kind,
@@ -30,7 +30,7 @@ pub fn is_read_back(
     }
 }
 
-// Whether the line is parsed as this algorithm, digest and name.
+// True if the line is parsed as this algorithm, digest and name.
 fn is_read_as(
     alloc: Global,
     text: &[u8],

@@ -1,11 +1,11 @@
 // SPDX-License-Identifier: MIT
 // crates/xxhsum_line/src/tags.rt without its contracts, written by rust/erase --programs: change that file.
 
-//! The tags of lines, and the algorithms that they name.
+//! The tags of lines and their algorithms.
 
 use crate::programs::xxh_io::kind::Kind;
 
-/// The algorithm of a plain line: XXH3 of 64 bits where its digits have the prefix, and otherwise by their number.
+/// Returns the algorithm of a plain line: XXH3 64-bit if its digits have the prefix, and otherwise by their number.
 /// `None` for any other number of digits.
 pub fn kind_of_digits(digits: &[u8]) -> Option<Kind> {
     if digits.starts_with(b"XXH3_") {
@@ -15,7 +15,7 @@ pub fn kind_of_digits(digits: &[u8]) -> Option<Kind> {
     }
 }
 
-/// The digits without their prefix, which those of XXH3 of 64 bits may have.
+/// Returns the digits without their prefix, which those of XXH3 64-bit may have.
 pub fn bare(kind: Kind, digits: &[u8]) -> &[u8] {
     match kind {
         Kind::X3_64 if digits.starts_with(b"XXH3_") => &digits[5..],
@@ -23,7 +23,7 @@ pub fn bare(kind: Kind, digits: &[u8]) -> &[u8] {
     }
 }
 
-// The algorithm of digits without a prefix, by their number.
+// Returns the algorithm of digits without a prefix, by their number.
 fn kind_of_count(count: usize) -> Option<Kind> {
     match count {
         8 => Some(Kind::X32),
@@ -33,7 +33,7 @@ fn kind_of_count(count: usize) -> Option<Kind> {
     }
 }
 
-/// The tag of an algorithm.
+/// Returns the tag of an algorithm.
 pub fn tag_of(kind: Kind) -> &'static [u8] {
     match kind {
         Kind::X32 => b"XXH32",
@@ -43,7 +43,7 @@ pub fn tag_of(kind: Kind) -> &'static [u8] {
     }
 }
 
-/// The algorithm of a line with this tag: the one whose tag it begins with, and XXH64 where there is none.
+/// Returns the algorithm of a line with this tag: the one whose tag it begins with, and XXH64 if there is none.
 pub fn kind_of_tag(tag: &[u8]) -> Kind {
     if tag.starts_with(b"XXH32") {
         Kind::X32
@@ -58,7 +58,7 @@ pub fn kind_of_tag(tag: &[u8]) -> Kind {
     }
 }
 
-/// Whether the digits of a line with this tag are little-endian: the tag contains `_LE`.
+/// True if the digits of a line with this tag are little-endian: the tag contains `_LE`.
 pub fn is_little_tag(tag: &[u8]) -> bool {
     for i in 0..tag.len() {
         if tag[i..].starts_with(b"_LE") {

@@ -8,10 +8,10 @@ use crate::programs::xxh_io::script_sink::ScriptSink;
 
 /// A sink that may hold bytes for a while, to write many at once.
 ///
-/// Bytes that it holds count as written to it. Where their own write fails later, they are lost, and the next write to
-/// it fails.
+/// Bytes that it holds count as written to it. If their own write fails later, they are lost, and the next write to it
+/// fails.
 pub trait Output: Sink {
-    /// Whether bytes that it held were lost: their write failed.
+    /// True if bytes that it held were lost because their write failed.
     fn has_lost(&self) -> bool;
 
     /// Writes the bytes that it holds.

@@ -1,7 +1,7 @@
 // SPDX-License-Identifier: MIT
 // crates/xxhsum_output/src/visible.rt without its contracts, written by rust/erase --programs: change that file.
 
-//! A sink before a terminal, which shows control characters.
+//! A sink in front of a terminal, which makes control characters visible.
 
 use crate::programs::xxh_io::ends::{Failed, Sink};
 use crate::programs::xxh_io::error::DigestError;
@@ -10,21 +10,21 @@ use crate::programs::xxh_io::write::write_all;
 // In UTF-8 a control character of two bytes is this one and one from 128 to 159.
 const BEFORE_CONTROL: u8 = 194;
 
-/// A sink before a terminal. It passes a text that has a control character with `\xHH` in place of each byte that is
-/// neither printable ASCII nor a line feed nor NUL, and any other as it is. Where it is off, it passes each as it is.
+/// A sink in front of a terminal. In a text with a control character, it replaces each byte that is neither printable
+/// ASCII nor a newline nor NUL by `\xHH`. It passes on any other text unchanged, and every text if it is off.
 pub struct Visible<W> {
     inner: W,
     is_on: bool,
 }
 
 impl<W: Sink> Visible<W> {
-    /// This sink behind it, to which control characters are shown where `is_on`.
+    /// Wraps this sink. Control characters are made visible if `is_on`.
     pub fn new(inner: W, is_on: bool) -> Visible<W> {
         Visible { inner, is_on }
     }
 
-    /// The laws of such a sink. What it took the sink behind it took, as it is shown: nothing else where it is off, and
-    /// no control character where it is on. It does nothing.
+    /// Lemma (no code), the laws of such a sink: the inner sink took what this one took, as it is displayed: unchanged
+    /// if it is off, and without control characters if it is on.
     pub fn laws() {}
 }
 
@@ -41,7 +41,7 @@ impl<W: Sink> Sink for Visible<W> {
     }
 }
 
-// Writes the bytes as they are shown.
+// Writes the bytes as they are displayed.
 fn write_visible<W: Sink>(bytes: &[u8], is_on: bool, w: &mut W) -> Result<(), DigestError> {
     if is_on && !is_clean(bytes) {
         return write_shown(bytes, w);
@@ -49,7 +49,7 @@ fn write_visible<W: Sink>(bytes: &[u8], is_on: bool, w: &mut W) -> Result<(), Di
     write_all(bytes, w)
 }
 
-// Whether no byte belongs to a control character.
+// True if no byte belongs to a control character.
 fn is_clean(bytes: &[u8]) -> bool {
     let mut before = 0;
     for byte in bytes {
@@ -61,7 +61,7 @@ fn is_clean(bytes: &[u8]) -> bool {
     true
 }
 
-// Whether a byte behind this one belongs to no control character.
+// True if a byte after this one belongs to no control character.
 fn is_calm(before: u8, byte: u8) -> bool {
     if byte < 128 {
         return is_plain(byte);
@@ -69,12 +69,12 @@ fn is_calm(before: u8, byte: u8) -> bool {
     byte > 159 || (before > 127 && before != BEFORE_CONTROL)
 }
 
-// Whether a byte is printable ASCII, a line feed or NUL.
+// True if a byte is printable ASCII, a newline or NUL.
 fn is_plain(byte: u8) -> bool {
     byte == b'\n' || byte == 0 || (31 < byte && byte < 127)
 }
 
-// Writes each byte as it is shown.
+// Writes each byte as it is displayed.
 fn write_shown<W: Sink>(bytes: &[u8], w: &mut W) -> Result<(), DigestError> {
     for byte in bytes {
         match write_byte(*byte, w) {
@@ -85,7 +85,7 @@ fn write_shown<W: Sink>(bytes: &[u8], w: &mut W) -> Result<(), DigestError> {
     Ok(())
 }
 
-// Writes a byte as it is shown.
+// Writes a byte as it is displayed.
 fn write_byte<W: Sink>(byte: u8, w: &mut W) -> Result<(), DigestError> {
     if is_plain(byte) {
         return write_all(&[byte], w);
@@ -93,12 +93,12 @@ fn write_byte<W: Sink>(byte: u8, w: &mut W) -> Result<(), DigestError> {
     write_all(&in_hex(byte), w)
 }
 
-// A backslash, an x and two digits.
+// Returns a backslash, an x and two digits.
 fn in_hex(byte: u8) -> [u8; 4] {
     [b'\\', b'x', digit(byte / 16), digit(byte % 16)]
 }
 
-// The lower-case digit of a number below 16.
+// Returns the lower-case digit of a number below 16.
 fn digit(n: u8) -> u8 {
     if n < 10 { b'0' + n } else { b'a' - 10 + n }
 }

@@ -1,27 +1,27 @@
 // SPDX-License-Identifier: MIT
 // crates/xxhsum_output/src/whole_lines.rt without its contracts, written by rust/erase --programs: change that file.
 
-//! A sink that gathers lines and writes them whole.
+//! A sink that buffers lines and writes them whole.
 
 use crate::programs::xxhsum_output::output::Output;
 use crate::programs::xxh_io::ends::{Failed, Sink};
 use crate::programs::xxh_io::waiting::Waiting;
 
-/// The most bytes that wait.
+/// Maximum number of buffered bytes.
 pub const MOST_WAITING: usize = 4096;
 
-/// A buffered sink before another one, which writes many lines at a time: what one write gives it is never split over
-/// two writes there. Lines wait while they have at most 4,096 bytes together, and a longer one is passed alone.
+/// A line buffer in front of another sink. It passes many lines per write, and never splits one write over two. Lines
+/// are buffered up to 4,096 bytes together; a longer line is passed on by itself.
 pub struct WholeLines<W> {
     inner: W,
     waiting: Waiting<MOST_WAITING>,
-    // The most bytes that wait: 0 where each line is passed at once.
+    // Maximum number of buffered bytes: 0 if each line is passed on at once.
     capacity: usize,
     has_failed: bool,
 }
 
 impl<W: Sink> WholeLines<W> {
-    /// An empty buffer before this sink. Where `gathers` is false, each line is passed at once.
+    /// Creates an empty buffer in front of this sink. If `gathers` is false, each line is passed on at once.
     pub fn new(inner: W, gathers: bool) -> WholeLines<W> {
         WholeLines {
             inner,
@@ -31,14 +31,14 @@ impl<W: Sink> WholeLines<W> {
         }
     }
 
-    /// The sink behind it. Lines that wait are lost.
+    /// Returns the inner sink. Buffered lines are lost.
     pub fn into_inner(self) -> W {
         let WholeLines { inner, .. } = self;
         inner
     }
 
-    // Appends a line to those that wait. Where there is no capacity for it those are written first, and then it waits,
-    // or is passed alone.
+    // Appends a line to the buffered ones. If it doesn't fit, those are written first, and then it is buffered, or
+    // passed on by itself.
     fn take_line(&mut self, line: &[u8]) -> Result<usize, Failed> {
         if self.inner.failed() {
             return Err(Failed);
@@ -55,7 +55,7 @@ impl<W: Sink> WholeLines<W> {
         Ok(line.len())
     }
 
-    // Writes the lines that wait.
+    // Writes the buffered lines.
     fn write_waiting(&mut self) -> Result<(), Failed> {
         match self.waiting.flush(&mut self.inner) {
             Ok(()) => Ok(()),
@@ -63,8 +63,8 @@ impl<W: Sink> WholeLines<W> {
         }
     }
 
-    /// The laws of such a sink: where nothing waited, what it took the sink behind it took, but for what waits; or a
-    /// write there failed, and that sink took a beginning of it. It does nothing.
+    /// Lemma (no code), the laws of such a sink: if nothing was buffered, the inner sink took what this one took,
+    /// except what is buffered; or a write there failed, and the inner sink took a beginning of it.
     pub fn laws() {}
 }
 
@@ -89,7 +89,7 @@ impl<W: Sink> Output for WholeLines<W> {
         if self.inner.failed() {
             return;
         }
-        // What could not be written is lost, as `has_lost` reports.
+        // What could not be written is lost, and `has_lost` is then true.
         let _ = self.write_waiting();
     }
 }

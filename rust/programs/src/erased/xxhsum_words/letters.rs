@@ -30,7 +30,7 @@ pub(crate) fn letters(word: &[u8], mut options: Options) -> Step {
     Step::Takes(options)
 }
 
-// Applies a letter, which these others follow. An error is what the whole argument does, whatever follows.
+// Applies a letter, which these others follow. An error is the result of the whole argument, whatever follows.
 fn letter_at(letter: u8, after: &[u8], options: Options) -> Result<Letter, Step> {
     match letter {
         NO_LETTER => Err(Step::IsWrong),
@@ -40,7 +40,7 @@ fn letter_at(letter: u8, after: &[u8], options: Options) -> Result<Letter, Step>
     }
 }
 
-// A letter that no others belong to, by its step.
+// Returns a letter with no others of its own, by its step.
 fn alone(step: Step) -> Result<Letter, Step> {
     match step {
         Step::Takes(options) => Ok(Letter { options, taken: 0 }),
@@ -48,7 +48,7 @@ fn alone(step: Step) -> Result<Letter, Step> {
     }
 }
 
-// `H`: the number after it names the algorithm.
+// Applies `H`: the number after it selects the algorithm.
 fn kind_letter(after: &[u8], options: Options) -> Result<Letter, Step> {
     let number = number_at(after).ok_or(Step::Settles(Asked::NumberTooLarge))?;
     let kind = numbered_kind(number.value).ok_or(Step::IsWrong)?;
@@ -58,7 +58,7 @@ fn kind_letter(after: &[u8], options: Options) -> Result<Letter, Step> {
     })
 }
 
-// `i` and `B`: the number after it belongs to benchmarks, and changes nothing.
+// Skips `i` or `B`: the number after it belongs to benchmarks, and changes nothing.
 fn skipped_letter(after: &[u8], options: Options) -> Result<Letter, Step> {
     let number = number_at(after).ok_or(Step::Settles(Asked::NumberTooLarge))?;
     Ok(Letter {
@@ -67,7 +67,7 @@ fn skipped_letter(after: &[u8], options: Options) -> Result<Letter, Step> {
     })
 }
 
-// The algorithm of this number of `-H`.
+// Returns the algorithm of this number of `-H`.
 fn numbered_kind(number: u32) -> Option<Kind> {
     match number {
         0 | 32 => Some(Kind::X32),

@@ -5,8 +5,8 @@
 
 use crate::programs::xxh_io::kind::Kind;
 
-/// The algorithm of a program of this name, where no option names one. The name is the last part of the path by which
-/// it was called.
+/// Returns the algorithm of a program of this name, if no option selects one. The name is the last part of the path by
+/// which it was called.
 pub fn default_kind(program: &[u8]) -> Kind {
     if has_part(b"xxh3sum", program) {
         Kind::X3_64
@@ -21,7 +21,7 @@ pub fn default_kind(program: &[u8]) -> Kind {
     }
 }
 
-// Whether the name contains the text.
+// True if the name contains the text.
 fn has_part(text: &[u8], name: &[u8]) -> bool {
     for start in 0..name.len() {
         if name[start..].starts_with(text) {

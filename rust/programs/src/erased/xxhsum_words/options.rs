@@ -8,19 +8,19 @@ use crate::programs::xxhsum_words::letters::letters;
 use crate::programs::xxhsum_words::table::name_step;
 use crate::programs::xxh_io::kind::Kind;
 
-/// Where the names of a run come from.
+/// The source of a run's names.
 #[derive(Clone, Copy, Debug, PartialEq, Eq)]
 pub enum NamesFrom {
     /// The arguments are names.
     Words,
-    /// `--files-from`, `--filelist`: the arguments are files of names, one a line.
+    /// `--files-from`, `--filelist`: the arguments are files of names, one per line.
     Lines,
     /// `--files0-from`: the arguments are files of names, each ended by a NUL.
     Nuls,
 }
 
 impl NamesFrom {
-    /// Whether the names are read from lists.
+    /// True if the names are read from lists.
     pub fn are_listed(self) -> bool {
         match self {
             NamesFrom::Words => false,
@@ -29,10 +29,10 @@ impl NamesFrom {
     }
 }
 
-/// The options that are in effect.
+/// The options in effect.
 #[derive(Clone, Copy, Debug, PartialEq, Eq)]
 pub struct Options {
-    /// The algorithm: that of the last `-H`, or else the program's own.
+    /// The algorithm: that of the last `-H`, or otherwise the program's own.
     pub kind: Kind,
     /// `-c`, `--check`: the names are lists, which are checked.
     pub checks: bool,
@@ -44,7 +44,7 @@ pub struct Options {
     pub is_strict: bool,
     /// `-w`, `--warn`: each malformed line is reported.
     pub warns: bool,
-    /// `--ignore-missing`: a check passes over missing files.
+    /// `--ignore-missing`: a check ignores missing files.
     pub ignores_missing: bool,
     /// `--tag`: lines are printed BSD-style.
     pub is_tagged: bool,
@@ -54,15 +54,15 @@ pub struct Options {
     pub ends_in_nul: bool,
     /// `--audit`: the first argument is a checksum list, with which the named files are compared.
     pub audits: bool,
-    /// `-r`, `--recursive`: the name of a folder means the files below it.
+    /// `-r`, `--recursive`: the name of a directory means the files below it.
     pub walks: bool,
-    /// Where the names come from.
+    /// The source of the names.
     pub names_from: NamesFrom,
-    /// `-`: standard input is taken even where it is a terminal.
+    /// `-`: standard input is read even if it is a terminal.
     pub takes_terminal: bool,
 }
 
-/// What the arguments ask for.
+/// The meaning of the arguments.
 #[derive(Clone, Copy, Debug, PartialEq, Eq)]
 pub enum Asked {
     /// Digests of the named files, or a comparison. The names are the arguments from this index on.
@@ -73,36 +73,36 @@ pub enum Asked {
     Version,
     /// The help.
     Help,
-    /// Nothing: the argument of this index is no option.
+    /// An error: the argument of this index is not a valid option.
     WrongOption { at: usize },
-    /// Nothing: `-z` was given with `-c` or `--audit`.
+    /// An error: `-z` was given with `-c` or `--audit`.
     NulsInList,
-    /// Nothing: `-r` was given with `-c` or lists of names.
+    /// An error: `-r` was given with `-c` or lists of names.
     WalkBesideLists,
-    /// Nothing: `-r` was given without a name.
+    /// An error: `-r` was given without a name.
     WalkOfNothing,
-    /// Nothing: `-` was given with names, or after `--`, where standard input is not read.
+    /// An error: `-` was given with names, or after `--`, so standard input is not read.
     InputBesideNames,
-    /// Nothing: an option has a number that is too large.
+    /// An error: an option has a number that is too large.
     NumberTooLarge,
 }
 
-/// What one argument does.
+/// The effect of one argument.
 #[derive(Clone, Copy, Debug, PartialEq, Eq)]
 pub(crate) enum Step {
-    /// It is an option. After it these options hold.
+    /// It is an option. These are the options after it.
     Takes(Options),
     /// It is a name: the options end before it.
     EndsBefore,
     /// It is `--`: the names are the arguments after it.
     EndsAfter,
-    /// It is no option, though it looks like one.
+    /// It looks like an option, and is not one.
     IsWrong,
-    /// It asks for this, whatever follows.
+    /// It determines the result, whatever follows.
     Settles(Asked),
 }
 
-/// Parses the arguments after the program's name. The algorithm is this one if they name none.
+/// Parses the arguments after the program's name. The algorithm is this one if they select none.
 pub fn asked_by(kind: Kind, words: &[Vec<u8>]) -> Asked {
     let mut options = Options {
         kind,
@@ -132,9 +132,8 @@ pub fn asked_by(kind: Kind, words: &[Vec<u8>]) -> Asked {
     run_from(options, words.len(), words)
 }
 
-// The run by these options, of the names from this index on. It is refused where no list is printed whose lines could
-// end with a NUL, where there is no name below which a folder could be walked, and where standard input would stay
-// unread.
+// Returns the run by these options, of the names from this index on. Refuses a NUL ending if no digests are printed, a
+// walk without a directory name, and standard input that would stay unread.
 fn run_from(options: Options, names_from: usize, words: &[Vec<u8>]) -> Asked {
     if options.ends_in_nul && (options.checks || options.audits) {
         return Asked::NulsInList;
@@ -154,7 +153,7 @@ fn run_from(options: Options, names_from: usize, words: &[Vec<u8>]) -> Asked {
     }
 }
 
-/// The arguments from this index on.
+/// Returns the arguments from this index on.
 pub fn words_behind(words: &[Vec<u8>], place: usize) -> &[Vec<u8>] {
     if place < words.len() {
         &words[place..]
@@ -163,17 +162,17 @@ pub fn words_behind(words: &[Vec<u8>], place: usize) -> &[Vec<u8>] {
     }
 }
 
-// Whether `-` is among the names, or was given before names beside which standard input is not read.
+// True if `-` is one of the names, or was given before names with which standard input is not read.
 fn leaves_input(options: Options, names: &[Vec<u8>]) -> bool {
     have_input(names) || (options.takes_terminal && names.len() > lists_before(options))
 }
 
-// How many checksum lists precede the names: that of an audit.
+// Returns the number of checksum lists before the names: an audit has one.
 fn lists_audited(options: Options) -> usize {
     if options.audits { 1 } else { 0 }
 }
 
-// How many checksum lists precede lists of names: that of an audit.
+// Returns the number of checksum lists before lists of names: an audit has one.
 fn lists_before(options: Options) -> usize {
     if options.audits && options.names_from.are_listed() {
         1
@@ -182,7 +181,7 @@ fn lists_before(options: Options) -> usize {
     }
 }
 
-// Whether one of the names is `-`.
+// True if one of the names is `-`.
 fn have_input(names: &[Vec<u8>]) -> bool {
     for name in names {
         if name.as_slice() == b"-".as_slice() {
@@ -192,7 +191,7 @@ fn have_input(names: &[Vec<u8>]) -> bool {
     false
 }
 
-// What the argument does to these options.
+// Applies the argument to these options.
 fn word_step(word: &[u8], options: Options) -> Step {
     if let Some(name) = word.strip_prefix(b"--") {
         return name_step(name, options);

@@ -1,8 +1,8 @@
 // SPDX-License-Identifier: MIT
 // crates/twox_core/src/xxhash3/derivation.rt without its contracts, written by rust/erase: change that file.
 
-//! The default secret, and the secret that a seed derives from it: the xxHash specification, "XXH3 algorithm
-//! overview", seed and secret.
+//! The default secret, and the secret derived from it with a seed: the xxHash specification, "XXH3 algorithm overview",
+//! seed and secret.
 
 use super::Secret;
 use crate::rattle::simd::{u8x32, u64x4};
@@ -29,19 +29,18 @@ pub const DEFAULT_SECRET_RAW: DefaultSecret = [
     0x45, 0xcb, 0x3a, 0x8f, 0x95, 0x16, 0x04, 0x28, 0xaf, 0xd7, 0xfb, 0xca, 0xbb, 0x4b, 0x40, 0x7e,
 ];
 
-/// The default secret, lent for as long as the program runs.
+/// Borrows the default secret, for as long as the program runs.
 #[inline(always)]
 pub fn default_secret() -> Secret<'static> {
     Secret::new(&DEFAULT_SECRET_RAW).unwrap()
 }
 
-/// Each eight-byte word at `16 * k` gains the seed and the one at `16 * k + 8` loses it, for `k` from 0 to
-/// 11, whatever words stood there. So the default secret becomes the secret that the seed derives.
+/// Adds the seed to each eight-byte word at `16 * k` and subtracts it from the one at `16 * k + 8`, for `k` from 0 to
+/// 11, whatever those words are. The default secret becomes the secret derived from the seed.
 #[inline(always)]
 pub fn derive_secret(seed: u64, secret: &mut DefaultSecret) {
-    // Two pairs are changed as one vector, so that they are stored by 32 bytes where the processor can: what is stored
-    // by 16 can't be handed on to the loads of 32 bytes that come next. The seed goes to a vector once, and is negated
-    // there.
+    // Changes two pairs as one vector, so that they are stored by 32 bytes if the processor can: a store of 16 bytes
+    // can't be forwarded to the loads of 32 bytes that follow. The seed goes to a vector once, and is negated there.
     let gain = u64x4::splat(seed);
     let loss = u64x4::splat(0) - gain;
     let change = gain.shuffle(loss, [0, 5, 2, 7]);
@@ -52,7 +51,7 @@ pub fn derive_secret(seed: u64, secret: &mut DefaultSecret) {
     }
 }
 
-/// The secret that the seed derives from the default one.
+/// Returns the secret derived from the default one with the seed.
 #[inline(always)]
 pub fn derived_secret(seed: u64) -> DefaultSecret {
     let mut secret = DEFAULT_SECRET_RAW;

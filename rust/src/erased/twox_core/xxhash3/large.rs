@@ -36,20 +36,20 @@ pub type Kernel = halves4::Impl;
 #[cfg(not(any(all(not(miri), target_arch = "x86_64"), all(not(miri), target_arch = "aarch64", target_endian = "little", target_feature = "neon"))))]
 pub type Kernel = scalar::Impl;
 
-/// What a hash makes of an input: one value for short ones and one for long ones.
+/// The values of an input: one for short inputs and one for long ones.
 ///
-/// Each call has one meaning, a function of its arguments without the kernel.
+/// Each method is a function of its arguments without the kernel.
 pub trait Finalize {
-    /// The value.
+    /// The type of the value.
     type Output;
 
-    /// The value of an input, which the caller shows to have at most 240 bytes.
+    /// Returns the value of an input. The caller proves that it has at most 240 bytes.
     fn small(&self, secret: Secret<'_>, seed: u64, input: &[u8]) -> Self::Output;
 
-    /// The value of an input of `len` bytes that ends with the last block, from the accumulators before that block,
-    /// and the input's last 64 bytes.
+    /// Returns the value of an input of `len` bytes that ends with the last block, from the accumulators before that
+    /// block, and the input's last 64 bytes.
     ///
-    /// The caller shows that the block isn't empty and that the secret has places for its stripes.
+    /// The caller proves that the block isn't empty and that the secret has places for its stripes.
     fn large(
         &self,
         v: impl Vector,
@@ -61,14 +61,14 @@ pub trait Finalize {
     ) -> Self::Output;
 }
 
-// Whether eight lanes take a whole one-shot, with a secret that is as long as the default one. No value depends on it.
+// True if eight lanes take a whole one-shot, with a secret as long as the default one. No value depends on it.
 #[inline(always)]
 pub(crate) fn is_widened(input: &[u8]) -> bool {
     (Kernel {}).is_widened() && input.len() >= BYTES_IN_BLOCK
 }
 
-// `Algorithm::oneshot` by eight lanes, but for the last 64 bytes and the merge, which four lanes do as well: so the value of
-// either width is made of what one function leaves, and no block is left to take.
+// `Algorithm::oneshot` by eight lanes, except the last 64 bytes and the merge, which four lanes do equally well. The
+// values of both widths are computed from the result of one function, and no block is left to take.
 #[inline(always)]
 pub(crate) fn oneshot_widened<F: Finalize >(
     secret: Secret<'_>,
@@ -91,21 +91,21 @@ pub(crate) fn oneshot_widened<F: Finalize >(
 // A caller of `Algorithm::oneshot_of` with a secret of any length.
 pub(crate) struct AnyLength;
 
-// One with a secret that is as long as the default one.
+// A caller with a secret as long as the default one.
 pub(crate) struct DefaultLength;
 
-// One with a secret that it derived from a seed itself.
+// A caller with a secret that it derived from a seed.
 pub(crate) struct Derived;
 
-/// The hash of long inputs over a kernel.
+/// Hashes long inputs with a kernel.
 #[derive(Clone, Copy)]
 pub struct Algorithm<V>(pub V);
 
 impl<V: Vector> Algorithm<V> {
-    /// What `finalize` makes of an input, which the caller shows to have at least 241 bytes.
+    /// Returns the value of an input by `finalize`. The caller proves that the input has at least 241 bytes.
     ///
-    /// The accumulators handed to it are those after all whole blocks but the last, which has the rest of the input;
-    /// a block has as many stripes as the secret has places.
+    /// `finalize` gets the accumulators after all whole blocks except the last, which has the rest of the input. A
+    /// block has as many stripes as the secret has places.
     #[inline(always)]
     pub fn oneshot<F: Finalize >(
         &self,
@@ -120,8 +120,8 @@ impl<V: Vector> Algorithm<V> {
         }
     }
 
-    // `oneshot`, where the caller says whether the bytes are many: those that are few then keep no register for a call.
-    // Each `Caller` has code of its own, in which its secret's length may be known. The value depends on neither.
+    // `oneshot`, with a flag for many bytes: inputs of few bytes then keep no register for a call. Each `Caller` has
+    // its own copy of the code, in which its secret's length may be known. The value depends on neither.
     #[inline(always)]
     pub(crate) fn oneshot_of<F: Finalize , Caller, const MANY: bool>(
         &self,
@@ -143,10 +143,10 @@ impl<V: Vector> Algorithm<V> {
         )
     }
 
-    /// The value of 64 bits of an input of `len` bytes: the last block's stripes but its last are accumulated
-    /// from the secret's start on, then the last 64 bytes, and the accumulators are merged.
+    /// Returns the 64-bit value of an input of `len` bytes: accumulates the last block's stripes except its last, from
+    /// the secret's start on, then the last 64 bytes, and merges the accumulators.
     ///
-    /// The caller shows that the block isn't empty and that the secret has places for its stripes.
+    /// The caller proves that the block isn't empty and that the secret has places for its stripes.
     #[inline(always)]
     pub fn finalize_64(
         &self,
@@ -161,8 +161,8 @@ impl<V: Vector> Algorithm<V> {
         final_merge(acc, init, secret.final_secret(), secret)
     }
 
-    /// The value of 128 bits, likewise: its low half is the value of 64 bits, and the high half merges the
-    /// same accumulators under other bytes of the secret.
+    /// Returns the 128-bit value in the same way. The low half is the 64-bit value, and the high half merges the same
+    /// accumulators under other bytes of the secret.
     #[inline(always)]
     pub fn finalize_128(
         &self,
@@ -180,7 +180,7 @@ impl<V: Vector> Algorithm<V> {
         from_halves(high, low)
     }
 
-    // The accumulators with the last block's stripes but its last, and then the last 64 bytes.
+    // Returns the accumulators after the last block's stripes except its last, and then the last 64 bytes.
     #[inline(always)]
     fn last_round(
         &self,
@@ -200,13 +200,13 @@ impl<V: Vector> Algorithm<V> {
     }
 }
 
-// How many stripes come before the last block, in whole blocks of `n_stripes` stripes. The last block has at
-// least a byte, and may be whole.
+// Returns the number of stripes before the last block, in whole blocks of `n_stripes` stripes. The last block has at
+// least one byte, and may be whole.
 #[inline(always)]
 fn stripes_before_last_block(len: usize, n_stripes: usize) -> usize {
     let count = (len - 1) / 64;
     if count < n_stripes {
-        // One block takes no division.
+        // One block needs no division.
         return 0;
     }
     if n_stripes == STRIPES_IN_BLOCK {
@@ -216,9 +216,9 @@ fn stripes_before_last_block(len: usize, n_stripes: usize) -> usize {
     n_stripes * (count / n_stripes)
 }
 
-// The accumulators merged under 64 bytes of the secret: the sum of the folds of neighbours, mixed. They stay in
-// registers, four at a time. Every secret passes the test between the halves: without it, LLVM adds the four folds as
-// a vector, which costs more than it saves.
+// Merges the accumulators under 64 bytes of the secret: the sum of the folds of neighbours, mixed. They stay in
+// registers, four at a time. Every secret passes the test between the halves: without it, LLVM adds the four folds as a
+// vector, which costs more than it saves.
 #[inline(always)]
 fn final_merge(acc: [u64; 8], init: u64, key: &[u8; 64], secret: Secret<'_>) -> u64 {
     let [a, b, c, d, e, f, g, h] = acc;
@@ -229,7 +229,7 @@ fn final_merge(acc: [u64; 8], init: u64, key: &[u8; 64], secret: Secret<'_>) -> 
     avalanche(add_folds(front, keyed_four([e, f, g, h], words(key, 4))))
 }
 
-// Four accumulators under their keys.
+// Returns four accumulators under their keys.
 #[inline(always)]
 fn keyed_four(acc: [u64; 4], keys: [u64; 4]) -> [u64; 4] {
     let [a0, a1, a2, a3] = acc;
@@ -238,14 +238,14 @@ fn keyed_four(acc: [u64; 4], keys: [u64; 4]) -> [u64; 4] {
     (u64x4::from_array([a0, a1, a2, a3]) ^ keys).to_array()
 }
 
-// The sum with the folds of two pairs of neighbours.
+// Adds the folds of two pairs of neighbours to the sum.
 #[inline(always)]
 fn add_folds(sum: u64, keyed: [u64; 4]) -> u64 {
     let [a, b, c, d] = keyed;
     sum.wrapping_add(fold(a, b)).wrapping_add(fold(c, d))
 }
 
-// A value of 128 bits from its halves.
+// Joins the halves of a 128-bit value.
 #[inline(always)]
 fn from_halves(high: u64, low: u64) -> u128 {
     (high.into_u128() << 64) + low.into_u128()

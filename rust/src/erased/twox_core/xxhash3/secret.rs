@@ -1,7 +1,7 @@
 // SPDX-License-Identifier: MIT
 // crates/twox_core/src/xxhash3/secret.rt without its contracts, written by rust/erase: change that file.
 
-//! Secrets of at least 136 bytes, and the parts that each range of lengths reads of them.
+//! Secrets of at least 136 bytes, and the parts of them that each range of lengths reads.
 
 use super::parts::{array_at, chunks_at, pair_at, pairs_at};
 use super::{DEFAULT_SECRET_LENGTH, DefaultSecret};
@@ -11,7 +11,7 @@ use crate::erased::twox_words::words::{u32_at, u64_at};
 /// The minimum length of a secret.
 pub const SECRET_MINIMUM_LENGTH: usize = 136;
 
-/// A secret: at least 136 bytes, lent.
+/// A borrowed secret of at least 136 bytes.
 #[derive(Clone, Copy)]
 pub struct Secret<'a> {
     pub(crate) bytes: &'a [u8],
@@ -29,7 +29,7 @@ impl fmt::Display for Error {
 
 impl error::Error for Error {}
 
-/// A one-shot was handed a secret of fewer than 136 bytes.
+/// The error of a one-shot for a secret of fewer than 136 bytes.
 #[derive(Clone, Copy, Debug, PartialEq, Eq)]
 pub struct OneshotWithSecretError(Error);
 
@@ -48,11 +48,11 @@ impl fmt::Display for OneshotWithSecretError {
 impl error::Error for OneshotWithSecretError {}
 
 impl<'a> Secret<'a> {
-    /// The bytes as a secret.
+    /// Wraps `bytes` as a secret.
     ///
     /// # Errors
     ///
-    /// The bytes are fewer than 136.
+    /// `Error` if there are fewer than 136 bytes.
     #[inline(always)]
     pub fn new(bytes: &'a [u8]) -> Result<Secret<'a>, Error> {
         if bytes.len() >= SECRET_MINIMUM_LENGTH {
@@ -62,114 +62,114 @@ impl<'a> Secret<'a> {
         }
     }
 
-    /// The words that XXH3 of 64 bits reads.
+    /// Returns the view of the words that XXH3 64-bit reads.
     #[inline(always)]
     pub fn for_64(self) -> Secret64BitView<'a> {
         Secret64BitView { secret: self }
     }
 
-    /// The words that XXH3 of 128 bits reads.
+    /// Returns the view of the words that XXH3 128-bit reads.
     #[inline(always)]
     pub fn for_128(self) -> Secret128BitView<'a> {
         Secret128BitView { secret: self }
     }
 
-    /// The first 136 bytes, which are all that inputs of up to 240 bytes read.
+    /// Returns the first 136 bytes. Inputs of up to 240 bytes read no others.
     #[inline(always)]
     pub fn minimum(self) -> &'a [u8; SECRET_MINIMUM_LENGTH] {
         array_at(self.bytes, 0)
     }
 
-    // The bytes of a secret that is as long as the default one.
+    // Returns the bytes of a secret as long as the default one.
     #[inline(always)]
     pub(crate) fn of_default_length(self) -> &'a DefaultSecret {
         array_at::<DEFAULT_SECRET_LENGTH>(self.bytes, 0)
     }
 
-    /// The first eight chunks of 16 bytes.
+    /// Returns the first eight chunks of 16 bytes.
     #[inline(always)]
     pub fn words_for_17_to_128(self) -> &'a [[u8; 16]] {
         chunks_at(self.bytes, 0)
     }
 
-    /// The 64 bytes from byte `8 * i` on. The caller shows that `i` is below `n_stripes()`.
+    /// Returns the 64 bytes from byte `8 * i` on. The caller proves that `i` is below `n_stripes()`.
     #[inline(always)]
     pub fn stripe(self, i: usize) -> &'a [u8; 64] {
         array_at(self.bytes, 8 * i)
     }
 
-    // The 88 bytes from byte `8 * i` on: four stripes are taken under them.
+    // Returns the 88 bytes from byte `8 * i` on, which four stripes use.
     #[inline(always)]
     pub(crate) fn four_stripes(self, i: usize) -> &'a [u8; 88] {
         array_at(self.bytes, i * 8)
     }
 
-    /// The last 64 bytes.
+    /// Returns the last 64 bytes.
     #[inline(always)]
     pub fn last_stripe(self) -> &'a [u8; 64] {
         array_at(self.bytes, self.len() - 64)
     }
 
-    /// The 64 bytes that end seven bytes before the secret's end.
+    /// Returns the 64 bytes that end seven bytes before the secret's end.
     #[inline(always)]
     pub fn last_stripe_secret_better_name(self) -> &'a [u8; 64] {
         array_at(self.bytes, self.len() - 71)
     }
 
-    /// The 64 bytes from byte 11 on.
+    /// Returns the 64 bytes from byte 11 on.
     #[inline(always)]
     pub fn final_secret(self) -> &'a [u8; 64] {
         array_at(self.bytes, 11)
     }
 
-    /// The number of bytes.
+    /// Returns the number of bytes.
     #[inline(always)]
     pub fn len(self) -> usize {
         self.bytes.len()
     }
 
-    /// How many stripes are accumulated from one scramble to the next.
+    /// Returns the number of stripes from one scramble to the next.
     #[inline(always)]
     pub fn n_stripes(self) -> usize {
         (self.len() - 64) / 8
     }
 
-    /// Whether there are at least 136 bytes, which holds of every secret.
+    /// True if there are at least 136 bytes, as in every secret.
     #[inline(always)]
     pub fn is_valid(self) -> bool {
         self.len() >= SECRET_MINIMUM_LENGTH
     }
 }
 
-/// The words and chunks of a secret that XXH3 of 64 bits reads of it, up to 240 bytes.
+/// The words and chunks that XXH3 64-bit reads of a secret, up to 240 bytes of input.
 #[derive(Clone, Copy)]
 pub struct Secret64BitView<'a> {
     secret: Secret<'a>,
 }
 
 impl<'a> Secret64BitView<'a> {
-    /// The eight-byte words at 56 and 64.
+    /// Returns the eight-byte words at 56 and 64.
     #[inline(always)]
     pub fn words_for_0(self) -> [u64; 2] {
         let bytes = self.secret.bytes;
         [u64_at(bytes, 56), u64_at(bytes, 64)]
     }
 
-    /// The four-byte words at 0 and 4.
+    /// Returns the four-byte words at 0 and 4.
     #[inline(always)]
     pub fn words_for_1_to_3(self) -> [u32; 2] {
         let bytes = self.secret.bytes;
         [u32_at(bytes, 0), u32_at(bytes, 4)]
     }
 
-    /// The eight-byte words at 8 and 16.
+    /// Returns the eight-byte words at 8 and 16.
     #[inline(always)]
     pub fn words_for_4_to_8(self) -> [u64; 2] {
         let bytes = self.secret.bytes;
         [u64_at(bytes, 8), u64_at(bytes, 16)]
     }
 
-    /// The eight-byte words at 24, 32, 40 and 48.
+    /// Returns the eight-byte words at 24, 32, 40 and 48.
     #[inline(always)]
     pub fn words_for_9_to_16(self) -> [u64; 4] {
         let bytes = self.secret.bytes;
@@ -181,33 +181,33 @@ impl<'a> Secret64BitView<'a> {
         ]
     }
 
-    /// Eight chunks of 16 bytes from byte 0 on.
+    /// Returns eight chunks of 16 bytes from byte 0 on.
     #[inline(always)]
     pub fn words_for_129_to_240_part1(self) -> &'a [[u8; 16]] {
         chunks_at(self.secret.bytes, 0)
     }
 
-    /// Eight chunks of 16 bytes from byte 3 on.
+    /// Returns eight chunks of 16 bytes from byte 3 on.
     #[inline(always)]
     pub fn words_for_129_to_240_part2(self) -> &'a [[u8; 16]] {
         chunks_at(self.secret.bytes, 3)
     }
 
-    /// The 16 bytes from byte 119 on.
+    /// Returns the 16 bytes from byte 119 on.
     #[inline(always)]
     pub fn words_for_129_to_240_part3(self) -> &'a [u8; 16] {
         array_at(self.secret.bytes, 119)
     }
 }
 
-/// The words and chunks of a secret that XXH3 of 128 bits reads of it.
+/// The words and chunks that XXH3 128-bit reads of a secret.
 #[derive(Clone, Copy)]
 pub struct Secret128BitView<'a> {
     secret: Secret<'a>,
 }
 
 impl<'a> Secret128BitView<'a> {
-    /// The eight-byte words at 64, 72, 80 and 88.
+    /// Returns the eight-byte words at 64, 72, 80 and 88.
     #[inline(always)]
     pub fn words_for_0(self) -> [u64; 4] {
         let bytes = self.secret.bytes;
@@ -219,7 +219,7 @@ impl<'a> Secret128BitView<'a> {
         ]
     }
 
-    /// The four-byte words at 0, 4, 8 and 12.
+    /// Returns the four-byte words at 0, 4, 8 and 12.
     #[inline(always)]
     pub fn words_for_1_to_3(self) -> [u32; 4] {
         let bytes = self.secret.bytes;
@@ -231,14 +231,14 @@ impl<'a> Secret128BitView<'a> {
         ]
     }
 
-    /// The eight-byte words at 16 and 24.
+    /// Returns the eight-byte words at 16 and 24.
     #[inline(always)]
     pub fn words_for_4_to_8(self) -> [u64; 2] {
         let bytes = self.secret.bytes;
         [u64_at(bytes, 16), u64_at(bytes, 24)]
     }
 
-    /// The eight-byte words at 32, 40, 48 and 56.
+    /// Returns the eight-byte words at 32, 40, 48 and 56.
     #[inline(always)]
     pub fn words_for_9_to_16(self) -> [u64; 4] {
         let bytes = self.secret.bytes;
@@ -250,25 +250,25 @@ impl<'a> Secret128BitView<'a> {
         ]
     }
 
-    /// Four pairs of 16 bytes from byte 0 on.
+    /// Returns four pairs of 16 bytes from byte 0 on.
     #[inline(always)]
     pub fn words_for_129_to_240_part1(self) -> &'a [[[u8; 16]; 2]] {
         pairs_at(self.secret.bytes, 0)
     }
 
-    /// Four pairs of 16 bytes from byte 3 on.
+    /// Returns four pairs of 16 bytes from byte 3 on.
     #[inline(always)]
     pub fn words_for_129_to_240_part2(self) -> &'a [[[u8; 16]; 2]] {
         pairs_at(self.secret.bytes, 3)
     }
 
-    /// The 32 bytes from byte 103 on, as a pair of 16 bytes.
+    /// Returns the 32 bytes from byte 103 on, as a pair of 16 bytes.
     #[inline(always)]
     pub fn words_for_129_to_240_part3(self) -> &'a [[u8; 16]; 2] {
         pair_at(self.secret.bytes, 103)
     }
 
-    /// The 64 bytes that end eleven bytes before the secret's end.
+    /// Returns the 64 bytes that end eleven bytes before the secret's end.
     #[inline(always)]
     pub fn final_secret(self) -> &'a [u8; 64] {
         array_at(self.secret.bytes, self.secret.len() - 75)

@@ -1,7 +1,7 @@
 // SPDX-License-Identifier: MIT
 // crates/twox_core/src/xxhash3/streaming.rt without its contracts, written by rust/erase: change that file.
 
-//! Streams of XXH3: bytes that come in pieces, hashed under a secret that the stream holds.
+//! Streams of XXH3: bytes that come in chunks, hashed under a secret that the stream holds.
 
 mod buffers;
 mod core_state;

@@ -3,20 +3,20 @@
 
 //! The accumulators, their place in the secret, and the ways to take stripes.
 //!
-//! What is named `process` stands in its caller's code, and what is named `take` is a call of its own:
+//! Functions named `process` are inlined, and functions named `take` are calls:
 //!
-//! | name | takes | of how many bytes |
+//! | name | takes | number of bytes |
 //! |---|---|---|
 //! | `process_oneshot` | a one-shot's stripes before its last block | any |
 //! | `process_piece` | a stream's stripes, which begin and end anywhere in a block | any |
 //! | `process_stripes`, `take_stripes` | one after another, under any secret | any |
 //! | `process_blocks` | whole blocks of a one-shot | less than 31 KiB |
-//! | `take_many_stripes` | by one of the next three or `take_stripes` | 2 KiB and more of a piece, 31 of a one-shot |
+//! | `take_many_stripes` | by one of the next three or `take_stripes` | 2 KiB and more of a chunk, 31 of a one-shot |
 //! | `process_by_fours` | four at a time, from any place | 1 to 31 KiB |
-//! | `process_by_blocks` | whole blocks, by `take_many_blocks`, and what stands around them | 31 KiB and more |
+//! | `process_by_blocks` | whole blocks, by `take_many_blocks`, and the stripes around them | 31 KiB and more |
 //! | `take_widened`, `start_widened` | the same by eight lanes, with no call; the second of a one-shot | 1 KiB and more |
 //!
-//! `process_blocks` and the last three are for secrets of 192 bytes, as the default one and each derived one has.
+//! `process_blocks` and the last three are for secrets of 192 bytes, such as the default one and each derived one.
 
 mod blocks;
 mod fours;
@@ -30,11 +30,11 @@ use super::large::lanes8;
 use super::{DEFAULT_SECRET_LENGTH, DefaultSecret, INITIAL_ACCUMULATORS, Secret, Vector};
 use crate::erased::twox_words::words::bp_as_chunks;
 
-// From how many bytes on a one-shot takes its stripes out of line, in the way that is fastest for their number: 32 KiB
-// without the last block, which a one-shot takes by itself.
+// From this many bytes on, a one-shot takes its stripes in a separate function, in the way that is fastest for their
+// number: 32 KiB without the last block, which a one-shot takes by itself.
 pub(crate) const MANY_BYTES: usize = 31 * BYTES_IN_BLOCK;
 
-/// The accumulators, and how many stripes they have taken since the last scramble.
+/// The accumulators, and the number of stripes taken since the last scramble.
 #[repr(C)]
 #[derive(Clone, Copy)]
 pub struct StripeAccumulator {
@@ -43,13 +43,13 @@ pub struct StripeAccumulator {
 }
 
 impl StripeAccumulator {
-    /// The accumulators before the first stripe.
+    /// Returns the accumulators before the first stripe.
     #[inline(always)]
     pub fn new() -> StripeAccumulator {
         StripeAccumulator::starting_with(INITIAL_ACCUMULATORS)
     }
 
-    // These accumulators, at the secret's start.
+    // Returns these accumulators, at the secret's start.
     #[inline(always)]
     pub(crate) fn starting_with(accumulator: [u64; 8]) -> StripeAccumulator {
         StripeAccumulator {
@@ -58,23 +58,23 @@ impl StripeAccumulator {
         }
     }
 
-    /// The accumulators.
+    /// Returns the accumulators.
     #[inline(always)]
     pub fn accumulators(&self) -> [u64; 8] {
         self.accumulator
     }
 
-    /// How many stripes were taken since the last scramble.
+    /// Number of stripes taken since the last scramble.
     #[inline(always)]
     pub fn current_stripe(&self) -> usize {
         let StripeAccumulator { current_stripe, .. } = *self;
         current_stripe
     }
 
-    /// Takes a stripe, under the secret's 64 bytes at `8 * current_stripe()`. Where that makes `n_stripes`
-    /// stripes since the last scramble, the accumulators are scrambled and the count begins again.
+    /// Takes a stripe, under the secret's 64 bytes at `8 * current_stripe()`. If that makes `n_stripes` stripes since
+    /// the last scramble, scrambles the accumulators and restarts the count.
     ///
-    /// The caller shows that `n_stripes` is the secret's number of places and that the count is below it.
+    /// The caller proves that `n_stripes` is the secret's number of places and that the count is below it.
     #[inline(always)]
     pub fn process_stripe(
         &mut self,
@@ -95,8 +95,8 @@ impl StripeAccumulator {
         }
     }
 
-    // Takes the whole stripes of `bytes`, which mostly are whole blocks from the secret's start on. The caller says
-    // whether the bytes are many.
+    // Takes the whole stripes of `bytes`, which mostly are whole blocks from the secret's start on. The caller sets
+    // `MANY` if there are many bytes.
     #[inline(always)]
     pub(crate) fn process_oneshot<V: Vector, const MANY: bool>(
         &mut self,
@@ -115,7 +115,8 @@ impl StripeAccumulator {
         }
     }
 
-    // Takes the whole stripes of bytes that begin and end anywhere in a block. The caller says whether the bytes are many.
+    // Takes the whole stripes of bytes that begin and end anywhere in a block. The caller sets `MANY` if there are many
+    // bytes.
     #[inline(always)]
     pub(crate) fn process_piece<V: Vector, const MANY: bool>(
         &mut self,
@@ -143,7 +144,7 @@ impl StripeAccumulator {
     }
 }
 
-// The accumulators with the stripes taken, out of line.
+// Returns the accumulators after the stripes. A separate function, so that callers stay small.
 #[inline(always)] fn take_stripes<V: Vector>(
     from: StripeAccumulator,
     v: V,
@@ -155,7 +156,7 @@ impl StripeAccumulator {
     taken
 }
 
-// Takes the stripes of many bytes, out of line.
+// Takes the stripes of many bytes. A separate function, so that callers stay small.
 #[inline(always)] fn take_many_stripes<V: Vector>(
     taken: &mut StripeAccumulator,
     v: V,
@@ -173,15 +174,15 @@ impl StripeAccumulator {
     }
 }
 
-// The same by eight lanes, in one function that knows the secret's length: so it has no branch that is never taken. The
-// accumulators stay where they lie: a copy would be stored in parts, and a load of all of it waits for these.
+// Does the same by eight lanes, in one function that knows the secret's length, so it has no branch that is never
+// taken. The accumulators stay in place: a copy would be stored in parts, and a load of all of it would wait for these.
 #[inline(never)]
 fn take_widened(taken: &mut StripeAccumulator, bytes: &[u8], secret: &DefaultSecret) {
     let secret = Secret::new(secret).unwrap();
     *taken = process_by_blocks::<lanes8::Impl, true>(*taken, lanes8::Impl {}, bytes, secret);
 }
 
-// The accumulators with a one-shot's stripes taken by eight lanes, likewise.
+// Returns the accumulators after a one-shot's stripes, by eight lanes in the same way.
 #[inline(never)]
 pub(super) fn start_widened(bytes: &[u8], secret: &DefaultSecret) -> StripeAccumulator {
     let start = StripeAccumulator::new();
@@ -189,8 +190,8 @@ pub(super) fn start_widened(bytes: &[u8], secret: &DefaultSecret) -> StripeAccum
     process_by_blocks::<lanes8::Impl, true>(start, lanes8::Impl {}, bytes, secret)
 }
 
-// The accumulators with the stripes taken by whole blocks, under a secret of 192 bytes: first the stripes to the end of
-// a block, and last those of a block that isn't whole. The caller says whether all that stands in its own code.
+// Returns the accumulators after the stripes, by whole blocks, under a secret of 192 bytes: first the stripes to the
+// end of a block, and last those of a block that isn't whole. `IN_PLACE` inlines all of it.
 #[inline(always)]
 fn process_by_blocks<V: Vector, const IN_PLACE: bool>(
     from: StripeAccumulator,
@@ -207,7 +208,7 @@ fn process_by_blocks<V: Vector, const IN_PLACE: bool>(
     with_part_of_block::<V, IN_PLACE>(at_start, v, rest, secret)
 }
 
-// The accumulators with the stripes of a part of a block taken, in place or out of line.
+// Returns the accumulators after the stripes of a part of a block, inlined or by a call.
 #[inline(always)]
 fn with_part_of_block<V: Vector, const IN_PLACE: bool>(
     from: StripeAccumulator,
@@ -222,7 +223,7 @@ fn with_part_of_block<V: Vector, const IN_PLACE: bool>(
     }
 }
 
-// The accumulators after whole blocks, in place or out of line.
+// Returns the accumulators after whole blocks, inlined or by a call.
 #[inline(always)]
 fn with_blocks<V: Vector, const IN_PLACE: bool>(
     acc: [u64; 8],

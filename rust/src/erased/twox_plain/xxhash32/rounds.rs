@@ -1,8 +1,7 @@
 // SPDX-License-Identifier: MIT
 // crates/twox_plain/src/xxhash32/rounds.rt without its contracts, written by rust/erase: change that file.
 
-//! The rounds and the last step of XXH32, and its one-shot: the xxHash specification, "XXH32 algorithm
-//! description".
+//! Rounds, last step and one-shot of XXH32: the xxHash specification, "XXH32 algorithm description".
 
 use super::Core;
 use crate::erased::twox_plain::words::{Halves, IntoU32, IntoU64, u32_at, u64_at};
@@ -30,7 +29,7 @@ fn round(accumulator: u32, word: u32) -> u32 {
     add_product(accumulator, word.wrapping_mul(PRIME32_2))
 }
 
-// The round of a word whose product is known.
+// Does the round of a word whose product is known.
 #[inline(always)]
 fn add_product(accumulator: u32, product: u32) -> u32 {
     accumulator
@@ -39,9 +38,9 @@ fn add_product(accumulator: u32, product: u32) -> u32 {
         .wrapping_mul(PRIME32_1)
 }
 
-// The products of the words of a block. They wait for no accumulator, so they are made many at once, in vectors, and
-// the rounds are left with half of their multiplications. It is a call of its own because the rounds then read each
-// product from memory: a product that they took out of a vector would cost what the vector saved.
+// Multiplies the words of a block. The products depend on no accumulator, so many are made at once, in vectors, and the
+// rounds have half of their multiplications left. A separate call, because the rounds then read each product from
+// memory: taking a product out of a vector would cost what the vector saved.
 #[inline(never)]
 fn products_of_block(block: &[u8; BYTES_IN_BLOCK]) -> [u32; WORDS_IN_BLOCK] {
     let mut products = [0; WORDS_IN_BLOCK];
@@ -51,8 +50,8 @@ fn products_of_block(block: &[u8; BYTES_IN_BLOCK]) -> [u32; WORDS_IN_BLOCK] {
     products
 }
 
-// The word at byte `i + 4`, taken out of the eight bytes before its end, which is one load too. LLVM then doesn't see the
-// words of a stripe as a vector: on 64-bit ARM it would make a vector of the accumulators, which is slower.
+// Returns the word at byte `i + 4`, from the eight bytes before its end, which is one load too. LLVM then doesn't see
+// the words of a stripe as a vector: on 64-bit ARM it would make a vector of the accumulators, which is slower.
 #[inline(always)]
 fn upper_word_at(bytes: &[u8], i: usize) -> u32 {
     u64_at(bytes, i).upper_half()
@@ -84,7 +83,7 @@ fn avalanche(mut value: u32) -> u32 {
 }
 
 impl Core {
-    // The accumulators before the first stripe.
+    // Returns the accumulators before the first stripe.
     #[inline(always)]
     pub(super) fn new(seed: u32) -> Core {
         Core {
@@ -95,7 +94,7 @@ impl Core {
         }
     }
 
-    // Takes a stripe.
+    // Adds a stripe.
     #[inline(always)]
     pub(super) fn write(&mut self, stripe: &[u8; BYTES_IN_STRIPE]) {
         self.v1 = round(self.v1, u32_at(stripe, 0));
@@ -104,7 +103,7 @@ impl Core {
         self.v4 = round(self.v4, upper_word_at(stripe, 8));
     }
 
-    // Takes a block.
+    // Adds a block.
     #[inline(always)]
     fn write_block(&mut self, block: &[u8; BYTES_IN_BLOCK]) {
         let products = products_of_block(block);
@@ -116,7 +115,7 @@ impl Core {
         }
     }
 
-    // Takes the whole blocks of the input, and gives the bytes after them.
+    // Adds the whole blocks of the input, and returns the bytes after them.
     #[inline(always)]
     fn write_blocks<'d>(&mut self, input: &'d [u8]) -> &'d [u8] {
         if input.len() >= crate::kernels::STRIPES_32 {
@@ -132,8 +131,8 @@ impl Core {
         rest
     }
 
-    // Takes the whole stripes of the input, and gives the bytes after them. The loop holds the rest and no count: short
-    // inputs then have less to do before it and after it.
+    // Adds the whole stripes of the input, and returns the bytes after them. The loop keeps the rest and no count, so
+    // short inputs have less to do before and after it.
     #[inline(always)]
     fn write_stripes<'d>(&mut self, input: &'d [u8]) -> &'d [u8] {
         let mut rest = input;
@@ -144,7 +143,7 @@ impl Core {
         rest
     }
 
-    // Takes the whole stripes of the input, and gives the bytes after them. With `BLOCKS` it takes whole blocks first.
+    // Adds the whole stripes of the input, and returns the bytes after them. With `BLOCKS` it adds whole blocks first.
     #[inline(always)]
     pub(super) fn write_many<'d, const BLOCKS: bool>(&mut self, input: &'d [u8]) -> &'d [u8] {
         if BLOCKS {
@@ -155,7 +154,7 @@ impl Core {
         }
     }
 
-    // The four accumulators as one value.
+    // Converges the four accumulators to one value.
     #[inline(always)]
     pub(super) fn finish(&self) -> u32 {
         self.v1
@@ -166,7 +165,7 @@ impl Core {
     }
 }
 
-// Takes the bytes that fill no stripe: four at a time, then one.
+// Mixes in the bytes that fill no stripe: four at a time, then one.
 #[inline(always)]
 fn after_tail(value: u32, rest: &[u8]) -> u32 {
     let mut value = value;
@@ -179,8 +178,8 @@ fn after_tail(value: u32, rest: &[u8]) -> u32 {
     value
 }
 
-// The value from the seed, the counted length, the accumulators and the bytes that fill no stripe. Of the length
-// the low 32 bits enter.
+// Returns the value from the seed, the counted length (of which it uses the low 32 bits), the accumulators and the
+// bytes that fill no stripe.
 #[inline(always)]
 pub(super) fn finish_with(seed: u32, len: u64, core: &Core, rest: &[u8]) -> u32 {
     let value = if len < BYTES_IN_STRIPE.into_u64() {
@@ -202,7 +201,7 @@ pub(super) fn impl_oneshot(seed: u32, input: &[u8]) -> u32 {
     }
 }
 
-// The value of fewer bytes than a stripe, in a function of its own, so that short inputs pay for no accumulators.
+// Hashes fewer bytes than a stripe. A separate function, so that short inputs don't pay for accumulators.
 #[inline(always)]
 pub(super) fn impl_short(seed: u32, input: &[u8]) -> u32 {
     let value = seed
@@ -211,7 +210,7 @@ pub(super) fn impl_short(seed: u32, input: &[u8]) -> u32 {
     avalanche(after_tail(value, input))
 }
 
-// Blocks are in a function of their own, so that shorter inputs keep no registers for its calls.
+// Separate function, so that shorter inputs save no registers for its calls.
 #[inline(never)]
 fn impl_from_128(seed: u32, input: &[u8]) -> u32 {
     impl_long::<true>(seed, input)
@@ -221,7 +220,7 @@ fn impl_from_128(seed: u32, input: &[u8]) -> u32 {
 pub(super) fn impl_long<const BLOCKS: bool>(seed: u32, input: &[u8]) -> u32 {
     let mut core = Core::new(seed);
     let rest = core.write_many::<BLOCKS>(input);
-    // Its length, said by the input's, tells the compiler that few words are left, for which it unrolls no loop.
+    // Its length, computed from the input's, shows the compiler that few words are left, so it doesn't unroll the loop.
     let rest = &rest[..input.len() % BYTES_IN_STRIPE];
     finish_with(seed, input.len().into_u64(), &core, rest)
 }

@@ -1,7 +1,7 @@
 // SPDX-License-Identifier: MIT
 // crates/twox_plain/src/xxhash32/state.rt without its contracts, written by rust/erase: change that file.
 
-//! A stream of XXH32: its accumulators, the bytes that wait for a stripe, and the length.
+//! A stream of XXH32: its accumulators, the buffered bytes of the next stripe, and the length.
 
 use super::rounds::{BYTES_IN_BLOCK, BYTES_IN_STRIPE, finish_with};
 use super::{Core, MARK, SavedState, StateInMemory};
@@ -9,9 +9,9 @@ use crate::erased::twox_plain::words::{Halves, IntoU64};
 use crate::erased::twox_words::copies::{copy_front, copy_short};
 
 impl StateInMemory {
-    /// The record's fields in their places.
+    /// Puts the record's fields in their places.
     ///
-    /// The caller shows that less than a stripe waits.
+    /// The caller proves that less than a stripe is buffered.
     #[inline(always)]
     pub fn of_record(state: SavedState) -> StateInMemory {
         let buffer = state.buffer;
@@ -28,7 +28,7 @@ impl StateInMemory {
         }
     }
 
-    /// The record that lies here.
+    /// Returns the record in this memory.
     #[inline(always)]
     pub fn record(&self) -> SavedState {
         let buffer = self.buffer;
@@ -41,25 +41,25 @@ impl StateInMemory {
         }
     }
 
-    /// How many bytes of the buffer wait. Memory without the mark seems to have a stripe or more.
+    /// Returns the number of bytes buffered: a stripe or more if the memory has no mark.
     #[inline(always)]
     pub fn usage(&self) -> usize {
         self.marked_usage.wrapping_sub(MARK) as usize
     }
 
-    // Sets how many bytes of the buffer wait, and with it the mark.
+    // Sets the number of bytes buffered, and the mark with it.
     #[inline(always)]
     fn set_usage(&mut self, usage: usize) {
         self.marked_usage = MARK + usage as u32;
     }
 
-    /// The number of bytes that were hashed, or `u64::MAX` where there were more.
+    /// Total bytes hashed, saturating at `u64::MAX`.
     #[inline(always)]
     pub fn total_len(&self) -> u64 {
         (self.total_high.into_u64() << 32) + self.total_low.into_u64()
     }
 
-    // Adds to the number of bytes that were hashed.
+    // Adds to the number of bytes hashed.
     #[inline(always)]
     fn count(&mut self, more: usize) {
         let total = self.total_len().saturating_add(more.into_u64());
@@ -67,7 +67,7 @@ impl StateInMemory {
         self.total_high = total.upper_half();
     }
 
-    // The accumulators.
+    // Returns the accumulators.
     #[inline(always)]
     pub(super) fn core(&self) -> Core {
         Core {
@@ -78,7 +78,7 @@ impl StateInMemory {
         }
     }
 
-    // Puts the accumulators back.
+    // Stores the accumulators.
     #[inline(always)]
     fn set_core(&mut self, core: Core) {
         self.v1 = core.v1;
@@ -87,15 +87,15 @@ impl StateInMemory {
         self.v4 = core.v4;
     }
 
-    /// Adds a piece to the bytes that are hashed.
+    /// Hashes a chunk.
     ///
-    /// The caller shows that less than a stripe waits.
+    /// The caller proves that less than a stripe is buffered.
     #[inline(always)]
     pub fn add_piece(&mut self, input: &[u8]) {
         self.take_piece::<true>(input);
     }
 
-    // Adds a piece. With `BLOCKS` a long one is taken by blocks.
+    // Hashes a chunk. With `BLOCKS` a long one is taken by blocks.
     #[inline(always)]
     pub(super) fn take_piece<const BLOCKS: bool>(&mut self, input: &[u8]) {
         let used = self.usage();
@@ -117,7 +117,7 @@ impl StateInMemory {
         self.add_rest::<BLOCKS>(rest);
     }
 
-    // Adds bytes that are counted already, where none wait.
+    // Hashes bytes that are already counted, if none are buffered.
     #[inline(always)]
     fn add_rest<const BLOCKS: bool>(&mut self, input: &[u8]) {
         if BLOCKS && input.len() >= crate::kernels::STRIPES_32 {
@@ -127,7 +127,7 @@ impl StateInMemory {
         }
     }
 
-    // Takes the whole stripes, and keeps the bytes after them.
+    // Adds the whole stripes, and buffers the bytes after them.
     #[inline(always)]
     fn add_stripes(&mut self, input: &[u8]) {
         let mut rest = input;
@@ -146,7 +146,7 @@ impl StateInMemory {
         self.keep(rest);
     }
 
-    // The same with blocks, out of line, so that shorter pieces keep no registers for its calls.
+    // Does the same with blocks. A separate function, so that shorter chunks save no registers for its calls.
     #[inline(never)]
     fn add_blocks(&mut self, input: &[u8]) {
         let mut core = self.core();
@@ -155,16 +155,16 @@ impl StateInMemory {
         self.keep(rest);
     }
 
-    // Keeps the bytes that fill no stripe.
+    // Buffers the bytes that fill no stripe.
     #[inline(always)]
     fn keep(&mut self, rest: &[u8]) {
         copy_front(&mut self.buffer, rest);
         self.set_usage(rest.len());
     }
 
-    /// The hash of the bytes so far.
+    /// Returns the hash of the bytes so far.
     ///
-    /// The caller shows that less than a stripe waits.
+    /// The caller proves that less than a stripe is buffered.
     #[inline(always)]
     pub fn finish(&self) -> u32 {
         finish_with(

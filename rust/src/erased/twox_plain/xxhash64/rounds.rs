@@ -1,8 +1,7 @@
 // SPDX-License-Identifier: MIT
 // crates/twox_plain/src/xxhash64/rounds.rt without its contracts, written by rust/erase: change that file.
 
-//! The rounds and the last step of XXH64, and its one-shot: the xxHash specification, "XXH64 algorithm
-//! description".
+//! Rounds, last step and one-shot of XXH64: the xxHash specification, "XXH64 algorithm description".
 
 use super::Core;
 use crate::erased::twox_plain::words::{IntoU64, u32_at, u64_at};
@@ -25,8 +24,8 @@ fn round(accumulator: u64, word: u64) -> u64 {
     rotate_left_by_31(sum).wrapping_mul(PRIME64_1)
 }
 
-// A function that LLVM sees by itself first: it then rotates by one instruction. Where it sees that a product
-// is rotated, it makes two products instead.
+// Separate function that LLVM optimizes first: it then rotates by one instruction. If LLVM sees that a product is
+// rotated, it makes two products instead.
 #[inline]
 fn rotate_left_by_31(x: u64) -> u64 {
     x.rotate_left(31)
@@ -72,7 +71,7 @@ fn avalanche(mut value: u64) -> u64 {
 }
 
 impl Core {
-    // The accumulators before the first stripe.
+    // Returns the accumulators before the first stripe.
     #[inline(always)]
     pub(super) fn new(seed: u64) -> Core {
         Core {
@@ -83,7 +82,7 @@ impl Core {
         }
     }
 
-    // Takes a stripe.
+    // Adds a stripe.
     #[inline(always)]
     pub(super) fn write(&mut self, stripe: &[u8; BYTES_IN_STRIPE]) {
         self.v1 = round(self.v1, u64_at(stripe, 0));
@@ -92,8 +91,8 @@ impl Core {
         self.v4 = round(self.v4, u64_at(stripe, 24));
     }
 
-    // Takes the whole stripes of the input, and gives the bytes after them. The loop holds the rest and no count: short
-    // inputs then have less to do before it and after it.
+    // Adds the whole stripes of the input, and returns the bytes after them. The loop keeps the rest and no count, so
+    // short inputs have less to do before and after it.
     #[inline(always)]
     pub(super) fn write_many<'d>(&mut self, input: &'d [u8]) -> &'d [u8] {
         let mut rest = input;
@@ -104,7 +103,7 @@ impl Core {
         rest
     }
 
-    // The four accumulators as one value.
+    // Converges the four accumulators to one value.
     #[inline(always)]
     pub(super) fn finish(&self) -> u64 {
         let value = self
@@ -120,7 +119,7 @@ impl Core {
     }
 }
 
-// Takes the bytes that fill no stripe: eight at a time, then four, then one.
+// Mixes in the bytes that fill no stripe: eight at a time, then four, then one.
 #[inline(always)]
 fn after_tail(value: u64, rest: &[u8]) -> u64 {
     let mut value = value;
@@ -136,7 +135,7 @@ fn after_tail(value: u64, rest: &[u8]) -> u64 {
     value
 }
 
-// The value from the seed, the counted length, the accumulators and the bytes that fill no stripe.
+// Returns the value from the seed, the counted length, the accumulators and the bytes that fill no stripe.
 #[inline(always)]
 pub(super) fn finish_with(seed: u64, len: u64, core: &Core, rest: &[u8]) -> u64 {
     let value = if len < BYTES_IN_STRIPE.into_u64() {
@@ -156,7 +155,7 @@ pub(super) fn impl_oneshot(seed: u64, input: &[u8]) -> u64 {
     }
 }
 
-// The value of fewer bytes than a stripe, in a function of its own, so that short inputs pay for no accumulators.
+// Hashes fewer bytes than a stripe. A separate function, so that short inputs don't pay for accumulators.
 #[inline(always)]
 fn impl_short(seed: u64, input: &[u8]) -> u64 {
     let value = seed
@@ -168,7 +167,7 @@ fn impl_short(seed: u64, input: &[u8]) -> u64 {
 #[inline(always)] fn impl_long(seed: u64, input: &[u8]) -> u64 {
     let mut core = Core::new(seed);
     let rest = core.write_many(input);
-    // Its length, said by the input's, tells the compiler that few words are left, for which it unrolls no loop.
+    // Its length, computed from the input's, shows the compiler that few words are left, so it doesn't unroll the loop.
     let rest = &rest[..input.len() % BYTES_IN_STRIPE];
     finish_with(seed, input.len().into_u64(), &core, rest)
 }

@@ -1,7 +1,7 @@
 // SPDX-License-Identifier: MIT
 // crates/twox_plain/src/xxhash64/state.rt without its contracts, written by rust/erase: change that file.
 
-//! A stream of XXH64: its accumulators, the bytes that wait for a stripe, and the length.
+//! A stream of XXH64: its accumulators, the buffered bytes of the next stripe, and the length.
 
 use super::rounds::{BYTES_IN_STRIPE, finish_with};
 use super::{Core, MARK, SavedState, StateInMemory};
@@ -9,9 +9,9 @@ use crate::erased::twox_plain::words::IntoU64;
 use crate::erased::twox_words::copies::{copy_front, copy_short};
 
 impl StateInMemory {
-    /// The record's fields in their places.
+    /// Puts the record's fields in their places.
     ///
-    /// The caller shows that less than a stripe waits.
+    /// The caller proves that less than a stripe is buffered.
     #[inline(always)]
     pub fn of_record(state: SavedState) -> StateInMemory {
         let buffer = state.buffer;
@@ -27,7 +27,7 @@ impl StateInMemory {
         }
     }
 
-    /// The record that lies here.
+    /// Returns the record in this memory.
     #[inline(always)]
     pub fn record(&self) -> SavedState {
         let buffer = self.buffer;
@@ -40,19 +40,19 @@ impl StateInMemory {
         }
     }
 
-    /// How many bytes of the buffer wait. Memory without the mark seems to have a stripe or more.
+    /// Returns the number of bytes buffered: a stripe or more if the memory has no mark.
     #[inline(always)]
     pub fn usage(&self) -> usize {
         self.marked_usage.wrapping_sub(MARK) as usize
     }
 
-    // Sets how many bytes of the buffer wait, and with it the mark.
+    // Sets the number of bytes buffered, and the mark with it.
     #[inline(always)]
     fn set_usage(&mut self, usage: usize) {
         self.marked_usage = MARK + usage as u32;
     }
 
-    // The accumulators.
+    // Returns the accumulators.
     #[inline(always)]
     pub(super) fn core(&self) -> Core {
         Core {
@@ -63,7 +63,7 @@ impl StateInMemory {
         }
     }
 
-    // Puts the accumulators back.
+    // Stores the accumulators.
     #[inline(always)]
     fn set_core(&mut self, core: Core) {
         self.v1 = core.v1;
@@ -72,9 +72,9 @@ impl StateInMemory {
         self.v4 = core.v4;
     }
 
-    /// Adds a piece to the bytes that are hashed.
+    /// Hashes a chunk.
     ///
-    /// The caller shows that less than a stripe waits.
+    /// The caller proves that less than a stripe is buffered.
     #[inline(always)]
     pub fn add_piece(&mut self, input: &[u8]) {
         let used = self.usage();
@@ -96,7 +96,8 @@ impl StateInMemory {
         self.add_stripes(rest);
     }
 
-    // Adds bytes that are counted already, where none wait: takes the whole stripes, and keeps the bytes after them.
+    // Hashes bytes that are already counted, if none are buffered: adds the whole stripes, and buffers the bytes after
+    // them.
     #[inline(always)]
     fn add_stripes(&mut self, input: &[u8]) {
         let mut rest = input;
@@ -116,9 +117,9 @@ impl StateInMemory {
         self.set_usage(rest.len());
     }
 
-    /// The hash of the bytes so far.
+    /// Returns the hash of the bytes so far.
     ///
-    /// The caller shows that less than a stripe waits.
+    /// The caller proves that less than a stripe is buffered.
     #[inline(always)]
     pub fn finish(&self) -> u64 {
         finish_with(

@@ -1,19 +1,19 @@
 // SPDX-License-Identifier: MIT
 // crates/twox_words/src/words/chunks.rt without its contracts, written by rust/erase: change that file.
 
-//! The chunks of a slice, to be read or written in place.
+//! Chunks of a slice, to be read or written in place.
 
 use std::slice::from_raw_parts_mut;
 
-/// The chunks of `N` items from the front, and the fewer than `N` items after them. Nothing is copied.
+/// Splits the slice into chunks of `N` items and a rest of fewer than `N` items. Copies nothing.
 ///
-/// Chunk `i` is items `N * i` to `N * i + N - 1`. The caller shows that `N` is not 0.
+/// Chunk `i` is items `N * i` to `N * i + N - 1`. The caller proves that `N` is not 0.
 #[inline(always)]
 pub fn bp_as_chunks<T, const N: usize>(items: &[T]) -> (&[[T; N]], &[T]) {
     crate::rattle::as_chunks(items)
 }
 
-// The first `count` chunks of N items, which end at item `mid`, beside the rest.
+// Splits off the first `count` chunks of N items, which end at item `mid`.
 fn chunks_and_rest_mut<T, const N: usize>(
     items: &mut [T],
     count: usize,
@@ -29,10 +29,10 @@ fn chunks_and_rest_mut<T, const N: usize>(
     }
 }
 
-/// The chunks of `N` items from the front, and the fewer than `N` items after them, to be written. Nothing
-/// is copied, and what is written through them is the slice afterwards.
+/// Splits the slice into mutable chunks of `N` items and a rest of fewer than `N` items. Copies nothing: what is
+/// written through them is in the slice afterwards.
 ///
-/// Chunk `i` is items `N * i` to `N * i + N - 1`. The caller shows that `N` is not 0.
+/// Chunk `i` is items `N * i` to `N * i + N - 1`. The caller proves that `N` is not 0.
 #[inline(always)]
 pub fn bp_as_chunks_mut<T, const N: usize>(items: &mut [T]) -> (&mut [[T; N]], &mut [T]) {
     let count = items.len() / N;

@@ -1,17 +1,17 @@
 // SPDX-License-Identifier: MIT
 // crates/twox_words/src/words/halves.rt without its contracts, written by rust/erase: change that file.
 
-//! The halves of a word.
+//! Halves of a word.
 
-/// The two halves of a word.
+/// Splits a word into its two halves.
 pub trait Halves {
     /// A word of half the width.
     type Output;
 
-    /// The upper half of the bits.
+    /// Returns the upper half of the bits.
     fn upper_half(self) -> Self::Output;
 
-    /// The lower half of the bits.
+    /// Returns the lower half of the bits.
     fn lower_half(self) -> Self::Output;
 }
 

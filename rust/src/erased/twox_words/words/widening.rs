@@ -1,11 +1,11 @@
 // SPDX-License-Identifier: MIT
 // crates/twox_words/src/words/widening.rt without its contracts, written by rust/erase: change that file.
 
-//! Conversions to a wider type, which keep the value.
+//! Conversions to a wider type that keep the value.
 
-/// A conversion to `u32` that keeps the value.
+/// Converts to `u32` without changing the value.
 pub trait IntoU32 {
-    /// This number as a `u32`.
+    /// Returns this number as a `u32`.
     fn into_u32(self) -> u32;
 }
 
@@ -16,9 +16,9 @@ impl IntoU32 for u8 {
     }
 }
 
-/// A conversion to `u64` that keeps the value.
+/// Converts to `u64` without changing the value.
 pub trait IntoU64 {
-    /// This number as a `u64`.
+    /// Returns this number as a `u64`.
     fn into_u64(self) -> u64;
 }
 
@@ -43,9 +43,9 @@ impl IntoU64 for usize {
     }
 }
 
-/// A conversion to `u128` that keeps the value.
+/// Converts to `u128` without changing the value.
 pub trait IntoU128 {
-    /// This number as a `u128`.
+    /// Returns this number as a `u128`.
     fn into_u128(self) -> u128;
 }
 

@@ -24,7 +24,7 @@ returns-clause-reachable c = (
   λ some. refl,
 )
 
--- ---- every record that stands for a list of numbers
+-- ---- every record that represents a list of numbers
 
 pub returns-then-not-usage_fits-clause-accepted : goal.returns-then-not-usage_fits-clause-accepted
 returns-then-not-usage_fits-clause-accepted c = λ m stands.

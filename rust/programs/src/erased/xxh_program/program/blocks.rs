@@ -12,7 +12,7 @@ use crate::programs::xxh_io::hex::{LINE, offset_line};
 use crate::programs::xxh_io::waiting::Waiting;
 use crate::programs::xxh_io::write::write_all;
 
-// The stream of no bytes.
+// Returns the stream of no bytes.
 fn empty_stream() -> RawHasher<DefaultSecret> {
     RawHasher::new(SecretBuffer::default())
 }
@@ -20,16 +20,16 @@ fn empty_stream() -> RawHasher<DefaultSecret> {
 // The block that is being read.
 struct CurrentBlock {
     hasher: RawHasher<DefaultSecret>,
-    // How many bytes a block has.
+    // Number of bytes of a block.
     size: u64,
-    // How many bytes of this block the hasher has.
+    // Number of bytes of this block that the hasher has.
     count: u64,
-    // Where this block begins, or the greatest number where it begins above that.
+    // Offset of this block, saturating at `u64::MAX`.
     offset: u64,
 }
 
 impl CurrentBlock {
-    // No byte was read yet.
+    // Starts before the first byte.
     fn new(size: u64) -> CurrentBlock {
         CurrentBlock {
             hasher: empty_stream(),
@@ -39,13 +39,13 @@ impl CurrentBlock {
         }
     }
 
-    // Takes bytes that end before the block does.
+    // Hashes bytes that end before the block does.
     fn extend(&mut self, front: &[u8]) {
         self.hasher.write(front);
         self.count += front.len() as u64;
     }
 
-    // Takes the bytes that end the block, answers its line, and begins the next block.
+    // Hashes the bytes that end the block, returns its line, and begins the next block.
     fn complete(&mut self, front: &[u8]) -> [u8; LINE] {
         self.hasher.write(front);
         let line = offset_line(self.offset, self.hasher.finish_128());
@@ -55,8 +55,8 @@ impl CurrentBlock {
         line
     }
 
-    // Takes a piece, and writes the line of each block that it ends. The lines are gathered in a buffer of
-    // `N` bytes, and none of them waits there afterwards.
+    // Hashes a chunk, and writes the line of each block that it ends. The lines are collected in a buffer of `N` bytes,
+    // which is empty afterwards.
     fn take<W: Sink, const N: usize>(&mut self, piece: &[u8], w: &mut W) -> Result<(), DigestError> {
         let mut lines = Waiting::<N>::new();
         let mut rest = piece;
@@ -73,7 +73,7 @@ impl CurrentBlock {
         }
     }
 
-    // Writes the line of the last block, where it is short.
+    // Writes the line of the last block, if it is short.
     fn finish<W: Sink>(&self, w: &mut W) -> Result<(), DigestError> {
         if self.count == 0 {
             return Ok(());
@@ -83,8 +83,8 @@ impl CurrentBlock {
     }
 }
 
-// `digest_blocks` where each read is offered `READ` bytes, and the lines of the blocks that a
-// piece ends are gathered in a buffer of `LINES` bytes, which is written before the next read.
+// Does what `digest_blocks` does, with a read buffer of `READ` bytes, and a buffer of `LINES` bytes for the lines of
+// the blocks that a chunk ends, which is written before the next read.
 pub(crate) fn digest_blocks_by<R: Source, W: Sink, const READ: usize, const LINES: usize>(
     r: &mut R,
     w: &mut W,
@@ -103,25 +103,25 @@ pub(crate) fn digest_blocks_by<R: Source, W: Sink, const READ: usize, const LINE
     Err(DigestError::TooLong)
 }
 
-/// Reads to the end of the source and writes a line for each block of `block` bytes of what was read, the
-/// last of which may be shorter: where the block begins, or 2^64 - 1 where that is smaller, in 16 lower-case
-/// hexadecimal digits, a space, XXH3 of 128 bits of its bytes, under the seed 0 and the default secret, in
-/// 32 digits, and a line feed. Each read is offered 4,096 bytes, which is tested and no clause says, a line is
-/// written before the next read, and no memory is taken. No bytes have no lines.
+/// Reads to the end of the source and writes a line for each block of `block` bytes of what was read, the last of which
+/// may be shorter: the block's offset, saturating at 2^64 - 1, in 16 lower-case hexadecimal digits, a space, XXH3
+/// 128-bit of its bytes, under the seed 0 and the default secret, in 32 digits, and a newline. Each read is offered
+/// 4,096 bytes (tested, not in a clause), a line is written before the next read, and nothing is allocated. No bytes
+/// have no lines.
 ///
-/// The caller shows that neither end has failed and that a block has at least one byte.
+/// The caller proves that neither stream has failed and that a block has at least one byte.
 ///
-/// It is proved from public contracts of the library alone: that of `SecretBuffer::default`, that of
-/// `RawHasher::new`, and the clauses `message` of `write` and `finish_128`.
+/// It is proved only from public contracts of the library: that of `SecretBuffer::default`, that of `RawHasher::new`,
+/// and the clauses `message` of `write` and `finish_128`.
 ///
 /// # Errors
 ///
-/// - [`DigestError::ReadFailed`] exactly where the source has failed afterwards. The lines of the whole
-///   blocks were written.
-/// - [`DigestError::WriteFailed`] exactly where the sink has failed afterwards. A beginning of the lines was
-///   written, and not all of them, and no further read was made.
-/// - [`DigestError::TooLong`] exactly where `max_reads` reads each gave at least one byte and the sink has
-///   not failed. The lines of the whole blocks were written, and no further read was made.
+/// - [`DigestError::ReadFailed`] if and only if the source has failed afterwards. The lines of the whole blocks were
+///   written.
+/// - [`DigestError::WriteFailed`] if and only if the sink has failed afterwards. A beginning of the lines was written,
+///   and not all of them, and no further read was made.
+/// - [`DigestError::TooLong`] if and only if `max_reads` reads each returned at least one byte and the sink has not
+///   failed. The lines of the whole blocks were written, and no further read was made.
 ///
 /// ```rattle
 /// let mut input = FromRead::new([0, 1, 0].as_slice());
@@ -139,6 +139,6 @@ pub fn digest_blocks<R: Source, W: Sink>(
     digest_blocks_by::<R, W, OFFERED, LINE>(r, w, block, max_reads)
 }
 
-/// A law, with nothing to run: of `n` bytes those blocks have a line that begin before their end, and those
-/// are whole that end by then.
+/// Lemma (no code): of `n` bytes, the blocks that begin before their end have a line, and those that end by then are
+/// whole.
 pub fn block_counts() {}

@@ -5,7 +5,7 @@
 
 use crate::programs::twox_hash::xxhash3::{DEFAULT_SECRET_LENGTH, DefaultSecret, SecretBuffer};
 
-// The seed and the secret that it derives.
+// Returns the seed and the secret derived from it.
 pub(crate) fn derived_secret_of(seed: u64) -> SecretBuffer<DefaultSecret> {
     SecretBuffer::with_seed(seed, [0; DEFAULT_SECRET_LENGTH]).unwrap()
 }

@@ -1,13 +1,13 @@
 // SPDX-License-Identifier: MIT
 // crates/xxh_program/src/program/feed.rt without its contracts, written by rust/erase --programs: change that file.
 
-//! What the digest engine asks of a hasher.
+//! The interface of hashers for the digest engine.
 
-/// A hasher of any kind, as the engine uses it.
+/// A hasher of any algorithm, as the engine uses it.
 pub(crate) trait Feed {
-    /// Takes one piece more.
+    /// Hashes one more chunk.
     fn feed(&mut self, piece: &[u8]);
 
-    /// The hash of the pieces so far.
+    /// Returns the hash of the chunks so far.
     fn value(&self) -> u128;
 }

@@ -19,8 +19,8 @@ impl Feed for XxHash32 {
     }
 }
 
-/// Goes on from the hasher as `digest` goes on from a fresh one, with the same errors: the line is that of
-/// the bytes that the hasher was given, followed by what is read.
+/// Continues from the hasher as `digest` does from a new one, with the same errors: the line is that of the bytes
+/// hashed before followed by what is read.
 pub fn digest_from_32<R: Source, W: Sink>(
     hasher: XxHash32,
     max_reads: u64,
@@ -30,7 +30,7 @@ pub fn digest_from_32<R: Source, W: Sink>(
     digest_on::<_, _, _, OFFERED>(hasher, 8, max_reads, r, w)
 }
 
-/// Reads as `digest` does, with the same errors of reading, and answers the hasher after what was read.
+/// Reads as `digest` does, with the same read errors, and returns the hasher after what was read.
 pub fn read_on_32<R: Source>(
     hasher: XxHash32,
     max_reads: u64,

@@ -1,7 +1,7 @@
 // SPDX-License-Identifier: MIT
 // crates/xxh_program/src/program/hasher_3_128.rt without its contracts, written by rust/erase --programs: change that file.
 
-//! XXH3 of 128 bits in the digest engine.
+//! XXH3 128-bit in the digest engine.
 
 use crate::programs::xxh_program::program::derived_secret::derived_secret_of;
 use crate::programs::xxh_program::program::feed::Feed;
@@ -18,7 +18,7 @@ impl Feed for RawHasher<DefaultSecret> {
     }
 }
 
-// The stream of no bytes.
+// Returns the stream of no bytes.
 pub(crate) fn with_seed_128(seed: u64) -> RawHasher<DefaultSecret> {
     RawHasher::new(derived_secret_of(seed))
 }

@@ -17,21 +17,21 @@ use crate::programs::xxh_io::fault::{Fault, conclude};
 use crate::programs::xxh_io::from_read::FromRead;
 use crate::programs::xxh_io::from_write::FromWrite;
 
-// The input is read by this many bytes where a read is offered fewer, as for `save` and `resume`: one system call for
+// Size of the input's buffer for reads that offer fewer bytes, as those of `save` and `resume` do: one system call for
 // each of these would halve the speed.
 const INPUT_BUFFER: usize = 65536;
 
-/// Runs the program with the arguments of the process over these streams, and answers the exit status.
+/// Runs the program with the arguments of the process over these streams, and returns the exit status.
 ///
-/// The words are the arguments after the first, and [`run`] says what they do. The input is read behind a
-/// buffer, and the output is flushed at the end. Where an argument is not UTF-8, the words are no command;
-/// where there is no memory for them, that is the fault. Either is told before anything is read.
+/// Passes the arguments after the first to [`run`]. The input is read through a buffer, and the output is flushed at
+/// the end. An argument that is not UTF-8 makes no command, and missing memory for the arguments is an error; the
+/// message of either is written before anything is read.
 ///
-/// Its clause says which statuses there are. What its words do, what is told and what a flush does are proved of the
-/// function that it calls with the arguments; that it calls that once, and with the arguments of this process, is
-/// tested, since no clause can name them.
+/// Its clause states which statuses there are. The effect of the arguments, the messages and the flush are proved of
+/// the function that it calls with the arguments. That it calls that function once, with the arguments of this process,
+/// is tested, since no clause can name them.
 ///
-/// It is all that `main` does:
+/// This is all that `main` does:
 ///
 /// ```rattle
 /// fn main(rt: HostRuntime) -> ExitCode {
@@ -53,7 +53,7 @@ where
     }
 }
 
-// The arguments of the process, the program's name first.
+// Returns the arguments of the process, the program's name first.
 fn arguments<P: Env + AllocGlobal>(process: &P) -> Result<Vec<String>, Fault> {
     match env::args(process) {
         Ok(args) => Ok(args.collect(process.alloc())?),
@@ -61,7 +61,7 @@ fn arguments<P: Env + AllocGlobal>(process: &P) -> Result<Vec<String>, Fault> {
     }
 }
 
-// Does what the words of these arguments ask for, and flushes the output where all went well.
+// Runs the command of these arguments, and flushes the output on success.
 fn run_arguments<R: Source, W: Write, E: Sink>(
     alloc: Global,
     args: &[String],

@@ -1,7 +1,7 @@
 // SPDX-License-Identifier: MIT
 // crates/xxh_program/src/program/states.rt without its contracts, written by rust/erase --programs: change that file.
 
-//! Saved texts of the input's hasher, and digests that go on from one.
+//! Saved texts of the input's hasher, and digests that continue from one.
 
 use crate::rattle::prelude::String;
 use crate::programs::xxh_program::program::hasher_32::{digest_from_32, read_on_32};
@@ -12,10 +12,10 @@ use crate::programs::xxh_io::ends::{Sink, Source};
 use crate::programs::xxh_io::fault::Fault;
 use crate::programs::xxh_io::write::write_all;
 
-// How many reads the program makes at most.
+// Maximum number of reads that the program makes.
 pub(crate) const MAX_READS: u64 = u64::MAX;
 
-// Prints the saved text of XXH32 of the input, and a line feed.
+// Prints the saved text of XXH32 of the input, and a newline.
 pub(crate) fn save_32<R: Source, W: Sink>(
     alloc: Global,
     seed: u32,
@@ -27,7 +27,7 @@ pub(crate) fn save_32<R: Source, W: Sink>(
     print_line(text, out)
 }
 
-// Prints the saved text of XXH64 of the input, and a line feed.
+// Prints the saved text of XXH64 of the input, and a newline.
 pub(crate) fn save_64<R: Source, W: Sink>(
     alloc: Global,
     seed: u64,
@@ -39,14 +39,14 @@ pub(crate) fn save_64<R: Source, W: Sink>(
     print_line(text, out)
 }
 
-// Writes the text and a line feed.
+// Writes the text and a newline.
 fn print_line<W: Sink>(text: String, out: &mut W) -> Result<(), Fault> {
     let mut line = text;
     line.push('\n')?;
     Ok(write_all(line.as_bytes(), out)?)
 }
 
-// Goes on from a saved text of XXH32, and prints the digest line.
+// Continues from a saved text of XXH32, and prints the digest line.
 pub(crate) fn resume_32<R: Source, W: Sink>(
     alloc: Global,
     json: &str,
@@ -57,7 +57,7 @@ pub(crate) fn resume_32<R: Source, W: Sink>(
     Ok(digest_from_32(hasher, MAX_READS, r, out)?)
 }
 
-// Goes on from a saved text of XXH64, and prints the digest line.
+// Continues from a saved text of XXH64, and prints the digest line.
 pub(crate) fn resume_64<R: Source, W: Sink>(
     alloc: Global,
     json: &str,
@@ -90,7 +90,7 @@ fn restored_64(alloc: Global, json: &str) -> Result<XxHash64, Fault> {
     }
 }
 
-// What is wrong with a saved text of XXH32.
+// Returns the error of an invalid saved text of XXH32.
 fn form_fault_32(error: xxhash32::FormError) -> Fault {
     match error {
         xxhash32::FormError::Text => Fault::BadState,
@@ -98,7 +98,7 @@ fn form_fault_32(error: xxhash32::FormError) -> Fault {
     }
 }
 
-// What is wrong with a saved text of XXH64.
+// Returns the error of an invalid saved text of XXH64.
 fn form_fault_64(error: xxhash64::FormError) -> Fault {
     match error {
         xxhash64::FormError::Text => Fault::BadState,

@@ -1,7 +1,7 @@
 // SPDX-License-Identifier: MIT
 // crates/twox_core/src/xxhash3/large/four.rt without its contracts, written by rust/erase: change that file.
 
-//! What the kernels of four accumulators at a time share: all but how they multiply and scramble.
+//! Code shared by the kernels of four accumulators at a time: everything except how they multiply and scramble.
 
 use super::word::words;
 use crate::erased::twox_core::xxhash3::parts::array_at;
@@ -9,12 +9,13 @@ use super::simd::u64x4;
 
 // A kernel that multiplies the halves of four words at a time.
 pub(super) trait HalvesProducts: Copy {
-    // The product of the halves of each word under its key.
+    // Returns the product of the halves of each word under its key.
     fn halves_products(&self, words: [u64; 4], keys: [u64; 4]) -> [u64; 4];
 }
 
-// Four accumulators: each gains its neighbour's word and the product of the halves of its own word under its key.
-// The neighbours come first, so that the accumulators before are done with and their registers are free.
+// Accumulates into four accumulators: adds to each its neighbour's word and the product of the halves of its own word
+// under its key. The neighbours come first, so that the old accumulators are no longer needed and their registers are
+// free.
 #[inline(always)]
 pub(super) fn accumulate_four<K: HalvesProducts>(
     kernel: K,
@@ -30,9 +31,9 @@ pub(super) fn accumulate_four<K: HalvesProducts>(
     (sums + u64x4::from_array([p0, p1, p2, p3])).to_array()
 }
 
-// Four accumulators, from accumulator `i` on, after four stripes. The words are summed where they stand, so that
-// neighbours exchange them once. Each stripe is read behind the product of the one before: of words that were all read
-// first, LLVM adds the sum first and keeps four products in registers meanwhile.
+// Accumulates four stripes into four accumulators, from accumulator `i` on. Sums the words in place, so that neighbours
+// exchange them once. Reads each stripe after the product of the one before: if all words are read first, LLVM does the
+// sum first and keeps four products in registers meanwhile.
 #[inline(always)]
 pub(super) fn accumulate_four_by_four<K: HalvesProducts>(
     kernel: K,
@@ -61,7 +62,7 @@ fn sum(a: [u64; 4], b: [u64; 4]) -> [u64; 4] {
     (u64x4::from_array([a0, a1, a2, a3]) + u64x4::from_array([b0, b1, b2, b3])).to_array()
 }
 
-// Four accumulators, each with its neighbour's word.
+// Adds its neighbour's word to each of four accumulators.
 #[inline(always)]
 fn sum_with_exchange(acc: [u64; 4], words: [u64; 4]) -> [u64; 4] {
     let [a0, a1, a2, a3] = acc;

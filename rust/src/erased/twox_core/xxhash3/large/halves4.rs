@@ -2,7 +2,7 @@
 // crates/twox_core/src/xxhash3/large/halves4.rt without its contracts, written by rust/erase: change that file.
 
 //! The kernel that works on four accumulators at a time and multiplies the halves of a word as words of 32 bits, by
-//! `std::simd`: WebAssembly has an instruction for that product, and its product of words of 64 bits is made of many.
+//! `std::simd`: WebAssembly has an instruction for that product, and needs many for a product of words of 64 bits.
 
 use super::four::{HalvesProducts, accumulate_four};
 use super::word::words;
@@ -10,7 +10,7 @@ use crate::erased::twox_core::xxhash3::Vector;
 use crate::erased::twox_core::xxhash3::primes::PRIME32_1;
 use super::simd::{u32x4, u64x2, u64x4};
 
-/// The kernel of four accumulators at a time whose products are of the halves of words.
+/// The kernel of four accumulators at a time that multiplies halves of words.
 #[derive(Clone, Copy)]
 pub struct Impl;
 
@@ -47,8 +47,8 @@ impl Vector for Impl {
 struct Products;
 
 impl HalvesProducts for Products {
-    // The halves of two vectors are put together before they are made wide: of the halves of one LLVM makes a mask and a
-    // shift again, and of these no product of words of 32 bits.
+    // Joins the halves of two vectors before widening them: from the halves of one LLVM would make a mask and a shift
+    // again, and from these no product of words of 32 bits.
     #[inline(always)]
     fn halves_products(&self, words: [u64; 4], keys: [u64; 4]) -> [u64; 4] {
         let [w0, w1, w2, w3] = words;
@@ -65,7 +65,7 @@ impl HalvesProducts for Products {
     }
 }
 
-// The halves of two words, the lower one first.
+// Splits two words into their halves, the lower one first.
 #[inline]
 fn halves_of(words: [u64; 2]) -> [u32; 4] {
     let [a, b] = words;

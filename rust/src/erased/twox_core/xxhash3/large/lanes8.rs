@@ -30,13 +30,14 @@ impl Vector for Impl {
     }
 }
 
-// Eight accumulators: each gains its neighbour's word and the product of the halves of its own word under its key.
+// Accumulates into eight accumulators: adds to each its neighbour's word and the product of the halves of its own word
+// under its key.
 #[inline]
 fn accumulate_eight(acc: [u64; 8], words: [u64; 8], keys: [u64; 8]) -> [u64; 8] {
     sum(sum(acc, exchanged(words)), halves_products(words, keys))
 }
 
-// Eight accumulators after four stripes. The words are summed where they stand, so that neighbours exchange them once.
+// Accumulates four stripes into eight accumulators. Sums the words in place, so that neighbours exchange them once.
 #[inline(always)]
 fn accumulate_eight_by_four(acc: [u64; 8], stripes: &[u8; 256], secret: &[u8; 88]) -> [u64; 8] {
     let first = all_words(array_at(stripes, 0));
@@ -52,7 +53,7 @@ fn accumulate_eight_by_four(acc: [u64; 8], stripes: &[u8; 256], secret: &[u8; 88
     sum(own, exchanged(sum(sum(sum(first, second), third), fourth)))
 }
 
-// The product of the halves of each word under its key.
+// Returns the product of the halves of each word under its key.
 #[inline]
 fn halves_products(words: [u64; 8], keys: [u64; 8]) -> [u64; 8] {
     let [w0, w1, w2, w3, w4, w5, w6, w7] = words;
@@ -72,7 +73,7 @@ fn sum(a: [u64; 8], b: [u64; 8]) -> [u64; 8] {
     (a + u64x8::from_array([b0, b1, b2, b3, b4, b5, b6, b7])).to_array()
 }
 
-// Each word in its neighbour's place.
+// Swaps each word with its neighbour.
 #[inline]
 fn exchanged(words: [u64; 8]) -> [u64; 8] {
     let [a, b, c, d, e, f, g, h] = words;

@@ -1,7 +1,7 @@
 // SPDX-License-Identifier: MIT
 // crates/twox_core/src/xxhash3/large/split2.rt without its contracts, written by rust/erase: change that file.
 
-//! The kernel that works on two accumulators at a time and multiplies no two words of 64 bits, by `std::simd`.
+//! The kernel that works on two accumulators at a time and never multiplies two words of 64 bits, by `std::simd`.
 
 use super::lanes2::{accumulate_two, words};
 use crate::erased::twox_core::xxhash3::Vector;
@@ -43,7 +43,7 @@ fn scramble_two(acc: [u64; 2], keys: [u64; 2]) -> [u64; 2] {
     mul_u32_u64(mixed.to_array(), PRIME32_1 as u32)
 }
 
-/// Each lane times the factor, modulo 2^64, from two products of 32 bits by 32 bits.
+/// Multiplies each lane by the factor, modulo 2^64, with two products of 32 bits by 32 bits.
 #[inline]
 pub fn mul_u32_u64(lanes: [u64; 2], factor: u32) -> [u64; 2] {
     let [first, second] = lanes;

@@ -1,25 +1,25 @@
 // SPDX-License-Identifier: MIT
 // crates/twox_core/src/xxhash3/large/word.rt without its contracts, written by rust/erase: change that file.
 
-//! What kernels share: the words of a stripe and of the secret.
+//! Code shared by kernels: the words of a stripe and of the secret.
 
 use super::simd::{u8x32, u8x64, u64x4, u64x8};
 
-// Word `i`, read whole, so that the compiler can load several words at once.
+// Returns word `i`, read whole, so that the compiler can load several words at once.
 #[inline(always)]
 pub(super) fn word(bytes: &[u8; 64], i: usize) -> u64 {
     let (words, _) = crate::rattle::as_chunks::<_, 8>(bytes);
     u64::from_le_bytes(words[i])
 }
 
-// Four words from word `i` on, read as one vector: read one by one, LLVM takes those that two stripes share only once,
-// and then spends more on putting vectors together than it saves.
+// Returns four words from word `i` on, read as one vector. If they are read one by one, LLVM takes those that two
+// stripes share only once, and then spends more on building vectors than it saves.
 #[inline(always)]
 pub(super) fn words(bytes: &[u8; 64], i: usize) -> [u64; 4] {
     u64x4::from_le_bytes(u8x32::from_slice(&bytes[8 * i..8 * i + 32])).to_array()
 }
 
-// All eight words, read as one vector.
+// Returns all eight words, read as one vector.
 #[inline(always)]
 pub(super) fn all_words(bytes: &[u8; 64]) -> [u64; 8] {
     u64x8::from_le_bytes(u8x64::from_slice(&bytes[0..64])).to_array()

@@ -1,24 +1,24 @@
 // SPDX-License-Identifier: MIT
 // crates/twox_core/src/xxhash3/streaming/buffers.rt without its contracts, written by rust/erase: change that file.
 
-//! What may hold a secret.
+//! Buffers that can hold a secret.
 
 use crate::rattle::{Allocator, TryClone};
 use crate::rattle::BoxedSlice;
 
-/// A type that lends a fixed number of bytes, the same at every call.
+/// A type that holds a fixed number of bytes. Every call returns the same ones.
 pub trait FixedBuffer {
-    /// The bytes.
+    /// Returns the bytes.
     fn as_ref(&self) -> &[u8];
 }
 
-/// Such a type whose bytes can be written. Both calls lend the same bytes, and their number stays.
+/// A fixed buffer whose bytes can be written. Both calls return the same bytes, and their number stays the same.
 pub trait FixedMutBuffer: FixedBuffer {
-    /// The bytes, to be written.
+    /// Returns the bytes for writing.
     fn as_mut(&mut self) -> &mut [u8];
 }
 
-/// A buffer whose copies lend the same bytes.
+/// A buffer whose clones hold the same bytes.
 pub trait ClonedBuffer: FixedBuffer + TryClone {}
 
 impl<const N: usize> FixedBuffer for [u8; N] {

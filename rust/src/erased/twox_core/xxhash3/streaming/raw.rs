@@ -9,17 +9,16 @@ use crate::erased::twox_core::xxhash3::{Finalize, Kernel, Vector};
 use crate::rattle::{AllocError, Allocator, TryClone};
 use crate::rattle::BoxedSlice;
 
-/// A stream of bytes, of which any finalizer (`Finalize`) can be asked at any moment.
+/// A stream of bytes whose value any finalizer (`Finalize`) can return at any moment.
 ///
-/// Its size is fixed by its type: 672 bytes, of which the buffer is `BUFFERED_BYTES`, beside those of the secret
-/// buffer.
+/// Its type fixes its size: 672 bytes, of which the buffer is `BUFFERED_BYTES`, and those of the secret buffer.
 pub struct RawHasherCore<S: FixedBuffer> {
     secret_buffer: SecretBuffer<S>,
     state: CoreState,
 }
 
 impl<S: FixedBuffer> RawHasherCore<S> {
-    /// A stream of no bytes yet.
+    /// Creates a stream of no bytes.
     pub fn new(secret_buffer: SecretBuffer<S>) -> RawHasherCore<S> {
         RawHasherCore {
             secret_buffer,
@@ -27,27 +26,28 @@ impl<S: FixedBuffer> RawHasherCore<S> {
         }
     }
 
-    /// Takes the bytes of a piece after those taken before.
+    /// Hashes a chunk after the bytes before.
     #[inline]
     pub fn write(&mut self, input: &[u8]) {
         self.write_with(Kernel {}, input);
     }
 
-    /// Takes the bytes of a piece after those taken before, by a kernel. Each call may have another kernel.
+    /// Hashes a chunk after the bytes before, with a kernel. Each call may use another kernel.
     #[inline]
     pub fn write_with(&mut self, v: impl Vector, input: &[u8]) {
         self.state.write(v, input, self.secret_buffer.secret());
     }
 
-    /// What `finalize` makes of the bytes taken so far; the stream isn't changed. Above 240 bytes it is given the
-    /// stream's secret. Up to 240 bytes it is given the default secret and the stream's seed or, in a stream that
-    /// was made with its secret alone, that secret and the seed 0.
+    /// Returns the value of the bytes taken so far, by `finalize`. Doesn't change the stream. Above 240 bytes it uses
+    /// the stream's secret. Up to 240 bytes it uses the default secret and the stream's seed or, if the stream was made
+    /// with only a secret, that secret and the seed 0.
     #[inline]
     pub fn finish<F: Finalize >(&self, finalize: F) -> F::Output {
         self.finish_with(Kernel {}, finalize)
     }
 
-    /// [`RawHasherCore::finish`] by a kernel that the caller names. Each call may have another kernel.
+    /// Does the same as [`RawHasherCore::finish`], with a kernel that the caller chooses. Each call may use another
+    /// kernel.
     #[inline]
     pub fn finish_with<F: Finalize >(&self, v: impl Vector, finalize: F) -> F::Output {
         let secret = self.secret_buffer.secret();
@@ -55,25 +55,24 @@ impl<S: FixedBuffer> RawHasherCore<S> {
             .finish(v, &finalize, self.secret_buffer.seed(), secret)
     }
 
-    /// The number of bytes taken so far; from 2^64 - 1 on it stays there.
+    /// Total bytes taken, saturating at 2^64 - 1.
     pub fn total_len(&self) -> u64 {
         self.state.total_bytes
     }
 
-    /// The number of stripes that the accumulators have taken; from 2^64 - 1 on it stays there.
+    /// Number of stripes that the accumulators have taken, saturating at 2^64 - 1.
     ///
     /// With the bytes that `buffered` counts, these are all bytes taken so far.
     pub fn stripes_done(&self) -> u64 {
         self.state.taken.count
     }
 
-    /// The number of bytes that are kept for later: none before the first byte, and then from 1 to
-    /// `BUFFERED_BYTES`.
+    /// Number of bytes buffered: none before the first byte, and then from 1 to `BUFFERED_BYTES`.
     pub fn buffered(&self) -> usize {
         self.state.buffer_usage
     }
 
-    /// The secret that is held.
+    /// Returns the secret.
     pub fn into_secret(self) -> S {
         let RawHasherCore {
             secret_buffer,
@@ -93,33 +92,33 @@ impl<S: ClonedBuffer> TryClone for RawHasherCore<S> {
     }
 }
 
-/// A stream whose secret is in memory of its own.
+/// A stream whose secret is allocated.
 pub type AllocRawHasher<A> = RawHasherCore<BoxedSlice<u8, A>>;
 
 impl<A: Allocator> AllocRawHasher<A> {
-    /// A stream with the seed 0 and the default secret.
+    /// Creates a stream with the seed 0 and the default secret.
     ///
     /// # Errors
     ///
-    /// There is no memory for the secret.
+    /// `AllocError` if out of memory.
     pub fn allocate_default(alloc: A) -> Result<AllocRawHasher<A>, AllocError> {
         Ok(RawHasherCore::new(SecretBuffer::allocate_default(alloc)?))
     }
 
-    /// A stream with the seed and the secret that it derives.
+    /// Creates a stream with the seed and the secret derived from it.
     ///
     /// # Errors
     ///
-    /// There is no memory for the secret.
+    /// `AllocError` if out of memory.
     pub fn allocate_with_seed(alloc: A, seed: u64) -> Result<AllocRawHasher<A>, AllocError> {
         Ok(RawHasherCore::new(SecretBuffer::allocate_with_seed(alloc, seed)?))
     }
 
-    /// A stream with the seed and the secret, which takes no memory.
+    /// Creates a stream with the seed and the secret. Allocates nothing.
     ///
     /// # Errors
     ///
-    /// The secret has fewer than 136 bytes; it is handed back.
+    /// Returns the secret in the error if it has fewer than 136 bytes.
     pub fn allocate_with_seed_and_secret(
         seed: u64,
         secret: BoxedSlice<u8, A>,
@@ -128,11 +127,11 @@ impl<A: Allocator> AllocRawHasher<A> {
         Ok(RawHasherCore::new(secret_buffer))
     }
 
-    /// A stream with the secret alone, used at every length, with the seed 0. It takes no memory.
+    /// Creates a stream with only the secret, used at every length with the seed 0. Allocates nothing.
     ///
     /// # Errors
     ///
-    /// The secret has fewer than 136 bytes; it is handed back.
+    /// Returns the secret in the error if it has fewer than 136 bytes.
     pub fn allocate_with_secret(
         secret: BoxedSlice<u8, A>,
     ) -> Result<AllocRawHasher<A>, SecretTooShortError<BoxedSlice<u8, A>>> {

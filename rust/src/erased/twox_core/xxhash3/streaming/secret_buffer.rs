@@ -1,7 +1,7 @@
 // SPDX-License-Identifier: MIT
 // crates/twox_core/src/xxhash3/streaming/secret_buffer.rt without its contracts, written by rust/erase: change that file.
 
-//! A secret that is held, with its seed, and what is answered where it hasn't the right length.
+//! A stored secret with its seed, and the errors for a secret of the wrong length.
 
 use super::{ClonedBuffer, FixedBuffer, FixedMutBuffer};
 use crate::erased::twox_core::xxhash3::{
@@ -13,35 +13,35 @@ use crate::rattle::BoxedSlice;
 use std::error::Error;
 use std::fmt;
 
-/// A secret of at least 136 bytes, and the seed that goes with it, if it was made with one.
+/// A secret of at least 136 bytes, and its seed, if it was made with one.
 ///
-/// A stream over a buffer that was made with a seed hashes up to 240 bytes with the default secret and the seed,
-/// and more with the secret. One over a buffer that was made with the secret alone uses that at every length.
+/// A stream over a buffer that was made with a seed hashes up to 240 bytes with the default secret and the seed, and
+/// more with the secret. A stream over a buffer that was made with only a secret uses that at every length.
 pub struct SecretBuffer<S: FixedBuffer> {
     seed: Option<u64>,
     secret: S,
 }
 
 impl<S: FixedBuffer> SecretBuffer<S> {
-    /// Holds the seed and the secret as they are.
+    /// Stores the seed and the secret as they are.
     ///
     /// # Errors
     ///
-    /// The secret has fewer than 136 bytes; it is handed back.
+    /// Returns the secret in the error if it has fewer than 136 bytes.
     pub fn new(seed: u64, secret: S) -> Result<SecretBuffer<S>, SecretTooShortError<S>> {
         SecretBuffer::checked(Some(seed), secret)
     }
 
-    /// Holds the secret alone: it is used at every length, with the seed 0.
+    /// Stores only the secret, used at every length with the seed 0.
     ///
     /// # Errors
     ///
-    /// The secret has fewer than 136 bytes; it is handed back.
+    /// Returns the secret in the error if it has fewer than 136 bytes.
     pub fn with_secret(secret: S) -> Result<SecretBuffer<S>, SecretTooShortError<S>> {
         SecretBuffer::checked(None, secret)
     }
 
-    // Holds both, if the secret has its minimum length.
+    // Stores both, if the secret has its minimum length.
     fn checked(seed: Option<u64>, secret: S) -> Result<SecretBuffer<S>, SecretTooShortError<S>> {
         if secret.as_ref().len() >= SECRET_MINIMUM_LENGTH {
             Ok(SecretBuffer { seed, secret })
@@ -50,19 +50,19 @@ impl<S: FixedBuffer> SecretBuffer<S> {
         }
     }
 
-    /// The secret, as it is held.
+    /// Returns the secret.
     pub fn into_secret(self) -> S {
         let SecretBuffer { seed: _, secret } = self;
         secret
     }
 
-    // The seed, if the buffer was made with one.
+    // Returns the seed, if the buffer was made with one.
     #[inline(always)]
     pub(super) fn seed(&self) -> Option<u64> {
         self.seed
     }
 
-    // The secret, lent.
+    // Borrows the secret.
     #[inline(always)]
     pub(super) fn secret(&self) -> Secret<'_> {
         Secret::new(self.secret.as_ref()).unwrap()
@@ -70,11 +70,11 @@ impl<S: FixedBuffer> SecretBuffer<S> {
 }
 
 impl<S: FixedMutBuffer> SecretBuffer<S> {
-    /// Overwrites the buffer with the secret that the seed derives, and holds it.
+    /// Overwrites the buffer with the secret derived from the seed, and stores it.
     ///
     /// # Errors
     ///
-    /// The buffer hasn't exactly 192 bytes; it is handed back as it was.
+    /// Returns the unchanged buffer in the error if it is not exactly 192 bytes long.
     pub fn with_seed(seed: u64, mut secret: S) -> Result<SecretBuffer<S>, SecretWithSeedError<S>> {
         if secret.as_ref().len() != DEFAULT_SECRET_LENGTH {
             return Err(SecretWithSeedError { secret });
@@ -88,7 +88,7 @@ impl<S: FixedMutBuffer> SecretBuffer<S> {
 }
 
 impl SecretBuffer<DefaultSecret> {
-    /// The seed 0 and the default secret.
+    /// Stores the seed 0 and the default secret.
     pub fn default() -> SecretBuffer<DefaultSecret> {
         SecretBuffer {
             seed: Some(DEFAULT_SEED),
@@ -98,11 +98,11 @@ impl SecretBuffer<DefaultSecret> {
 }
 
 impl<A: Allocator> SecretBuffer<BoxedSlice<u8, A>> {
-    /// The seed 0 and the default secret, in memory of its own.
+    /// Stores the seed 0 and the default secret, allocated.
     ///
     /// # Errors
     ///
-    /// There is no memory for the secret.
+    /// `AllocError` if out of memory.
     pub fn allocate_default(alloc: A) -> Result<SecretBuffer<BoxedSlice<u8, A>>, AllocError> {
         Ok(SecretBuffer {
             seed: Some(DEFAULT_SEED),
@@ -110,11 +110,11 @@ impl<A: Allocator> SecretBuffer<BoxedSlice<u8, A>> {
         })
     }
 
-    /// The seed and the secret that it derives, in memory of its own.
+    /// Stores the seed and the secret derived from it, allocated.
     ///
     /// # Errors
     ///
-    /// There is no memory for the secret.
+    /// `AllocError` if out of memory.
     pub fn allocate_with_seed(
         alloc: A,
         seed: u64,
@@ -125,11 +125,11 @@ impl<A: Allocator> SecretBuffer<BoxedSlice<u8, A>> {
         })
     }
 
-    /// Holds the seed and the secret as they are, and takes no memory.
+    /// Stores the seed and the secret as they are. Allocates nothing.
     ///
     /// # Errors
     ///
-    /// The secret has fewer than 136 bytes; it is handed back.
+    /// Returns the secret in the error if it has fewer than 136 bytes.
     pub fn allocate_with_seed_and_secret(
         seed: u64,
         secret: BoxedSlice<u8, A>,
@@ -137,11 +137,11 @@ impl<A: Allocator> SecretBuffer<BoxedSlice<u8, A>> {
         SecretBuffer::new(seed, secret)
     }
 
-    /// Holds the secret alone, and takes no memory: it is used at every length, with the seed 0.
+    /// Stores only the secret, used at every length with the seed 0. Allocates nothing.
     ///
     /// # Errors
     ///
-    /// The secret has fewer than 136 bytes; it is handed back.
+    /// Returns the secret in the error if it has fewer than 136 bytes.
     pub fn allocate_with_secret(
         secret: BoxedSlice<u8, A>,
     ) -> Result<SecretBuffer<BoxedSlice<u8, A>>, SecretTooShortError<BoxedSlice<u8, A>>> {
@@ -165,7 +165,7 @@ pub struct SecretTooShortError<S> {
 }
 
 impl<S> SecretTooShortError<S> {
-    /// The secret, as it was handed in.
+    /// Returns the secret that was passed in.
     pub fn into_secret(self) -> S {
         let SecretTooShortError { secret } = self;
         secret
@@ -186,13 +186,13 @@ impl<S> fmt::Display for SecretTooShortError<S> {
 
 impl<S> Error for SecretTooShortError<S> {}
 
-/// The buffer for a derived secret hasn't exactly 192 bytes.
+/// The buffer for a derived secret is not exactly 192 bytes long.
 pub struct SecretWithSeedError<S> {
     secret: S,
 }
 
 impl<S> SecretWithSeedError<S> {
-    /// The buffer, as it was handed in.
+    /// Returns the buffer that was passed in.
     pub fn into_secret(self) -> S {
         let SecretWithSeedError { secret } = self;
         secret

@@ -1,14 +1,15 @@
 // SPDX-License-Identifier: MIT
 // crates/twox_core/src/xxhash3/stripes/within.rt without its contracts, written by rust/erase: change that file.
 
-//! Stripes of one block: a scramble comes after the block's last alone, so that the loop has no test for one, and its
+//! Stripes of one block: a scramble comes only after the block's last stripe, so the loop has no test for one, and its
 //! accumulators stay in registers.
 
 use super::{STRIPES_IN_BLOCK, StripeAccumulator};
 use crate::erased::twox_core::xxhash3::{Secret, Vector};
 use crate::erased::twox_words::words::bp_as_chunks;
 
-/// The accumulators after the first `count` stripes of `bytes`, from a place in the secret on and with no scramble.
+/// Returns the accumulators after the first `count` stripes of `bytes`, from a place in the secret on and with no
+/// scramble.
 #[inline(always)]
 pub(in crate::erased::twox_core::xxhash3) fn accumulate_within<V: Vector>(
     acc: [u64; 8],
@@ -26,7 +27,8 @@ pub(in crate::erased::twox_core::xxhash3) fn accumulate_within<V: Vector>(
     taken
 }
 
-// The accumulators with all stripes of `bytes`, of which the last alone may end the block, under a secret of 192 bytes.
+// Returns the accumulators after all stripes of `bytes`, of which only the last may end the block, under a secret of
+// 192 bytes.
 #[inline(always)]
 pub(super) fn process_within<V: Vector>(
     from: StripeAccumulator,
