@@ -1,18 +1,17 @@
 """Loops of any number of turns, shown by induction, whatever runs them.
 
-At a loop's head after k turns the cells of `words` hold words of the definition, those of `places` have gone on by k steps,
-those of `counts` by as many as turns were taken in a block, those of `unset` may hold anything, and all others are as at the
-start. Which cells are which is guessed from first turns. A turn from any k is then shown to lead to the same of k + 1: a cell
-that does anything else may hold anything from there on, if it is one that may, and the turn is run once more.
+At a loop's head after k turns the cells of `words` hold words of the definition, those of `places` have advanced by k steps,
+those of `counts` by one step for each turn in the block, those of `unset` may hold anything, and all others are as at the start.
+First turns show which cells are which. A turn from any k is then shown to lead to the same for k + 1. A cell that does anything
+else may hold anything from then on, if it is allowed to, and the turn is run again.
 
-loops.py has the states of LLVM's text, text/induction.py those of an assembly source, text/wasm/induction.py those of a
-module."""
+loops.py has the states of LLVM's text, text/induction.py those of an assembly source, text/wasm/induction.py of a module."""
 from .polynomials import agree, given, is_number, minus, plus, times, variable
 from .polynomials import is_same as is_same_number
 from .refusals import NotShown
 
 
-# ---- values: a number, a term, an address, or a tuple whose last part goes on
+# ---- values: a number, a term, an address, or a tuple whose last part advances
 
 def same(a, b):
     if isinstance(a, tuple) and isinstance(b, tuple):
@@ -23,7 +22,7 @@ def same(a, b):
 
 
 def step_between(old, now):
-    """How far a number or an address has gone on, or None."""
+    """By how much a number or an address has advanced, or None."""
     if isinstance(old, tuple) and isinstance(now, tuple):
         goes_on = len(old) == len(now) == 2 and (old[0] is now[0] or old[0] == now[0])
         return step_between(old[1], now[1]) if goes_on else None
@@ -33,7 +32,7 @@ def step_between(old, now):
 
 
 def moved(x, step, k):
-    """What has gone on by k steps."""
+    """A value that has advanced by k steps."""
     if isinstance(x, tuple):
         return *x[:-1], moved(x[-1], step, k)
     if hasattr(x, "bases"):
@@ -42,9 +41,9 @@ def moved(x, step, k):
 
 
 class Induction:
-    """A loop, from the cells that its head finds. What runs it has `name`, and `state()`, the cells now; `put(cells)`, which
-    makes them these; `turn()`, from the head to the head; `new_name(prefix)`; `said(k)`, the definition's words after k turns;
-    `supposed(k)`, new symbols that are supposed to be these; and `may_hold_anything(cell)`."""
+    """A loop, from the cells at its head. A subclass has `name`; `state()`, the cells now; `put(cells)`, which sets them; `turn()`,
+    from the head to the head; `new_name(prefix)`; `said(k)`, the definition's words after k turns; `supposed(k)`, new symbols
+    that are assumed to be these; and `may_hold_anything(cell)`."""
 
     name_of = staticmethod(str)
 
@@ -113,7 +112,7 @@ class Induction:
         return {cell for cell in {*self.start, *now} if not same(self.start.get(cell), now.get(cell))}
 
     def guess_places(self, cells, once, twice=None):
-        """Which of these cells go on, by their values after a turn, or after one and after two."""
+        """Finds which of these cells advance, by their values after one turn, or after one and two."""
         for cell in cells - set(self.words):
             step = step_between(self.start.get(cell), once.get(cell))
             if step is None or twice is not None and not same(twice.get(cell), moved(once[cell], step, 1)):
