@@ -21,9 +21,8 @@ PROCESSORS = {62: (2, 7, 16), 183: (261, 31, 30)}
 
 
 class Table:
-    """`functions` has the frames of each function, which is a whole section: pairs of a place and the frame from
-    there on. A frame is the distance from the stack pointer to the CFA, and pairs of a register's number and its
-    place below the CFA."""
+    """`functions` has the frames of each function, which is a whole section: pairs of a place and the frame from there on.
+    A frame is the distance from the stack pointer to the CFA, and pairs of a register's number and its place below it."""
 
     def __init__(self, object_):
         self.heads, self.functions = {}, {}

@@ -1,10 +1,9 @@
 """The frame of a function at each of its instructions, and the directives that declare it to an assembler.
 
-A frame is the distance of the stack pointer below the CFA, which is where it was before the call, and the places below
-the CFA of the registers that the caller needs back. It is computed by following the instructions and their jumps, since
-LLVM's own tables are wrong for 64-bit ARM. The code that is framed here moves the stack pointer only by constants.
-Anything else that writes it is refused, and so is a place that two paths reach with different frames, and a function
-that returns with a frame left.
+A frame is the distance of the stack pointer below the CFA, which is where it was before the call, and the places below the
+CFA of the registers that the caller needs back. It is computed by following the instructions and their jumps, since LLVM's own
+tables are wrong for 64-bit ARM. The code that is framed here moves the stack pointer only by constants. Anything else that
+writes it is refused, and so is a place that two paths reach with different frames, and a function that returns with a frame.
 
 Unwinders, debuggers and profilers depend on these directives; no value does."""
 import re

@@ -4,7 +4,7 @@
     bench/page.py [--check | FOLDER]
 
 With --check it checks that the page in docs is up to date; with a folder, it reads the data and writes the page
-there. The page has only figures: docs/history/TUNING.md explains some of them."""
+there. The tables of `rust/bench`, `rust/programs/bench`, `python/bench` and `web/bench` are copied from bench/data."""
 import math
 import os
 import statistics
@@ -20,7 +20,7 @@ SETS = ["x86-64-v2", "x86-64-v3"]
 PEERS = ["c_gcc", "c_clang", "c_shared", "xxhash_rust"]
 COLOURS = {"ours": "#c0392b", "c_gcc": "#2c3e50", "c_clang": "#2980b9", "c_shared": "#7f8c8d", "xxhash_rust": "#e67e22"}
 STREAMS = ("inlined", "called")
-FORMS = {"oneshot": "one-shot", "inlined": "pieces, inlined", "called": "pieces, called", "stream": "pieces"}
+FORMS = {"oneshot": "one-shot", "inlined": "chunks, inlined", "called": "chunks, called", "stream": "chunks"}
 KIB, MIB = 1 << 10, 1 << 20
 LOWEST = 4
 
@@ -31,17 +31,17 @@ SUMMARY = [
     ("one-shots of 256 bytes to 16 KiB", ("oneshot",), 256, 16 * KIB),
     ("one-shots of 64 KiB to 1 MiB", ("oneshot",), 64 * KIB, MIB),
     ("one-shots of 2 to 64 MiB", ("oneshot",), 2 * MIB, 64 * MIB),
-    ("streams in pieces of 1 to 40 bytes", STREAMS, 1, 40),
-    ("streams in pieces of 64 to 1,000 bytes", STREAMS, 64, 1000),
-    ("streams in pieces of 4 and 64 KiB", STREAMS, 4096, 65536),
+    ("streams in chunks of 1 to 40 bytes", STREAMS, 1, 40),
+    ("streams in chunks of 64 to 1,000 bytes", STREAMS, 64, 1000),
+    ("streams in chunks of 4 and 64 KiB", STREAMS, 4096, 65536),
 ]
 SHARED = [
     ("one-shots of 1 to 16 bytes", ("oneshot",), 1, 16),
     ("one-shots of 32 to 240 bytes", ("oneshot",), 32, 240),
     ("one-shots of 256 bytes to 1 MiB", ("oneshot",), 256, MIB),
     ("one-shots of 4 to 64 MiB", ("oneshot",), 4 * MIB, 64 * MIB),
-    ("streams in pieces of 1 to 64 bytes", ("stream",), 1, 64),
-    ("streams in pieces of 256 bytes to 64 KiB", ("stream",), 256, 65536),
+    ("streams in chunks of 1 to 64 bytes", ("stream",), 1, 64),
+    ("streams in chunks of 256 bytes to 64 KiB", ("stream",), 256, 65536),
 ]
 
 
@@ -67,13 +67,22 @@ def summary(parts, ratio):
     return markdown(["what", "x86-64-v2, the default", "x86-64-v3"], lines)
 
 
+def copied(name):
+    """A table that another program printed, and the sentences on how it was measured."""
+    with open(f"{TOP}/bench/data/{name}.tsv") as file:
+        lines = file.read().splitlines()
+    said = [it[2:] for it in lines if it.startswith("# ")]
+    head, *rows = [it.split("\t") for it in lines if not it.startswith("# ")]
+    return [*markdown(head, rows), *(line for it in said for line in (it, ""))]
+
+
 def twox_hash(parts):
     """The lines beside the Rust crate whose names ours has, where bench/run was given its sources."""
     rows = {s: [it for it in parts[s] if "twox_hash" in it.peers] for s in SETS}
     if not all(rows.values()):
         return []
     return ["## Beside the Rust crate `twox-hash`", "",
-            "The crate's sources, 2.1.5, built for the same set. It takes AVX2 at run time where the processor has it, at x86-64-v2 too.", "",
+            "The crate's sources, 2.1.5, built for the same instruction set. At x86-64-v2 too, it uses AVX2 if the processor has it.", "",
             *summary(rows, lambda it: it.peers["twox_hash"].median)]
 
 
@@ -82,7 +91,7 @@ def lowest(parts):
     lines = []
     for value, part, row in sorted(rows, key=lambda it: it[0])[:LOWEST]:
         lines.append([part, FORMS[row.form], row.name, figures.size(row.size), f"{value:.2f}", row.best_peer(PEERS)[0]])
-    return markdown(["set", "form", "hash", "size", "ratio", "peer"], lines)
+    return markdown(["instruction set", "form", "hash", "size", "ratio", "peer"], lines)
 
 
 def shared(rows):
@@ -98,7 +107,7 @@ def dispatch():
     """The calls `.._dispatch`, of both widths."""
     with open(f"{TOP}/bench/data/dispatch.tsv") as lines:
         rows = [it.strip().split("\t") for it in lines if not it.startswith("#")]
-    return ["Debian has AVX-512 code behind the names `.._dispatch`. The same ratio, where both have it:", "",
+    return ["Debian's functions `.._dispatch` use AVX-512. The same ratio, if both use it:", "",
             *markdown(["what", "64 bits", "128 bits"], rows)]
 
 
@@ -161,46 +170,79 @@ def picture(rows, names):
 
 
 def page(said, parts):
-    text = f"""# Speed beside the peers
+    text = f"""# Speed
 
-A peer's time over ours: above 1, ours is faster. A cell is the median over hashes and sizes, and the range. Each row stands beside its **best peer**: the reference library's header by gcc (`c_gcc`) or by clang (`c_clang`), Debian's shared library (`c_shared`), or the Rust crate `xxhash-rust`. [bench/data/measured.tsv](../bench/data/measured.tsv) has all {sum(map(len, parts.values()))} rows, [web/README.md](../web/README.md#speed) the modules for browsers and Node.
+A ratio is a peer's time divided by ours: above 1, this library is faster. A cell has the median over hashes and sizes, and the range. Each measurement is compared with the **fastest peer**: the reference library's header by gcc (`c_gcc`) or by clang (`c_clang`), Debian's shared library (`c_shared`), or the Rust crate `xxhash-rust`. [bench/data/measured.tsv](../bench/data/measured.tsv) has all {sum(map(len, parts.values()))} measurements.
 
 #SUMMARY
 ![throughput over the length](speed.svg)
 
-## The lowest rows
+## The lowest ratios
 
 #LOWEST
-[history/TUNING.md](history/TUNING.md#rows-that-stay-below-what-we-want) has their causes, the ratios by best times, and what the code has gained since.
+Causes that were found, for one-shots of XXH3 with 64 bits at x86-64-v2: 64-bit immediates (32 and 64 bytes), constants and the stores of the derived secret (256 bytes), and the length of a caller's secret (4 to 16 bytes).
 
 #TWOX_HASH
-## The library for C, by C's names
+## The library for C
 
-The time of Debian's `libxxhash.so.0` over that of ours, of which the loader takes x86-64-v4 here, both in one process.
+The time of Debian's `libxxhash.so.0` divided by that of ours, for which the loader selects x86-64-v4 here, both in one process.
 
 #SHARED
 #DISPATCH
+## Through cargo
+
+A measurement is one call with one length. A cell has the median over measurements, and the range.
+
+#CARGO
+#CARGO_COUNTS
+Where the crate is slower:
+
+- One-shots of XXH3 of 129 to 240 bytes are a call, so that shorter inputs save no registers, and rustc keeps a bounds check per 16 bytes after the first 128.
+- XXH32 and XXH64 have the same loop as `twox-hash`, with more code before and after it.
+- Streams of XXH3 in chunks of 1 to 8 bytes check more per chunk than `xxhash-rust`, as does `with_seed`.
+- Without assembly source, one-shots of XXH3 of 16 KiB are slower than `twox-hash`.
+
+`xxhash-rust` does not detect the processor for more than 240 bytes.
+
 ## Programs
 
-`xxh` beside Debian's `xxhsum`, which takes AVX-512 where the processor has it: wall time, 1 GiB in the page cache.
+`xxh` and Debian's `xxhsum`, which uses AVX-512 if the processor has it: wall time, 1 GiB in the page cache.
 
 #PROGRAMS
-`xxhsum` beside the same program, on files in the page cache: the original's best time over ours, by `bench/xxhsum`.
+`xxhsum` and the same program, on files in the page cache: the original's best time divided by ours, by `bench/xxhsum`.
 
 #XXHSUM
+## Programs by cargo
+
+The other program's time divided by that of `xxhsum` as cargo builds it. The files are in memory.
+
+#CARGO_PROGRAMS
+## Python
+
+The time of Debian's python3-xxhash divided by ours: the least and the greatest ratio of the four hashes.
+
+#PYTHON
+`many` takes 10.0 ns for a row of 16 bytes into a buffer and 34 ns into a list; the original in a loop takes 121 ns.
+
+## Browsers and Node
+
+The time of the reference library's header divided by ours, called from JavaScript: with vectors, and without. Each module is compared with the fastest build of releases 0.8.1 and 0.8.3 by clang 14 and 19, with vectors also 0.8.3's NEON code over SIMDe.
+
+#WEB
 ## 64-bit ARM, in instructions
 
-Instructions of the reference's header, by gcc 12 -O3, over ours for one call, counted under qemu by `c/count`: no times.
+Instructions of the reference's header, by gcc 12 -O3, divided by ours for one call, counted under qemu by `c/count`. These are not times.
 
 #ARM
 ## How it was measured
 
 #SAID
-- One process measures all peers in turns. A figure is the median of eight rounds apart in time, a round the best of many turns of 0.025 ms or of one call, in three passes over all rows.
-- Each peer is called through a pointer to a function, and compares the length with the buffer of 64 MiB, as ours does. Debian's library is one call further away, and built for plain x86-64.
+- One process measures all peers in turns. A figure is the median of eight rounds, a round the best of many turns of 0.025 ms or of one call, in three passes over all measurements.
+- Each peer is called through a pointer to a function, and compares the length with the buffer of 64 MiB, as ours does. Debian's library needs one more call, and is built for plain x86-64.
 """
     drawn = {"SUMMARY": summary(parts, best), "TWOX_HASH": twox_hash(parts), "LOWEST": lowest(parts), "SHARED": shared(parts["c"]),
-             "DISPATCH": dispatch(), "PROGRAMS": programs(parts["program"]), "XXHSUM": xxhsum(),
+             "CARGO": copied("cargo"), "CARGO_COUNTS": copied("cargo_counts"), "CARGO_PROGRAMS": copied("cargo_programs"),
+             "PYTHON": copied("python"), "WEB": copied("web"), "DISPATCH": dispatch(), "PROGRAMS": programs(parts["program"]), "XXHSUM": xxhsum(),
              "ARM": arm(), "SAID": [f"- {it}" for it in said]}
     return "\n".join(line for it in text.rstrip("\n").split("\n") for line in drawn.get(it[1:], [it])) + "\n"
 

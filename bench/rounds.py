@@ -63,8 +63,8 @@ def origin(before, after, peers):
             f"Compilers: {command('gcc', '--version')}; {command('clang', '--version')}; {command('rustc', '--version')}.",
             f"Peers: {command('xxhsum', '--version')}; {rust}{'; twox-hash 2.1.5' if 'twox_hash' in peers else ''}.",
             f"Load average {before} before the run and {after} after it, of which the run itself is 1.",
-            "Each function begins at a multiple of 64, ours and the peers' alike, and stands among others in each round: a "
-            "call of a few nanoseconds moves with the place of its code. Debian's library is as Debian made it."]
+            "Each function begins at a multiple of 64, ours and the peers' alike, at another position in each round, because "
+            "the time of a few nanoseconds depends on the position. Debian's library is as Debian made it."]
 
 
 def main(room, data, file_size, before, after):

@@ -8,6 +8,9 @@ fail() {
     exit 1
 }
 
+# meant NAME: prints the path that the caller means. The caller's folder may be one that cannot be entered.
+meant() { case $1 in /* | '') printf %s "$1" ;; *) printf %s "$folder/$1" ;; esac; }
+
 # require PACKAGE COMMAND: stops if the command is missing, and names its package.
 require() {
     command -v "$2" > /dev/null || fail "no $2: install the package $1"

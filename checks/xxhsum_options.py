@@ -1,4 +1,5 @@
-"""The options of `xxhsum` in its help, its page, its manual page and the cases: each must have those of the help."""
+"""The options of `xxhsum` in its help, its page, its manual page and the cases: the manual page and the cases have those
+of the help, the page some of them."""
 import os
 import re
 import subprocess
@@ -25,8 +26,9 @@ def of_help(program):
 
 
 def of_page():
-    rows = re.findall(r'^\| (`.*?) \|', section('XXHSUM.md', '## The options\n', '\n## '), re.M)
-    return {re.sub(r'^-H\d+$', '-H', word) for row in rows for word in re.findall(r'`(.*?)`', row)} - MARKS
+    """The options that the page names. Their numbers are those of algorithms."""
+    lines = re.findall(r'^- (`-.*?`):', section('XXHSUM.md', '## Options\n', '\n## '), re.M)
+    return {re.sub(r'^-H\d+$', '-H', word) for line in lines for word in re.findall(r'`(.*?)`', line)} - MARKS
 
 
 def of_manual():
@@ -43,7 +45,9 @@ def of_cases():
 
 def differences(of_program):
     """The places whose options differ from the program's, and the differences."""
-    for place, found in (('docs/XXHSUM.md', of_page()), ('docs/xxhsum.1', of_manual()), ('the cases', of_cases() & of_program)):
+    of_the_page = of_page()
+    for place, found in (('docs/XXHSUM.md', of_the_page and of_the_page | of_program), ('docs/xxhsum.1', of_manual()),
+                         ('the cases', of_cases() & of_program)):
         if found != of_program:
             yield place, sorted(found ^ of_program)
 

@@ -4,6 +4,7 @@ import sys
 
 import antt
 import table
+from reasons import Reasons
 
 OTHERS = {word: [other for other in "+ - * / %".split() if other != word] for word in "+ - * / %".split()}
 OTHERS["^"] = ["*"]
@@ -133,9 +134,8 @@ def rows_by_definition(program, rows):
 
 
 def reasons():
-    """The changes that change no value, by words of their texts, each with its reason."""
-    with open(os.path.join(table.FOLDER, "equal_changes.txt"), encoding="utf-8") as file:
-        return dict(line.strip().split(" | ") for line in file if line.strip() and not line.startswith("#"))
+    """The changes that change no value."""
+    return Reasons(os.path.join(table.FOLDER, "equal_changes.txt"))
 
 
 def outcome(program, rows, change):

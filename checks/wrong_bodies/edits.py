@@ -73,13 +73,21 @@ def written(path, folder):
 
 
 def blocks_of(path):
-    """The edits of a file, by name: each begins with a line `== NAME`."""
-    heads = re.split(r"^== (\S+)\n", kit.read(path), flags=re.M) if os.path.exists(path) else [""]
-    names = heads[1::2]
-    twice = sorted({it for it in names if names.count(it) > 1})
-    if heads[0].strip() or twice:
-        sys.exit(f"wrong-bodies: {path} {f'has {twice[0]} twice' if twice else 'begins with no line == NAME'}")
-    return zip(names, heads[2::2])
+    """The edits of a file, by name. A line `= PATH` begins those of a source file, and `== NAME` each of these."""
+    blocks, source_file, lines = {}, None, None
+    for line in kit.read(path).rstrip("\n").split("\n") if os.path.exists(path) else ():
+        if line.startswith("= "):
+            source_file, lines = line[2:], None
+        elif line.startswith("== ") and source_file:
+            name = line[3:]
+            if name in blocks:
+                sys.exit(f"wrong-bodies: {path} has {name} twice")
+            lines = blocks[name] = [f"file: {source_file}"]
+        elif lines:
+            lines.append(line)
+        else:
+            sys.exit(f"wrong-bodies: {path}: a line outside of any mutant: {line}")
+    return [(name, "\n".join([*lines, ""])) for name, lines in blocks.items()]
 
 
 def texts_with(crate, edits):

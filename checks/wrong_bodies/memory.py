@@ -51,33 +51,33 @@ class Memory:
     def sum_of(self, edit, crate):
         """The checksum of the edit, of the toolchain and of this program, of the statements of the crate and those
         below, and of the one body that the edit changes with its proof answers, or if it changes no single one, of
-        all bodies and proof answers of the crate."""
+        all bodies and proof answers of the crate. Comment lines are left out."""
         text = kit.read(f"{crate.folder}/{edit.path}").split("\n") if edit.function else []
-        own = text[edit.body.head:edit.body.last + 1] if edit.function else [self.bodies(crate)]
+        own = code_of("\n".join(text[edit.body.head:edit.body.last + 1])) if edit.function else self.bodies(crate)
         answers = self.answers(crate, edit.function.split("::")[-1] if edit.function else "")
         stated = map(self.stated, [crate, *crate.below()])
-        return sum_of([self.machinery(), edit.name, kit.read(edit.file), *own, answers, *stated])
+        return sum_of([self.machinery(), edit.name, kit.read(edit.file), own, answers, *stated])
 
     def machinery(self):
         judges = [f"{HERE}/{name}.py" for name in JUDGES]
         return self.known("the kit and this program", lambda: [kit.identity(), *map(kit.read, judges)])
 
     def bodies(self, crate):
-        return self.known(f"bodies of {crate.name}", lambda: [kit.read(it) for it in files_of(crate, "src", "rt")])
+        return self.known(f"bodies of {crate.name}", lambda: map(code_in, files_of(crate, "src", "rt")))
 
     def answers(self, crate, function):
         """The content of the folders of a function's name, and of cycles; without a name in those of all."""
         folders = {it: os.path.basename(os.path.dirname(it)) for it in files_of(crate, "proofs", "antt") if not is_lemmas(crate, it)}
         own = [it for it, folder in folders.items() if folder.startswith("+") or function in ("", folder)]
-        return self.known(f"answers of {crate.name} {function}", lambda: map(kit.read, own))
+        return self.known(f"answers of {crate.name} {function}", lambda: map(code_in, own))
 
     def stated(self, crate):
         """The contracts, the definitions and the lemmas."""
         def texts():
             for path in files_of(crate, "src", "rt"):
-                yield source.without_bodies(os.path.relpath(path, crate.folder), kit.read(path))
-            yield from map(kit.read, files_of(crate, "specs", "antt"))
-            yield from (kit.read(it) for it in files_of(crate, "proofs", "antt") if is_lemmas(crate, it))
+                yield code_of(source.without_bodies(os.path.relpath(path, crate.folder), kit.read(path)))
+            yield from map(code_in, files_of(crate, "specs", "antt"))
+            yield from (code_in(it) for it in files_of(crate, "proofs", "antt") if is_lemmas(crate, it))
         return self.known(f"statements of {crate.name}", texts)
 
     def known(self, name, texts):
@@ -85,6 +85,16 @@ class Memory:
         if name not in self.sums:
             self.sums[name] = sum_of(texts())
         return self.sums[name]
+
+
+def code_in(path):
+    return code_of(kit.read(path))
+
+
+def code_of(text):
+    """The text without its comment lines, or the whole text if a string may span lines."""
+    lines = [it for it in text.split("\n") if not it.lstrip().startswith(("//", "--"))]
+    return text if any(it.count('"') % 2 for it in lines) else "\n".join(lines)
 
 
 def refusals_written():

@@ -18,6 +18,7 @@ import sys
 import antt
 import mutants
 import proved_rows
+from reasons import CRASH, UNNOTICED, WRONG_RULE
 
 from . import definition, every_length, nodes, sides
 from .refusals import REFUSALS, Undecided
@@ -30,7 +31,7 @@ EQUAL_LINES = os.path.join(os.path.dirname(os.path.abspath(__file__)), "equal_li
 RECURSION, MEMORY = 8000, 6 << 30
 NO_NUMBER = (antt.Unreadable, TypeError, AttributeError, IndexError, OverflowError, ValueError, RecursionError,
              NameError, MemoryError, KeyError)
-NOTICED, REFUSED, UNNOTICED = "differs at a point", "another term, no point found", "unnoticed"
+NOTICED, REFUSED = "differs at a point", "another term, no point found"
 NOTICED_BY_NUMBERS, REFUSED_WITHOUT_TERM = "no term, differs at a point", "no term, no point found"
 
 
@@ -99,7 +100,7 @@ class Asked:
         except Slow:
             self.outcome = "doesn't end"
         except WrongRule as error:
-            self.outcome = f"A RULE IS WRONG: {error}"
+            self.outcome = f"{WRONG_RULE}: {error}"
         except NO_NUMBER as error:
             self.outcome = self.by_numbers(entries, error)
         return self.outcome in (None, REFUSED, REFUSED_WITHOUT_TERM)
@@ -114,7 +115,7 @@ class Asked:
             return "no number"
         except Slow:
             return "doesn't end"
-        return NOTICED_BY_NUMBERS if differs else f"A CRASH: {error!r}" if error else REFUSED_WITHOUT_TERM
+        return NOTICED_BY_NUMBERS if differs else f"{CRASH}: {error!r}" if error else REFUSED_WITHOUT_TERM
 
 
 class CountedLength:
@@ -229,13 +230,6 @@ def of_reference(module, sample, part, parts):
     return out
 
 
-def is_equal_line(text):
-    """Whether a change of LLVM's text is known to change nothing: equal_lines.txt has the words and the reasons."""
-    with open(EQUAL_LINES, encoding="utf-8") as file:
-        known = [line.split(" | ")[0] for line in file if line.strip() and not line.startswith("#")]
-    return any(all(word in text for word in words.split(" & ")) for words in known)
-
-
 def changed_outcome(module, change, requests, answers):
     what = UNNOTICED
     try:
@@ -252,9 +246,9 @@ def changed_outcome(module, change, requests, answers):
     except Slow:
         return "doesn't end"
     except WrongRule as error:
-        return f"A RULE IS WRONG: {error}"
+        return f"{WRONG_RULE}: {error}"
     except NO_NUMBER as error:
-        return f"A CRASH: {error!r}"
+        return f"{CRASH}: {error!r}"
     return what
 
 

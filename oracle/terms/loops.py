@@ -1,15 +1,12 @@
-"""Loops of any number of turns, shown by induction.
+"""Loops of LLVM's text, shown by induction (induction.py).
 
-At a loop's head after k turns some cells, the accumulators, hold what the definition says of k. That is shown in three
-parts: the cells hold the definition's values for k = 0; from any values, named "the definition's for k", and k <
-last, one turn comes to the head with the definition's values for k + 1, with counters and addresses gone on by their
-steps, and with nothing else changed that lives; and from k = last the loop is left.
-
-Steps are guessed from a first turn and then shown. What a turn writes before it reads is unset at the head, so that a
-read of it is an error. Which cells the accumulators are is a guess too, by their names in the header: the first part
-fails where they are others. Heads aren't named: they are the blocks to which a function goes back."""
+The words are the accumulators, whose cells are named by their names in the header: they hold the definition's values at the
+start, or it isn't shown. What a first turn changes goes on by a step, or is unset at the head, so that a read of it is an
+error. Nothing else that lives may change. From the last turn the loop is left. Heads aren't named: they are the blocks to which
+a function goes back."""
+from .induction import Induction, moved
 from .nodes import is_same, symbol
-from .polynomials import agree, given, is_number, is_natural, minus, plus, times, variable
+from .polynomials import given, is_natural, minus, variable
 from .polynomials import is_same as is_same_number
 from .refusals import NotShown
 
@@ -96,105 +93,89 @@ class Loops:
             self.running[key] = around
 
 
-# ---- what changes
+class Proof(Induction):
+    """A cell is one of a memory that lives, with its size."""
 
-def step_between(old, now):
-    """How far a number or an address has gone on, or None."""
-    if isinstance(old, tuple) and isinstance(now, tuple) and len(old) == len(now) == 2 and old[0] is now[0]:
-        old, now = old[1], now[1]
-    return minus(now, old) if is_number(old) and is_number(now) else None
-
-
-def gone_on(value, step, k):
-    if isinstance(value, tuple):
-        return value[0], gone_on(value[1], step, k)
-    return plus(value, times(step, k))
-
-
-class Proof:
     def __init__(self, loops, loop, function, registers, before, head):
         self.loops, self.loop, self.function, self.registers = loops, loop, function, registers
         self.before, self.head, self.body = before, head, loops_of(function)[head]
-        self.state = [(memory, dict(memory.cells)) for memory in function.module.live]
+        self.name, self.new_name, self.is_guessing = loop.name, function.module.fresh, False
         inside = {target for block in self.body for target, *_ in function.blocks[block]}
         self.kept = {name: x for name, x in registers.items() if name not in inside}
-        self.places, self.unset = {}, set()   # cell -> (size, value, step); cells that a turn writes before it reads
+        super().__init__(self.state())
+
+    def state(self):
+        return {(memory, at): cell for memory in self.function.module.live for at, cell in memory.cells.items()}
+
+    def put(self, cells):
+        for memory in self.function.module.live:
+            memory.cells = {}
+        for (memory, at), cell in cells.items():
+            memory.cells[at] = cell
+        self.registers.clear()
+        self.registers.update(self.kept)
 
     def behind(self):
         """Shows the loop, and gives (before, block) behind it, where the registers and memories are those of then."""
-        loop, k = self.loop, variable(self.function.module.fresh("k"))
+        loop = self.loop
         if not is_natural(loop.last):
             raise NotShown(f"{loop.name}: no number of turns")
-        self.compare("at the start", 0)
-        with given(minus(minus(loop.last, k), 1)):
-            self.guess(k)
-            self.turn(k, self.supposed(k), is_last=False)
-            self.compare("after a turn", plus(k, 1))
-            self.compare_others(plus(k, 1))
+        self.words = {cell: i for i, cell in enumerate(loop.cells)}
+        self.start.update(self.accumulators())
+        self.guess()
+        self.show_below(loop.last)
         loop.is_leaving = True
-        answer = self.turn(loop.last, self.supposed(loop.last), is_last=True)
-        places = sorted(f"{memory.name[1:]} = {shown(gone_on(value, step, variable('k')))}"
-                        for (memory, _), (_, value, step) in self.places.items())
+        self.enter(loop.last, self.supposed(loop.last))
+        answer = self.walk(None)
+        if not isinstance(answer, tuple) or answer[1] == self.head:
+            raise NotShown(f"{loop.name}: the loop isn't left")
+        places = sorted(f"{memory.name[1:]} = {shown(moved(value, step, variable('k'))[1])}"
+                        for (memory, _), (value, step) in self.places.items())
         self.loops.told.append(f"{loop.name}: k = 0 .. {loop.last}, {', '.join(places)}")
         return answer
 
+    def accumulators(self):
+        """The accumulators at the start, which are the definition's."""
+        size, said = self.loop.width // 8, self.said(0)
+        for i, (memory, at) in enumerate(self.loop.cells):
+            x = memory.load(at, size)
+            if not is_same(x, said[i]):
+                raise NotShown(f"{self.loop.name} at the start: accumulator {i} is another term")
+            yield (memory, at), (size, x)
+
+    def guess(self):
+        """A first turn tells which cells go on, and which are written before they are read."""
+        self.is_guessing = True
+        with given(minus(self.loop.last, 1)):
+            self.enter(0, self.said(0))
+            self.turn()
+        now = self.state()
+        self.guess_places(self.changed(now), now)
+        self.is_guessing = False
+
+    def may_hold_anything(self, cell):
+        return self.is_guessing
+
+    def said(self, k):
+        return self.loop.definition(k)
+
     def supposed(self, k):
-        """New symbols, which are the definition's values for k."""
-        fresh = self.function.module.fresh
-        values = [symbol(fresh("accumulator"), self.loop.width) for _ in self.loop.cells]
+        values = [symbol(self.new_name("accumulator"), self.loop.width) for _ in self.loop.cells]
         self.loop.suppose(k, values)
         return values
 
-    def compare(self, when, k):
-        for i, ((memory, at), x) in enumerate(zip(self.loop.cells, self.loop.definition(k), strict=True)):
-            if not is_same(memory.load(at, self.loop.width // 8), x):
-                raise NotShown(f"{self.loop.name} {when}: accumulator {i} is another term")
+    @staticmethod
+    def name_of(cell):
+        memory, at = cell
+        return f"{memory.name} at {at}"
 
-    def compare_others(self, k):
-        """Everything live is as in the places, except the accumulators and what is unset."""
-        for memory, at in self.changed() - set(self.loop.cells) - self.unset - set(self.places):
-            raise NotShown(f"{self.loop.name}: {memory.name} changes at {at}")
-        for (memory, at), (size, value, step) in self.places.items():
-            now = memory.cells.get(at)
-            if not agree(now, (size, gone_on(value, step, k))):
-                raise NotShown(f"{self.loop.name}: {memory.name} is {now} and not {gone_on(value, step, k)}")
-
-    def guess(self, k):
-        """A first turn shows which cells are carried on, and which are written before they are read."""
-        start = [memory.load(at, self.loop.width // 8) for memory, at in self.loop.cells]
-        with given(minus(0, k)):   # k = 0
-            self.turn(0, start, is_last=False)
-        state = {(memory, at): cell for memory, cells in self.state for at, cell in cells.items()}
-        for memory, at in self.changed() - set(self.loop.cells):
-            old, now = state.get((memory, at)), memory.cells.get(at)
-            step = step_between(old[1], now[1]) if old and now and old[0] == now[0] else None
-            if step is None:
-                self.unset.add((memory, at))
-            else:
-                self.places[memory, at] = *old, step
-
-    def changed(self):
-        """The cells that are no longer as at the start."""
-        return {(memory, at) for memory, cells in self.state for at in {*cells, *memory.cells}
-                if at not in cells or at not in memory.cells or not agree(cells[at], memory.cells[at])}
-
-    def turn(self, k, values, is_last):
-        """Runs one turn from the head, after k of them; or, from the last k, whatever is left until the loop is
-        left."""
-        for memory, cells in self.state:
-            memory.cells = dict(cells)
-        for (memory, at), x in zip(self.loop.cells, values):
-            memory.cells[at] = self.loop.width // 8, x
-        for (memory, at), (size, value, step) in self.places.items():
-            memory.cells[at] = size, gone_on(value, step, k)
-        for memory, at in self.unset:
-            memory.cells.pop(at, None)
-        self.registers.clear()
-        self.registers.update(self.kept)
-        answer = self.function.walk(self.registers, self.before, self.head, self.body, None if is_last else self.head)
-        if not isinstance(answer, tuple) or (answer[1] != self.head) != is_last:
+    def turn(self):
+        answer = self.walk(self.head)
+        if not isinstance(answer, tuple) or answer[1] != self.head:
             raise NotShown(f"{self.loop.name}: a turn goes to {answer}")
-        return answer
+
+    def walk(self, until):
+        return self.function.walk(self.registers, self.before, self.head, self.body, until)
 
 
 def shown(x):

@@ -6,6 +6,7 @@ import tempfile
 import unittest.mock
 
 import mutants
+from reasons import Reasons, is_fault
 
 from . import changed_headers, changes, comparison, every_length, machinery, plain_streams, processes, xxh3_streams
 from .comparison import SECRETS
@@ -133,20 +134,18 @@ def large_changes(module):
 
 def text_changes(module, part, parts):
     found = changes.of_text(module, part, parts)
-    reasons = [*mutants.reasons(), *(words for words, *_ in changes.AT_LARGE_LENGTHS)]   # those are asked by induction
-    bad = [f"{what}: {text}" for what, text in found
-           if is_wrong(what) or what == changes.UNNOTICED and not any(words in text for words in reasons)]
-    return told(found), bad
+    reasons, by_induction = mutants.reasons(), [words for words, *_ in changes.AT_LARGE_LENGTHS]
+    return told(found), faults(found, lambda text: reasons.of(text) or any(words in text for words in by_induction))
 
 
 def line_changes(module, sample, part, parts):
     found = changes.of_reference(module, sample, part, parts)
-    unnoticed = [text for what, text in found if what == changes.UNNOTICED and not changes.is_equal_line(text)]
-    return told(found), [f"{what}: {text}" for what, text in found if is_wrong(what) or text in unnoticed]
+    return told(found), faults(found, Reasons(changes.EQUAL_LINES).of)
 
 
-def is_wrong(what):
-    return what.startswith(("A CRASH", "A RULE"))
+def faults(found, reasons_of):
+    """The changes that aren't noticed, and have no reason."""
+    return [f"{what}: {text}" for what, text in found if is_fault(what, bool(reasons_of(text)), must_fit=False)]
 
 
 def told(found):

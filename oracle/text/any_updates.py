@@ -11,6 +11,7 @@ import collections
 
 from terms import definition, nodes
 from terms.definition import Bytes, suppositions
+from terms.induction import same
 from terms.refusals import REFUSALS, NotShown
 from terms.requests import LONGEST, Request, seed_symbol
 from terms.memory import Input, Piece
@@ -20,7 +21,7 @@ from terms.polynomials import is_same as is_same_number
 
 from . import streams
 from .every_length import LIMIT, UNROLLED
-from .induction import Family, Loops, same
+from .induction import Family, Loops
 from .memory import Words
 
 # Where the parts of a state lie: the accumulators, the seed, the marked word, the total, the buffer; and the mark.

@@ -12,11 +12,12 @@ import itertools
 import os
 import random
 
+from reasons import CRASH, UNNOTICED, Reasons, is_fault
 from terms import definition, nodes
 
 from .instructions import PARTS, SETS, TABLE, VECTORS, letters
 from .objects import TEXT, Immediate, Place, Register
-from .questions import CRASH, FOR_C, are_long, by_induction, further, near, questions, reaching, takes_stripes
+from .questions import FOR_C, are_long, by_induction, further, near, questions, reaching, takes_stripes
 
 FOLDER = os.path.join(os.path.dirname(os.path.abspath(__file__)), "equal_changes")
 LIMIT = 40_000                   # instructions of a changed text's call
@@ -24,7 +25,6 @@ MOST, NEAR, FEWEST = 200, 40, 10  # the shortest requests, of which so few are a
 DRAWS = 10                        # of changes with --all, and one without it
 ROWS = 4                          # the changes of the texts for ARM and RISC-V are tried in so many rows, with --all
 IDLE = "nop", "prefetcht0", "vzeroupper", "ud2"
-UNNOTICED = "unnoticed"
 ALIKE = [("je", "jne"), ("jb", "jbe"), ("ja", "jae"), ("jb", "jae"), ("sete", "setne"), ("cmovb", "cmovae"),
          ("add", "sub"), ("xor", "or"), ("and", "or"), ("inc", "dec"), ("neg", "not"), ("shl", "shr"), ("mul", "div"),
          ("movzbl", "movsbl"), ("imul", "add"), ("movq", "movl"), ("paddq", "psubq"), ("paddq", "pxor"),
@@ -167,16 +167,6 @@ def written(x):
 
 # ---- the row
 
-def reasons(path):
-    """The changes that change nothing that is promised: words that are all in the text of the change, and the reason."""
-    with open(path, encoding="utf-8") as file:
-        return dict(line.strip().split(" | ") for line in file if line.strip() and not line.startswith("#"))
-
-
-def is_equal(text, known):
-    return any(all(word in text for word in words.split(" & ")) for words in known)
-
-
 def more_ways(cpu, asked, entries, is_all, section, beside):
     """Of a change in a section: the calls among some questions, inductions with --all, and further requests. A function that
     takes many stripes is shown by induction in any case: requests of its longest way take long."""
@@ -189,11 +179,10 @@ def more_ways(cpu, asked, entries, is_all, section, beside):
 
 def noticed(name, make, count, is_all, is_drawn=anywhere, beside=FOR_C):
     """(changes of a text that were tried, what there is to say of them): so many of a draw, in some sections or in all."""
-    cpu, known = make(), reasons(os.path.join(FOLDER, f"{name}.txt"))
+    cpu, known = make(), Reasons(os.path.join(FOLDER, f"{name}.txt"))
     some = of_draws(functools.partial(drawn, cpu, is_drawn), count, DRAWS if is_all else 1)
     texts, bad = noticed_of(cpu, some, known, is_all, beside)
-    return len(texts), bad + [f"no change needs the reason of {words}" for words in known
-                              if is_all and not any(is_equal(text, [words]) for text in texts)]
+    return len(texts), bad + [f"no change needs the reason of {words}" for words in (known.unused(texts) if is_all else ())]
 
 
 def of_draws(one, count, draws=1):
@@ -219,9 +208,9 @@ def noticed_of(cpu, changes, known, is_all, beside=FOR_C):
     for place, text, instructions in changes(sorted(found)):
         texts.append(text)
         reached = [question for k, question in enumerate(asked) if found[place] >> k & 1]
-        has_reason = is_equal(text, known)
+        has_reason = bool(known.of(text))
         more = () if has_reason else more_ways(cpu, reached, entries, is_all, place[0], beside)
         what = outcome(cpu, instructions, reached, random.Random(text), entries, more)
-        if what.startswith((CRASH, "WrongRule")) or (what == UNNOTICED) != has_reason:
+        if is_fault(what, has_reason):
             bad.append(f"{what}{', and has a reason' if has_reason else ''}: {text}")
     return texts, bad

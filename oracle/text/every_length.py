@@ -137,7 +137,7 @@ class EveryLength:
     """A kind of call of a text, its cases one by one: 32, 64, or of XXH3 as 3-64:seed."""
 
     def __init__(self, cpu, kind):
-        self.cpu, self.told, self.guesses, self.kind = cpu, {}, {}, kind
+        self.cpu, self.guesses, self.kind = cpu, {}, kind
         self.hash_name, _, self.way = kind.partition(":")
         self.read()
 
@@ -213,5 +213,4 @@ class EveryLength:
         except REFUSALS as error:
             raise NotShown("; ".join([str(error), *loops.refused])) from error
         finally:
-            self.told.update({line.split(", ", 1)[1].split(":")[0]: line for line in loops.told})
             self.cpu.loops, self.cpu.limit = None, limit

@@ -1,18 +1,17 @@
-"""Loops of a text of any number of turns, shown by induction, as terms/loops.py does it for LLVM's text.
+"""Loops of an assembly source, shown by induction (terms/induction.py).
 
 A cell is a register or its lower half, a lane of a vector, or a cell of the stack or of another object that may be
-written to. At a loop's head after k turns some cells hold the words that the definition says of so many stripes. Which ones isn't said:
-they are those that hold the definition's words at the start, and those of some stripes more after a first turn. Of the
-other cells that the turn changes some go on by a step, and what is left may be anything at the head. All of that is a
-guess, which a turn from k = any number then shows: the words have to be there, and a cell that does anything else than
-what is said may be anything, and the turn is run once more. The last cell that has a word is never let go. The flags are
-unset at a head."""
+written to. The words are those that the definition says of so many stripes. Which cells have them isn't said: they are those
+that hold the definition's words at the start, and those of some stripes more after a first turn. The last cell that has a
+word is never let go. The flags are unset at a head."""
 import contextlib
+import functools
 
+from terms.induction import Induction, same, step_between
 from terms.refusals import REFUSALS, NotShown, Undecided
 from terms.memory import RUNS, Input
 from terms.nodes import Node
-from terms.polynomials import agree, divided, given, is_natural, is_number, minus, plus, times, variable
+from terms.polynomials import divided, given, is_natural, is_number, minus, plus, times
 from terms.polynomials import is_same as is_same_number
 
 from .values import Address, half_of, joined, with_half
@@ -60,24 +59,6 @@ class Family:
 
 # ---- cells
 
-def moved(x, step, k):
-    if isinstance(x, Address):
-        return type(x)(x.bases, plus(x.offset, times(step, k)))
-    return plus(x, times(step, k))
-
-
-def step_between(old, now):
-    if isinstance(old, Address) and isinstance(now, Address) and old.bases == now.bases:
-        return minus(now.offset, old.offset)
-    return minus(now, old) if is_number(old) and is_number(now) else None
-
-
-def same(a, b):
-    if isinstance(a, Address) and isinstance(b, Address):
-        return a.bases == b.bases and is_same_number(a.offset, b.offset)
-    return a is b or agree(a, b)
-
-
 def cells_of(cpu):
     """All that a processor holds, and the objects that live: cell -> value. Of memory a cell's size counts as well."""
     out = {("register", name): x for name, x in cpu.registers.items()}
@@ -113,7 +94,7 @@ class Loops:
     in other calls, by their heads."""
 
     def __init__(self, program, family, proof=None, guesses=None):
-        self.program, self.family, self.told, self.refused, self.known = program, family, [], [], {}
+        self.program, self.family, self.refused, self.known = program, family, [], {}
         self.proof, self.guesses = proof or Proof, {} if guesses is None else guesses
         self.running, self.stop, self.is_guessing, self.given_up = {}, None, False, set()
         self.tried = set()       # heads, and after how many stripes it was guessed in vain that their loop begins
@@ -151,25 +132,23 @@ class Loops:
 
 # ---- a loop
 
-class Proof:
+class Proof(Induction):
     HAS_INNER = False         # whether the loops within a turn have numbers of turns that are no numbers
+    name_of = staticmethod(name_of)
 
     def __init__(self, loops, cpu, head):
-        self.loops, self.cpu, self.family, self.head = loops, cpu, loops.family, head
         self.flags = cpu.flags, cpu.carry
-        self.begin([cpu.stack, *cpu.live])
+        self.begin(loops, cpu, head, [cpu.stack, *cpu.live])
 
-    def begin(self, memories):
+    def begin(self, loops, cpu, head, memories):
         """Keeps what is there at the head, and in these objects."""
-        self.original, self.runs = self.cells(), {memory: memory.runs() for memory in memories}
-        self.forget()
+        self.loops, self.cpu, self.family, self.head = loops, cpu, loops.family, head
+        self.name, self.new_name, self.first = loops.family.name, cpu.new_name, 0
+        super().__init__(self.state())
+        self.runs = {memory: memory.runs() for memory in memories}
 
-    def cells(self):
+    def state(self):
         return cells_of(self.cpu)
-
-    def forget(self):
-        self.start = dict(self.original)
-        self.words, self.places, self.unset, self.counts = {}, {}, set(), {}
 
     def again(self):
         """Forgets what was guessed, and makes the state what it was."""
@@ -185,21 +164,15 @@ class Proof:
     def is_shown_from(self, first):
         """The same, by what is known of the loop, or guessed by one first turn, or by two: what doesn't go on as it began is
         let go by two at once."""
-        for guess in (self.guess_again, self.guess_by_one, self.guess_by_two):
-            if self.outcome(first, guess):
-                self.loops.told.append(self.told(first))
-                self.loops.guesses[self.head] = self.known()
-                return True
+        for guess in (self.guess_again, *(functools.partial(self.guess_of, is_twice) for is_twice in (False, True))):
+            try:
+                if self.by_turns(first, guess):
+                    self.loops.guesses[self.head] = self.known()
+                    return True
+            except REFUSALS as error:
+                self.loops.refused.append(f"{self.head[0]} {self.head[1]:x} from {first}: {error}")
             self.again()
         self.loops.tried.add((self.head, repr(first)))
-        return False
-
-    def outcome(self, first, guess):
-        """Whether the loop is shown."""
-        try:
-            return self.by_turns(first, guess)
-        except REFUSALS as error:
-            self.loops.refused.append(f"{self.head[0]} {self.head[1]:x} from {first}: {error}")
         return False
 
     def firsts(self):
@@ -224,61 +197,44 @@ class Proof:
                     yield guess
 
     def by_turns(self, first, guess):
-        family = self.family
         if not guess(first):
             return False
-        turns, _ = divided(minus(family.total, first), self.step)
-        last, k = minus(turns, 1), variable(self.cpu.new_name("k"))
+        turns, _ = divided(minus(self.family.total, first), self.step)
+        last, self.first = minus(turns, 1), first
         if not is_natural(last):
             return False
-        with given(minus(minus(last, k), 1)):
-            size = None
-            while size != len(self.unset):
-                size = len(self.unset)
-                self.enter(k, self.supposed(first, k))
-                self.turn()
-                self.compare(first, plus(k, 1))
-        self.enter(last, self.supposed(first, last))
+        self.show_below(last)
+        self.enter(last, self.supposed(last))
         return True
-
-    def told(self, first):
-        words = sorted(f"{name_of(cell)} has word {j}" for cell, j in self.words.items())
-        places = sorted(f"{name_of(cell)} = {moved(x, step, variable('k'))}" for cell, (x, step) in self.places.items())
-        return (f"{self.family.name}, {self.head[0]} {self.head[1]:x}: {self.step} stripes a turn from {first} on; "
-                f"{', '.join(words + places)}; {len(self.unset)} cells may be anything")
 
     # ---- a turn
 
-    def enter(self, k, values=()):
-        """Makes the state that of the head after k turns."""
-        now = dict(self.start)
-        now.update({cell: moved(x, step, k) for cell, (x, step) in self.places.items()})
-        now.update({cell: values[j] for cell, j in self.words.items()})
-        self.put(now)
-
-    def put(self, now):
-        """Makes the cells those of a dictionary, and what may be anything new symbols, or unset."""
+    def put(self, cells):
+        """Makes the cells these, and what may be anything new symbols, or unset."""
         cpu = self.cpu
         cpu.forget_flags()
-        for cell, x in now.items():
+        for cell in self.start:
             if cell[0] == "register":
-                cpu.registers[cell[1]] = cpu.fresh("unset") if cell in self.unset else x
+                cpu.registers[cell[1]] = cpu.fresh("unset") if cell in self.unset else cells[cell]
             elif cell[0] == "lane":
-                cpu.vectors[cell[1]][cell[2]] = cpu.unset_lane() if cell in self.unset else x
-        for cell in [cell for cell in now if cell[0] == HALF and cell not in self.unset]:
-            if ("register", cell[1]) in self.unset:
-                upper = cpu.fresh("unset", 32)
-                cpu.registers[cell[1]] = with_half(joined((now[cell], 32), (upper, 32)), now[cell])
+                cpu.vectors[cell[1]][cell[2]] = cpu.unset_lane() if cell in self.unset else cells[cell]
+        for cell in [cell for cell in cells if cell[0] == HALF and ("register", cell[1]) in self.unset]:
+            upper = cpu.fresh("unset", 32)
+            cpu.registers[cell[1]] = with_half(joined((cells[cell], 32), (upper, 32)), cells[cell])
         for memory in [cpu.stack, *cpu.live]:
-            memory.cells = {cell[1]: (cell[2], x) for cell, x in now.items()
-                            if cell[0] is memory and cell not in self.unset}
+            memory.cells = {cell[1]: (cell[2], x) for cell, x in cells.items() if cell[0] is memory}
             memory.cells.update({RUNS: runs for runs in [self.runs[memory]] if runs})
 
-    def supposed(self, first, k):
-        """New symbols, which are the definition's words after k turns."""
+    def stripes_after(self, k):
+        return plus(self.first, times(self.step, k))
+
+    def said(self, k):
+        return self.family.words(self.stripes_after(k))
+
+    def supposed(self, k):
         family, width = self.family, 32 if self.family.stripe == 16 else 64
         values = [self.cpu.fresh("word", width) for _ in range(family.count)]
-        family.suppose(plus(first, times(self.step, k)), values)
+        family.suppose(self.stripes_after(k), values)
         return [family.cell(values[k:k + family.together]) for k in range(0, family.count, family.together)]
 
     def turn(self):
@@ -297,26 +253,14 @@ class Proof:
             loops.stop, loops.running = None, running
         raise NotShown(f"{self.family.name}: a turn leaves the loop")
 
-    def compare(self, first, k):
-        """That the state is that of the head after k turns; what else changes may be anything from here on."""
-        said, now = self.family.words(plus(first, times(self.step, k))), self.cells()
+    def compare(self, k, j=0):
         if any(memory.runs() != runs for memory, runs in self.runs.items()):
-            raise NotShown(f"{self.family.name}: a turn stores to a run")
-        for cell in {*self.start, *now} - self.unset:
-            x = now.get(cell)
-            if cell in self.words:
-                expected = said[self.words[cell]]
-            elif cell in self.places:
-                expected = moved(*self.places[cell], k)
-            else:
-                expected = self.start.get(cell)
-            if same(x, expected):
-                continue
-            if list(self.words.values()).count(self.words.get(cell)) == 1:
-                raise NotShown(f"{self.family.name}: {name_of(cell)} is {x} and not {expected}")
-            for known in (self.words, self.places, self.counts):
-                known.pop(cell, None)
-            self.unset.add(cell)
+            raise NotShown(f"{self.name}: a turn stores to a run")
+        super().compare(k, j)
+
+    def may_hold_anything(self, cell):
+        """Whether another cell has the same word, if it has one."""
+        return list(self.words.values()).count(self.words.get(cell)) != 1
 
     # ---- a guess
 
@@ -343,11 +287,8 @@ class Proof:
                 self.unset.add(cell)
         return len({*self.words.values()}) == len(begun)
 
-    def guess_by_one(self, first):
-        return any(self.guess(first, turns, False) for turns in FIRST_TURNS)
-
-    def guess_by_two(self, first):
-        return any(self.guess(first, turns, True) for turns in FIRST_TURNS)
+    def guess_of(self, is_twice, first):
+        return any(self.guess(first, turns, is_twice) for turns in FIRST_TURNS)
 
     def guess(self, first, turns, is_twice):
         """Two turns, or one, determine the words, the steps and what is left."""
@@ -357,23 +298,17 @@ class Proof:
         try:
             with given(minus(self.family.total, plus(first, turns))):
                 self.turn()
-                once = self.cells()
+                once = self.state()
                 if is_twice:
                     self.turn()
         except REFUSALS:
             return False
         finally:
             self.loops.is_guessing = False
-        twice = self.cells()
-        changed = {cell for cell in {*self.start, *once} if not same(self.start.get(cell), once.get(cell))}
+        twice, changed = self.state() if is_twice else None, self.changed(once)
         if not self.guess_words(first, changed, once):
             return False
-        for cell in changed - set(self.words):
-            step = step_between(self.start.get(cell), once.get(cell))
-            if step is None or is_twice and not same(twice.get(cell), moved(once[cell], step, 1)):
-                self.unset.add(cell)
-            else:
-                self.places[cell] = self.start[cell], step
+        self.guess_places(changed, once, twice)
         return True
 
     def steps(self, changed, once):

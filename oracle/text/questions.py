@@ -8,6 +8,7 @@ import collections
 import functools
 import random
 
+from reasons import CRASH
 from terms import nodes
 from terms.refusals import REFUSALS, NotShown
 from terms.requests import Request
@@ -16,7 +17,7 @@ from terms.nodes import WrongRule, is_same
 from . import any_secret, any_updates, calls, every_length, long_seeds, one_shots, streams, xxh3_updates
 from .memory import Numbers
 
-CRASH, ANOTHER_VALUE, ANOTHER_TERM = "A CRASH", "another value", "another term"
+ANOTHER_VALUE, ANOTHER_TERM = "another value", "another term"
 CASES = 8                         # cases of an induction that a change is asked
 EDGES = [0, 1, 2, 3, 4, 7, 8, 9, 15, 16, 17, 31, 32, 33, 64, 65, 96, 97, 128, 129, 144, 145, 240, 241, 256, 257, 320,
          640, 1025, 1088]

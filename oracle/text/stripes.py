@@ -8,13 +8,14 @@ import collections
 import functools
 
 from terms.definition import suppositions
+from terms.induction import moved, same
 from terms.refusals import REFUSALS, NotShown
 from terms.memory import Input
 from terms.nodes import Node
 from terms.polynomials import divided, given, is_natural, minus, plus, times, variable
 from terms.polynomials import is_same as is_same_number
 
-from .induction import Family, Proof, moved, same
+from .induction import Family, Proof
 from .memory import ENTRY
 from .values import Address
 
@@ -61,17 +62,12 @@ class StripesProof(Proof):
 
     HAS_INNER = True
 
-    def forget(self):
-        super().forget()
-        self.counts = {}         # of a counter of a block's stripes: what it is at the block's beginning, and its step
-
     def show(self):
         known = self.family.supposed()
         for part in self.family.parts:
             for done in (4, 1, 0):
                 try:
                     if self.by_places(part, done):
-                        self.loops.told.append(self.told(part.start))
                         return True
                 except REFUSALS as error:
                     self.loops.refused.append(f"{self.head[0]} {self.head[1]:x} from {part.start}: {error}")
@@ -86,22 +82,19 @@ class StripesProof(Proof):
         family.total = plus(family.stripes(part.start), part.turns)
         if isinstance(minus(family.total, first), int) and self.is_run(part) or not self.holds(first):
             return False
-        self.first_place = start
+        self.first_place, self.first = start, first
         if not self.guess_of_some(first):
             return False
         left, over = divided(minus(family.total, first), self.step)
         if isinstance(left, int) and over:           # so few turns are run one by one
             return False
-        self.find_counters(first, left)
-        left = minus(left, self.left_at_end(first, left, part.end))
+        self.find_counters(left)
+        left = minus(left, self.left_at_end(left, part.end))
         if not is_natural(left):
             return False
-        size = None
-        while size != len(self.unset):
-            size = len(self.unset)
-            self.show_turns(first, left)
+        self.until_settled(lambda: self.show_turns(left))
         end = part.end if self.ends_with == 0 else family.before(part.end, self.step)
-        self.enter_at(first, left, divided(end[1], self.step)[0])
+        self.enter(left, self.supposed(left), divided(end[1], self.step)[0])
         return True
 
     def is_run(self, part):
@@ -137,20 +130,20 @@ class StripesProof(Proof):
     def in_turns(self):
         return divided(self.first_place[1], self.step)[0], divided(self.family.q, self.step)[0]
 
-    def find_counters(self, first, left):
-        """Which cells begin again at a block's end."""
+    def find_counters(self, left):
+        """Which cells begin again at a block's end: `counts` has what each is at its beginning, and its step."""
         at, whole = self.in_turns()
         k = minus(minus(whole, at), 1)
         more = [n for n in (2, 1) if not is_natural(minus(plus(k, n - 1), left))]
         if not more:
             return
         with given(minus(minus(left, k), more[0])):
-            self.enter(k, self.supposed(first, k))
+            self.enter(k, self.supposed(k))
             try:
                 self.turn()
             except NotShown:          # with this turn the loop is left
                 return
-            now = self.cells()
+            now = self.state()
             for cell, (x, step) in list(self.places.items()):
                 base = moved(x, step, minus(0, at))
                 if not is_same_number(step, 0) and not same(now.get(cell), moved(x, step, plus(k, 1))) \
@@ -158,7 +151,7 @@ class StripesProof(Proof):
                     self.counts[cell] = base, step
                     del self.places[cell]
 
-    def left_at_end(self, first, left, end):
+    def left_at_end(self, left, end):
         """How many turns are left where the head is come to for the last time: 0, or 1 where the loop is left behind
         its end."""
         self.ends_with = 0
@@ -166,16 +159,12 @@ class StripesProof(Proof):
             return 0
         place = self.family.before(end, self.step)
         with given(minus(left, 1)):
-            self.enter_at(first, minus(left, 1), divided(place[1], self.step)[0])
+            self.enter(minus(left, 1), self.supposed(minus(left, 1)), divided(place[1], self.step)[0])
             try:
                 self.turn()
             except NotShown:
                 self.ends_with = 1
         return self.ends_with
-
-    def enter_at(self, first, k, i):
-        self.start.update({cell: moved(base, step, i) for cell, (base, step) in self.counts.items()})
-        self.enter(k, self.supposed(first, k))
 
     def kinds_of_turns(self):
         """(k, i, facts): within the first block, at its end, within another one, at its end."""
@@ -188,17 +177,15 @@ class StripesProof(Proof):
         yield plus(later, i), i, [minus(minus(whole, 2), i)]
         yield plus(later, minus(whole, 1)), minus(whole, 1), []
 
-    def show_turns(self, first, left):
+    def show_turns(self, left):
         for k, i, facts in self.kinds_of_turns():
             facts = [*facts, minus(minus(left, 1), k)]
             if any(is_natural(minus(-1, fact)) for fact in facts):      # there is no such turn
                 continue
             with given(*facts):
-                self.enter_at(first, k, i)
+                self.enter(k, self.supposed(k), i)
                 self.turn()
-                then = 0 if is_same_number(plus(i, 1), self.in_turns()[1]) else plus(i, 1)
-                self.start.update({cell: moved(base, step, then) for cell, (base, step) in self.counts.items()})
-                self.compare(first, plus(k, 1))
+                self.compare(plus(k, 1), 0 if is_same_number(plus(i, 1), self.in_turns()[1]) else plus(i, 1))
 
 
 # ---- functions that take stripes

@@ -162,6 +162,8 @@ def with_address(word, width, a, b):
         return combined(a, b, 1 if word == "add" else -1)
     if word == "and" and isinstance(b, int) and isinstance(a, Address):
         return low_bits(a, b)
+    if word == "or" and isinstance(b, int) and isinstance(a, Address) and low_bits(a, ones(b.bit_length())) == 0:
+        return combined(a, b, 1)
     raise Undecided(f"{word} of an address")
 
 

@@ -15,6 +15,7 @@ import itertools
 
 from terms import definition, nodes
 from terms.definition import Bytes, suppositions
+from terms.induction import same
 from terms.refusals import REFUSALS, NotShown
 from terms.requests import LONGEST, LONGEST_SECRET
 from terms.memory import RUNS, Piece
@@ -24,7 +25,7 @@ from terms.polynomials import is_same as is_same_number
 
 from . import exports, streams
 from .every_length import FAR, LIMIT
-from .induction import Loops, same
+from .induction import Loops
 from .memory import ENTRY, Words
 from .runs import Source, State
 from .stripes import DEEP, Part, Stripes, StripesProof, Summary
@@ -99,7 +100,7 @@ class Xxh3Updates:
     longest_secret, longest_piece = LONGEST_KEPT, LONGEST
 
     def __init__(self, cpu):
-        self.cpu, self.told, self.refused = cpu, [], []
+        self.cpu, self.refused = cpu, []
         self.use(variable("q"))
 
     @property
@@ -255,7 +256,7 @@ class Xxh3Updates:
         except REFUSALS as error:
             raise NotShown("; ".join([str(error), *cpu.loops.refused])) from error
         finally:
-            self.told, self.refused = cpu.loops.told, cpu.loops.refused
+            self.refused = cpu.loops.refused
             cpu.loops, cpu.limit, cpu.replaced = None, limit, {}
 
     def small_pieces(self):

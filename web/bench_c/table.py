@@ -1,5 +1,5 @@
 #!/usr/bin/env python3
-"""Prints the measurements as the table of docs/history/TUNING.md:
+"""Prints the measurements as the table of docs/SPEED.md (bench/data/web.tsv):
 
     web/bench_c/table.py NAME=FILE..
 
@@ -12,7 +12,7 @@ import statistics
 import sys
 
 KINDS = {"xxh32": "XXH32", "xxh64": "XXH64", "xxh3_64": "XXH3-64", "xxh3_128": "XXH3-128"}
-FORMS = {"oneshot": "", "stream": "pieces of "}
+FORMS = {"oneshot": "", "stream": "chunks of "}
 MEDIAN = 1  # of a module's times in a pass, behind the best
 DISTURBED = 1.1
 

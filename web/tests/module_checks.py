@@ -157,7 +157,7 @@ def row_of_page(start):
 def installed_as_printed(folder, node):
     """Each way to install on the page, its commands in one shell, in a folder next to a clone, which stays
     unchanged."""
-    ways = [re.findall("`([^`]+)`", way) for way in row_of_page("the package, which depends on nothing").split("; or ")]
+    ways = [re.findall("`([^`]+)`", way) for way in row_of_page("the package, which has no dependencies").split("; or ")]
     want(len(ways) == 2, f"{len(ways)} ways")
     for way in ways:
         with tempfile.TemporaryDirectory(dir=folder) as room:
@@ -176,7 +176,7 @@ def installed_as_printed(folder, node):
 
 def without_a_package(node):
     """The files that the page lists, copied, are enough, also if Node doesn't detect the type of a script."""
-    names = re.findall("`([^`]+)`", row_of_page("it without a package"))
+    names = re.findall("`([^`]+)`", row_of_page("the files without a package"))
     with tempfile.TemporaryDirectory() as room:  # below no other package.json
         for name in names:
             if name.startswith("{"):

@@ -7,6 +7,7 @@ import functools
 import os
 import tempfile
 
+from reasons import Reasons
 from terms.refusals import Unsupported
 
 from .. import changes
@@ -86,5 +87,5 @@ def noticed(program, part):
         changed = Changed(program, os.path.join(room, "text.o"))
         some = changes.of_draws(functools.partial(drawn, changed), MANY if is_all else FEW)
         some = changes.part_of(some, part) if is_all else some
-        texts, bad = changes.noticed_of(Processor(program), some, changes.reasons(EQUAL), is_all)
+        texts, bad = changes.noticed_of(Processor(program), some, Reasons(EQUAL), is_all)
     return len(texts), bad

@@ -22,7 +22,7 @@ OF_RELOCATION = {PAGE: "adrp", LOW_ADD: "add", JUMP: "b", CALL: "bl", LOW_64: "l
 MULTIPLES = {LOW_64: 8, LOW_128: 16}          # of which the rest of an address has to be one
 SIZE = 4
 LINE = re.compile(r" *([0-9a-f]+):\t([0-9a-f]{8}) +\t(.*)")
-CONDITIONS = "eq", "ne", "cs", "cc", "hi", "ls"
+CONDITIONS = "eq", "ne", "cs", "cc", "hi", "ls", "ge", "lt", "gt", "le"
 JUMPS = re.compile(r"b|bl|b\.\w\w|t?cbn?z|tbn?z")
 
 
@@ -150,8 +150,8 @@ def operand(text):
         return Vector(int(match[1]), match[2], None)
     if match := re.fullmatch(r"\{?v(\d+)\.([bhsd])\}?\[(\d+)\]", text):
         return Vector(int(match[1]), match[2], int(match[3]))
-    if match := re.fullmatch(r"(lsl|lsr|ror) #(\w+)", text):
-        return Shift(match[1], int(match[2], 0))
+    if match := re.fullmatch(r"(lsl|lsr|ror|uxt[bw])(?: #(\w+))?", text):
+        return Shift(match[1], int(match[2] or "0", 0))
     if text in CONDITIONS or text.startswith("pld"):
         return text
     return place(text)

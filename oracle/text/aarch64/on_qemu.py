@@ -8,7 +8,7 @@ import tempfile
 
 from ..memory import Words
 from ..values import Address, address
-from .objects import Program
+from .objects import CONDITIONS, Program
 from .table import TABLE, Processor
 
 SETS = 24                              # inputs of each test
@@ -17,10 +17,12 @@ LANES = range(1, 5)                    # v1 .. v4
 MEMORY, BASE = 96, 24                  # bytes of memory, and where x8 leads to
 INPUT = 8 * 6 + 16 * 4 + MEMORY
 OUTPUT = 8 * 8 + 16 * 4 + MEMORY
-NZCV = {"eq": lambda n: n >> 30 & 1, "cs": lambda n: n >> 29 & 1, "hi": lambda n: (n >> 29 & 1) & ~(n >> 30) & 1}
-NOT = {"eq": "ne", "cs": "cc", "hi": "ls"}
+NZCV = {"eq": lambda n: n >> 30 & 1, "cs": lambda n: n >> 29 & 1, "hi": lambda n: (n >> 29 & 1) & ~(n >> 30) & 1,
+        "ge": lambda n: n >> 31 & 1 == n >> 28 & 1, "gt": lambda n: not n >> 30 & 1 and n >> 31 & 1 == n >> 28 & 1}
+NOT = {"eq": "ne", "cs": "cc", "hi": "ls", "ge": "lt", "gt": "le"}
 IMMEDIATES = {"movi": ["0xff00ff0000ffff00"], "shrn": ["32", "7"], "ext": ["8"], "mov": ["0x1234"], "and": ["0xf0", "0xfffffffffffffff0"],
-              "ands": ["0xf0"], "ubfx": ["3, #7"]}
+              "ands": ["0xf0"], "orr": ["0x8", "0xfffffffffffffff0"], "ubfx": ["3, #7"], "shll": ["32"]}
+LANES_OF = {"d[]": range(2), "s[]": range(4)}
 PLACES = ["[x8]", "[x8, #16]", "[x8, #16]!", "[x8], #16"]
 UNTRIED = {("adrp", "x"), ("add", "x x"), ("brk", "i"), ("prfm", "p m"), ("b", ""), ("bl", ""), ("ret", "")}
 BEGIN = """
@@ -104,8 +106,8 @@ def operand(word, number, mnemonic):
         return f"{word}{3 + number}"
     if word in ("q", "d", "s"):
         return f"{word}{1 + number}"
-    if word in ("d[]", "s[]"):
-        return f"v{1 + number}.{word[0]}[1]" if word[0] == "d" else f"{{v{1 + number}.s}}[1]"
+    if word in LANES_OF:
+        return f"{{v{1 + number}.{word[0]}}}[1]" if mnemonic == "ld1" else f"v{1 + number}.{word[0]}[1]"
     return f"v{1 + number}.{word}"
 
 
@@ -116,6 +118,10 @@ def texts(mnemonic, form):
     if mnemonic == "sbcs":
         return ["cmp x5, x6; sbcs x3, x4, x5"]
     parts = [operand(word, number, mnemonic) for number, word in enumerate(form.split())]
+    if mnemonic == "dup" and form.split()[1] in LANES_OF:
+        return [f"dup {parts[0]}, v2.{form.split()[1][0]}[{k}]" for k in LANES_OF[form.split()[1]]]
+    if form in ("d[] d[]", "s[] s[]"):
+        return [f"mov v1.{form[0]}[{k}], v2.{form[0]}[{n}]" for k in LANES_OF[form[:3]] for n in LANES_OF[form[:3]]]
     before = "cmp x5, x6; " if "c" in form.split() else ""
     for word in form.split():
         if word == "m":
@@ -129,7 +135,7 @@ def texts(mnemonic, form):
 
 def filled(mnemonic, form, parts):
     """The operands, with numbers, shifts and conditions."""
-    choices = {"i": [f"#{n}" for n in immediates(mnemonic, None)], "c": ["eq", "ne", "cs", "cc", "hi", "ls"],
+    choices = {"i": [f"#{n}" for n in immediates(mnemonic, None)], "c": CONDITIONS,
                "lsl": ["lsl #16", "lsl #48"][:1 + (form[0] == "x")] if mnemonic == "movk" else ["lsl #3", "lsl #17"],
                "lsr": ["lsr #5", "lsr #31"],
                "ror": ["ror #5", "ror #31"]}

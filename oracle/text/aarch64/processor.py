@@ -1,6 +1,8 @@
 """The processor of 64-bit ARM: its registers, places in memory and conditions. linked.py runs it."""
+import operator
+
 from terms.refusals import Undecided, Unsupported
-from terms.words import TESTS
+from terms.words import TESTS, signed
 from terms.polynomials import is_number, plus
 
 from .. import linked
@@ -10,6 +12,7 @@ from ..linked import Page
 from ..values import WORD, arithmetic, is_term
 
 TABLE = {}                                    # (mnemonic, form) -> function
+SIGNED = {"ge": operator.ge, "lt": operator.lt, "gt": operator.gt, "le": operator.le}
 form = linked.filler(TABLE)
 
 
@@ -52,6 +55,8 @@ class Processor(linked.Processor):
         if self.flags is None:
             raise Unsupported("flags that aren't set")
         kind, width, a, b, answer = self.flags
+        if name in SIGNED:
+            return SIGNED[name](*self.signed_operands())
         if name in ("eq", "ne"):
             if kind == "sub" and is_term(a) and is_term(b):                   # they are equal where no bit differs
                 kind, answer = "xor", arithmetic("xor", width, a, b)
@@ -65,3 +70,13 @@ class Processor(linked.Processor):
         if kind != "sub":
             raise Undecided(f"{name} of a sum, or with a borrow")
         return is_below(self, a, plus(b, 1) if is_number(b) else b) == (name == "ls")
+
+    def signed_operands(self):
+        """What was compared last, as numbers with a sign."""
+        kind, width, a, b, answer = self.flags
+        if kind not in ("sub", "and"):
+            raise Unsupported("a signed comparison of another result")
+        both = (a, b) if kind == "sub" else (answer, 0)
+        if not all(isinstance(x, int) for x in both):
+            raise Undecided("a signed comparison of symbols")
+        return [signed(x % (1 << width), width) for x in both]

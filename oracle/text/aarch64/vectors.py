@@ -20,7 +20,7 @@ def of_words(words):
 
 def read(cpu, x, arrangement):
     lanes = cpu.vectors[x.number]
-    return words_of(lanes) if arrangement in ("4s", "2s") else list(lanes)
+    return words_of(lanes)[:int(arrangement[0])] if arrangement in ("4s", "2s") else list(lanes)
 
 
 def write(cpu, x, parts):
@@ -33,7 +33,7 @@ def width_of(x):
 
 
 @form("add sub", "4s 4s 4s, 2d 2d 2d")
-@form("mul", "4s 4s 4s")
+@form("mul", "4s 4s 4s, 2s 2s 2s")
 @form("eor orr", "16b 16b 16b")
 def binary(cpu, x):
     to, a, b = x.operands
@@ -58,7 +58,7 @@ def multiply_add(cpu, x):
 @form("umlal", "2d 2s 2s")
 def multiply_add_long(cpu, x):
     to, a, b = x.operands
-    parts = zip(cpu.vectors[to.number], read(cpu, a, "2s")[:2], read(cpu, b, "2s")[:2])
+    parts = zip(cpu.vectors[to.number], read(cpu, a, "2s"), read(cpu, b, "2s"))
     write(cpu, to, [arithmetic("add", WORD, r, arithmetic("mul", WORD, p, q)) for r, p, q in parts])
 
 
@@ -72,6 +72,13 @@ def narrow(cpu, x):
 def shift_and_narrow(cpu, x):
     to, a, k = x.operands
     write(cpu, to, [low(arithmetic("lshr", WORD, lane, k.value), HALF) for lane in cpu.vectors[a.number]])
+
+
+@form("shll", "2d 2s i")
+def shift_and_widen(cpu, x):
+    """By the width of a word, which alone can be said."""
+    to, a, _ = x.operands
+    write(cpu, to, [joined((0, HALF), (word, HALF)) for word in read(cpu, a, "2s")])
 
 
 @form("shl", "4s 4s i")
@@ -120,6 +127,25 @@ def repeat(cpu, x):
     write(cpu, to, [cpu.get(a)] * int(to.arrangement[0]))
 
 
+@form("dup", "2d d[], 4s s[], 2s s[]")
+def repeat_lane(cpu, x):
+    to, a = x.operands
+    write(cpu, to, [lane_of(cpu, a)] * int(to.arrangement[0]))
+
+
+def lane_of(cpu, x):
+    lanes = cpu.vectors[x.number]
+    return words_of(lanes)[x.lane] if x.arrangement == "s" else lanes[x.lane]
+
+
+@form("mov", "d[] d[], s[] s[]")
+def move_lane(cpu, x):
+    to, a = x.operands
+    whole = words_of(cpu.vectors[to.number]) if to.arrangement == "s" else list(cpu.vectors[to.number])
+    whole[to.lane] = lane_of(cpu, a)
+    cpu.vectors[to.number] = of_words(whole) if to.arrangement == "s" else whole
+
+
 @form("movi", "2d i")
 def set_lanes(cpu, x):
     to, k = x.operands
@@ -159,6 +185,12 @@ def set_low(cpu, x):
     cpu.vectors[to.number] = [cpu.get(a), 0]
 
 
+@form("fmov", "d d")
+def copy_low(cpu, x):
+    to, a = x.operands
+    cpu.vectors[to.number] = [cpu.vectors[a.number][0], 0]
+
+
 @form("fmov", "w s")
 def get_low_half(cpu, x):
     to, a = x.operands
@@ -180,6 +212,18 @@ def even_parts(cpu, x):
     parts = [(bits(lane, k, width), width) for lane in lanes for k in range(0, WORD, 2 * width)]
     half = len(parts) // 2
     cpu.vectors[to.number] = [joined(*parts[:half]), joined(*parts[half:])]
+
+
+@form("uzp2", "4s 4s 4s")
+def odd_words(cpu, x):
+    to, a, b = x.operands
+    write(cpu, to, [*read(cpu, a, "4s")[1::2], *read(cpu, b, "4s")[1::2]])
+
+
+@form("zip2", "2s 2s 2s")
+def second_words(cpu, x):
+    to, a, b = x.operands
+    write(cpu, to, [read(cpu, a, "2s")[1], read(cpu, b, "2s")[1]])
 
 
 @form("zip1", "2d 2d 2d")

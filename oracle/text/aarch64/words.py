@@ -49,7 +49,7 @@ def operands(cpu, x):
 
 @form("add sub", "x x x, x x i, x x x lsl, x x x lsr, w w w, w w w lsl, w w i")
 @form("eor orr", "x x x, x x x lsl, x x x lsr, x x x ror, w w w, w w w lsl, w w w lsr, w w w ror")
-@form("and", "x x i")
+@form("and orr", "x x i")
 @form("mul udiv", "x x x, w w w")
 def binary(cpu, x):
     width, a, b = operands(cpu, x)
@@ -276,7 +276,7 @@ def give_back(cpu, x):
     return cpu.return_place() or RETURN
 
 
-@form("b.eq b.ne b.cs b.cc b.hi b.ls", "")
+@form("b.eq b.ne b.cs b.cc b.hi b.ls b.ge b.lt b.gt b.le", "")
 def jump_if(cpu, x):
     return x.target if cpu.test(x.mnemonic[2:]) else None
 

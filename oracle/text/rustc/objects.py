@@ -1,18 +1,13 @@
-"""The object that rustc makes of the erased source, and what of it the reader of the assembly source refuses:
+"""The object that rustc makes of the erased source. It has what the reader of the assembly source refuses:
 
-- a call by the global offset table leads where its relocation says;
-- a function of `core` that panics, and a `ud2`, end a run with a refusal, so what comes to an end reaches none;
+- on x86-64 a call by the global offset table leads where its relocation says;
+- a function of `core` that panics, a `ud2` and a `brk` end a run with a refusal, so a run that comes to an end reaches none;
 - a section that only panics read, of strings and of addresses, is left out: a read of it is refused;
 - a constant of a mergeable section is named by the section and a distance, which is the constant's first byte and a place
   in it."""
-import os
-import shutil
 import struct
-import subprocess
-import tempfile
 
 from terms.refusals import Unsupported
-from terms.requests import TOP
 
 from .. import lanes, scalar
 from ..instructions import known
@@ -22,35 +17,20 @@ from ..processor import Processor
 from .library import ForRust
 
 TABLES = lanes, scalar            # they fill the table of instructions
-SOURCE = os.path.join(TOP, "rust", "src")
-EXPORTS = os.path.join(os.path.dirname(os.path.abspath(__file__)), "exports.rs.in")
-FLAGS = ("--edition", "2021", "--crate-type", "lib", "--emit", "obj", "-C", "opt-level=3", "-C", "panic=abort", "-C",
-         "codegen-units=1", "-C", "force-unwind-tables=no", "--cfg", "twox_hash_no_assembly", "--cap-lints", "allow", "--crate-name", "erased_source")
 BY_TABLE = 9, 41, 42              # relocations by the global offset table
 STRINGS = 0x20                    # a section's flag
 NOWHERE = "nowhere", 0
 
 
-def program(set_name, source=SOURCE):
-    """The object for an instruction set."""
-    with tempfile.TemporaryDirectory(prefix="rust-object-") as room:
-        folder, made = os.path.join(room, "src"), os.path.join(room, "made.o")
-        shutil.copytree(source, folder)
-        root = shutil.copy(EXPORTS, os.path.join(folder, "exports.rs"))
-        subprocess.run(["rustc", *FLAGS, "-C", f"target-cpu={set_name}", root, "-o", made], check=True)
-        return RustProgram(set_name, made)
-
-
-class RustProgram(Program):
-    def __init__(self, name, path):
-        self.name = name
-        super().__init__(path)
+class OfRustc:
+    """What the reader of an object of either processor does otherwise."""
 
     def expect_listed(self):
         pass
 
     def loaded_sections(self):
         found = {}
+        self.left_out = {head.name for head in self.object.heads if head.flags & LOADED}
         for head in self.object.heads:
             if not head.flags & LOADED or not head.size or head.kind == NOTE or head.name == FRAMES:
                 continue
@@ -58,6 +38,7 @@ class RustProgram(Program):
                 if head.name in found:
                     raise Unsupported(f"two sections are named {head.name}")
                 found[head.name] = head
+        self.left_out -= found.keys()
         return found
 
     def names(self):
@@ -69,6 +50,22 @@ class RustProgram(Program):
                     exports[symbol.name] = functions[symbol.name]
         return functions, exports
 
+    def target_of(self, symbol, addend):
+        if not symbol.section:
+            return symbol.name, 0
+        name, value = self.place_of(symbol)
+        if name not in self.heads or self.heads[name].flags != MERGEABLE:
+            return name, value + addend
+        entry = self.heads[name].entry
+        at = (value + addend) // entry * entry
+        return f"{name}+{at}", value + addend - at
+
+
+class RustProgram(OfRustc, Program):
+    def __init__(self, name, path):
+        self.name = name
+        super().__init__(path)
+
     def relocations_of(self, section):
         found = {}
         for head in self.object.heads:
@@ -79,18 +76,6 @@ class RustProgram(Program):
                     raise Unsupported(f"a relocation at {place:#x} of {section.name}")
                 found[place] = self.object.symbols[info >> 32], addend
         return found
-
-    def target_of(self, symbol, addend):
-        if not symbol.section:
-            return symbol.name, 0
-        name, value = self.place_of(symbol)
-        if name not in self.heads:
-            return name, value + addend
-        if self.heads[name].flags != MERGEABLE:
-            return name, value + addend
-        entry = self.heads[name].entry
-        at = (value + addend) // entry * entry
-        return f"{name}+{at}", value + addend - at
 
     def instruction(self, section, at, end, text, places):
         mnemonic, rest = split(text)

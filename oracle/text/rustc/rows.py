@@ -9,10 +9,8 @@ from terms.processes import Row
 from terms.rows import title_of
 
 from .. import one_shots, streams
-from ..instructions import V1, V3
-from .objects import SOURCE, RustProcessor, program
+from .made import SOURCE
 
-SETS = V1, V3
 SECRETS = (136, 192)
 ONE_BY_ONE = range(301)
 SOME = [*range(0, 33), 48, 63, 64, 65, 96, 128, 129, 160, 192, 240, 241, 255, 256, 257, 300]
@@ -27,36 +25,40 @@ WRONG = (
 )
 
 
-def choose(given):
-    found = {name: program(name) for name in SETS}
-    out = [row for name in SETS for row in [*one_shot_rows(name, found[name], given.all), *stream_rows(name, found[name], given.all)]]
-    out += [Row(f"a wrong {file}: {old}", functools.partial(is_noticed, *wrong)) for wrong in WRONG for file, old, *_ in [wrong]]
+def choose(given, compilers):
+    out = []
+    for compiler in compilers:
+        cpu = compiler.processor, compiler.program_of()
+        out += [*one_shot_rows(compiler.name, cpu, given.all), *stream_rows(compiler.name, cpu, given.all)]
+    out += [Row(f"a wrong {file}: {old}", functools.partial(is_noticed, compilers[0], *wrong)) for wrong in WRONG for file, old, *_ in [wrong]]
     return [row for row in out if given.only in row.title]
 
 
-def one_shot_rows(name, found, is_all):
+def one_shot_rows(name, cpu, is_all):
     for kind in comparison.kinds(SECRETS):
         lengths = [*ONE_BY_ONE, *(LONGER[kind[0]] if is_all else ())] if kind[2] is None or is_all else SOME
-        yield compared(f"{name}: {title_of(*kind)}, one-shots", found, kind, lengths)
+        yield compared(f"{name}: {title_of(*kind)}, one-shots", cpu, kind, lengths)
 
 
-def stream_rows(name, found, is_all):
+def stream_rows(name, cpu, is_all):
     """A stream of XXH3 has a seed, and a secret of its own or one that the seed derives."""
     for kind in comparison.kinds(SECRETS):
         if kind[1] != "secret":
-            yield compared(f"{name}: {title_of(*kind)}, streams", found, kind, comparison.STREAMED if is_all else STREAMED, True)
+            yield compared(f"{name}: {title_of(*kind)}, streams", cpu, kind, comparison.STREAMED if is_all else STREAMED, True)
 
 
-def compared(title, found, kind, lengths, is_stream=False):
+def compared(title, of, kind, lengths, is_stream=False):
+    processor, program = of
+
     def ask():
-        cpu, answer = RustProcessor(found), streams.of_text if is_stream else one_shots.of_text
+        cpu, answer = processor(program), streams.of_text if is_stream else one_shots.of_text
         asked = comparison.requests(*kind, lengths, is_stream)
         equal, bad = comparison.compare({"rustc's code": lambda request: answer(cpu, request)}, asked)
         return f"{equal} requests, each one term", bad
     return Row(title, ask)
 
 
-def is_noticed(file, old, new, kind, lengths):
+def is_noticed(compiler, file, old, new, kind, lengths):
     """A wrong source, compiled, comes to another term."""
     with tempfile.TemporaryDirectory(prefix="rust-object-") as room:
         source = os.path.join(room, "src")
@@ -68,7 +70,7 @@ def is_noticed(file, old, new, kind, lengths):
             return "0 requests", [f"{file} has no {old}"]
         with open(path, "w", encoding="utf-8") as text:
             text.write(right.replace(old, new))
-        cpu = RustProcessor(program(V1, source))
+        cpu = compiler.processor(compiler.program_of(source))
         asked = comparison.requests(*kind, lengths)
         _, bad = comparison.compare({"rustc's code": lambda request: one_shots.of_text(cpu, request)}, asked)
         return "1 source", [] if any("by the definition and" in fault for fault in bad) else ["it was not noticed"]

@@ -12,6 +12,7 @@ import itertools
 import os
 import random
 
+from reasons import CRASH, UNNOTICED, WRONG_RULE, Reasons, is_fault
 from terms import comparison, nodes
 from terms.refusals import REFUSALS
 from terms.requests import Request, differing_point
@@ -40,7 +41,7 @@ STREAM_CUTS = [], [1], [33], [64, 65], [255, 256], [300, 1000], [500]
 STEPS = 100_000               # instructions of a call, with a change
 SECRETS = 136, 192
 TOO_SHORT = 0, 135
-NOTICED, NO_VALUE, REFUSED, UNNOTICED = "another value", "no value", "another term, no point found", "unnoticed"
+NOTICED, NO_VALUE, REFUSED = "another value", "no value", "another term, no point found"
 NOT_VALID, BY_INDUCTION = "not valid", "not shown by induction"
 # Changes by hand: what, the instruction, what follows it and which instruction follows (None: anything), which of
 # its bytes, counted from its end where that is negative, and the bits that change there
@@ -211,9 +212,9 @@ def of_request(vm, texts, request, answer):
     except REFUSALS:
         return NO_VALUE
     except WrongRule as error:
-        return f"A RULE IS WRONG: {error}"
+        return f"{WRONG_RULE}: {error}"
     except CRASHES as error:
-        return f"A CRASH: {error!r}"
+        return f"{CRASH}: {error!r}"
     if nodes.is_same(said, ours):
         return UNNOTICED
     return NOTICED if differs(request, said, ours) else REFUSED
@@ -318,25 +319,18 @@ def shown(given):
     return given.hex() if isinstance(given, bytes) else "" if given is None else str(given)
 
 
-def reasons(name):
-    """The changes of a module that change nothing that is promised -> why."""
-    with open(EQUAL, encoding="utf-8") as file:
-        lines = [line.rstrip("\n").split(" | ") for line in file if line.strip() and not line.startswith("#")]
-    return {what: why for module, what, why in lines if module == name}
-
-
 def tell(name, vm, count, seed, is_all):
     """The results of this many changes and of those by hand, and those that weren't detected without a reason."""
-    covered, texts, known = Covered(vm, is_all), Texts(), reasons(name)
+    covered, texts, known = Covered(vm, is_all), Texts(), Reasons(EQUAL)
     counts, bad = collections.Counter(), []
     for text, changed, questions in (*drawn_by_hand(vm, covered), *drawn(vm, covered, count, seed)):
         what = NOT_VALID if changed is None else outcome(changed, texts, questions)
-        has_reason = what == UNNOTICED and text in known
+        has_reason = what == UNNOTICED and bool(known.of(f"{name}, {text}"))
         if what == UNNOTICED and not has_reason:
             what = outcome(changed, texts, more(questions))
             what = of_many_bytes(changed) if what == UNNOTICED else what
             texts.forget()
         counts["unnoticed, with a reason" if has_reason else what.partition(":")[0]] += 1
-        if what == UNNOTICED and not has_reason or what.startswith("A "):
+        if is_fault(what, has_reason):
             bad.append(f"{what}: {text}")
     return f"{covered.told(vm)}; " + ", ".join(f"{n} {what}" for what, n in counts.most_common()), bad

@@ -1,16 +1,12 @@
-"""A loop of any number of turns, shown by induction, as terms/loops.py does it for LLVM's text.
+"""Loops of a module, shown by induction (terms/induction.py).
 
-A cell is a variable, a lane of one, a value on the stack below, a global, or a cell of a memory that lives. At the
-loop's head after k turns some cells, the words, hold what the definition says; some, the places, have gone on by a step
-a turn; some may be anything; the others are as at the start. Which cells are which is guessed from two first turns and
-then shown: the words are the definition's for k = 0, and a turn from any k, with words that are the definition's, leads
-to all of that for k + 1. A cell of the words or of the places is never let go."""
+A cell is a variable, a lane of one, a value on the stack below, a global, or a cell of a memory that lives, with its size.
+Two first turns tell which cells have words and which go on. Those are never let go."""
+from terms.induction import Induction, same
 from terms.refusals import REFUSALS, NotShown
 from terms.memory import RUNS
 from terms.polynomials import divided, given, is_natural, minus, plus, times, variable
 
-from ..induction import moved, step_between
-from ..induction import same as is_same_value
 from .values import WORD
 
 STEPS = 1, 2, 4, 8, 16       # stripes that a turn may take
@@ -56,26 +52,14 @@ class Loops:
             del self.families[0]
         except NotOfFamily:
             self.passed.add(head)
-            proof.enter(proof.start)
+            proof.forget()
+            proof.enter(0)
         finally:
             self.is_busy = False
 
 
 class NotOfFamily(Exception):
     """A loop that doesn't seem to be the one over the stripes."""
-
-
-# ---- values that go on
-
-def same(a, b):
-    if isinstance(a, tuple) and isinstance(b, tuple):
-        return len(a) == len(b) and all(x is y or is_same_value(x, y) for x, y in zip(a, b))
-    return is_same_value(a, b)
-
-
-def value_of(cell):
-    """The value in a cell of memory, which has its size too; else the cell's own."""
-    return cell[1] if isinstance(cell, tuple) and len(cell) == 2 and isinstance(cell[0], int) else cell
 
 
 class Head:
@@ -99,7 +83,7 @@ class Head:
             out.update({("memory", memory, at): cell for at, cell in memory.cells.items()})
         return out
 
-    def enter(self, state):
+    def put(self, state):
         """Makes the state that of the head."""
         variables, stack = self.frame.variables, []
         for memory in self.memories:
@@ -140,29 +124,29 @@ class Head:
             raise NotShown("the loop isn't left")
 
 
-class Proof(Head):
+class Proof(Induction, Head):
     def __init__(self, vm, frame, family):
-        super().__init__(vm, frame)
-        self.family, self.start = family, self.state()
-        self.words, self.places, self.free, self.step = {}, {}, set(), None
-        self.counts = {}         # places that are as at the start at the begin of each block
+        Head.__init__(self, vm, frame)
+        self.family, self.name, self.new_name, self.step = family, family.name, vm.new_name, None
+        super().__init__(self.state())
 
-    def after(self, k, values, j=0):
-        """The state after k turns, j of them in a block, where the words have these values."""
-        out = dict(self.start)
-        for turns, cells in ((k, self.places), (j, self.counts)):
-            out.update({cell: self.put(cell, moved(x, step, turns)) for cell, (x, step) in cells.items()})
-        out.update({cell: self.put(cell, values[number]) for cell, number in self.words.items()})
-        for cell in self.free:
-            if cell[0] == "memory":
-                out.pop(cell, None)
-            else:
-                out[cell] = self.anything(cell)
-        return out
+    def put(self, cells):
+        super().put({**cells, **{cell: self.anything(cell) for cell in self.start
+                                 if cell in self.unset and cell[0] != "memory"}})
 
-    def put(self, cell, x):
-        """A value as a cell has it: one of memory keeps its size."""
-        return (self.start[cell][0], x) if cell[0] == "memory" else x
+    def stripes_after(self, k):
+        return plus(self.family.first, times(self.step, k))
+
+    def said(self, k):
+        return self.family.words(self.stripes_after(k))
+
+    def supposed(self, k):
+        return self.family.supposed(self.stripes_after(k), self.vm.fresh)
+
+    def may_hold_anything(self, cell):
+        """Whether a cell is the function's own, and neither has a word nor goes on."""
+        is_own = cell[0] in ("variable", "lane") or cell[0] == "memory" and cell[1] is self.vm.stack and cell[2] != RUNS
+        return is_own and not any(cell in cells for cells in (self.words, self.places, self.counts))
 
     # ---- the proof
 
@@ -171,67 +155,31 @@ class Proof(Head):
         family = self.family
         self.guess()
         turns, _ = divided(minus(family.total, family.first), self.step)
-        last, k = minus(turns, 1), variable(self.vm.new_name("k"))
+        last = minus(turns, 1)
         if not is_natural(last):
             raise NotShown(f"{family.name}: no number of turns")
-        with given(minus(minus(last, k), 1)):
-            while not self.is_shown(k):
-                pass
-        stripes = plus(family.first, times(self.step, last))
-        self.enter(self.after(last, family.supposed(stripes, self.vm.fresh)))
+        self.show_below(last)
+        self.enter(last, self.supposed(last))
         self.leave()
         return f"{family.name}: {self.step} stripes a turn, k = 0 .. {last}, {len(self.places)} places go on"
-
-    def is_shown(self, k):
-        """One turn from any k. False where one more cell may be anything, which is to be tried again."""
-        family, size = self.family, len(self.free)
-        stripes = plus(family.first, times(self.step, k))
-        self.enter(self.after(k, family.supposed(stripes, self.vm.fresh)))
-        self.turn()
-        self.compare(plus(k, 1), family.words(plus(stripes, self.step)))
-        return len(self.free) == size
-
-    def compare(self, k, words, j=0):
-        """That the state is the one after k turns; a cell that isn't said to be anything may be let go."""
-        now, expected = self.state(), self.after(k, words, j)
-        for cell in {*expected, *now} - self.free:
-            if not same(now.get(cell), expected.get(cell)):
-                self.let_go(cell, now.get(cell), expected.get(cell))
-
-    def let_go(self, cell, x, expected):
-        if not self.is_own(cell) or any(cell in cells for cells in (self.words, self.places, self.counts)):
-            raise NotShown(f"{self.family.name}: {cell} is {x} and not {expected}")
-        self.free.add(cell)
-
-    def is_own(self, cell):
-        """Whether a cell is the function's own, so that it may hold anything."""
-        return cell[0] in ("variable", "lane") or cell[0] == "memory" and cell[1] is self.vm.stack and cell[2] != RUNS
 
     # ---- the guess
 
     def guess(self):
-        """Two first turns show which cells have the words, and which are carried on."""
-        states = self.first_turns()
-        changed = [cell for cell in {*states[0], *states[1]} if not same(states[0].get(cell), states[1].get(cell))]
-        old, now, then = ({cell: value_of(state.get(cell)) for cell in changed} for state in states)
-        self.find_words(changed, old, now)
-        for cell in changed:
-            step = step_between(old[cell], now[cell])
-            if cell in self.words:
-                continue
-            if step is not None and same(then[cell], moved(now[cell], step, 1)):
-                self.places[cell] = old[cell], step
-            else:
-                self.let_go(cell, now[cell], old[cell])
+        """Two first turns tell which cells have the words, and which go on."""
+        once, twice = self.first_turns()
+        changed = self.changed(once)
+        self.find_words(changed, once)
+        self.guess_places(changed, once, twice)
 
     def first_turns(self):
-        """The states before and after each of two turns, where many are left, or else some."""
+        """The states after each of two turns, where many are left, or else some."""
         family, why = self.family, None
         for left in TURNS_LEFT:
-            self.enter(self.start)
+            self.enter(0)
             try:
                 with given(minus(family.total, plus(family.first, left))):
-                    return [self.start, *(self.turned() for _ in range(2))]
+                    return [self.turned(), self.turned()]
             except REFUSALS as error:
                 why = error
         raise NotOfFamily(str(why))
@@ -240,13 +188,13 @@ class Proof(Head):
         self.turn()
         return self.state()
 
-    def find_words(self, changed, old, now):
+    def find_words(self, changed, once):
         family = self.family
         first = family.words(family.first)
         for self.step in STEPS:
             after = family.words(plus(family.first, self.step))
-            self.words = {cell: j for j in range(family.count) for cell in changed
-                          if same(old[cell], first[j]) and same(now[cell], after[j])}
+            self.words = {cell: j for j in range(family.count) for cell in changed & self.start.keys() & once.keys()
+                          if same(self.start[cell], self.as_stored(cell, first[j])) and same(once[cell], self.as_stored(cell, after[j]))}
             if len({*self.words.values()}) == family.count:
                 return
         raise NotOfFamily("the words aren't there")
@@ -264,8 +212,7 @@ class ProofByBlocks(Proof):
             raise NotOfFamily("a turn of several stripes, or no number of them")
         self.find_counts()
         b, j = (variable(self.vm.new_name(name)) for name in "bj")
-        while not self.is_shown(b, j):
-            pass
+        self.until_settled(lambda: self.show_turns(b, j))
         self.enter_at(last, minus(q, 1))
         self.leave()
         return f"{family.name}: by blocks, {len(self.places)} places go on and {len(self.counts)} in a block"
@@ -275,23 +222,21 @@ class ProofByBlocks(Proof):
 
     def enter_at(self, b, j):
         k = self.stripes(b, j)
-        self.enter(self.after(k, self.family.supposed(k, self.vm.fresh), j))
+        self.enter(k, self.supposed(k), j)
 
-    def is_shown(self, b, j):
-        """The turns from any stripe of any block. False where one more cell may be anything: then both are tried again."""
-        size, q, last = len(self.free), self.family.block, minus(self.family.blocks, 1)
+    def show_turns(self, b, j):
+        """The turns from any stripe of any block."""
+        q, last = self.family.block, minus(self.family.blocks, 1)
         with given(minus(last, b), minus(minus(q, 2), j)):
             self.turn_to(b, j, (b, plus(j, 1)))
         with given(minus(minus(last, 1), b)):
             self.turn_to(b, minus(q, 1), (plus(b, 1), 0))
-        return len(self.free) == size
 
     def turn_to(self, b, j, then):
         """A turn from stripe j of block b."""
         self.enter_at(b, j)
         self.turn()
-        k = self.stripes(*then)
-        self.compare(k, self.family.words(k), then[1])
+        self.compare(self.stripes(*then), then[1])
 
     def find_counts(self):
         """Which places are as at the start behind the first block."""
@@ -300,7 +245,6 @@ class ProofByBlocks(Proof):
             self.enter_at(0, minus(q, 1))
             self.turn()
         now = self.state()
-        self.counts = {cell: place for cell, place in self.places.items()
-                       if same(value_of(now.get(cell)), place[0])}
+        self.counts = {cell: place for cell, place in self.places.items() if same(now.get(cell), place[0])}
         for cell in self.counts:
             del self.places[cell]

@@ -6,6 +6,7 @@ accumulators after a stripes, r as the bytes that wait, and these bytes; the res
 gives a record that represents no byte; each update leads from one that represents stripe * a + r bytes to one for
 stripe * b + s, for all numbers r and s; and a digest of one is the definition's value, and changes nothing."""
 from terms.definition import Bytes, suppositions
+from terms.induction import same
 from terms.refusals import NotShown
 from terms.requests import seed_symbol
 from terms.memory import Input, Memory, Piece
@@ -13,7 +14,7 @@ from terms.polynomials import at_most, given, minus, plus, times, variable
 
 from . import every_length
 from .calls import RECORDS, address, answered, anything, expect_kept
-from .induction import Family, same
+from .induction import Family
 
 LONGEST = (1 << 64) - 2       # bytes of a stream: its length is exact to there
 # offsets of a record's fields: total and seed are first

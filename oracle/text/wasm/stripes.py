@@ -23,7 +23,7 @@ class Loops:
     else a turn is run. `live` are the memories that a call may change, beside the stack."""
 
     def __init__(self, family, live):
-        self.family, self.live, self.told, self.refused = family, live, [], []
+        self.family, self.live, self.refused = family, live, []
         self.is_busy = False
 
     def pass_by(self, vm, frame):
@@ -41,11 +41,10 @@ class Proof(StripesProof):
     """A loop over stripes."""
 
     def __init__(self, loops, vm, frame):
-        self.loops, self.cpu, self.family, self.place = loops, vm, loops.family, Head(vm, frame)
-        self.head = f"function {frame.function.index}", self.place.head
-        self.begin(self.place.memories)
+        self.place = Head(vm, frame)
+        self.begin(loops, vm, (f"function {frame.function.index}", self.place.head), self.place.memories)
 
-    def cells(self):
+    def state(self):
         out = {}
         for cell, x in self.place.state().items():
             if cell[0] != "memory":
@@ -54,14 +53,13 @@ class Proof(StripesProof):
                 out[cell[1], cell[2], x[0]] = x[1]
         return out
 
-    def put(self, now):
+    def put(self, cells):
         state = {("memory", memory, RUNS): runs for memory, runs in self.runs.items() if runs}
-        for cell, x in now.items():
+        for cell in self.start:
             if isinstance(cell[0], str):
-                state[cell] = self.place.anything(cell) if cell in self.unset else x
-            elif cell not in self.unset:
-                state["memory", cell[0], cell[1]] = cell[2], x
-        self.place.enter(state)
+                state[cell] = self.place.anything(cell) if cell in self.unset else cells[cell]
+        state.update({("memory", *cell[:2]): (cell[2], x) for cell, x in cells.items() if not isinstance(cell[0], str)})
+        self.place.put(state)
 
     def again(self):
         self.forget()

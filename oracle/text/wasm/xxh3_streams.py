@@ -6,6 +6,7 @@ and no secret: each call is given that, which may be any that the memory has roo
 numbers agree: so a record of no stripe, whose accumulators are known, is a case of its own."""
 import functools
 
+from terms.induction import same
 from terms.refusals import REFUSALS, NotShown
 from terms.requests import LONGEST as MOST_BYTES, Request
 from terms.memory import Memory
@@ -14,7 +15,6 @@ from terms.polynomials import at_most, given, minus, plus, times, variable
 from terms.polynomials import is_same as is_same_number
 
 from ..cargo_streams import CargoUpdates
-from ..induction import same
 from ..whole_blocks import BLOCKS, in_numbers, parted
 from ..xxh3_updates import STRIPES, Start
 from . import calls, every_length
@@ -157,7 +157,7 @@ class ModuleUpdates(CargoUpdates):
         except REFUSALS as error:
             raise NotShown("; ".join([str(error), *vm.loops.refused])) from error
         finally:
-            self.told, self.refused = vm.loops.told, vm.loops.refused
+            self.refused = vm.loops.refused
             vm.loops, vm.replaced = None, {}
 
     def expect_stack(self, summary):
