@@ -1,5 +1,5 @@
 """What every program that tries changes rests on: the reasons of those that change nothing that is promised, and which outcome
-is a fault. Each program has a table of its own, a file of lines `words | reason`; words that `&` joins all stand in the
+is a fault. Each program has a table of its own, a file of lines `words | reason`; words that `&` joins are all in the
 change's text."""
 UNNOTICED = "unnoticed"
 CRASH, WRONG_RULE = "A CRASH", "A RULE IS WRONG"
@@ -22,7 +22,7 @@ class Reasons(dict):
 
 
 def is_fault(what, has_reason, must_fit=True):
-    """Whether an outcome is a fault: one that isn't noticed and has no reason, one of a crash or of a wrong rule, which say
-    nothing of the change, and with `must_fit` one that is noticed though it has a reason."""
+    """True if an outcome is a fault: one that isn't detected and has no reason, one of a crash or of a wrong rule, which show
+    nothing of the change, and with `must_fit` one that is detected though it has a reason."""
     return what.startswith((CRASH, WRONG_RULE, "WrongRule")) or (
         what == UNNOTICED and not has_reason) or must_fit and has_reason and what != UNNOTICED

@@ -32,7 +32,7 @@ class Compiler(collections.namedtuple("Compiler", "name words program processor"
 
 
 def for_x86():
-    """The rustc that the machine's users have, for two sets of instructions."""
+    """The rustc that the machine's users have, for two instruction sets."""
     return [Compiler(name, ("rustc", "-C", f"target-cpu={name}"), functools.partial(objects.RustProgram, name),
                      objects.RustProcessor) for name in (V1, V3)]
 
