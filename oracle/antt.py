@@ -1,6 +1,7 @@
 """Reads the definitions of the hashes in the crates' specs/ and evaluates them. It supports only the part of the
 language that they use. A definition is found by its own name and by the imports of its file, and becomes a Python
-function, each operation the one in the file."""
+function, each operation the one in the file.
+"""
 import glob
 import os
 import re
@@ -300,7 +301,8 @@ def call(function, *arguments):
 class Program:
     """The entries and everything that they reach, as Python functions.
 
-        `changed` has other clauses for some definitions, as lists of words."""
+        `changed` has other clauses for some definitions, as lists of words.
+    """
 
     def __init__(self, definitions, entries):
         self.definitions, self.ids, self.order, self.code = definitions, {}, [], {}
