@@ -301,7 +301,7 @@ def call(function, *arguments):
 class Program:
     """The entries and everything that they reach, as Python functions.
 
-        `changed` has other clauses for some definitions, as lists of words.
+    `changed` has other clauses for some definitions, as lists of words.
     """
 
     def __init__(self, definitions, entries):
