@@ -144,7 +144,7 @@ class Proof(Induction):
             yield (memory, at), (size, x)
 
     def guess(self):
-        """A first turn shows which cells are carried on, and which are written before they are read."""
+        """A first turn shows which cells advance, and which are written before they are read."""
         self.is_guessing = True
         with given(minus(self.loop.last, 1)):
             self.enter(0, self.said(0))

@@ -144,7 +144,7 @@ def line_changes(module, sample, part, parts):
 
 
 def faults(found, reasons_of):
-    """The changes that aren't detected, and have no reason."""
+    """The changes that are undetected without a reason."""
     return [f"{what}: {text}" for what, text in found if is_fault(what, bool(reasons_of(text)), must_fit=False)]
 
 

@@ -76,7 +76,7 @@ def shift_and_narrow(cpu, x):
 
 @form("shll", "2d 2s i")
 def shift_and_widen(cpu, x):
-    """Shifts by the width of a word: the encoding has no other number."""
+    """By the width of a word, the only shift that it has."""
     to, a, _ = x.operands
     write(cpu, to, [joined((0, HALF), (word, HALF)) for word in read(cpu, a, "2s")])
 

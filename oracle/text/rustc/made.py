@@ -1,4 +1,4 @@
-"""What compiles the erased source, for each processor that it is looked at for."""
+"""Compiles the erased source, for each processor that is verified."""
 import collections
 import functools
 import os
@@ -19,7 +19,7 @@ ARM, DEBIANS_RUSTC = "aarch64-unknown-linux-gnu", "/usr/bin/rustc"
 
 
 class Compiler(collections.namedtuple("Compiler", "name words program processor")):
-    """A rustc with the words that name its target, what reads its object, and what runs that."""
+    """A rustc with the options for its target, the reader of its object, and the processor that runs it."""
 
     def program_of(self, source=SOURCE):
         """The object of a copy of the source with the exports in it."""
@@ -32,7 +32,7 @@ class Compiler(collections.namedtuple("Compiler", "name words program processor"
 
 
 def for_x86():
-    """The rustc that the machine's users have, for two instruction sets."""
+    """The machine's own rustc, for two instruction sets."""
     return [Compiler(name, ("rustc", "-C", f"target-cpu={name}"), functools.partial(objects.RustProgram, name),
                      objects.RustProcessor) for name in (V1, V3)]
 

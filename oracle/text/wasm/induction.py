@@ -1,7 +1,7 @@
 """Loops of a module, shown by induction (terms/induction.py).
 
 A cell is a variable, a lane of one, a value on the stack below, a global, or a cell of a memory that lives, with its size.
-Two first turns show which cells have words and which are carried on. Those are never dropped."""
+Two first turns show which cells have words and which advance. These are never let go."""
 from terms.induction import Induction, same
 from terms.refusals import REFUSALS, NotShown
 from terms.memory import RUNS
@@ -166,7 +166,7 @@ class Proof(Induction, Head):
     # ---- the guess
 
     def guess(self):
-        """Two first turns show which cells have the words, and which are carried on."""
+        """Two first turns show which cells have the words, and which advance."""
         once, twice = self.first_turns()
         changed = self.changed(once)
         self.find_words(changed, once)
