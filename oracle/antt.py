@@ -1,6 +1,6 @@
-"""Reads the definitions of the hashes in the crates' specs/ and evaluates them: the part of the language that they
-use, and no more. A definition is found by its own name and by the imports of its file, and becomes a function of
-Python's, each operation the one that the file writes down.
+"""Reads the definitions of the hashes in the crates' specs/ and evaluates them. It supports only the part of the
+language that they use. A definition is found by its own name and by the imports of its file, and becomes a Python
+function, each operation the one in the file.
 """
 import glob
 import os
@@ -59,17 +59,17 @@ OPERATORS = {
     "∷": lambda a, b: (a,) + tuple(b),
     "++": lambda a, b: tuple(a) + tuple(b),
 }
-# From the loosest to the tightest; those of True nest to the right.
+# From the loosest to the tightest; those with True are right-associative.
 LEVELS = [(("==",), False), (("∷", "++"), True), (("+", "-"), False), (("*", "/", "%"), False), (("^",), True)]
 ENDS = {")", "then", "else", "in", "=", None} | set(OPERATORS)
 
 
 class Unreadable(Exception):
-    """A text that is outside the part of the language that is read here."""
+    """A text outside the supported part of the language."""
 
 
 def tokens(text):
-    """The tokens of a text, each with its place. A name runs to the next space or bracket, as in the language."""
+    """The tokens of a text, each with its place. A name extends to the next space or bracket, as in the language."""
     out = []
     for m in re.finditer(r"--[^\n]*|[()]|λ|[^\s()λ]+", text):
         word, at = m.group(0), m.start()
@@ -83,7 +83,7 @@ def tokens(text):
 
 
 class Reader:
-    """Reads an expression from tokens: a tree of tuples, each leaf with the token's number."""
+    """Parses an expression: a tree of tuples, each leaf with the token's number."""
 
     def __init__(self, words):
         self.words, self.at = words, 0
@@ -165,7 +165,7 @@ class Reader:
 
 
 class Definition:
-    """A definition of a file: its type as written, whether it has to be unfolded by name, and its clauses, each the
+    """A definition of a file: its type as written, whether it must be unfolded by name, and its clauses, each the
     tokens of the patterns and of the right-hand side."""
 
     def __init__(self, module, name, type_words, is_unfoldable):
@@ -195,7 +195,7 @@ class Definition:
 
 
 class Module:
-    """A file of specs/: its definitions, its constructors, and where the names that it imports come from."""
+    """A file of specs/: its definitions, its constructors, and the origins of its imported names."""
 
     def __init__(self, path, file):
         self.path, self.file = path, file
@@ -251,14 +251,14 @@ class Definitions:
                     self.modules[path] = Module(path, file)
 
     def entry(self, name):
-        """The one definition of that name."""
+        """The only definition of that name."""
         found = [m.definitions[name] for m in self.modules.values() if name in m.definitions and m.definitions[name].clauses]
         if len(found) != 1:
             raise Unreadable(f"{len(found)} definitions of {name}")
         return found[0]
 
     def resolve(self, module, name):
-        """What a name means in a module: a definition, ("library", name) or ("constructor", data, name)."""
+        """The meaning of a name in a module: a definition, ("library", name) or ("constructor", data, name)."""
         if name in module.definitions:
             return module.definitions[name]
         if name in module.constructors:
@@ -282,7 +282,7 @@ class Definitions:
 
 
 class Function:
-    """A function that was given some of its arguments."""
+    """A partially applied function."""
 
     __slots__ = "arity", "body", "given"
 
@@ -299,9 +299,9 @@ def call(function, *arguments):
 
 
 class Program:
-    """The entries and all that they reach, as functions of Python's.
+    """The entries and everything that they reach, as Python functions.
 
-    `changed` gives for some definitions other clauses, as lists of words.
+    `changed` has other clauses for some definitions, as lists of words.
     """
 
     def __init__(self, definitions, entries):
@@ -320,7 +320,7 @@ class Program:
         return self.ids[definition]
 
     def python(self, definition, sides):
-        """The text of the function, where the clauses have these right-hand sides."""
+        """The text of the function, with these right-hand sides of the clauses."""
         name, arity = self.ids[definition], definition.arity()
         lines = [f"def {name}({', '.join(f'a{k}' for k in range(arity))}):"]
         for number, words in enumerate(sides):
@@ -391,7 +391,7 @@ class Program:
         return f"Function({known[0]}, LIBRARY[{meaning[1]!r}][1])" if isinstance(known, tuple) else str(known)
 
     def run(self, changed=None, traced=None):
-        """The entries as functions, where some definitions have other right-hand sides. `traced` collects the
+        """The entries as functions, with other right-hand sides of some definitions. `traced` collects the
         definitions that are reached."""
         space = {"OPERATORS": OPERATORS, "LIBRARY": LIBRARY, "Function": Function, "call": call}
         for definition in self.order:
@@ -432,7 +432,7 @@ def noted(function, definition, traced):
 
 
 def with_deep_recursion(function, *arguments):
-    """Runs a function in a thread whose stack takes the recursion over 100,000 bytes."""
+    """Runs a function in a thread whose stack is large enough for the recursion over 100,000 bytes."""
     import threading
     result = []
     sys.setrecursionlimit(10 ** 6)

@@ -13,7 +13,8 @@ LIBRARY_PAIRS.update({other: word for word, other in list(LIBRARY_PAIRS.items())
 
 
 class Change:
-    """Another word in one place of a definition's clause. Definitions are named, so that a change crosses processes."""
+    """Another word in one place of a definition's clause. Definitions are stored by name, so that a change can be
+    passed to other processes."""
 
     def __init__(self, definition, clause, place, word):
         words = [w for w, _ in definition.clauses[clause][1]]
@@ -39,7 +40,7 @@ def types_of(definition):
 
 
 def meaning_of(program, module, name):
-    """What the name means in the module, None where it is no word of a definition."""
+    """The meaning of the name in the module, or None if it is no word of a definition."""
     try:
         return program.definitions.resolve(module, name)
     except antt.Unreadable:
@@ -47,7 +48,7 @@ def meaning_of(program, module, name):
 
 
 def reachable(program):
-    """For each definition all that it reaches."""
+    """For each definition everything that it reaches."""
     direct = {}
     for definition in program.order:
         words = {word for _, right in definition.clauses for word, _ in right}
@@ -122,7 +123,7 @@ def all_changes(program):
 
 
 def rows_by_definition(program, rows):
-    """For each definition the rows that reach it, those of the fewest bytes first."""
+    """For each definition the test cases that reach it, those of the fewest bytes first."""
     table = {}
     for row in sorted(rows, key=lambda row: row.length):
         traced = set()

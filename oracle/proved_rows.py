@@ -1,5 +1,5 @@
-"""Which rows of the oracle's table the proofs compute: for each hash each edge of each range, with seeds of every
-kind; secrets from 136 bytes on; and values past a scramble."""
+"""The test cases of the oracle's table that the proofs compute: for each hash each edge of each range, with seeds of
+every kind; secrets from 136 bytes on; and values past a scramble."""
 import table
 
 PLAIN = {
@@ -13,13 +13,13 @@ SEEDED_LONG = [320, 512, 1024, 1025, 1088, 1089]
 FIXED = ["0", "1", "ffffffff", "8000000000000000", "ffffffffffffffff"]
 
 
-# The length that enters a value, of lengths that no input of the table has: the rule of this repository, and no
-# value of the reference library.
+# The counted length, for lengths that no input of the table has: the rule of this repository, not a value of the
+# reference library.
 COUNTED = [(2 ** 64 + d, 2 ** 64 + min(d, -1)) for d in (-2, -1, 0, 1)] + [(2 ** 65, 2 ** 64 - 1)]
 
 
 class CountedLength:
-    """What `counted` says of a length."""
+    """The result of `counted` for a length."""
 
     def __init__(self, length, value):
         self.length, self.value = length, value
@@ -33,7 +33,7 @@ def counted_lengths():
 
 
 def choose():
-    """The rows, in the table's order, each once."""
+    """The test cases, in the table's order, each once."""
     rows = [table.Row(line) for line in table.lines()]
     found = {}
     for row in rows:

@@ -1,16 +1,16 @@
-"""The rows of the oracle's table, and how the definition is asked for each."""
+"""The test cases of the oracle's table, and how the definition is evaluated for each."""
 import os
 
 FOLDER = os.path.dirname(os.path.abspath(__file__))
 TOP = os.path.dirname(FOLDER)
 CRATES = ["twox_words", "twox_plain", "twox_core"]
-# The names by which the definitions are asked.
+# The names of the definitions' entries.
 ENTRIES = ["xxh32", "xxh64", "xxh3_64", "xxh3_128", "default_secret", "derived_secret", "effective_secret", "counted"]
 HASHES = {"32": "xxh32", "64": "xxh64", "3-64": "xxh3_64", "3-128": "xxh3_128"}
 
 
 def drawn(start, length):
-    """The bytes that a row represents: oracle/vectors.c says which."""
+    """The bytes of a test case, as defined in oracle/vectors.c."""
     out, x = bytearray(), start
     for _ in range(length):
         x = (x * 6364136223846793005 + 1442695040888963407) % 2 ** 64
@@ -33,7 +33,7 @@ class Row:
         return self.entry in ("xxh32", "xxh64")
 
     def ask(self, entries):
-        """What the definition says, by the rule for which seed and secret take effect."""
+        """The definition's value, by the rule for the seed and secret in effect."""
         message, seed = drawn(self.start, self.length), self.seed or 0
         if self.is_plain():
             return entries[self.entry](seed, message)

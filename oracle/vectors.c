@@ -62,14 +62,14 @@ static void seeded(enum hash hash, uint64_t seed, size_t length, uint64_t start)
     }
 }
 
-/* A row with a random input. */
+/* A test case with a random input. */
 static void seeded_input(enum hash hash, uint64_t seed, size_t length)
 {
     const uint64_t start = random_number();
     seeded(hash, seed, length, start);
 }
 
-/* A row with a random input and a random seed. */
+/* A test case with a random input and a random seed. */
 static void seeded_at_random(enum hash hash, size_t length)
 {
     const uint64_t start = random_number();
@@ -93,7 +93,7 @@ static void keyed(enum hash hash, int has_seed, uint64_t seed, size_t secret_len
                             : XXH3_128bits_withSecret(input, length, secret, secret_length));
 }
 
-/* A row with a random secret and input, and no seed. */
+/* A test case with a random secret and input, and no seed. */
 static void keyed_alone(enum hash hash, size_t secret_length, size_t length)
 {
     const uint64_t start = random_number();
@@ -101,7 +101,8 @@ static void keyed_alone(enum hash hash, size_t secret_length, size_t length)
     keyed(hash, 0, 0, secret_length, secret_start, length, start);
 }
 
-/* A row with a random secret and input. The seed is drawn where it isn't used too, so that later rows stay as they are. */
+/* A test case with a random secret and input. The seed is drawn even if it isn't used, so that later test cases stay
+   the same. */
 static void keyed_and_seeded(enum hash hash, int has_seed, size_t secret_length, size_t length)
 {
     const uint64_t start = random_number();
@@ -168,7 +169,7 @@ static void every_length(enum hash hash)
 }
 
 /* Under secrets of every kind of length the edges of the first three blocks: a block has a stripe for each eight
- * bytes of the secret but its last 64, and a scramble ends it. */
+ * bytes of the secret except its last 64, and a scramble ends it. */
 static void past_scrambles(enum hash hash)
 {
     const size_t lengths[] = { 136, 137, 143, 144, 192, 300, 301, 500, 777, 999, 1000 };

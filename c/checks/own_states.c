@@ -149,7 +149,7 @@ static unsigned char *lone_page(size_t size)
         by.digest((void *)state); \
         want(stays(room, state, sizeof(XXH##bits##_state_t)), "what lies beside XXH" #bits " of a word that passes"); \
     } \
-    /* Such memory at both ends of a page, next to memory that can't be read. */ \
+    /* Such memory at the start and at the end of a page, next to memory that can't be read. */ \
     static void lone_##bits(struct calls_##bits by) \
     { \
         size_t size = (size_t)sysconf(_SC_PAGESIZE); \

@@ -112,7 +112,7 @@ def refused_in_node(folder, node):
         const {{ isSupported, load }} = await import("file://{WEB}/node.js");
         await load().catch((error) => console.log(isSupported(), error.name, error.code, error.message));""")
     said = must([node, script], folder)
-    want(said.startswith("false TwoxHashError unsupported There is no WebAssembly"), said)
+    want(said.startswith("false TwoxHashError unsupported WebAssembly is not available"), said)
 
 
 def packed(folder):

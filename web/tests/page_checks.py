@@ -410,7 +410,7 @@ def reads_by_itself(page):
 def no_webassembly(page):
     with Lacking(page, b"delete globalThis.WebAssembly;\n"):
         shown = page.browser.run("const it = document.getElementById('unsupported'); return [it.hidden, it.textContent, document.getElementById('files').disabled]")
-    want(shown[0] is False and "There is no WebAssembly here" in shown[1] and shown[2] is True, shown)
+    want(shown[0] is False and "WebAssembly is not available here" in shown[1] and shown[2] is True, shown)
 
 
 def served_and_no_more(folder):
