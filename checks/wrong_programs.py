@@ -1,5 +1,6 @@
-"""Mutants of `xxhsum` that the proofs accept, since no clause covers the system's results, the order of the two
-streams, or memory: each with its file, its change, and the check and the test that must detect it."""
+"""Mutants of `xxhsum` that the proofs accept, since no clause covers the system's results, memory, or which files' progress
+is shown: each with its file, its change, and the check and the test that must detect it. Three change the order of the two
+streams; contracts refuse these too."""
 from typing import NamedTuple
 
 
@@ -15,10 +16,11 @@ SYSTEM, CHECK = 'xxhsum_files/src/system.rt', 'xxhsum_program/src/check.rt'
 EVER = 'for _ in 0..u64::MAX {'
 BELOW, DEEP = 'files below a folder', 'a list, both streams one pipe'
 TREE = 'a tree of many names'
-TELLS_NONE = ('tell_line(\n                &[\n                    self.name,\n                    b": no properly formatted xxHash '
-              'checksum lines found",\n                ],\n                err,\n            );')
-TELLS_IMPROPER = ('tell_of_line(\n                self.name,\n                number,\n                b"Improperly formatted '
-                  'checksum line",\n                err,\n            );')
+RUN, SHOWN = 'xxhsum_tree/src/run.rt', 'ProgressDisplay::new(screen, terminals, options)'
+TELLS_NONE = ('tell_line_after(\n                &[\n                    self.name,\n                    b": no properly formatted xxHash '
+              'checksum lines found",\n                ],\n                out,\n                err,\n            );')
+TELLS_IMPROPER = ('tell_of_line_after(\n                self.name,\n                number,\n                b"Improperly formatted '
+                  'checksum line",\n                out,\n                err,\n            );')
 
 
 def turned(file, first, second, indent, check, row):
@@ -64,7 +66,7 @@ WRONG = {
     'sum_up reports a list with no line before the output that waits': turned(
         CHECK, 'release(out);', TELLS_NONE, 12, 'pipes', 'output before messages about lists with no line'),
     'check_lines reports a list that breaks off before the output that waits': turned(
-        CHECK, 'release(out);', 'self.tell_of_failure(number, &report, err);', 20, 'failing', DEEP),
+        CHECK, 'release(out);', 'self.tell_of_failure(number, &report, out, err);', 20, 'failing', DEEP),
     'count_improper reports a line before the output that waits': turned(
         CHECK, 'release(out);', TELLS_IMPROPER, 12, 'failing', DEEP),
     'digest_line has no memory past 16,000 bytes': Wrong(
@@ -79,6 +81,12 @@ WRONG = {
     'watch begins at the time 0': Wrong(
         'xxhsum_program/src/watched.rt', '        let started = time_of(&self.screen, self.is_on);\n        Watched::new(',
         '        let started = 0;\n        Watched::new(', 'terminals', 'progress of input'),
+    'run_arguments shows no progress of an audit': Wrong(
+        RUN, SHOWN, 'ProgressDisplay::new(screen, terminals, xxhsum_words::options::Options { is_quiet: options.audits, ..options })',
+        'terminals', 'progress of an audit'),
+    'run_arguments shows no progress below folders': Wrong(
+        RUN, SHOWN, 'ProgressDisplay::new(screen, terminals, xxhsum_words::options::Options { is_quiet: options.walks, ..options })',
+        'terminals', 'progress below a folder'),
     'size is modulo 2^40': Wrong(
         SYSTEM, 'Some(found.len())', 'Some(found.len() % 1_099_511_627_776)', 'terminals',
         'the rate and the time left of more than a tebibyte'),

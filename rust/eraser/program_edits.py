@@ -7,7 +7,7 @@ RELEASE, ORIGINALS = ' 0.1.0 of twox_hash', 'the messages of xxhsum 0.8.1 and th
 MADE_BY = 'compiled by rustc from proved source'
 
 PROGRAM_EDITS = (
-    Edit('allocators', 'std::alloc', 'crate::rattle', 35, SHIM),
+    Edit('allocators', 'std::alloc', 'crate::rattle', 34, SHIM),
     Edit('formats and streams', 'use std::{fmt, io};', 'use crate::rattle::io;\nuse std::fmt;', 1, SHIM),
     Edit('streams', 'std::io', 'crate::rattle::io', 12, SHIM),
     Edit('arguments', 'std::env', 'crate::rattle::env', 2, SHIM),

@@ -11,7 +11,7 @@ pub is-err : {T : Type 0} (result : Result T Stop) (stop : Stop) → IsErrAnd re
 is-err (Ok x) stop is = absurd is
 is-err (Err e) stop is = ap Err is
 
-nothing-is-refused : {W : Type 0} (writing : SinkRules W) (old new : W) → Refused writing [] old new → ⊥
+pub nothing-is-refused : {W : Type 0} (writing : SinkRules W) (old new : W) → Refused writing [] old new → ⊥
 nothing-is-refused writing old new refused =
     let none : 0 ≡ length (concat refused.0) + length refused.4.0 = ap length refused.4.1 ∙ length-append (concat refused.0) refused.4.0 in
     omega (arith, none, refused.4.2)

@@ -5,6 +5,7 @@ pub mod HashFacts
 mod LineEndFacts
 mod LineFacts
 mod OkFacts
+mod OrderFacts
 mod OutcomeFacts
 mod PrintedIsGoodFacts
 mod PrintedListFacts
@@ -14,4 +15,3 @@ mod StopFacts
 pub mod ToldFacts
 pub mod ToldLineFacts
 pub mod WatchedFacts
-pub mod WatchedListFacts

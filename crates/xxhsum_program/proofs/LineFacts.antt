@@ -29,7 +29,7 @@ rest-of xs start end n within =
     ap (λ k. drop n (take k (drop start xs))) whole ∙ drop-take n (end - (start + n)) (drop start xs) ∙ ap (take (end - (start + n))) (drop-drop n start xs)
 
 -- the first line feed among the bytes from start to end
-pub found-line-feed : {R : Type 0} (lines : Lines R) (found : Option ℕ) → lines.end ≤ length lines.buf → IsFirstByte (is_byte 10) (waiting lines) found → IsBeforeLineFeed found lines
+pub found-line-feed : {R X : Type 0} (lines : Lines R X) (found : Option ℕ) → lines.end ≤ length lines.buf → IsFirstByte (is_byte 10) (waiting lines) found → IsBeforeLineFeed found lines
 found-line-feed lines None inside first =
     lacks_by_place 10 (waiting lines) (λ k lt e. first k (omega arith) lt (ap (λ x. is_byte 10 x) e))
 found-line-feed lines (Some len) inside first =
@@ -83,49 +83,49 @@ reads-on {R} reading from old new done w piece ended count going size read gave 
 -- ---- what comes next
 
 -- the same error, of another result
-pub fails-alike : {R U : Type 0} (reading : SourceRules R) (from : R) (done : List ℕ) (new : Lines R) (e : Failed) (result : Result U Failed) → FailsAfter reading from (done ++ waiting new) × Lacks 10 (waiting new) → IsErrAnd result (λ f. f ≡ e) → ReadsBehind reading from done new result
+pub fails-alike : {R X U : Type 0} (reading : SourceRules R) (from : R) (done : List ℕ) (new : Lines R X) (e : Failed) (result : Result U Failed) → FailsAfter reading from (done ++ waiting new) × Lacks 10 (waiting new) → IsErrAnd result (λ f. f ≡ e) → ReadsBehind reading from done new result
 fails-alike reading from done new e (Ok x) read is = absurd is
 fails-alike reading from done new e (Err f) read is = read
 
-moves-on : {R : Type 0} (reading : SourceRules R) (from : R) (done taken : List ℕ) (old new : Lines R) → HasRead reading from done old → new.source ≡ old.source → new.has_ended ≡ old.has_ended → waiting old ≡ taken ++ waiting new → HasRead reading from (done ++ taken) new
+moves-on : {R X : Type 0} (reading : SourceRules R) (from : R) (done taken : List ℕ) (old new : Lines R X) → HasRead reading from done old → new.source ≡ old.source → new.has_ended ≡ old.has_ended → waiting old ≡ taken ++ waiting new → HasRead reading from (done ++ taken) new
 moves-on reading from done taken old new read source ended parts =
     let led = read.2 in
     let text : concat read.0 ≡ done ++ taken ++ waiting new = read.3 ∙ ap (λ bytes. done ++ bytes) parts ∙ sym (append_assoc done taken (waiting new)) in
     (read.0, read.1, rw (source, ended) led, text)
 
-waiting-count : {R : Type 0} (lines : Lines R) → lines.end ≤ length lines.buf → length (waiting lines) ≡ lines.end - lines.start
+waiting-count : {R X : Type 0} (lines : Lines R X) → lines.end ≤ length lines.buf → length (waiting lines) ≡ lines.end - lines.start
 waiting-count lines inside = length-between lines.buf lines.start lines.end inside
 
 -- the line before the next line feed that waits
-abbrev pub front_of : {R : Type 0} → Lines R → ℕ → List ℕ
+abbrev pub front_of : {R X : Type 0} → Lines R X → ℕ → List ℕ
 front_of lines len = slice_range lines.buf lines.start (lines.start + len)
 
-front-count : {R : Type 0} (lines : Lines R) (len : ℕ) → lines.end ≤ length lines.buf → StopsAt (Some len) lines → length (front_of lines len) ≡ len
+front-count : {R X : Type 0} (lines : Lines R X) (len : ℕ) → lines.end ≤ length lines.buf → StopsAt (Some len) lines → length (front_of lines len) ≡ len
 front-count lines len inside stops =
     let size : length (front_of lines len) ≡ lines.start + len - lines.start = length-between lines.buf lines.start (lines.start + len) (omega (arith, stops.0, inside)) in
     omega (arith, size)
 
 -- it is taken with its line feed
-line-taken : {R : Type 0} (reading : SourceRules R) (from : R) (done : List ℕ) (old new : Lines R) (len kept : ℕ) (is_long : Bool) → StopsAt (Some len) old → IsTaken kept (len + 1) is_long old new → HasRead reading from done old → HasRead reading from (done ++ front_of old len ++ 10 ∷ []) new
+line-taken : {R X : Type 0} (reading : SourceRules R) (from : R) (done : List ℕ) (old new : Lines R X) (len kept : ℕ) (is_long : Bool) → StopsAt (Some len) old → IsTaken kept (len + 1) is_long old new → HasRead reading from done old → HasRead reading from (done ++ front_of old len ++ 10 ∷ []) new
 line-taken reading from done old new len kept is_long stops taken read =
     let front = front_of old len in
     let parts : waiting old ≡ (front ++ 10 ∷ []) ++ waiting new =
     stops.2 ∙ sym (append_assoc front (10 ∷ []) (slice_range old.buf (old.start + (len + 1)) old.end)) ∙ ap (λ bytes. front ++ 10 ∷ [] ++ bytes) (sym taken.3) in
     subst (λ bytes. HasRead reading from bytes new) (sym (append_assoc done front (10 ∷ []))) (moves-on reading from done (front ++ 10 ∷ []) old new read taken.1 taken.2 parts)
 
-pub comes-line : {R : Type 0} (reading : SourceRules R) (from : R) (done : List ℕ) (old new : Lines R) (len : ℕ) → old.end ≤ length old.buf → len ≤ 32767 → StopsAt (Some len) old → IsTaken len (len + 1) false old new → HasRead reading from done old → IsNext reading from done new Variant.Line
+pub comes-line : {R X : Type 0} (reading : SourceRules R) (from : R) (done : List ℕ) (old new : Lines R X) (len : ℕ) → old.end ≤ length old.buf → len ≤ 32767 → StopsAt (Some len) old → IsTaken len (len + 1) false old new → HasRead reading from done old → IsNext reading from done new Variant.Line
 comes-line reading from done old new len inside short stops taken read =
     let size = front-count old len inside stops in
     let held : IsHeld (front_of old len) new = rw taken.4 (omega (arith, size, short), taken.0) in
     (front_of old len, stops.1, held, inl (line-taken reading from done old new len len false stops taken read))
 
-pub comes-long-line : {R : Type 0} (reading : SourceRules R) (from : R) (done : List ℕ) (old new : Lines R) (len : ℕ) → old.end ≤ length old.buf → 32767 < len → StopsAt (Some len) old → IsTaken 0 (len + 1) true old new → HasRead reading from done old → IsNext reading from done new Variant.Line
+pub comes-long-line : {R X : Type 0} (reading : SourceRules R) (from : R) (done : List ℕ) (old new : Lines R X) (len : ℕ) → old.end ≤ length old.buf → 32767 < len → StopsAt (Some len) old → IsTaken 0 (len + 1) true old new → HasRead reading from done old → IsNext reading from done new Variant.Line
 comes-long-line reading from done old new len inside long stops taken read =
     let size = front-count old len inside stops in
     let held : IsHeld (front_of old len) new = rw taken.4 (omega (arith, size, long)) in
     (front_of old len, stops.1, held, inl (line-taken reading from done old new len 0 true stops taken read))
 
-pub comes-last-line : {R : Type 0} (reading : SourceRules R) (from : R) (done : List ℕ) (old new : Lines R) (len : ℕ) → old.end ≤ length old.buf → len ≡ old.end - old.start → 0 < len → len ≤ 32767 → StopsAt None old → IsTaken len len false old new → HasRead reading from done old → IsNext reading from done new Variant.Line
+pub comes-last-line : {R X : Type 0} (reading : SourceRules R) (from : R) (done : List ℕ) (old new : Lines R X) (len : ℕ) → old.end ≤ length old.buf → len ≡ old.end - old.start → 0 < len → len ≤ 32767 → StopsAt None old → IsTaken len len false old new → HasRead reading from done old → IsNext reading from done new Variant.Line
 comes-last-line reading from done old new len inside is some short stops taken read =
     let end : old.start + len ≡ old.end = omega (arith, is, some) in
     let whole : line_of new ≡ waiting old = taken.0 ∙ ap (λ k. slice_range old.buf old.start k) end in
@@ -137,7 +137,7 @@ comes-last-line reading from done old new len inside is some short stops taken r
     let read_all = moves-on reading from done (line_of new) old new read taken.1 taken.2 parts in
     (line_of new, subst (Lacks 10) (sym whole) stops.0, held, inr (omega (arith, size, is, some), read_all, (ended, none)))
 
-pub not-at-end : {R : Type 0} (lines : Lines R) → lines.end ≤ length lines.buf → 0 < lines.end - lines.start → IsAtEnd lines → ⊥
+pub not-at-end : {R X : Type 0} (lines : Lines R X) → lines.end ≤ length lines.buf → 0 < lines.end - lines.start → IsAtEnd lines → ⊥
 not-at-end lines inside some at_end =
     let none : length (waiting lines) ≡ 0 = ap length at_end.1 in
     let size = waiting-count lines inside in
@@ -146,28 +146,28 @@ not-at-end lines inside some at_end =
 -- ---- a line that is too long
 
 -- Behind `done` a line is read that is too long: so many reads gave what is gone of it and what waits, with no line feed.
-abbrev pub IsInside : {R : Type 0} → SourceRules R → R → List ℕ → ℕ → Lines R → Type 0
+abbrev pub IsInside : {R X : Type 0} → SourceRules R → R → List ℕ → ℕ → Lines R X → Type 0
 IsInside reading from done reads lines =
     (gone : List ℕ) × HasRead reading from (done ++ gone) lines × Lacks 10 (gone ++ waiting lines)
     × (32767 < length (gone ++ waiting lines))
     × (reads ≤ length (gone ++ waiting lines) + (if lines.has_ended then 1 else 0))
 
-pub inside-new : {R : Type 0} (reading : SourceRules R) (from : R) (done : List ℕ) (lines : Lines R) → lines.end ≤ length lines.buf → 32767 < lines.end - lines.start → Lacks 10 (waiting lines) → HasRead reading from done lines → IsInside reading from done 0 lines
+pub inside-new : {R X : Type 0} (reading : SourceRules R) (from : R) (done : List ℕ) (lines : Lines R X) → lines.end ≤ length lines.buf → 32767 < lines.end - lines.start → Lacks 10 (waiting lines) → HasRead reading from done lines → IsInside reading from done 0 lines
 inside-new reading from done lines inside long lacks read =
     let size = waiting-count lines inside in
     ([], subst (λ bytes. HasRead reading from bytes lines) (sym (append-nil done)) read, lacks, omega (arith, size, long), omega arith)
 
 -- all that waited is gone
-abbrev pub IsEmptied : {R : Type 0} → SourceRules R → R → List ℕ → ℕ → Lines R → Type 0
+abbrev pub IsEmptied : {R X : Type 0} → SourceRules R → R → List ℕ → ℕ → Lines R X → Type 0
 IsEmptied reading from done reads lines =
     (gone : List ℕ) × HasRead reading from (done ++ gone) lines × Lacks 10 gone × (32767 < length gone)
     × (reads ≤ length gone + (if lines.has_ended then 1 else 0))
 
-pub none-waits : {R : Type 0} (old new : Lines R) → old.start ≤ old.end → old.end ≤ length old.buf → IsTaken 0 (old.end - old.start) true old new → waiting new ≡ []
+pub none-waits : {R X : Type 0} (old new : Lines R X) → old.start ≤ old.end → old.end ≤ length old.buf → IsTaken 0 (old.end - old.start) true old new → waiting new ≡ []
 none-waits old new ordered inside taken =
     nil_from_length (waiting new) (ap length taken.3 ∙ length-between old.buf (old.start + (old.end - old.start)) old.end inside ∙ omega (arith, ordered))
 
-pub emptied : {R : Type 0} (reading : SourceRules R) (from : R) (done : List ℕ) (reads : ℕ) (old new : Lines R) → old.start ≤ old.end → old.end ≤ length old.buf → IsTaken 0 (old.end - old.start) true old new → IsInside reading from done reads old → IsEmptied reading from done reads new
+pub emptied : {R X : Type 0} (reading : SourceRules R) (from : R) (done : List ℕ) (reads : ℕ) (old new : Lines R X) → old.start ≤ old.end → old.end ≤ length old.buf → IsTaken 0 (old.end - old.start) true old new → IsInside reading from done reads old → IsEmptied reading from done reads new
 emptied reading from done reads old new ordered inside taken (gone, read, lacks, long, most) =
     let none = none-waits old new ordered inside taken in
     let parts : waiting old ≡ waiting old ++ waiting new = sym (append-nil (waiting old)) ∙ ap (λ bytes. waiting old ++ bytes) (sym none) in
@@ -175,19 +175,19 @@ emptied reading from done reads old new ordered inside taken (gone, read, lacks,
     (gone ++ waiting old, all, lacks, long, rw taken.2 most)
 
 -- the line was the last one
-pub inside-ends : {R : Type 0} (reading : SourceRules R) (from : R) (done : List ℕ) (reads : ℕ) (lines : Lines R) → lines.is_long ≡ true → lines.has_ended ≡ true → waiting lines ≡ [] → IsEmptied reading from done reads lines → IsNext reading from done lines Variant.Line
+pub inside-ends : {R X : Type 0} (reading : SourceRules R) (from : R) (done : List ℕ) (reads : ℕ) (lines : Lines R X) → lines.is_long ≡ true → lines.has_ended ≡ true → waiting lines ≡ [] → IsEmptied reading from done reads lines → IsNext reading from done lines Variant.Line
 inside-ends reading from done reads lines is_long ended none (gone, read, lacks, long, most) =
     let held : IsHeld gone lines = rw is_long long in
     (gone, lacks, held, inr (omega (arith, long), read, (ended, none)))
 
 -- a read failed in it
-pub inside-fails : {R : Type 0} (reading : SourceRules R) (from : R) (done : List ℕ) (reads : ℕ) (e : Failed) (old new : Lines R) → IsEmptied reading from done reads old → ((from : R) (done : List ℕ) → HasRead reading from done old → ReadsBehind {T = Unit {0}} reading from done new (Err e)) → IsNext reading from done new Variant.Failed
+pub inside-fails : {R X : Type 0} (reading : SourceRules R) (from : R) (done : List ℕ) (reads : ℕ) (e : Failed) (old new : Lines R X) → IsEmptied reading from done reads old → ((from : R) (done : List ℕ) → HasRead reading from done old → ReadsBehind {T = Unit {0}} reading from done new (Err e)) → IsNext reading from done new Variant.Failed
 inside-fails reading from done reads e old new (gone, read, lacks, long, most) behind =
     let failed = behind from (done ++ gone) read in
     (gone ++ waiting new, subst (λ bytes. FailsAfter reading from bytes) (append_assoc done gone (waiting new)) failed.0, lacks_both 10 gone (waiting new) lacks failed.1)
 
 -- a read gave bytes with its line feed
-pub inside-found : {R : Type 0} (reading : SourceRules R) (from : R) (done : List ℕ) (reads len : ℕ) (old mid new : Lines R) → IsEmptied reading from done reads old → ((from : R) (done : List ℕ) → HasRead reading from done old → HasRead reading from done mid) → StopsAt (Some len) mid → IsTaken 0 (len + 1) true mid new → IsNext reading from done new Variant.Line
+pub inside-found : {R X : Type 0} (reading : SourceRules R) (from : R) (done : List ℕ) (reads len : ℕ) (old mid new : Lines R X) → IsEmptied reading from done reads old → ((from : R) (done : List ℕ) → HasRead reading from done old → HasRead reading from done mid) → StopsAt (Some len) mid → IsTaken 0 (len + 1) true mid new → IsNext reading from done new Variant.Line
 inside-found reading from done reads len old mid new (gone, read, lacks, long, most) behind stops taken =
     let front = front_of mid len in
     let line = gone ++ front in
@@ -201,7 +201,7 @@ one-more true count less = omega arith
 one-more false count less = omega (arith, less)
 
 -- a read gave bytes without it, or was the last one
-pub inside-goes-on : {R : Type 0} (reading : SourceRules R) (from : R) (done : List ℕ) (reads : ℕ) (old new : Lines R) → old.has_ended ≡ false → old.end - old.start ≡ 0 → new.end ≤ length new.buf → IsEmptied reading from done reads old → ((from : R) (done : List ℕ) → HasRead reading from done old → HasRead reading from done new) → most_reads_left new < most_reads_left old → Lacks 10 (waiting new) → IsInside reading from done (reads + 1) new
+pub inside-goes-on : {R X : Type 0} (reading : SourceRules R) (from : R) (done : List ℕ) (reads : ℕ) (old new : Lines R X) → old.has_ended ≡ false → old.end - old.start ≡ 0 → new.end ≤ length new.buf → IsEmptied reading from done reads old → ((from : R) (done : List ℕ) → HasRead reading from done old → HasRead reading from done new) → most_reads_left new < most_reads_left old → Lacks 10 (waiting new) → IsInside reading from done (reads + 1) new
 inside-goes-on reading from done reads old new going none inside (gone, read, lacks, long, most) behind fewer lacks_new =
     let so_far : reads ≤ length gone + 0 = rw going at most in
     let left : most_reads_left old ≡ 65537 = rw (going, none) refl in
@@ -215,6 +215,6 @@ one-less true count most = omega (arith, most)
 one-less false count most = omega (arith, most)
 
 -- as many reads as can be counted gave bytes of it
-pub inside-endless : {R : Type 0} (reading : SourceRules R) (from : R) (done : List ℕ) (reads : ℕ) (lines : Lines R) → 2 ^ 64 - 1 ≤ reads → IsInside reading from done reads lines → IsNext reading from done lines Variant.Endless
+pub inside-endless : {R X : Type 0} (reading : SourceRules R) (from : R) (done : List ℕ) (reads : ℕ) (lines : Lines R X) → 2 ^ 64 - 1 ≤ reads → IsInside reading from done reads lines → IsNext reading from done lines Variant.Endless
 inside-endless reading from done reads lines many (gone, read, lacks, long, most) =
     (gone, read, (lacks, one-less lines.has_ended (length (gone ++ waiting lines)) (omega (arith, many, most))))

@@ -52,7 +52,7 @@ line-said is_finding writing telling options list number name shown found r_old 
 
 -- ---- a line that could not be said
 
-pub lines-stop : {R W E : Type 0} (is_finding : List ℕ → Finding → Type 0) (reading : SourceRules R) (writing : SinkRules W) (telling : SinkRules E) (options : Options) (list : List ℕ) (source : R) (w_old w_mid w_new : W) (e_old e_mid e_new : E) (old new : Lines R) (read : List (List ℕ)) (findings : List Finding) (line : List ℕ) (number : ℕ) (r_old r_new : Report) (stop : Stop)
+pub lines-stop : {R X W E : Type 0} (is_finding : List ℕ → Finding → Type 0) (reading : SourceRules R) (writing : SinkRules W) (telling : SinkRules E) (options : Options) (list : List ℕ) (source : R) (w_old w_mid w_new : W) (e_old e_mid e_new : E) (old new : Lines R X) (read : List (List ℕ)) (findings : List Finding) (line : List ℕ) (number : ℕ) (r_old r_new : Report) (stop : Stop)
     → EachHas is_finding read findings → Stands reading source old read → Stands reading source new (read ++ line ∷ []) → number ≡ 1 + length findings
     → Took writing (numbered (printed_finding options list) 1 findings) w_old w_mid → TellsOn telling (numbered (told_finding options list) 1 findings) e_old e_mid
     → ChecksLine (is_finding line) writing telling options list number r_old r_new w_mid w_new e_mid e_new (Err stop)

@@ -1,11 +1,12 @@
 -- A hashing run over names: one outcome a name, in their order.
-use Rattle.std.specs.Prelude.{◌≡◌, ℕ, Bool, List, [], ◌++◌, is_ok, IfOk, Result, Ok, Err}
-use Rattle.xxhsum_program.specs.Prelude.{EachHas, Kind, Outcome, SinkRules, SourceRules, Stop, StoreRules, Style, TellsOn, concat}
+use Rattle.std.specs.Prelude.{◌≡◌, ℕ, Bool, List, [], ◌∷◌, ◌++◌, is_ok, IfOk, Result, Ok, Err}
+use Rattle.xxhsum_program.specs.Prelude.{Digested, EachHas, IsDirectory, Kind, Outcome, SinkRules, SourceRules, Stop, StoreRules, Style, TellsOn, Unread, concat}
 use Rattle.xxh_io.specs.declared.error.DigestError.{DigestError}
 use Rattle.xxh_io.specs.Digest.{ReadsTo}
 use Rattle.xxh_program.specs.Kind.{value_of}
 use Rattle.xxh_program.specs.States.{most_reads}
 use Rattle.xxhsum_program.specs.Outcomes.{Comes, are_digested}
+use Rattle.xxhsum_program.specs.Order.{EmitsTo, Event, Printed, Reported, StreamRules, Streams}
 use Rattle.xxhsum_program.specs.Lines.{PrintsLine, PrintsLines, lines_of, printed_input, told_input, told_line, written_line}
 
 -- Where the run came to its end, no name is left, and the answer is whether each has a value. Only a write that failed
@@ -43,3 +44,25 @@ SaysInput reading writing telling kind style name r_old r_new w_old w_new e_old 
     × IfOk result (λ all. all ≡ is_ok read)
     × PrintsLine writing (printed_input kind style name (value_of kind 0 (concat pieces)) read) w_old w_new result
     × TellsOn telling (told_input read) e_old e_new
+
+-- ---- the order of both streams
+
+-- a name has its line, or its message
+abbrev pub event_of : Kind → Style → List ℕ → Outcome → Event
+event_of kind style name (Digested value) = Printed (written_line kind style name (Digested value))
+event_of kind style name IsDirectory = Reported (told_line name IsDirectory)
+event_of kind style name (Unread reason) = Reported (told_line name (Unread reason))
+
+abbrev pub events_of : Kind → Style → List (List ℕ) → List Outcome → List Event
+events_of kind style (name ∷ names) (outcome ∷ outcomes) =
+    event_of kind style name outcome ∷ events_of kind style names outcomes
+events_of kind style [] outcomes = []
+events_of kind style (name ∷ names) [] = []
+
+-- Each of the names has its outcome, and its line or its message is written before those of the next name.
+abbrev pub HashesInOrder : {S F W E : Type 0} → StoreRules S F → SourceRules F → StreamRules W E → S → Kind → Style
+    → List (List ℕ) → Streams W E → Streams W E → Result Bool Stop → Type 0
+HashesInOrder opening reading rules store kind style names old new result =
+    (outcomes : List Outcome) × (done rest : List (List ℕ))
+    × HashesNames opening reading store kind names done rest outcomes result
+    × EmitsTo rules (events_of kind style done outcomes) old new result

@@ -11,6 +11,7 @@ pub mod Lines
 pub mod LinesView
 pub mod ListEnd
 pub mod ListLines
+pub mod Order
 pub mod Outcomes
 pub mod Prelude
 pub mod PrintedIsGood

@@ -11,11 +11,10 @@ use Rattle.xxhsum_words.specs.declared.table.TheConstants.{ROWS}
 use Rattle.xxhsum_words.specs.declared.options.Asked.{Asked}
 use Rattle.xxhsum_words.specs.declared.options.Asked.TheVariants.{Run, Benchmark, Version, Help, WrongOption, NulsInList, WalkBesideLists, WalkOfNothing, InputBesideNames, NumberTooLarge}
 
--- a text is told, and the answer is this; or files are read by the options and the words behind them, and their reads are
--- shown or not
+-- a text is told, and the answer is this; or files are read by the options and the words behind them
 pub data Task : Type 0 where
   Tells : List ℕ → Bool → Task
-  Reads : Options → List (List ℕ) → Bool → Task
+  Reads : Options → List (List ℕ) → Task
 
 -- the name by which the program was called
 abbrev pub IsProgram : List (List ℕ) → List ℕ → Type 0
@@ -95,7 +94,7 @@ run_asked NumberTooLarge = None
 abbrev pub task_of_run : Terminals → List ℕ → Options → List (List ℕ) → Task
 task_of_run terminals program options names =
     if waits_for_terminal terminals options names then Tells (wrong_text (codes "Wrong parameters") program) false
-    else Reads options names (shows_progress terminals options)
+    else Reads options names
 
 abbrev pub task_from : Terminals → List ℕ → List (List ℕ) → Asked → Option (Options × ℕ) → Task
 task_from terminals program words asked None = Tells (answer_text program words asked) (is_well asked)

@@ -1,4 +1,4 @@
-//! The arguments of a program, in bytes.
+//! The arguments of a program, as bytes.
 
 ghost use Rattle.std.specs.Prelude.{◌≤◌, List, ℕ, length, map, take, IfErr, IfOk, MatchOption};
 ghost use Rattle.xxhsum_program.specs.Arguments.{AreArguments, AnyArgument, AnyEnd, AnyExcess, IsLastPart, Refuses};
@@ -7,41 +7,41 @@ use std::alloc::{AllocError, Global};
 use std::env::FillError;
 use std::rt::Env;
 
-// The capacity that is tried first for an argument, and how often it is doubled.
+// The first capacity that is tried for an argument, and how often it is doubled.
 const FIRST_ROOM: usize = 256;
 
 const MOST_ROOMS: u32 = 40;
 
-/// The arguments that a program is called with, by their index. That of the index 0 is the program's name.
+/// The arguments that a program is called with, by index. Argument 0 is the program's name.
 pub trait Arguments {
-    // The argument of this index is these bytes.
+    // The argument at this index has these bytes.
     ghost holds: { Self → ℕ → List ℕ → Type 0 };
 
-    // There is no argument of this index.
+    // There is no argument at this index.
     ghost ends: { Self → ℕ → Type 0 };
 
-    // The argument of this index is longer than so many bytes.
+    // The argument at this index is longer than this many bytes.
     ghost exceeds: { Self → ℕ → ℕ → Type 0 };
 
-    /// Copies the argument of this index to the front of `buf`, and returns its length.
+    /// Copies the argument at this index to the front of `buf` and returns its length.
     ///
     /// # Errors
     ///
-    /// [`FillError::NotPresent`] where there is none, and [`FillError::TooLong`] where it is longer than `buf`.
+    /// [`FillError::NotPresent`] if there is no such argument, and [`FillError::TooLong`] if it is longer than `buf`.
     fn fill(&self, index: usize, buf: &mut [u8]) -> Result<usize, FillError>
         ensures within { IfOk result (λ n. n ≤ length buf.new) }
         ensures holds { IfOk result (λ n. holds self.now index (take n buf.new)) }
         ensures refuses { IfErr result (Refuses ends exceeds self.now index (length buf.old)) };
 }
 
-/// The arguments of a process. No clause can say which they are.
+/// The arguments of a process. No clause says which they are.
 #[derive(Clone, Copy)]
 pub struct ProcessArguments<'a, P> {
     process: &'a P,
 }
 
 impl<'a, P: Env> ProcessArguments<'a, P> {
-    /// Those of this process.
+    /// Returns the arguments of this process.
     pub fn new(process: &'a P) -> ProcessArguments<'a, P> {
         ProcessArguments { process }
     }
@@ -59,7 +59,11 @@ impl<P: Env> Arguments for ProcessArguments<'_, P> {
     }
 }
 
-/// All arguments, the program's name first. `AllocError` where memory runs out.
+/// Returns all arguments, the program's name first.
+///
+/// # Errors
+///
+/// `AllocError` if memory runs out.
 pub fn all_arguments<A: Arguments>(alloc: Global, arguments: &A) -> Result<Vec<Vec<u8>>, AllocError>
     ensures { IfOk result (λ all. AreArguments A.holds A.ends arguments.now
         (map (λ argument. argument.items) all.items)) }
@@ -74,7 +78,7 @@ pub fn all_arguments<A: Arguments>(alloc: Global, arguments: &A) -> Result<Vec<V
     Err(AllocError)
 }
 
-// The argument of this index, where there is one. `AllocError` where memory runs out.
+// Returns the argument at this index, or `None` if there is none. `AllocError` if memory runs out.
 fn argument<A: Arguments>(
     alloc: Global,
     arguments: &A,
@@ -98,7 +102,7 @@ fn argument<A: Arguments>(
     Err(AllocError)
 }
 
-/// What stands behind the last slash of a path.
+/// Returns the part of a path after its last slash.
 pub fn last_part(path: &[u8]) -> &[u8]
     ensures { IsLastPart path.now result.now }
 {

@@ -1,4 +1,4 @@
-//! Lists of checksum lines, and whether their files are as the lines say.
+//! Checks lists of checksum lines against the files that they name.
 
 ghost use Rattle.std.specs.Prelude.{◌≡◌, ◌<◌, ◌≤◌, [], true, List, ℕ, Option, false, length, map, nat_eq, IfErr, IfOk, if◌then◌else◌};
 ghost use Rattle.xxhsum_program.specs.Prelude.{TellsOn, Took};
@@ -10,14 +10,17 @@ ghost use Rattle.xxhsum_program.specs.LinesView.{IsGiven};
 ghost use Rattle.xxhsum_program.specs.ListEnd.{FailedRead, ListEnd};
 ghost use Rattle.xxhsum_program.specs.Report.{is_good, is_unverified, passes};
 ghost use Rattle.xxhsum_program.specs.Said.{count_text, found_text, is_silent, numbered, printed_finding, printed_list, printed_summary, summary_text, told_break, told_finding, told_lines, told_list, told_of_line, told_summary, too_long_text, unread_text, unverified_line, unverified_text};
+ghost use Rattle.xxhsum_program.specs.Watched.{source_of};
 
 use crate::entry::{Found, compare};
 use crate::job::Job;
 use crate::lines::{Lines, Next};
 use crate::outcome::OFFERED;
 use crate::say::{line_of, print, release, say_line};
+use crate::screen::Ticks;
 use crate::stop::Stop;
-use crate::tell::tell_line;
+use crate::tell::{tell_line, tell_line_after};
+use crate::watched::{ProgressDisplay, Watched};
 use itoa::Buffer;
 use std::alloc::{AllocError, Global};
 use xxh_io::ends::{Sink, Source};
@@ -27,26 +30,26 @@ use xxhsum_line::entry::{Meaning, meaning_of};
 use xxhsum_output::output::Output;
 use xxhsum_words::options::Options;
 
-/// Counts of the lines of a list, by what was found of them.
+/// Counts of a list's lines, by result.
 #[derive(Clone, Copy, Debug, PartialEq, Eq)]
 pub struct Report {
     /// Well-formed lines.
     pub proper: u64,
-    /// Malformed lines, and those of more than 32,767 bytes.
+    /// Malformed lines, including those longer than 32,767 bytes.
     pub improper: u64,
-    /// Well-formed lines whose file could not be opened, or not be read to its end. With `--ignore-missing` without
-    /// those whose file isn't there.
+    /// Well-formed lines whose file could not be opened or read to its end. With `--ignore-missing`, missing files are
+    /// not counted.
     pub unread: u64,
-    /// Well-formed lines whose file has their value.
+    /// Well-formed lines whose file matches.
     pub same: u64,
-    /// Well-formed lines whose file has another value.
+    /// Well-formed lines whose file doesn't match.
     pub different: u64,
-    /// A line is too long to be checked, or a read of the list failed.
+    /// True if a line is too long to be checked, or a read of the list failed.
     pub is_broken: bool,
 }
 
 impl Report {
-    // The report of no line.
+    // Returns the report of an empty list.
     fn new() -> Report
         ensures { result ≡ no_findings }
     {
@@ -60,7 +63,7 @@ impl Report {
         }
     }
 
-    // Counts a well-formed line by `found`. A missing file that is passed over counts neither as read nor as unread.
+    // Counts a well-formed line by `found`. A missing file that is ignored is counted neither as read nor as unread.
     fn count(&mut self, found: &Found, ignores_missing: bool)
         ensures { self.new ≡ count_proper ignores_missing self.old found.now }
     {
@@ -76,7 +79,7 @@ impl Report {
         }
     }
 
-    // This report, of a list that breaks off.
+    // Returns this report for a list that breaks off.
     fn with_broken_end(self) -> Report
         ensures { result ≡ with_broken_end self }
     {
@@ -86,8 +89,8 @@ impl Report {
         }
     }
 
-    /// Whether the list is good: it has a well-formed line, each file was read and has its value, no line is too long,
-    /// no read of the list failed, and, where the check is strict, no line is malformed.
+    /// True if the list is good: it has a well-formed line, each file was read and matches, no line is too long, no
+    /// read of the list failed, and, under `--strict`, no line is malformed.
     pub fn is_good(&self, is_strict: bool) -> bool
         ensures { result ≡ is_good is_strict self.now }
     {
@@ -98,14 +101,14 @@ impl Report {
             && !self.is_broken
     }
 
-    // Whether no file has its value, under `--ignore-missing`.
+    // True if `--ignore-missing` is given and no file matches.
     fn is_unverified(&self, ignores_missing: bool) -> bool
         ensures { result ≡ is_unverified ignores_missing self.now }
     {
         ignores_missing && self.same == 0
     }
 
-    // Whether the list is good by `options`: under `--ignore-missing` a file of it has to have its value.
+    // True if the list is good by `options`. With `--ignore-missing` at least one file has to match.
     fn passes(&self, options: Options) -> bool
         ensures { result ≡ passes options self.now }
     {
@@ -113,34 +116,35 @@ impl Report {
     }
 }
 
-// A line of a list. One that has no text is too long.
+// A line of a list. Its text is `None` if it is too long.
 #[derive(Clone, Copy)]
 struct ListLine<'a> {
     number: u64,
     text: Option<&'a [u8]>,
 }
 
-// What the check of a list needs.
+// The inputs of the check of one list.
 #[derive(Clone, Copy)]
-struct ListCheck<'a, S> {
+struct ListCheck<'a, S, T> {
     alloc: Global,
     store: &'a S,
     options: Options,
+    progress: ProgressDisplay<T>,
     name: &'a [u8],
 }
 
-impl<S: Store> ListCheck<'_, S> {
-    // Checks the lines of `source`, and prints and reports what was found.
+impl<S: Store, T: Ticks> ListCheck<'_, S, T> {
+    // Checks the lines of `source`, prints and reports the results, and returns whether the list is good.
     fn check<R: Source + Drop, W: Output, E: Sink>(
         &self,
-        source: R,
+        source: Watched<R, T>,
         out: &mut W,
         err: &mut E,
     ) -> Result<bool, Stop>
         requires { W.has_failed out.old ≡ false }
         ensures checks { (findings : List Finding) × (end : Option ListEnd)
             × FindsLines (IsFinding S.Store S.File.Source self.now.store.now
-            self.now.options.is_little_endian) R.Source source findings end
+            self.now.options.is_little_endian) R.Source (source_of source) findings end
             × AnswersList self.now.options findings end result
             × PrintsLines W.Sink (printed_list self.now.options self.now.name.now findings end)
             out.old out.new result
@@ -154,17 +158,17 @@ impl<S: Store> ListCheck<'_, S> {
         Ok(report.passes(self.options))
     }
 
-    // Checks the lines of `source` up to its end, to a line without one, or as many as have numbers.
+    // Checks the lines of `source`: up to its end, to a line without an end, or to the last line number.
     fn check_lines<R: Source + Drop, W: Output, E: Sink>(
         &self,
-        source: R,
+        source: Watched<R, T>,
         out: &mut W,
         err: &mut E,
     ) -> Result<Report, Stop>
         requires { W.has_failed out.old ≡ false }
         ensures checks { (findings : List Finding) × (end : Option ListEnd)
             × FindsLines (IsFinding S.Store S.File.Source self.now.store.now
-            self.now.options.is_little_endian) R.Source source findings end
+            self.now.options.is_little_endian) R.Source (source_of source) findings end
             × ReportsLines self.now.options.ignores_missing findings end result
             × PrintsLines W.Sink
             (numbered (printed_finding self.now.options self.now.name.now) 1 findings)
@@ -181,7 +185,7 @@ impl<S: Store> ListCheck<'_, S> {
                 Next::End => return Ok(report),
                 Next::Failed => {
                     release(out);
-                    self.tell_of_failure(number, &report, err);
+                    self.tell_of_failure(number, &report, out, err);
                     return Ok(report.with_broken_end());
                 }
                 Next::Endless => {
@@ -200,7 +204,7 @@ impl<S: Store> ListCheck<'_, S> {
         Ok(report)
     }
 
-    // Compares the file that `line` names, counts the line and prints the result. A comment isn't counted.
+    // Compares the file that `line` names, counts the line and prints the result. Comments are not counted.
     fn check_line<W: Output, E: Sink>(
         &self,
         line: ListLine<'_>,
@@ -229,7 +233,7 @@ impl<S: Store> ListCheck<'_, S> {
                 return Ok(());
             }
         };
-        let found = compare(self.store, &entry, buf);
+        let found = compare(self.store, self.progress, &entry, buf);
         report.count(&found, self.options.ignores_missing);
         if is_silent(self.options, &found) {
             return Ok(());
@@ -237,7 +241,7 @@ impl<S: Store> ListCheck<'_, S> {
         self.say_found(line.number, &entry.name, &found, out)
     }
 
-    // Counts a malformed line, and reports it under `--warn`.
+    // Counts a malformed line. Reports it if `--warn` is given.
     fn count_improper<W: Output, E: Sink>(
         &self,
         number: u64,
@@ -257,10 +261,11 @@ impl<S: Store> ListCheck<'_, S> {
         report.improper = report.improper.saturating_add(1);
         if self.options.warns {
             release(out);
-            tell_of_line(
+            tell_of_line_after(
                 self.name,
                 number,
                 b"Improperly formatted checksum line",
+                out,
                 err,
             );
         }
@@ -289,7 +294,7 @@ impl<S: Store> ListCheck<'_, S> {
         self.tell_too_long(number, out, err);
     }
 
-    // Reports that the line of this number is too long.
+    // Reports that line `number` is too long.
     fn tell_too_long<W: Output, E: Sink>(&self, number: u64, out: &mut W, err: &mut E)
         requires { W.has_failed out.old ≡ false }
         ensures prints { Took W.Sink [] out.old out.new }
@@ -298,10 +303,10 @@ impl<S: Store> ListCheck<'_, S> {
         ensures tells { TellsOn E.Sink (too_long_text self.now.name.now number) err.old err.new }
     {
         release(out);
-        tell_of_line(self.name, number, b"Line too long", err);
+        tell_of_line_after(self.name, number, b"Line too long", out, err);
     }
 
-    // Prints `found`, of the line of this number.
+    // Prints the result of line `number`.
     fn say_found<W: Output>(
         &self,
         number: u64,
@@ -325,24 +330,31 @@ impl<S: Store> ListCheck<'_, S> {
         }
     }
 
-    // Reports that a read of the list failed. Where it has no well-formed line so far, the summary reports that
-    // instead.
-    fn tell_of_failure<E: Sink>(&self, number: u64, report: &Report, err: &mut E)
+    // Reports that a read of the list failed. If the list has no well-formed line so far, only the summary reports it.
+    fn tell_of_failure<W: Output, E: Sink>(
+        &self,
+        number: u64,
+        report: &Report,
+        out: &W,
+        err: &mut E,
+    )
+        requires { IsWritten W.held W.has_lost out.now }
         ensures { TellsOn E.Sink
             (told_break self.now.name.now number report.now FailedRead) err.old err.new }
     {
         if report.proper == 0 {
             return;
         }
-        tell_of_line(
+        tell_of_line_after(
             self.name,
             number,
             b"A failure occurred reading the list",
+            out,
             err,
         );
     }
 
-    // The line `no file was verified`.
+    // Returns the line "no file was verified".
     fn unverified_line(&self) -> Result<Vec<u8>, AllocError>
         ensures { IfOk result (λ line. line.items ≡ unverified_line self.now.name.now) }
     {
@@ -369,7 +381,7 @@ impl<S: Store> ListCheck<'_, S> {
         self.say_unverified(report, unverified, out)
     }
 
-    // Prints `unverified` where no file has its value, under `--ignore-missing`.
+    // Prints `unverified` if `--ignore-missing` is given and no file matches.
     fn say_unverified<W: Output>(
         &self,
         report: &Report,
@@ -389,7 +401,7 @@ impl<S: Store> ListCheck<'_, S> {
         Ok(())
     }
 
-    // Prints how many lines are malformed, unread and different, or reports that none is well-formed.
+    // Prints the numbers of malformed lines, unread files and mismatches, or reports that no line is well-formed.
     fn say_counts<W: Output, E: Sink>(
         &self,
         report: &Report,
@@ -406,11 +418,12 @@ impl<S: Store> ListCheck<'_, S> {
     {
         if report.proper == 0 {
             release(out);
-            tell_line(
+            tell_line_after(
                 &[
                     self.name,
                     b": no properly formatted xxHash checksum lines found",
                 ],
+                out,
                 err,
             );
             return Ok(());
@@ -439,14 +452,14 @@ impl<S: Store> ListCheck<'_, S> {
     }
 }
 
-// Whether nothing is printed of a file.
+// True if nothing is printed about a file.
 fn is_silent(options: Options, found: &Found) -> bool
     ensures { result ≡ is_silent options found.now }
 {
     options.is_status_only || (options.ignores_missing && found.is_missing())
 }
 
-// Prints why the file of the line of this number in `list` could not be read.
+// Prints why the file of line `number` of `list` could not be read.
 fn say_unread<'a, W: Output>(
     alloc: Global,
     list: &'a [u8],
@@ -475,7 +488,7 @@ fn say_unread<'a, W: Output>(
     say_line(alloc, &parts, out)
 }
 
-/// Reports what is wrong with the line of this number in `list`.
+/// Reports what is wrong with line `number` of `list`.
 pub fn tell_of_line<'a, E: Sink>(list: &'a [u8], number: u64, what: &'a [u8], err: &mut E)
     ensures { TellsOn E.Sink (told_of_line list.now number what.now) err.old err.new }
 {
@@ -485,10 +498,26 @@ pub fn tell_of_line<'a, E: Sink>(list: &'a [u8], number: u64, what: &'a [u8], er
     tell_line(&parts, err);
 }
 
-// The most bytes that a line with a count has.
+// Reports what is wrong with line `number` of `list`, after the output `out`. The caller shows that all printed lines
+// are written, or were lost.
+fn tell_of_line_after<W: Output, E: Sink>(
+    list: &[u8],
+    number: u64,
+    what: &[u8],
+    out: &W,
+    err: &mut E,
+)
+    requires { IsWritten W.held W.has_lost out.now }
+    ensures { TellsOn E.Sink (told_of_line list.now number what.now) err.old err.new }
+{
+    let _ = out;
+    tell_of_line(list, number, what, err);
+}
+
+// Maximum length of a line with a count, in bytes.
 const MOST_COUNT_LINE: usize = 80;
 
-// Prints `count` with `one` or `more` behind it, unless it is 0.
+// Prints `count` followed by `one` or `more`, unless it is 0.
 fn say_count<W: Output>(count: u64, one: &[u8], more: &[u8], out: &mut W) -> Result<(), Stop>
     requires one { length one.now ≤ 40 }
     requires more { length more.now ≤ 40 }
@@ -518,19 +547,20 @@ fn word_for<'a>(count: u64, one: &'a [u8], more: &'a [u8]) -> &'a [u8]
     if count == 1 { one } else { more }
 }
 
-/// Checks the lines of the list `name`: prints for each well-formed line whether its file has the value, and at the end
-/// how many lines failed. Returns whether the list is good, up to its end or to a read of it that fails. A file that
-/// can't be read is printed as such, and the next line is checked. A line of more than 32,767 bytes is reported, counts
-/// as malformed and keeps the list from being good; the lines after it are checked. Under `--ignore-missing` a file
-/// that isn't there is neither printed nor counted; a list of which no file has its value is then reported and isn't
-/// good.
+/// Checks the lines of the list `name`. Prints for each well-formed line whether its file matches, and at the end how
+/// many lines failed. Returns whether the list is good.
+///
+/// A file that can't be read is printed as such, and the next line is checked. A line longer than 32,767 bytes is
+/// reported, counts as malformed, and makes the list fail; later lines are still checked. A failed read of the list is
+/// reported and ends it. With `--ignore-missing`, missing files are neither printed nor counted; if then no file
+/// matches, that is printed and the list fails.
 ///
 /// # Errors
 ///
-/// [`Stop::WriteFailed`] where a write to standard output fails, or one had failed before; [`Stop::OutOfMemory`] where
-/// there is no memory for a line: at once. What was found before it is printed.
-pub fn check_list<S: Store, R: Source + Drop, W: Output, E: Sink>(
-    job: &Job<'_, S>,
+/// Both errors end the check at once; the results before it are printed. [`Stop::WriteFailed`] if a write to standard
+/// output fails, or failed before, and [`Stop::OutOfMemory`] if memory for a line runs out.
+pub fn check_list<S: Store, T: Ticks, R: Source + Drop, W: Output, E: Sink>(
+    job: &Job<'_, S, T>,
     name: &[u8],
     source: R,
     out: &mut W,
@@ -546,14 +576,15 @@ pub fn check_list<S: Store, R: Source + Drop, W: Output, E: Sink>(
         alloc: job.alloc,
         store: job.store,
         options: job.options,
+        progress: job.progress,
         name,
     };
-    list.check(source, out, err)
+    list.check(job.progress.watch(source), out, err)
 }
 
-// Checks the list `name`. One that can't be opened is reported, and isn't good.
-fn check_named<S: Store, W: Output, E: Sink>(
-    job: &Job<'_, S>,
+// Checks the list `name`. A list that can't be opened is reported, and fails.
+fn check_named<S: Store, T: Ticks, W: Output, E: Sink>(
+    job: &Job<'_, S, T>,
     name: &[u8],
     out: &mut W,
     err: &mut E,
@@ -568,20 +599,22 @@ fn check_named<S: Store, W: Output, E: Sink>(
         × TellsOn E.Sink (told_outcome job.now.options name.now outcome) err.old err.new }
     ensures works { IfOk result (λ _. W.has_failed out.new ≡ false) }
 {
-    match job.store.open(name) {
+    match job.progress.open(job.store, name) {
         Ok(file) => {
             let list = ListCheck {
                 alloc: job.alloc,
                 store: job.store,
                 options: job.options,
+                progress: job.progress,
                 name,
             };
             list.check(file, out, err)
         }
         Err(refusal) => {
             release(out);
-            tell_line(
+            tell_line_after(
                 &[b"Error: Could not open '", name, b"': ", refusal.text()],
+                out,
                 err,
             );
             Ok(false)
@@ -589,13 +622,13 @@ fn check_named<S: Store, W: Output, E: Sink>(
     }
 }
 
-/// Checks each list of `names`. Returns whether all are good. A list that can't be opened is reported, and isn't good.
+/// Checks each list of `names`. Returns whether all are good. A list that can't be opened is reported, and fails.
 ///
 /// # Errors
 ///
-/// As [`check_list`], at once: the lists before are checked, and those after are not opened.
-pub fn check_lists<S: Store, W: Output, E: Sink>(
-    job: &Job<'_, S>,
+/// As [`check_list`], at once. Later lists are not opened.
+pub fn check_lists<S: Store, T: Ticks, W: Output, E: Sink>(
+    job: &Job<'_, S, T>,
     names: &[Vec<u8>],
     out: &mut W,
     err: &mut E,

@@ -1,4 +1,4 @@
-//! What a good list says of its files, and what a line that says OK does, as laws about the check of lists.
+//! Lemmas about the check of lists: what a good list and a line "OK" guarantee.
 
 ghost use Rattle.xxhsum_program.specs.GoodList.{GoodMeansEqual, OkMeansEqual};
 
@@ -6,14 +6,14 @@ use xxh_io::ends::Source;
 use xxhsum_files::store::Store;
 use xxhsum_line::laws::laws_of_lines;
 
-/// A law, with nothing to run: the file of each well-formed line of a good list has the line's value, or the store says
-/// that there is no file of that name and the options pass over it. `check_list` says that its lines are found so, and
-/// that it returns true where the list is good; `run` then exits with 0.
+/// Lemma: the file of each well-formed line of a good list has the line's value, or is missing and the options ignore
+/// missing files. `check_list` guarantees that its lines are found so, and that it returns true only for a good list;
+/// `run` then exits with 0.
 pub fn good_means_equal<S: Store, R: Source>()
     ensures { GoodMeansEqual S.Store S.File.Source R.Source }
 {}
 
-/// A law, with nothing to run: "OK" is said only of a file whose bytes have the line's value, whatever stands in names.
+/// Lemma: "OK" is printed only for a file whose bytes have the line's value, whatever bytes the names have.
 pub fn ok_means_equal<S: Store>()
     ensures { OkMeansEqual S.Store S.File.Source }
 {

@@ -2,81 +2,91 @@
 
 ghost use Rattle.std.specs.Prelude.{◌≡◌, false, map, IfOk};
 ghost use Rattle.xxhsum_program.specs.Finish.{IsWritten};
-ghost use Rattle.xxhsum_program.specs.HashNames.{SaysInput, SaysNames};
+ghost use Rattle.xxhsum_program.specs.HashNames.{HashesInOrder, SaysInput, SaysNames};
 ghost use Rattle.xxhsum_program.specs.Lines.{PrintsLine, told_line, written_line};
+ghost use Rattle.xxhsum_program.specs.Order.{rules_of, streams};
 ghost use Rattle.xxhsum_program.specs.Outcomes.{is_digested};
 ghost use Rattle.xxhsum_program.specs.Run.{style_of};
 ghost use Rattle.xxhsum_program.specs.Told.{TellsOn};
+ghost use Rattle.xxhsum_program.specs.Watched.{source_of};
 
 use crate::job::Job;
-use crate::outcome::{MAX_READS, OFFERED, Outcome, Reason, outcome_of};
+use crate::outcome::{OFFERED, Outcome, Reason, outcome_of};
 use crate::say::{print, release};
+use crate::screen::Ticks;
 use crate::stop::Stop;
-use crate::tell::tell_line;
+use crate::tell::{tell_line, tell_line_after};
+use crate::watched::Watched;
 use std::alloc::Global;
 use xxh_io::ends::{Sink, Source};
-use xxh_program::program::value_of_source;
 use xxhsum_files::store::Store;
 use xxhsum_line::printed::{Shape, Style, styled_line};
 use xxhsum_output::output::Output;
 use xxhsum_words::options::Options;
 
-/// Writes the digest line of each named file, in order, and reports the names that have none, because they are
-/// directories, can't be opened or can't be read to their end. Returns whether all have one.
+/// Writes the digest line of each named file, in order. Reports names that have none: directories, and files that can't
+/// be opened or read to their end. Returns whether all have one.
 ///
 /// The caller shows that no write to the output has failed before.
 ///
 /// # Errors
 ///
-/// [`Stop::WriteFailed`] where a write of a line fails, and [`Stop::OutOfMemory`] where there is no memory for a line:
-/// at once, and the names after it are not opened. The lines before it are written. Nothing else stops it.
-pub fn hash_names<S: Store, W: Output, E: Sink>(
-    job: &Job<'_, S>,
+/// Both errors end the run at once; the lines before it are written. [`Stop::WriteFailed`] if a write of a line fails,
+/// and [`Stop::OutOfMemory`] if memory for a line runs out.
+pub fn hash_names<S: Store, T: Ticks, W: Output, E: Sink>(
+    job: &Job<'_, S, T>,
     names: &[Vec<u8>],
     out: &mut W,
     err: &mut E,
 ) -> Result<bool, Stop>
     requires { W.has_failed out.old ≡ false }
 
-    // There is one outcome a name, in their order; standard output has the lines of those that have a value, and
-    // standard error those of the others.
-    ensures { SaysNames S.Store S.File.Source W.Sink E.Sink job.now.store.now job.now.options.kind
-        (style_of job.now.options) (map (λ name. name.items) names.now)
+    // Each name has one outcome, in order. Standard output has the lines of names with a value, and standard error the
+    // messages of the others.
+    ensures says { SaysNames S.Store S.File.Source W.Sink E.Sink job.now.store.now
+        job.now.options.kind (style_of job.now.options) (map (λ name. name.items) names.now)
         out.old out.new err.old err.new result }
+
+    // Lines and messages are written in the order of the names. When a message is written, all lines before it are
+    // written, or were lost.
+    ensures order { HashesInOrder S.Store S.File.Source
+        (rules_of W.Sink W.held W.has_lost E.Sink) job.now.store.now job.now.options.kind
+        (style_of job.now.options) (map (λ name. name.items) names.now)
+        (streams out.old err.old) (streams out.new err.new) result }
 {
     let mut buf = [0; OFFERED];
     let mut all = true;
     for name in names {
-        let outcome = outcome_of(job.store, job.options.kind, name, &mut buf);
+        let outcome = outcome_of(job, job.options.kind, name, &mut buf);
         print_outcome(job.alloc, job.options, name, &outcome, out)?;
-        tell_outcome(name, &outcome, err);
+        tell_outcome_after(name, &outcome, out, err);
         all = all && outcome.is_digested();
     }
     Ok(all)
 }
 
-/// Writes the digest line of what `input` gives, under this name. Where it can't be read to its end, that is reported.
-/// Returns whether it was.
+/// Writes the digest line of `input` under this name. Reports an input that can't be read to its end. Returns whether
+/// it was read.
 ///
 /// The caller shows that neither the source nor the output has failed.
 ///
 /// # Errors
 ///
-/// [`Stop::WriteFailed`] where a write of the line fails, and [`Stop::OutOfMemory`] where there is no memory for it.
-pub fn hash_input<R: Source, W: Output, E: Sink>(
+/// [`Stop::WriteFailed`] if a write of the line fails, and [`Stop::OutOfMemory`] if memory for it runs out.
+pub fn hash_input<R: Source, T: Ticks, W: Output, E: Sink>(
     alloc: Global,
     options: Options,
     name: &[u8],
-    input: &mut R,
+    input: &mut Watched<R, T>,
     out: &mut W,
     err: &mut E,
 ) -> Result<bool, Stop>
-    requires reader { R.has_failed input.old ≡ false }
+    requires reader { R.has_failed (source_of input.old) ≡ false }
     requires writer { W.has_failed out.old ≡ false }
     ensures { SaysInput R.Source W.Sink E.Sink options.kind (style_of options) name.now
-        input.old input.new out.old out.new err.old err.new result }
+        (source_of input.old) (source_of input.new) out.old out.new err.old err.new result }
 {
-    match value_of_source(options.kind, 0, MAX_READS, input, &mut [0; OFFERED]) {
+    match input.value(options.kind, &mut [0; OFFERED]) {
         Ok(value) => {
             let line = styled_line(alloc, options.kind, style_of(options), value, name)?;
             print(&line, out)?;
@@ -84,14 +94,14 @@ pub fn hash_input<R: Source, W: Output, E: Sink>(
         }
         Err(error) => {
             release(out);
-            tell_line(&[b"Error: ", Reason::from(error).text(), b"."], err);
+            tell_line_after(&[b"Error: ", Reason::from(error).text(), b"."], out, err);
             Ok(false)
         }
     }
 }
 
-// Writes the digest line of a name that has a value. For one that has none, writes what `out` holds, since a message
-// follows.
+// Writes the digest line of a name that has a value. For a name without one, writes the bytes that `out` holds, since a
+// message follows.
 fn print_outcome<W: Output>(
     alloc: Global,
     options: Options,
@@ -117,7 +127,7 @@ fn print_outcome<W: Output>(
     }
 }
 
-// The style of lines by the options.
+// Returns the style of lines by the options.
 fn style_of(options: Options) -> Style
     ensures { result ≡ style_of options }
 {
@@ -130,7 +140,7 @@ fn style_of(options: Options) -> Style
     }
 }
 
-/// Reports why a name has no value. Of one that has, nothing.
+/// Reports why a name has no value. Writes nothing for a name that has one.
 pub fn tell_outcome<'a, E: Sink>(name: &'a [u8], outcome: &'a Outcome, err: &mut E)
     ensures { TellsOn E.Sink (told_line name.now outcome.now) err.old err.new }
 {
@@ -150,4 +160,14 @@ pub fn tell_outcome<'a, E: Sink>(name: &'a [u8], outcome: &'a Outcome, err: &mut
             tell_line(&parts, err);
         }
     }
+}
+
+// Reports why a name has no value, after the output `out`. The caller shows that all printed lines are written, or were
+// lost, if there is something to report.
+fn tell_outcome_after<W: Output, E: Sink>(name: &[u8], outcome: &Outcome, out: &W, err: &mut E)
+    requires { is_digested outcome.now ≡ false → IsWritten W.held W.has_lost out.now }
+    ensures { TellsOn E.Sink (told_line name.now outcome.now) err.old err.new }
+{
+    let _ = out;
+    tell_outcome(name, outcome, err);
 }

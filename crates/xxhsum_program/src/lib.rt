@@ -1,4 +1,4 @@
-//! The program `xxhsum` over any store of files and any streams: digest lines of named files, and checks of lists of
+//! The program `xxhsum` over any store of files and any streams: prints digest lines of files, and checks lists of
 //! them.
 #![tactic(auto)]
 

@@ -1,30 +1,32 @@
-//! The lines of a list.
+//! Splits a list into lines.
 
 ghost use Rattle.std.specs.Prelude.{◌≡◌, ◌+◌, ◌-◌, ◌<◌, ◌≤◌, [], false, List, ℕ, length, Ok, None, IfOk, OnOk};
 
+use crate::screen::Ticks;
+use crate::watched::Watched;
 use xxh_io::ends::{Failed, Source};
 
 const BUFFER: usize = 65536;
 
-// The most bytes that a line has, without its line feed. A longer one is skipped.
+// Maximum length of a line in bytes, without its line feed. A longer line is skipped.
 const MOST: usize = 32767;
 
-/// What comes next in a list.
+/// The next item of a list.
 #[derive(Clone, Copy, Debug, PartialEq, Eq)]
 pub enum Next {
-    /// A line, or one that is too long.
+    /// A line. It may be too long.
     Line,
-    /// A line that didn't end within 2^64 - 1 reads: its list ends there.
+    /// A line without an end within 2^64 - 1 reads. The list ends there.
     Endless,
     End,
     /// A read failed.
     Failed,
 }
 
-/// The lines of a source, one after another.
+/// Reads the lines of a source, one after another.
 #[derive(Drop)]
-pub struct Lines<R> {
-    source: R,
+pub struct Lines<R, T> {
+    source: Watched<R, T>,
     buf: [u8; BUFFER],
     // `buf[start..end]` is buffered.
     start: usize,
@@ -32,7 +34,7 @@ pub struct Lines<R> {
     // `buf[line_start..line_end]` is the current line, without its line feed.
     line_start: usize,
     line_end: usize,
-    // The current line has more than MOST bytes.
+    // True if the current line has more than MOST bytes.
     is_long: bool,
     has_ended: bool,
     ghost ordered: { start ≤ end },
@@ -42,13 +44,14 @@ pub struct Lines<R> {
     ghost line_in_bounds: { line_end ≤ length buf },
 }
 
-impl<R: Source + Drop> Lines<R> {
+impl<R: Source + Drop, T: Ticks> Lines<R, T> {
     ghost use Rattle.xxhsum_line.specs.Parts.{Lacks};
     ghost use Rattle.xxhsum_program.specs.LinesView.{HasRead, IsAtEnd, IsBeforeLineFeed, IsGiven, IsHeld, IsNext, IsTaken, ReadsBehind, StopsAt, most_reads_left, waiting};
+    ghost use Rattle.xxhsum_program.specs.Watched.{source_of};
 
-    /// The lines of a source of which nothing was read yet.
-    pub fn new(source: R) -> Lines<R>
-        ensures { HasRead R.Source source [] result }
+    /// Returns the lines of a source that has not been read yet.
+    pub fn new(source: Watched<R, T>) -> Lines<R, T>
+        ensures { HasRead R.Source (source_of source) [] result }
     {
         Lines {
             source,
@@ -62,7 +65,7 @@ impl<R: Source + Drop> Lines<R> {
         }
     }
 
-    // Moves the buffered bytes to the front, and reads once behind them.
+    // Moves the buffered bytes to the front, and reads once more.
     fn refill(&mut self) -> Result<(), Failed>
         requires open { self.old.has_ended ≡ false }
         requires unended { Lacks 10 (waiting self.old) }
@@ -84,15 +87,15 @@ impl<R: Source + Drop> Lines<R> {
         Ok(())
     }
 
-    // How many of the buffered bytes come before the first line feed.
+    // Returns the number of buffered bytes before the first line feed.
     fn before_line_feed(&self) -> Option<usize>
         ensures { IsBeforeLineFeed result self.now }
     {
         memchr::memchr(b'\n', &self.buf[self.start..self.end])
     }
 
-    // Reads until the buffered bytes have a line feed or are more than a line has, or the source has ended. Returns how
-    // many come before the line feed.
+    // Reads until a line feed is buffered, too many bytes for a line are, or the source ends. Returns the number of
+    // bytes before the line feed.
     fn gather(&mut self) -> Result<Option<usize>, Failed>
         ensures reads { (from : R) (done : List ℕ) → HasRead R.Source from done self.old
             → ReadsBehind R.Source from done self.new result }
@@ -108,7 +111,7 @@ impl<R: Source + Drop> Lines<R> {
         }
     }
 
-    // Consumes `taken` buffered bytes: the first `len` are the line, or all belong to one that is too long.
+    // Consumes `taken` buffered bytes. The first `len` are the line, unless it is too long.
     fn take(&mut self, len: usize, taken: usize, is_long: bool)
         requires within { len ≤ taken }
         requires waiting { self.old.start + taken ≤ self.old.end }
@@ -120,7 +123,7 @@ impl<R: Source + Drop> Lines<R> {
         self.is_long = is_long;
     }
 
-    // Skips a line of which more than MOST bytes are buffered: to behind its line feed, or to the end.
+    // Skips a line with more than MOST buffered bytes, up to its line feed or the end.
     fn pass_over(&mut self) -> Next
         requires unended { Lacks 10 (waiting self.old) }
         requires long { 32767 < self.old.end - self.old.start }
@@ -172,7 +175,7 @@ impl<R: Source + Drop> Lines<R> {
         }
     }
 
-    /// The current line, without its line feed. `None` where it has more than 32,767 bytes.
+    /// Returns the current line without its line feed, or `None` if it is longer than 32,767 bytes.
     pub fn line(&self) -> Option<&[u8]>
         ensures { (line : List ℕ) → IsHeld line self.now → IsGiven line result }
     {

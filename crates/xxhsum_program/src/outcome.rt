@@ -1,47 +1,45 @@
-//! The outcome of one name of a hashing run.
+//! The outcome of one name in a hashing run.
 
 ghost use Rattle.std.specs.Prelude.{◌≡◌, ◌<◌, false, length, IfOk, IfErr};
 ghost use Rattle.xxhsum_program.specs.Outcomes.{Comes, HasNoValue, IsValueOf, reason_of};
 
-use xxh_io::ends::Source;
+use crate::job::Job;
+use crate::screen::Ticks;
+use crate::watched::ProgressDisplay;
 use xxh_io::error::DigestError;
 use xxh_io::kind::Kind;
-use xxh_program::program::value_of_source;
 use xxhsum_files::refusal::Refusal;
 use xxhsum_files::store::Store;
 
-// How many reads a file has at most.
-pub(crate) const MAX_READS: u64 = u64::MAX;
-
-/// How many bytes each read of a file is offered.
+/// Size of the buffer for each read of a file, in bytes.
 pub const OFFERED: usize = 131072;
 
 /// The outcome of a name.
 #[derive(Clone, Copy, Debug, PartialEq, Eq)]
 pub enum Outcome {
-    /// Its file was read to the end, and has this value.
+    /// The file was read to its end and has this value.
     Digested { value: u128 },
-    /// It is a directory.
+    /// The name is a directory.
     IsDirectory,
-    /// It has no value, for this reason.
+    /// The name has no value.
     Unread { reason: Reason },
 }
 
-/// Why a name that is no directory has no value.
+/// The reason why a name that isn't a directory has no value.
 #[derive(Clone, Copy, Debug, PartialEq, Eq)]
 pub enum Reason {
-    /// It leads to no file, for this reason.
+    /// The file could not be opened.
     Unopened { refusal: Refusal },
-    /// A read of its file failed.
+    /// A read of the file failed.
     ReadFailed,
-    /// Its file is too long: 2^64 - 1 reads each gave some of it.
+    /// The file is too long: 2^64 - 1 reads did not reach its end.
     TooLong,
 }
 
 impl Outcome {
     ghost use Rattle.xxhsum_program.specs.Outcomes.{is_digested};
 
-    /// Whether the name has a value.
+    /// True if the name has a value.
     pub fn is_digested(&self) -> bool
         ensures { result ≡ is_digested self.now }
     {
@@ -56,7 +54,7 @@ impl Reason {
     ghost use Rattle.xxhsum_program.specs.Lines.{step_text};
     ghost use Rattle.xxhsum_program.specs.Outcomes.{has_no_file, reason_text};
 
-    // Whether there is no file of the name.
+    // True if there is no file of this name.
     pub(crate) fn is_missing(&self) -> bool
         ensures { result ≡ has_no_file self.now }
     {
@@ -66,7 +64,7 @@ impl Reason {
         }
     }
 
-    // The reason as text: the system's where the file can't be opened.
+    // Returns the reason as text: the system's message if the file can't be opened.
     pub(crate) fn text(&self) -> &[u8]
         ensures { result.now ≡ reason_text self.now }
     {
@@ -77,7 +75,7 @@ impl Reason {
         }
     }
 
-    // The step that failed: `open` or `read`.
+    // Returns the step that failed: `open` or `read`.
     pub(crate) fn step(&self) -> &[u8]
         ensures { result.now ≡ step_text self.now }
     {
@@ -91,7 +89,7 @@ impl Reason {
 impl From<DigestError> for Reason {
     ghost from_gives = { λ error reason. reason ≡ reason_of error };
 
-    // No write is made where a file is read.
+    // Reading a file writes nothing, so a write can't fail here.
     fn from(error: DigestError) -> Reason {
         match error {
             DigestError::ReadFailed | DigestError::WriteFailed => Reason::ReadFailed,
@@ -100,9 +98,11 @@ impl From<DigestError> for Reason {
     }
 }
 
-/// Opens the name and digests its file. Each read is offered the whole of `buf`. An error says why there is no value.
-pub(crate) fn value_named<S: Store>(
+/// Opens and hashes the file of this name. Each read is offered the whole of `buf`. An error is the reason why there is
+/// no value.
+pub(crate) fn value_named<S: Store, T: Ticks>(
     store: &S,
+    progress: ProgressDisplay<T>,
     kind: Kind,
     name: &[u8],
     buf: &mut [u8],
@@ -111,25 +111,30 @@ pub(crate) fn value_named<S: Store>(
     ensures value { IfOk result (IsValueOf S.Store S.File.Source store.now kind name.now) }
     ensures reason { IfErr result (HasNoValue S.Store S.File.Source store.now name.now) }
 {
-    match store.open(name) {
+    match progress.open(store, name) {
         Ok(file) => {
             let mut file = file;
-            Ok(value_of_source(kind, 0, MAX_READS, &mut file, buf)?)
+            Ok(file.value(kind, buf)?)
         }
         Err(refusal) => Err(Reason::Unopened { refusal }),
     }
 }
 
-/// Opens the name and digests its file. Each read is offered the whole of `buf`. A name is a directory exactly where
-/// the store says so.
-pub fn outcome_of<S: Store>(store: &S, kind: Kind, name: &[u8], buf: &mut [u8]) -> Outcome
+/// Opens and hashes the file of this name. Each read is offered the whole of `buf`. Directories are found by
+/// `is_directory` of the store.
+pub fn outcome_of<S: Store, T: Ticks>(
+    job: &Job<'_, S, T>,
+    kind: Kind,
+    name: &[u8],
+    buf: &mut [u8],
+) -> Outcome
     requires { 0 < length buf.old }
-    ensures { Comes S.Store S.File.Source store.now kind name.now result }
+    ensures { Comes S.Store S.File.Source job.now.store.now kind name.now result }
 {
-    if store.is_directory(name) {
+    if job.store.is_directory(name) {
         return Outcome::IsDirectory;
     }
-    match value_named(store, kind, name, buf) {
+    match value_named(job.store, job.progress, kind, name, buf) {
         Ok(value) => Outcome::Digested { value },
         Err(reason) => Outcome::Unread { reason },
     }

@@ -1,6 +1,7 @@
-//! What the arguments ask for, and a run over files and lists.
+//! Decides what the arguments ask for, and runs over files and lists.
 
 ghost use Rattle.std.specs.Prelude.{◌≡◌, false, Bool, List, ℕ, Option, Result, [], drop, get_or, map, IfSome};
+ghost use Rattle.xxhsum_program.specs.Finish.{Finishes, IsWritten};
 ghost use Rattle.xxhsum_program.specs.Joined.{joined};
 ghost use Rattle.xxhsum_program.specs.Run.{PerformsAs, end_text, status_of, stop_text};
 ghost use Rattle.xxhsum_program.specs.Task.{IsProgram, answer_text, has_none, is_tree, is_well, run_asked, shows_progress, usage_text, waits_for_terminal, wrong_text};
@@ -10,6 +11,8 @@ use crate::arguments::last_part;
 use crate::check::{check_list, check_lists};
 use crate::hash::{hash_input, hash_names};
 use crate::job::Job;
+use crate::say::finish;
+use crate::screen::Ticks;
 use crate::stop::Stop;
 use crate::tell::{tell, tell_line};
 use crate::usage::{ABOUT, BEFORE, BEHIND, NO_BENCHMARK, TITLE, tell_options};
@@ -18,14 +21,14 @@ use xxhsum_files::store::Store;
 use xxhsum_output::output::Output;
 use xxhsum_words::options::{Asked, Options};
 
-// What standard input is called in lines.
+// The name of standard input in lines.
 const INPUT: &[u8] = b"stdin";
 
-// The message where `-` stands beside names or behind `--`.
+// The message for `-` beside names or after `--`.
 const INPUT_BESIDE_NAMES: &[u8] =
     b"Error: '-' is standard input, which is read alone; a file of that name is './-'.\n";
 
-/// Which of the standard streams are terminals.
+/// True for each standard stream that is a terminal.
 #[derive(Clone, Copy, Debug, PartialEq, Eq)]
 pub struct Terminals {
     /// Standard input.
@@ -34,18 +37,18 @@ pub struct Terminals {
     pub errors: bool,
 }
 
-/// What the program has of where it was called: its input, and what it is to know of terminals.
+/// The environment of a run: the input, which streams are terminals, and the screen for progress.
 #[derive(Drop)]
 pub struct Console<R, T> {
     /// Standard input.
     pub input: R,
     /// Which of the standard streams are terminals.
     pub terminals: Terminals,
-    /// Where progress is shown, which is standard error too.
+    /// The screen for progress, which is standard error too.
     pub screen: T,
 }
 
-/// The options of the run that is asked for, and the index of the argument at which its names begin.
+/// Returns the options of the requested run, and the index of the argument at which its names begin.
 pub fn run_asked(asked: Asked) -> Option<(Options, usize)>
     ensures { result ≡ run_asked asked }
 {
@@ -66,7 +69,7 @@ pub fn run_asked(asked: Asked) -> Option<(Options, usize)>
     }
 }
 
-/// The name by which the program was called.
+/// Returns the name by which the program was called.
 pub fn program_of(args: &[Vec<u8>]) -> &[u8]
     ensures { IsProgram (map (λ argument. argument.items) args.now) result.now }
 {
@@ -76,7 +79,7 @@ pub fn program_of(args: &[Vec<u8>]) -> &[u8]
     }
 }
 
-/// The arguments behind the program's name.
+/// Returns the arguments after the program's name.
 pub fn arguments_behind_name(args: &[Vec<u8>]) -> &[Vec<u8>]
     ensures { map (λ word. word.items) result.now
         ≡ drop 1 (map (λ argument. argument.items) args.now) }
@@ -87,28 +90,29 @@ pub fn arguments_behind_name(args: &[Vec<u8>]) -> &[Vec<u8>]
     }
 }
 
-// Whether a run over a tree is asked for: an audit, the files below folders, or names that stand in lists of names.
+// True if the run is an audit, walks folders, or takes names from lists.
 fn is_tree(options: Options) -> bool
     ensures { result ≡ is_tree options }
 {
     options.audits || options.walks || options.names_from.are_listed()
 }
 
-/// Whether progress is to be shown: on a terminal, and there neither with `-q` nor with `--status`.
+/// True if progress is shown: standard error is a terminal, and neither `-q` nor `--status` is given.
 pub fn shows_progress(terminals: Terminals, options: Options) -> bool
     ensures { result ≡ shows_progress terminals options }
 {
     terminals.errors && !options.is_quiet && !options.is_status_only
 }
 
-/// Whether standard input would be read from a terminal that nobody asked for.
+/// True if standard input would be read from a terminal without `-`.
 pub fn waits_for_terminal(terminals: Terminals, options: Options, names: &[Vec<u8>]) -> bool
     ensures { result ≡ waits_for_terminal terminals options (map (λ name. name.items) names.now) }
 {
     has_none(names) && !is_tree(options) && !options.takes_terminal && terminals.input
 }
 
-/// Writes what is asked for where that is no run, and returns whether all is well. Of a run nothing is written.
+/// Answers arguments that ask for no run: writes help, version or an error, and returns whether all is well. Writes
+/// nothing for a run.
 pub fn tell_answer<E: Sink>(program: &[u8], words: &[Vec<u8>], asked: Asked, err: &mut E) -> bool
     ensures well { result ≡ is_well asked }
     ensures tells { TellsOn E.Sink
@@ -167,7 +171,7 @@ pub fn tell_answer<E: Sink>(program: &[u8], words: &[Vec<u8>], asked: Asked, err
     }
 }
 
-// The argument of this index.
+// Returns the argument at this index.
 fn word_at(words: &[Vec<u8>], at: usize) -> &[u8]
     ensures { result.now ≡ get_or (map (λ word. word.items) words.now) at [] }
 {
@@ -177,7 +181,7 @@ fn word_at(words: &[Vec<u8>], at: usize) -> &[u8]
     }
 }
 
-/// Reports what is wrong with the arguments, in these parts of a line, and how the program is used.
+/// Reports what is wrong with the arguments, as one line of these parts, and the usage.
 pub fn tell_wrong<E: Sink>(line: &[&[u8]], program: &[u8], err: &mut E)
     ensures { TellsOn E.Sink (wrong_text (joined line.now) program.now) err.old err.new }
 {
@@ -186,7 +190,7 @@ pub fn tell_wrong<E: Sink>(line: &[&[u8]], program: &[u8], err: &mut E)
     tell_usage(program, err);
 }
 
-// Reports how the program is used.
+// Reports the usage.
 fn tell_usage<E: Sink>(program: &[u8], err: &mut E)
     ensures { TellsOn E.Sink (usage_text program.now) err.old err.new }
 {
@@ -198,16 +202,16 @@ fn tell_usage<E: Sink>(program: &[u8], err: &mut E)
     tell(BEHIND, err);
 }
 
-/// Digests the files of the names, or checks the lists of these names. Returns whether all went well.
+/// Hashes the files of the names, or checks the lists of these names. Returns whether all went well.
 ///
 /// The caller shows that neither the input nor the output has failed.
 ///
 /// # Errors
 ///
-/// [`Stop::WriteFailed`] where a write to the output fails, and [`Stop::OutOfMemory`] where memory runs out.
+/// [`Stop::WriteFailed`] if a write to the output fails, and [`Stop::OutOfMemory`] if memory runs out.
 #[tactic(auto, unfolding(crate::specs::Run::PerformsAs))]
-pub fn perform<S, R, W, E>(
-    job: &Job<'_, S>,
+pub fn perform<S, T, R, W, E>(
+    job: &Job<'_, S, T>,
     names: &[Vec<u8>],
     input: R,
     out: &mut W,
@@ -215,6 +219,7 @@ pub fn perform<S, R, W, E>(
 ) -> Result<bool, Stop>
 where
     S: Store,
+    T: Ticks,
     R: Source + Drop,
     W: Output,
     E: Sink,
@@ -225,7 +230,6 @@ where
         given input out.old out.new err.old err.new result job.now.options.checks
         (has_none given) }
 {
-    let mut input = input;
     if job.options.checks {
         if has_none(names) {
             return check_list(job, INPUT, input, out, err);
@@ -233,6 +237,7 @@ where
         return check_lists(job, names, out, err);
     }
     if has_none(names) {
+        let mut input = job.progress.watch(input);
         return hash_input(job.alloc, job.options, INPUT, &mut input, out, err);
     }
     hash_names(job, names, out, err)
@@ -244,8 +249,8 @@ fn has_none(names: &[Vec<u8>]) -> bool
     names.is_empty()
 }
 
-/// Reports why the program stops, and returns the exit status: 0 where all went well, and else 1.
-pub fn conclude<E: Sink>(done: Result<bool, Stop>, err: &mut E) -> u8
+// Reports why the program stops, and returns the exit status: 0 if all went well, otherwise 1.
+fn conclude<E: Sink>(done: Result<bool, Stop>, err: &mut E) -> u8
     ensures status { result ≡ status_of done }
     ensures tells { TellsOn E.Sink (end_text done) err.old err.new }
 {
@@ -259,7 +264,29 @@ pub fn conclude<E: Sink>(done: Result<bool, Stop>, err: &mut E) -> u8
     }
 }
 
-// The message of why the program stops.
+/// Ends a run: writes the bytes that the output holds, and then reports why the run stops, if it does. Returns the exit
+/// status.
+pub fn end<W: Output, E: Sink>(done: Result<bool, Stop>, out: &mut W, err: &mut E) -> u8
+    ensures { (ended : Result Bool Stop)
+        × Finishes W.Sink W.held W.has_lost done out.old out.new ended
+        × TellsOn E.Sink (end_text ended) err.old err.new × (result ≡ status_of ended) }
+{
+    let ended = finish(done, out);
+    conclude_after(ended, out, err)
+}
+
+// Reports why the run stops, after the output `out`, and returns the exit status. The caller shows that all printed
+// lines are written, or were lost.
+fn conclude_after<W: Output, E: Sink>(done: Result<bool, Stop>, out: &W, err: &mut E) -> u8
+    requires { IsWritten W.held W.has_lost out.now }
+    ensures status { result ≡ status_of done }
+    ensures tells { TellsOn E.Sink (end_text done) err.old err.new }
+{
+    let _ = out;
+    conclude(done, err)
+}
+
+// Returns the message for this reason to stop.
 fn line_of(stop: Stop) -> &'static [u8]
     ensures { result.now ≡ stop_text stop }
 {

@@ -1,4 +1,4 @@
-//! How much of a long file was read so far, on standard error where that is a terminal.
+//! Progress of long files, on standard error if it is a terminal.
 
 ghost use Rattle.std.specs.Prelude.{◌≡◌, ◌<◌};
 ghost use Rattle.xxhsum_program.specs.Progress.{Shows, ShowsSometime, begun, bytes_expected, bytes_read, cleared, end_of, is_shown, left_text, progress_line, rate_of, rate_text};
@@ -9,37 +9,37 @@ use crate::tell::{tell, tell_parts};
 use itoa::Buffer;
 use xxh_io::ends::Sink;
 
-// The bytes of a file between two progress lines: 64 MiB.
+// Bytes between two progress lines: 64 MiB.
 const STEP: u64 = 67108864;
 
 const MIB: u64 = 1048576;
 
 const KIB: u64 = 1024;
 
-// An empty line, with the cursor at its beginning: a carriage return, and ECMA-48's EL, which erases from there on.
+// Clears the line: a carriage return, and ECMA-48's EL, which erases from there on.
 const CLEARED: &[u8] = b"\r\x1b[K";
 
-// DECAWM of the VT100, off: what doesn't fit into the terminal's width overwrites the last column, so that a line stays
-// one line, however narrow the terminal is.
+// Switches DECAWM of the VT100 off: text beyond the terminal's width overwrites the last column, so the line stays one
+// row.
 const ONE_ROW: &[u8] = b"\x1b[?7l";
 
-// DECAWM on again, and the cursor at the line's beginning.
+// Switches DECAWM on again, and returns the cursor to the line's beginning.
 const ENDED: &[u8] = b"\x1b[?7h\r";
 
-/// Counts the bytes read of a file, and shows them at each 64 MiB, with the rate and, where the size is known, the time
-/// left. Where it is off it shows nothing.
+/// Counts the bytes read from a file. At each 64 MiB it shows the count, the rate and, if the size is known, the time
+/// left. If it is off it shows nothing.
 #[derive(Drop)]
 pub struct Meter<E> {
     end: E,
     is_on: bool,
     count: u64,
     size: Option<u64>,
-    // The time of the first read (ms).
+    // Time before the first read (ms).
     started: u64,
 }
 
 impl<E: Sink> Meter<E> {
-    /// The meter of a file of `size` bytes, if that is known, of which nothing is read at time `started` (ms).
+    /// Returns a meter for a file of `size` bytes, if known, whose reading starts at time `started` (ms).
     pub fn new(end: E, is_on: bool, size: Option<u64>, started: u64) -> Meter<E>
         ensures end { end_of result ≡ end }
         ensures shown { is_shown result ≡ is_on }
@@ -56,7 +56,7 @@ impl<E: Sink> Meter<E> {
         }
     }
 
-    /// Where it shows the progress line.
+    /// Returns the sink for the progress line.
     pub fn into_end(self) -> E
         ensures { result ≡ end_of self }
     {
@@ -81,7 +81,7 @@ impl<E: Sink> Meter<E> {
     }
 }
 
-impl<E: Sink + Ticks> Meter<E> {
+impl<E: Ticks> Meter<E> {
     /// Adds `count` bytes read by the time of the screen's clock. A count of 0 is the end of the file and clears the
     /// progress line.
     pub fn show(&mut self, count: usize)
@@ -92,19 +92,19 @@ impl<E: Sink + Ticks> Meter<E> {
     }
 }
 
-/// The screen's time (ms), read only where progress is shown.
+/// Returns the screen's time (ms), or 0 if progress is off.
 pub(crate) fn time_of<E: Ticks>(end: &E, is_on: bool) -> u64 {
     if is_on { end.now() } else { 0 }
 }
 
-// The rate in KiB a second, of `count` bytes in `millis` ms.
+// Returns the rate of `count` bytes in `millis` ms, in KiB per second.
 fn rate_of(count: u64, millis: u64) -> u64
     ensures { result ≡ rate_of count millis }
 {
     count / KIB * 1000 / millis.max(1)
 }
 
-// Shows `count` where a multiple of 64 MiB lies above `before`.
+// Shows `count` if a multiple of 64 MiB lies between `before` and it.
 fn show_between<E: Sink>(before: u64, count: u64, size: Option<u64>, millis: u64, end: &mut E)
     ensures { TellsOn E.Sink (progress_line size millis before count) end.old end.new }
 {
@@ -128,7 +128,7 @@ fn show_rate<E: Sink>(count: u64, rate: u64, end: &mut E)
     tell_parts(&parts, end);
 }
 
-// Shows the seconds left, where the size is known.
+// Shows the seconds left, if the size is known.
 fn show_left<E: Sink>(size: Option<u64>, count: u64, rate: u64, end: &mut E)
     ensures { TellsOn E.Sink (left_text size count rate) end.old end.new }
 {
@@ -143,7 +143,7 @@ fn show_left<E: Sink>(size: Option<u64>, count: u64, rate: u64, end: &mut E)
     }
 }
 
-// Clears the progress line, where `count` bytes had one.
+// Clears the progress line, if `count` bytes had one.
 fn clear_after<E: Sink>(count: u64, end: &mut E)
     ensures { TellsOn E.Sink (cleared count) end.old end.new }
 {

@@ -1,4 +1,4 @@
-//! Lines on standard output, of which none may be lost.
+//! Lines on standard output. A lost line is an error.
 
 ghost use Rattle.std.specs.Prelude.{◌≡◌, ◌++◌, [], false, Bool, Result, IfOk, IfErr};
 ghost use Rattle.xxhsum_program.specs.Prelude.{Took, one_line};
@@ -26,7 +26,7 @@ fn put_parts(text: &mut Vec<u8>, parts: &[&[u8]]) -> Result<(), AllocError>
     }
 }
 
-// The parts as one line, whatever names are among them.
+// Returns the parts as one line. Names in them are escaped.
 pub(crate) fn line_of(alloc: Global, parts: &[&[u8]]) -> Result<Vec<u8>, AllocError>
     ensures { IfOk result (λ line. line.items ≡ one_line (joined parts.now)) }
 {
@@ -47,7 +47,11 @@ pub(crate) fn say_line<W: Sink>(alloc: Global, parts: &[&[u8]], out: &mut W) -> 
     print(&line, out)
 }
 
-/// Writes the bytes. `Stop::WriteFailed` where a write fails.
+/// Writes the bytes.
+///
+/// # Errors
+///
+/// [`Stop::WriteFailed`] if a write fails.
 pub fn print<W: Sink>(bytes: &[u8], out: &mut W) -> Result<(), Stop>
     requires { W.has_failed out.old ≡ false }
     ensures prints { PrintsLine W.Sink bytes.now out.old out.new result }
@@ -60,7 +64,7 @@ pub fn print<W: Sink>(bytes: &[u8], out: &mut W) -> Result<(), Stop>
     }
 }
 
-// Writes what the output holds, before a message.
+// Writes the bytes that the output holds. Called before a message.
 pub(crate) fn release<W: Output>(out: &mut W)
     requires { W.has_failed out.old ≡ false }
     ensures prints { Took W.Sink [] out.old out.new }
@@ -70,8 +74,8 @@ pub(crate) fn release<W: Output>(out: &mut W)
     out.release();
 }
 
-/// Writes what the output holds at the end of a run. Where that fails the run has failed too: it ends with
-/// [`Stop::WriteFailed`], unless it stopped before.
+/// Writes the bytes that the output holds at the end of a run. If that fails, the result is [`Stop::WriteFailed`],
+/// unless the run stopped before.
 pub fn finish<W: Output>(done: Result<bool, Stop>, out: &mut W) -> Result<bool, Stop>
     ensures { Finishes W.Sink W.held W.has_lost done out.old out.new result }
 {

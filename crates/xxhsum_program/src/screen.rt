@@ -7,9 +7,9 @@ use std::io::Write;
 use std::rt::Clock;
 use xxh_io::ends::{Failed, Sink};
 
-/// A clock.
-pub trait Ticks {
-    /// The milliseconds since some start, and 0 where the clock can't be read. No clause says which.
+/// A sink for progress, with a clock.
+pub trait Ticks: Sink + Copy + Drop {
+    /// Returns the milliseconds since some start, or 0 if the clock can't be read. No clause says which.
     fn now(&self) -> u64;
 }
 
@@ -32,7 +32,7 @@ impl<'a, W: Write + Copy, P: Clock> Screen<'a, W, P> {
     }
 }
 
-impl<W: Write + Copy, P: Clock> Ticks for Screen<'_, W, P> {
+impl<W: Write + Copy, P: Clock + Copy> Ticks for Screen<'_, W, P> {
     fn now(&self) -> u64 {
         match self.process.monotonic() {
             Ok(time) => u64::try_from(time.as_millis()).unwrap_or(u64::MAX),

@@ -1,15 +1,15 @@
-//! Why the program stops before it has come to its last name.
+//! The reason why a run stops early.
 
 ghost use Rattle.std.specs.Prelude.{◌≡◌};
 
 use std::alloc::AllocError;
 
-/// Why the program stops before it has come to its last name. A file that can't be read stops nothing.
+/// The reason why a run stops before its last name. An unreadable file is no such reason.
 #[derive(Clone, Copy, Debug, PartialEq, Eq)]
 pub enum Stop {
     /// A write to standard output failed.
     WriteFailed,
-    /// There was no memory.
+    /// Memory ran out.
     OutOfMemory,
 }
 

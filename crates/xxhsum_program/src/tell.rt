@@ -1,26 +1,28 @@
-//! Messages on standard error. One that can't be written stops nothing.
+//! Messages on standard error. A failed write of a message is ignored.
 
 ghost use Rattle.std.specs.Prelude.{◌≡◌};
 ghost use Rattle.xxhsum_line.specs.Escapes.{escaped, mark_of, needs_escape, one_line};
+ghost use Rattle.xxhsum_program.specs.Finish.{IsWritten};
 ghost use Rattle.xxhsum_program.specs.Joined.{joined};
 ghost use Rattle.xxhsum_program.specs.Told.{TellsOn};
 
 use xxh_io::ends::Sink;
 use xxh_io::write::write_all;
 use xxhsum_line::escapes::{escape, needs_escape};
+use xxhsum_output::output::Output;
 
 /// Writes the bytes, unless a write has failed before.
 pub fn tell<E: Sink>(bytes: &[u8], err: &mut E)
     ensures { TellsOn E.Sink bytes.now err.old err.new }
 {
     if !err.failed() {
-        // Standard error has no other place for what it refuses.
+        // There is no other stream for a message that standard error refuses.
         let _ = write_all(bytes, err);
     }
 }
 
-/// Writes the parts as one line, whatever names are among them: escaped as names in lists are, with a backslash before
-/// them where one of them needs it, and with a line feed.
+/// Writes the parts as one line, with a line feed. Bytes are escaped as in names of lists, with a backslash at the
+/// front if one is.
 pub fn tell_line<E: Sink>(parts: &[&[u8]], err: &mut E)
     ensures { TellsOn E.Sink (one_line (joined parts.now)) err.old err.new }
 {
@@ -29,7 +31,19 @@ pub fn tell_line<E: Sink>(parts: &[&[u8]], err: &mut E)
     tell(b"\n", err);
 }
 
-// Writes a backslash where one of the parts has a byte that is escaped.
+/// Writes the parts as one line, as [`tell_line`] does, after the output `out`.
+///
+/// The caller shows that all printed lines are written, or were lost. So a message never appears before output that was
+/// printed before it.
+pub fn tell_line_after<W: Output, E: Sink>(parts: &[&[u8]], out: &W, err: &mut E)
+    requires { IsWritten W.held W.has_lost out.now }
+    ensures { TellsOn E.Sink (one_line (joined parts.now)) err.old err.new }
+{
+    let _ = out;
+    tell_line(parts, err);
+}
+
+// Writes a backslash if one of the parts has a byte that is escaped.
 fn tell_mark<E: Sink>(parts: &[&[u8]], err: &mut E)
     ensures { TellsOn E.Sink (mark_of (joined parts.now)) err.old err.new }
 {
@@ -38,7 +52,7 @@ fn tell_mark<E: Sink>(parts: &[&[u8]], err: &mut E)
     }
 }
 
-// Whether one of the parts has a byte that is escaped.
+// True if one of the parts has a byte that is escaped.
 fn need_escape(parts: &[&[u8]]) -> bool
     ensures { result ≡ needs_escape (joined parts.now) }
 {
@@ -57,7 +71,7 @@ fn tell_escaped_parts<E: Sink>(parts: &[&[u8]], err: &mut E)
     }
 }
 
-// Writes a text as it stands where none of its bytes is escaped, and else byte by byte.
+// Writes a text, escaped byte by byte if one of its bytes needs that.
 fn tell_escaped<E: Sink>(text: &[u8], err: &mut E)
     ensures { TellsOn E.Sink (escaped text.now) err.old err.new }
 {

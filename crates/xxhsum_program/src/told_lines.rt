@@ -1,10 +1,9 @@
-//! A law: each message with a name is one line.
+//! Lemma: each message with a name is one line.
 
 ghost use Rattle.xxhsum_program.specs.ToldLines.{FindingsAreSaidInLines, ListsAreToldInLines, NamesAreToldInLines};
 
-/// A law, with nothing to run: what is printed or reported of a name, of a line of a list or of a list is one line,
-/// whatever bytes the names have. So nobody who writes a list or names a file can forge a line, as one that says that
-/// another file is `OK`.
+/// Lemma: each line or message about a name, a line of a list or a list is one line, whatever bytes the names have. So
+/// a crafted name or list can't forge a line, for example one that reports another file as `OK`.
 pub fn laws_of_told_lines()
     ensures names { NamesAreToldInLines }
     ensures findings { FindingsAreSaidInLines }

@@ -1,40 +1,64 @@
-//! Sources and stores whose reads are shown, and which give just what they give without.
+//! Sources whose reads are shown as progress. A watched source returns the same bytes as the source itself.
 
-ghost use Rattle.std.specs.Prelude.{◌≡◌, ◌<◌, ◌≤◌, false, List, ℕ, Bool, Option, Result, length, take, is_err, IfOk, OnErr};
-ghost use Rattle.xxhsum_program.specs.Prelude.{Kind, Options, Outcome, Pieces, Stop, Watched, WatchedFiles};
+ghost use Rattle.std.specs.Prelude.{◌≡◌, ◌≢◌, ◌<◌, ◌≤◌, false, List, ℕ, length, take, is_err, Err, IfErr, IfOk, OnErr};
+ghost use Rattle.std.specs.List.{concat};
+ghost use Rattle.xxh_io.specs.Digest.{ReadsTo};
+ghost use Rattle.xxh_program.specs.Kind.{value_of};
+ghost use Rattle.xxh_program.specs.States.{most_reads};
 ghost use Rattle.xxhsum_program.specs.Progress.{bytes_expected, bytes_read, is_shown};
-ghost use Rattle.xxhsum_program.specs.Watched.{IsFresh, ShowsRead, files_of, meter_of, shows_reads, source_of};
-ghost use Rattle.xxhsum_program.specs.CheckList.{ChecksLists, FindsLines, ListOutcome};
-ghost use Rattle.xxhsum_program.specs.Findings.{Finding, IsFinding};
-ghost use Rattle.xxhsum_program.specs.ListEnd.{ListEnd};
-ghost use Rattle.xxhsum_program.specs.HashNames.{HashesNames};
+ghost use Rattle.xxhsum_program.specs.Task.{shows_progress};
+ghost use Rattle.xxhsum_program.specs.Watched.{IsFresh, ShowsRead, meter_of, shows_reads, source_of};
 
+use crate::process::{Terminals, shows_progress};
 use crate::progress::{Meter, time_of};
 use crate::screen::Ticks;
-use std::alloc::Global;
-use xxh_io::ends::{Failed, Sink, Source};
-use xxhsum_files::folders::{FolderError, Folders, PathKind};
+use xxh_io::ends::{Failed, Source};
+use xxh_io::error::DigestError;
+use xxh_io::kind::Kind;
+use xxh_program::program::value_of_source;
 use xxhsum_files::refusal::Refusal;
 use xxhsum_files::store::Store;
+use xxhsum_words::options::Options;
 
-/// A source whose reads a meter shows. It gives just what its source gives.
+// The maximum number of reads of a file.
+const MAX_READS: u64 = u64::MAX;
+
+/// A source whose reads a meter shows. It returns the same bytes as its source.
 #[derive(Drop)]
-pub struct Watched<R, E> {
+pub struct Watched<R, T> {
     source: R,
-    meter: Meter<E>,
+    meter: Meter<T>,
 }
 
-impl<R: Source, E: Sink> Watched<R, E> {
-    /// This source, watched by this meter.
-    pub fn new(source: R, meter: Meter<E>) -> Watched<R, E>
+impl<R: Source, T: Ticks> Watched<R, T> {
+    /// Returns this source, watched by this meter.
+    pub fn new(source: R, meter: Meter<T>) -> Watched<R, T>
         ensures source { source_of result ≡ source }
         ensures meter { meter_of result ≡ meter }
     {
         Watched { source, meter }
     }
+
+    /// Reads the source to its end and returns the hash of the bytes. Each read is offered the whole of `buf`.
+    ///
+    /// The caller shows that the source has not failed.
+    ///
+    /// # Errors
+    ///
+    /// [`DigestError::ReadFailed`] if a read fails, and [`DigestError::TooLong`] if 2^64 - 1 reads don't reach the end.
+    pub(crate) fn value(&mut self, kind: Kind, buf: &mut [u8]) -> Result<u128, DigestError>
+        requires reader { R.has_failed (source_of self.old) ≡ false }
+        requires room { 0 < length buf.old }
+        ensures value { (pieces : List (List ℕ))
+            × ReadsTo R.Source most_reads pieces (source_of self.old) (source_of self.new) result
+            × IfOk result (λ value. value ≡ value_of kind 0 (concat pieces)) }
+        ensures never_writes { result ≢ Err DigestError.WriteFailed }
+    {
+        value_of_source(kind, 0, MAX_READS, self, buf)
+    }
 }
 
-impl<R: Source, E: Sink + Ticks> Source for Watched<R, E> {
+impl<R: Source, T: Ticks> Source for Watched<R, T> {
     ghost has_failed = { λ watched. R.has_failed (source_of watched) };
 
     ghost gives = { λ old piece new. R.gives (source_of old) piece (source_of new) };
@@ -53,7 +77,7 @@ impl<R: Source, E: Sink + Ticks> Source for Watched<R, E> {
             (λ n. R.gives (source_of self.old) (take n buf.new) (source_of self.new)) }
         ensures fails { OnErr result (R.fails (source_of self.old) (source_of self.new)) }
         ensures failed { R.has_failed (source_of self.new) ≡ is_err result }
-        ensures shows { ShowsRead E.Sink (meter_of self.old) (meter_of self.new) result }
+        ensures shows { ShowsRead T.Sink (meter_of self.old) (meter_of self.new) result }
     {
         let found = self.source.read(buf);
         match found {
@@ -64,31 +88,26 @@ impl<R: Source, E: Sink + Ticks> Source for Watched<R, E> {
     }
 }
 
-/// The files of a store, each watched by a meter of its own on one screen.
+/// Where the progress of reads is shown, or that it isn't.
 #[derive(Clone, Copy)]
-pub struct WatchedFiles<'a, S, W> {
-    files: &'a S,
-    screen: W,
+pub struct ProgressDisplay<T> {
+    screen: T,
     is_on: bool,
 }
 
-impl<'a, S: Store, W: Sink + Ticks + Copy + Drop> WatchedFiles<'a, S, W> {
-    /// The files of this store. Where it is off, nothing is shown.
-    pub fn new(files: &'a S, screen: W, is_on: bool) -> WatchedFiles<'a, S, W>
-        ensures files { files_of result ≡ files.now }
-        ensures shown { shows_reads result ≡ is_on }
+impl<T: Ticks> ProgressDisplay<T> {
+    /// Returns a display on `screen`. It is on if [`shows_progress`] returns true.
+    pub fn new(screen: T, terminals: Terminals, options: Options) -> ProgressDisplay<T>
+        ensures shown { shows_reads result ≡ shows_progress terminals options }
     {
-        WatchedFiles {
-            files,
+        ProgressDisplay {
             screen,
-            is_on,
+            is_on: shows_progress(terminals, options),
         }
     }
-}
 
-impl<S: Store, W: Sink + Ticks + Copy + Drop> WatchedFiles<'_, S, W> {
-    /// This source, watched as the files are. Its size is not known.
-    pub fn watch<R: Source>(&self, source: R) -> Watched<R, W>
+    /// Returns this source, watched. Its size is not known.
+    pub fn watch<R: Source>(&self, source: R) -> Watched<R, T>
         ensures source { source_of result ≡ source }
         ensures shown { is_shown (meter_of result) ≡ shows_reads self.now }
         ensures unread { bytes_read (meter_of result) ≡ 0 }
@@ -98,99 +117,30 @@ impl<S: Store, W: Sink + Ticks + Copy + Drop> WatchedFiles<'_, S, W> {
         Watched::new(source, Meter::new(self.screen, self.is_on, None, started))
     }
 
-    // A meter for the file of this name.
-    fn meter_of(&self, name: &[u8]) -> Meter<W>
-        ensures { IsFresh S.Store self.now name.now result }
+    /// Opens the file of this name, watched. Its expected size is the store's.
+    ///
+    /// # Errors
+    ///
+    /// The store's reason if it doesn't open the file.
+    pub fn open<S: Store>(&self, store: &S, name: &[u8]) -> Result<Watched<S::File, T>, Refusal>
+        ensures opens { IfOk result (λ file. S.opens store.now name.now (source_of file)) }
+        ensures fresh { IfOk result
+            (λ file. IsFresh S.Store store.now self.now name.now (meter_of file)) }
+        ensures works { IfOk result (λ file. S.File.has_failed (source_of file) ≡ false) }
+        ensures refuses { IfErr result (λ why. S.refuses store.now name.now why) }
     {
-        let size = if self.is_on {
-            self.files.size(name)
-        } else {
-            None
-        };
+        match store.open(name) {
+            Ok(file) => { Ok(Watched::new(file, self.meter_of(store, name))) }
+            Err(refusal) => Err(refusal),
+        }
+    }
+
+    // Returns a meter for the file of this name.
+    fn meter_of<S: Store>(&self, store: &S, name: &[u8]) -> Meter<T>
+        ensures { IsFresh S.Store store.now self.now name.now result }
+    {
+        let size = if self.is_on { store.size(name) } else { None };
         let started = time_of(&self.screen, self.is_on);
         Meter::new(self.screen, self.is_on, size, started)
     }
 }
-
-impl<S: Store, W: Sink + Ticks + Copy + Drop> Store for WatchedFiles<'_, S, W> {
-    type File = Watched<S::File, W>;
-
-    ghost opens = { λ files name file. S.opens (files_of files) name (source_of file)
-        × IsFresh S.Store files name (meter_of file) };
-
-    ghost refuses = { λ files name why. S.refuses (files_of files) name why };
-
-    ghost holds_directory = { λ files name answer. S.holds_directory (files_of files) name answer };
-
-    ghost sizes = { λ files name size. S.sizes (files_of files) name size };
-
-    fn is_directory(&self, name: &[u8]) -> bool {
-        self.files.is_directory(name)
-    }
-
-    fn size(&self, name: &[u8]) -> Option<u64> {
-        self.files.size(name)
-    }
-
-    fn open(&self, name: &[u8]) -> Result<Watched<S::File, W>, Refusal> {
-        match self.files.open(name) {
-            Ok(file) => { Ok(Watched::new(file, self.meter_of(name))) }
-            Err(refusal) => Err(refusal),
-        }
-    }
-}
-
-impl<S: Folders, W> Folders for WatchedFiles<'_, S, W> {
-    ghost holds = { λ files folder names. S.holds (files_of files) folder names };
-
-    ghost closes = { λ files folder why. S.closes (files_of files) folder why };
-
-    ghost leads = { λ files name kind. S.leads (files_of files) name kind };
-
-    fn kind_of(&self, name: &[u8]) -> PathKind {
-        self.files.kind_of(name)
-    }
-
-    fn names_in(&self, alloc: Global, folder: &[u8]) -> Result<Vec<Vec<u8>>, FolderError> {
-        self.files.names_in(alloc, folder)
-    }
-}
-
-/// A law, with nothing to run: the pieces that a watched source gives are those of its source.
-pub fn watched_pieces<R: Source, E: Sink + Ticks>()
-    ensures { (old new : Watched R E) (pieces : List (List ℕ))
-        → Pieces ⟦<Watched<R, E> as Source>⟧.gives old pieces new
-        → Pieces R.gives (source_of old) pieces (source_of new) }
-{}
-
-/// A law, with nothing to run: the outcomes of a hashing run over watched files are those of the files.
-pub fn watched_names<S: Store, W: Sink + Ticks + Copy + Drop>()
-    ensures { (files : WatchedFiles S W) (kind : Kind) (names done rest : List (List ℕ))
-        → (outcomes : List Outcome) → (result : Result Bool Stop)
-        → HashesNames ⟦<WatchedFiles<'static, S, W> as Store>⟧
-        ⟦<Watched<S::File, W> as Source>⟧ files kind names done rest outcomes result
-        → HashesNames S.Store S.File.Source (files_of files) kind names done rest outcomes result }
-{}
-
-/// A law, with nothing to run: the findings of a watched list over watched files are those of the list and the files.
-pub fn watched_list<S: Store, W: Sink + Ticks + Copy + Drop, R: Source, E: Sink + Ticks>()
-    ensures { (files : WatchedFiles S W) (list : Watched R E) (is_little : Bool)
-        → (findings : List Finding) (end : Option ListEnd)
-        → FindsLines (IsFinding ⟦<WatchedFiles<'static, S, W> as Store>⟧
-        ⟦<Watched<S::File, W> as Source>⟧ files is_little)
-        ⟦<Watched<R, E> as Source>⟧ list findings end
-        → FindsLines (IsFinding S.Store S.File.Source (files_of files) is_little)
-        R.Source (source_of list) findings end }
-{}
-
-/// A law, with nothing to run: the outcomes of checks of watched lists are those of the lists.
-pub fn watched_lists<S: Store, W: Sink + Ticks + Copy + Drop>()
-    ensures { (files : WatchedFiles S W) (is_little : Bool) (options : Options)
-        → (names done rest : List (List ℕ)) (outcomes : List ListOutcome)
-        → (result : Result Bool Stop)
-        → ChecksLists ⟦<WatchedFiles<'static, S, W> as Store>⟧
-        ⟦<Watched<S::File, W> as Source>⟧
-        files is_little options names done rest outcomes result
-        → ChecksLists S.Store S.File.Source (files_of files) is_little options names done rest
-        outcomes result }
-{}

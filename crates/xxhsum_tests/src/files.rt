@@ -9,9 +9,12 @@ use xxhsum_files::refusal::Refusal;
 use xxhsum_files::store::Store;
 use xxhsum_files::system::SystemFiles;
 
-// Returns the result of the first read of the file of this name, or a word if there is none.
-fn first_read<'a, S: Store>(store: &S, name: &[u8], room: &'a mut [u8; 16]) -> &'a [u8] {
-    let Ok(mut file) = store.open(name) else {
+// Returns the result of the first read of an opened file, or a word if it isn't open.
+pub(crate) fn first_read<R: Source + Drop>(
+    opened: Result<R, Refusal>,
+    room: &mut [u8; 16],
+) -> &[u8] {
+    let Ok(mut file) = opened else {
         return b"refused";
     };
     if file.failed() {
@@ -25,9 +28,10 @@ fn first_read<'a, S: Store>(store: &S, name: &[u8], room: &'a mut [u8; 16]) -> &
 
 // True if each name has its case's result: the first read of its file, or a word if there is none; and whether it is a
 // directory.
-pub(crate) fn leads_to<S: Store>(store: &S, rows: &[(&[u8], &[u8], bool)]) -> bool {
+fn leads_to<S: Store>(store: &S, rows: &[(&[u8], &[u8], bool)]) -> bool {
     rows.iter().all(|(name, want, is_directory)| {
-        first_read(store, name, &mut [0; 16]) == *want && store.is_directory(name) == *is_directory
+        first_read(store.open(name), &mut [0; 16]) == *want
+            && store.is_directory(name) == *is_directory
     })
 }
 
@@ -62,7 +66,9 @@ fn a_slice_is_given_whole(rt: HostRuntime) {
         source: SliceSource::new(b"hello"),
         is_directory: false,
     }];
-    assert!(rt; first_read(&MemoryFiles::new(&entries), b"a", &mut [0; 16]) == b"hello".as_slice());
+    assert!(rt;
+        first_read(MemoryFiles::new(&entries).open(b"a"), &mut [0; 16]) == b"hello".as_slice()
+    );
 }
 
 // A missing file is refused, as the system would.

@@ -9,7 +9,10 @@ use xxhsum_files::memory::{MemoryEntry, MemoryFiles};
 use xxhsum_program::check::{check_list, check_lists};
 use xxhsum_program::hash::{hash_input, hash_names};
 use xxhsum_program::job::Job;
+use xxhsum_program::process::Terminals;
+use xxhsum_program::screen::Screen;
 use xxhsum_program::stop::Stop;
+use xxhsum_program::watched::ProgressDisplay;
 use xxhsum_words::options::{Asked, Options, asked_by};
 
 const LIST: &[u8] =
@@ -22,6 +25,11 @@ const CHECKED: &[u8] =
 // The message for the file whose second read fails, as in docs/XXHSUM.md.
 const BAD: &[u8] = b"Error: Could not read 'bad': a failure occurred reading the input file. \n";
 
+const NO_TERMINAL: Terminals = Terminals {
+    input: false,
+    errors: false,
+};
+
 // The files a and b, the folder d, a file whose second read fails, and a list.
 fn entries<'a>() -> [MemoryEntry<'a, ScriptSource<'a>>; 5] {
     [
@@ -33,7 +41,7 @@ fn entries<'a>() -> [MemoryEntry<'a, ScriptSource<'a>>; 5] {
     ]
 }
 
-fn names(alloc: Global, all: &[&[u8]]) -> Result<Vec<Vec<u8>>, AllocError> {
+pub(crate) fn names(alloc: Global, all: &[&[u8]]) -> Result<Vec<Vec<u8>>, AllocError> {
     let mut names = Vec::new(alloc);
     for name in all {
         names.push(name.to_vec(alloc)?)?;
@@ -41,7 +49,7 @@ fn names(alloc: Global, all: &[&[u8]]) -> Result<Vec<Vec<u8>>, AllocError> {
     Ok(names)
 }
 
-fn options(kind: Kind, words: &[Vec<u8>]) -> Result<Options, AllocError> {
+pub(crate) fn options(kind: Kind, words: &[Vec<u8>]) -> Result<Options, AllocError> {
     match asked_by(kind, words) {
         Asked::Run { options, .. } => Ok(options),
         _ => Err(AllocError),
@@ -68,6 +76,7 @@ fn each_name_has_its_line(rt: HostRuntime) -> Result<(), AllocError> {
             alloc: rt.alloc(),
             store: &files,
             options,
+            progress: ProgressDisplay::new(Screen::new(rt.stderr(), &rt), NO_TERMINAL, options),
         };
         let all = hash_names(&job, &names, &mut out, &mut err);
         assert!(rt; all == Ok(false));
@@ -98,6 +107,7 @@ fn a_failed_write_alone_stops_the_run(rt: HostRuntime) -> Result<(), AllocError>
             alloc: rt.alloc(),
             store: &files,
             options,
+            progress: ProgressDisplay::new(Screen::new(rt.stderr(), &rt), NO_TERMINAL, options),
         };
         let all = hash_names(&job, &names, &mut out, &mut err);
         assert!(rt; all == answer);
@@ -120,7 +130,8 @@ fn standard_input_has_its_line(rt: HostRuntime) -> Result<(), AllocError> {
             b"Error: a failure occurred reading the input file.\n",
         ),
     ] {
-        let mut input = ScriptSource::new(b"hello", &[1, 9], read_fails);
+        let progress = ProgressDisplay::new(Screen::new(rt.stderr(), &rt), NO_TERMINAL, options);
+        let mut input = progress.watch(ScriptSource::new(b"hello", &[1, 9], read_fails));
         let mut out = ScriptSink::<99>::new(99, 0);
         let mut err = ScriptSink::<99>::new(99, 0);
         let all = hash_input(
@@ -147,6 +158,7 @@ fn a_list_is_checked(rt: HostRuntime) -> Result<(), AllocError> {
         alloc: rt.alloc(),
         store: &files,
         options,
+        progress: ProgressDisplay::new(Screen::new(rt.stderr(), &rt), NO_TERMINAL, options),
     };
     let mut out = ScriptSink::<300>::new(300, 0);
     let mut err = ScriptSink::<99>::new(99, 0);

@@ -2,13 +2,17 @@
 //! 64 MiB, with the MiB so far, MiB per second, and seconds left.
 
 use crate::entry::entry;
-use crate::files::leads_to;
+use crate::files::first_read;
+use crate::program::{names, options};
+use std::alloc::AllocError;
+use xxh_io::kind::Kind;
 use xxh_io::script_sink::ScriptSink;
 use xxh_io::script_source::ScriptSource;
 use xxhsum_files::memory::MemoryFiles;
+use xxhsum_program::process::Terminals;
 use xxhsum_program::progress::Meter;
 use xxhsum_program::screen::Screen;
-use xxhsum_program::watched::WatchedFiles;
+use xxhsum_program::watched::ProgressDisplay;
 
 const MIB: usize = 1048576;
 
@@ -54,22 +58,26 @@ fn long_reads_are_shown(rt: HostRuntime) {
     }
 }
 
-// Files whose progress is shown have the same bytes.
+// A file whose progress is shown has the same bytes.
 #[test]
-fn watched_files_give_what_they_have(rt: HostRuntime) {
+fn watched_files_give_what_they_have(rt: HostRuntime) -> Result<(), AllocError> {
     let entries = [
         entry(b"a", ScriptSource::new(b"hello", &[3, 16], 0), false),
         entry(b"d", ScriptSource::new(b"", &[], 1), true),
     ];
     let files = MemoryFiles::new(&entries);
-    assert!(rt;
-        leads_to(
-            &WatchedFiles::new(&files, Screen::new(rt.stderr(), &rt), true),
-            &[
-                (b"a", b"hel", false),
-                (b"d", b"fails", true),
-                (b"gone", b"refused", false),
-            ]
-        )
-    );
+    let terminals = Terminals {
+        input: false,
+        errors: true,
+    };
+    let options = options(Kind::X64, &names(rt.alloc(), &[])?)?;
+    let progress = ProgressDisplay::new(Screen::new(rt.stderr(), &rt), terminals, options);
+    for (name, want) in [
+        (b"a".as_slice(), b"hel".as_slice()),
+        (b"d", b"fails"),
+        (b"gone", b"refused"),
+    ] {
+        assert!(rt; first_read(progress.open(&files, name), &mut [0; 16]) == want);
+    }
+    Ok(())
 }

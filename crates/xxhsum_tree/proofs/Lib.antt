@@ -6,4 +6,4 @@ mod ReportFacts
 mod RowFacts
 mod SaidFacts
 mod VisitFacts
-mod WatchedRunFacts
+mod WatchedTextFacts

@@ -4,5 +4,3 @@ pub use Rattle.xxhsum_program.specs.declared.outcome.Outcome.{Outcome}
 pub use Rattle.xxhsum_program.specs.declared.outcome.Outcome.TheVariants.{Digested, IsDirectory, Unread}
 pub use Rattle.xxhsum_program.specs.declared.stop.Stop.{Stop}
 pub use Rattle.xxhsum_program.specs.declared.stop.Stop.TheVariants.{OutOfMemory, WriteFailed}
-pub use Rattle.xxhsum_program.specs.declared.watched.Watched.{Watched}
-pub use Rattle.xxhsum_program.specs.declared.watched.WatchedFiles.{WatchedFiles}

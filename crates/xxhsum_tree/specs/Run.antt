@@ -1,12 +1,10 @@
 -- What the program does with its arguments, which may ask for a tree.
 use Rattle.std.specs.Prelude.{◌≡◌, ℕ, Bool, true, false, ◌&&◌, ◌⊎◌, List, [], ◌∷◌, Option, Some, None, codes, drop, MatchBool, Result, Ok, Err}
-use Rattle.xxhsum_tree.specs.Prelude.{FolderRules, Options, OutOfMemory, SinkRules, SourceRules, Stop, StoreRules, Watched, WatchedFiles}
+use Rattle.xxhsum_tree.specs.Prelude.{FolderRules, Options, OutOfMemory, SinkRules, SourceRules, Stop, StoreRules}
 use Rattle.xxhsum_program.specs.declared.process.Terminals.{Terminals}
 use Rattle.xxhsum_program.specs.HashNames.{SaysNames}
-use Rattle.xxhsum_program.specs.Progress.{is_shown}
 use Rattle.xxhsum_program.specs.Run.{DoesTask, PerformsAs, style_of}
 use Rattle.xxhsum_program.specs.Task.{IsProgram, has_none, task_of}
-use Rattle.xxhsum_program.specs.Watched.{files_of, meter_of, shows_reads, source_of, watched_folders, watched_opening, watched_reading}
 use Rattle.xxhsum_tree.specs.Audits.{Audits}
 use Rattle.xxhsum_tree.specs.Finds.{GoesOn, OnlyTells}
 use Rattle.xxhsum_tree.specs.Names.{ListNames, ListNone, end_of}
@@ -82,19 +80,8 @@ PerformsWords opening folders reading input_reading writing telling store input 
     (PerformsAs opening reading input_reading writing telling store options words input w_old w_new e_old e_new result
     options.checks (has_none words))))
 
--- what a run does over files and an input that are watched, whose reads are shown on a screen T or not
-unfoldable pub PerformsWatched : {S F R W E : Type 0} → (T : Type 0) → StoreRules S F → FolderRules S → SourceRules F
-    → SourceRules R → SinkRules W → SinkRules E → S → R → W → W → E → E → Result Bool Stop → Options → List (List ℕ) → Bool
-    → Type 0
-PerformsWatched {S} {F} {R} T opening folders reading input_reading writing telling store input w_old w_new e_old e_new result
-    options words shows =
-    (files : WatchedFiles S T) × (source : Watched R T) × (files_of files ≡ store)
-    × (shows_reads files ≡ shows) × (source_of source ≡ input) × (is_shown (meter_of source) ≡ shows)
-    × PerformsWords {F = Watched F T} (watched_opening opening) (watched_folders folders) (watched_reading reading)
-    (watched_reading input_reading) writing telling files source w_old w_new e_old e_new result options words
-
 -- the task of the arguments is done; or there was no memory for them, and nothing is
-abbrev pub DoesArguments : {W E : Type 0} → (Options → List (List ℕ) → Bool → Type 0) → SinkRules E → Terminals
+abbrev pub DoesArguments : {W E : Type 0} → (Options → List (List ℕ) → Type 0) → SinkRules E → Terminals
     → Option (List (List ℕ)) → W → W → E → E → Result Bool Stop → Type 0
 DoesArguments performs telling terminals None w_old w_new e_old e_new result =
     (result ≡ Err OutOfMemory) × (w_new ≡ w_old) × (e_new ≡ e_old)

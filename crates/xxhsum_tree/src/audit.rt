@@ -1,4 +1,4 @@
-//! The audit of names against a list of digests.
+//! Audits names against a list of digests.
 
 ghost use Rattle.std.specs.Prelude.{◌≡◌, false, IfOk, map};
 ghost use Rattle.xxhsum_audit.specs.Item.{items_of, texts_of};
@@ -21,20 +21,23 @@ use xxhsum_audit::order::{clash_in, names_of, put_lines_in_order, put_names_in_o
 use xxhsum_files::store::Store;
 use xxhsum_line::entry::Entry;
 use xxhsum_program::job::Job;
+use xxhsum_program::screen::Ticks;
 use xxhsum_program::stop::Stop;
 use xxhsum_program::tell::tell_line;
 
-/// Compares the names with the lines of the list of this name, and prints a verdict on each. Returns whether all
-/// are the same. A list that can't be read, a malformed line, and a duplicate line or name are reported,
-/// and then nothing is printed. Why a name has no digest is reported, and its line is left out.
+/// Compares the names with the lines of the list of this name, and prints a verdict on each. Returns whether all are
+/// the same.
+///
+/// A list that can't be read, a malformed line, and a duplicate line or name are reported, and then nothing is printed.
+/// A name without a digest is reported, and its line is left out.
 ///
 /// The caller shows that no write to the output has failed before.
 ///
 /// # Errors
 ///
-/// [`Stop::WriteFailed`] where a write to standard output fails, and [`Stop::OutOfMemory`] where memory runs out.
-pub fn audit_names<S: Store, W: Sink, E: Sink>(
-    job: &Job<'_, S>,
+/// [`Stop::WriteFailed`] if a write to standard output fails, and [`Stop::OutOfMemory`] if memory runs out.
+pub fn audit_names<S: Store, T: Ticks, W: Sink, E: Sink>(
+    job: &Job<'_, S, T>,
     list: &[u8],
     names: &[Vec<u8>],
     out: &mut W,
@@ -44,16 +47,15 @@ pub fn audit_names<S: Store, W: Sink, E: Sink>(
     ensures { Audits S.Store S.File.Source W.Sink E.Sink job.now.store.now job.now.options list.now
         (map (λ name. name.items) names.now) out.old out.new err.old err.new result }
 {
-    let is_little = job.options.is_little_endian;
-    let Some(said) = said_named(job.alloc, job.store, is_little, list, err)? else {
+    let Some(said) = said_named(job, list, err)? else {
         return Ok(false);
     };
     audit_lines(job, list, &said, names, out, err)
 }
 
-// Compares the names with what the lines of a list state.
-fn audit_lines<S: Store, W: Sink, E: Sink>(
-    job: &Job<'_, S>,
+// Compares the names with the entries of a list.
+fn audit_lines<S: Store, T: Ticks, W: Sink, E: Sink>(
+    job: &Job<'_, S, T>,
     list: &[u8],
     said: &[Entry],
     names: &[Vec<u8>],
@@ -77,7 +79,7 @@ fn audit_lines<S: Store, W: Sink, E: Sink>(
     audit_sides(job, &lines, &asked, out, err)
 }
 
-// What the lines say, in the order of the names.
+// Returns the entries, ordered by name.
 fn lines_in_order(alloc: Global, said: &[Entry]) -> Result<Vec<FileDigest<'_>>, AllocError>
     ensures { IfOk result
         (λ lines. IsOrder rank_lines (map said_by said.now) (items_of lines.items)) }
@@ -87,7 +89,7 @@ fn lines_in_order(alloc: Global, said: &[Entry]) -> Result<Vec<FileDigest<'_>>, 
     Ok(lines)
 }
 
-// The names, in order.
+// Returns the names, in order.
 fn names_in_order(alloc: Global, names: &[Vec<u8>]) -> Result<Vec<&[u8]>, AllocError>
     ensures { IfOk result (λ asked. IsOrder rank_names (map (λ name. name.items) names.now)
         (texts_of asked.items)) }
@@ -97,7 +99,7 @@ fn names_in_order(alloc: Global, names: &[Vec<u8>]) -> Result<Vec<&[u8]>, AllocE
     Ok(asked)
 }
 
-// What the lines say.
+// Returns the entries as digests.
 fn digests_said(alloc: Global, said: &[Entry]) -> Result<Vec<FileDigest<'_>>, AllocError>
     ensures { IfOk result (λ lines. items_of lines.items ≡ map said_by said.now) }
 {
@@ -122,7 +124,7 @@ fn names_lent(alloc: Global, names: &[Vec<u8>]) -> Result<Vec<&[u8]>, AllocError
     Ok(asked)
 }
 
-// Reports the first name that leads where the next one does, if there is one.
+// Reports the first name that leads to the same place as the next one. Returns whether there is one.
 fn tell_twice<E: Sink>(among: &[u8], names: &[&[u8]], err: &mut E) -> bool
     ensures { TellsTwice E.Sink among.now (clash_in (texts_of names.now)) err.old err.new result }
 {
@@ -142,9 +144,9 @@ fn tell_name<'a, E: Sink>(among: &'a [u8], name: &'a [u8], err: &mut E)
     tell_line(&parts, err);
 }
 
-// Digests the names, in step with the lines, both in order, and gives the verdicts on both.
-fn audit_sides<S: Store, W: Sink, E: Sink>(
-    job: &Job<'_, S>,
+// Hashes the names, merged with the lines, both in order, and prints the verdicts.
+fn audit_sides<S: Store, T: Ticks, W: Sink, E: Sink>(
+    job: &Job<'_, S, T>,
     lines: &[FileDigest<'_>],
     asked: &[&[u8]],
     out: &mut W,
@@ -157,7 +159,7 @@ fn audit_sides<S: Store, W: Sink, E: Sink>(
         (items_of lines.now) (texts_of asked.now) out.old out.new err.old err.new result }
 {
     let kind = kind_of_new(lines, job.options.kind);
-    let compared = digests_of(job.alloc, job.store, kind, lines, asked, err)?;
+    let compared = digests_of(job, kind, lines, asked, err)?;
     let are_all = compared.are_all;
     let found = verdicts(job.alloc, compared)?;
     print_report(job.alloc, job.options, &found, out)?;
@@ -167,7 +169,7 @@ fn audit_sides<S: Store, W: Sink, E: Sink>(
     Ok(are_all)
 }
 
-// The algorithm of a name that no line has: that of the first line in the order of names.
+// Returns the algorithm for names without a line: that of the first line in the order of names.
 fn kind_of_new(lines: &[FileDigest<'_>], without: Kind) -> Kind
     ensures { result ≡ kind_of_new without (items_of lines.now) }
 {
@@ -177,8 +179,8 @@ fn kind_of_new(lines: &[FileDigest<'_>], without: Kind) -> Kind
     }
 }
 
-/// A law, with nothing to run. A good audit means equal files: where `audit_names` returns that all are the same, each line
-/// of the list has a file among the names, whose bytes have the line's value, and each name is that of such a line.
+/// Lemma: a good audit means equal files. If `audit_names` returns true, each line of the list has a file among the
+/// names, whose bytes have the line's value, and each name belongs to such a line.
 pub fn audit_means_equal<S: Store, W: Sink, E: Sink>()
     ensures { AuditMeansEqual S.Store S.File.Source W.Sink E.Sink }
 {}

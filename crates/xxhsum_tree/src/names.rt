@@ -1,4 +1,4 @@
-//! The names that stand in lists of names.
+//! Reads names from lists of names.
 
 ghost use Rattle.std.specs.Prelude.{◌≡◌, ◌∷◌, ◌++◌, [], false, map, IfOk};
 ghost use Rattle.xxhsum_tree.specs.Finds.{Finds};
@@ -9,37 +9,37 @@ use std::alloc::{AllocError, Global};
 use xxh_io::ends::{Sink, Source};
 use xxhsum_audit::parts::cut_at;
 use xxhsum_files::store::Store;
+use xxhsum_program::job::Job;
+use xxhsum_program::screen::Ticks;
 use xxhsum_program::stop::Stop;
 use xxhsum_words::options::NamesFrom;
 
-/// The names that stand in the lists of these names, or in the input where there are none: those of the first list and
-/// then those of the next, in their order there. `None` where a list can't be opened or read, which is reported.
+/// Returns the names in these lists, or in the input if there is no list, in order. Returns `None` if a list can't be
+/// opened or read, which is reported.
 ///
 /// # Errors
 ///
-/// [`Stop::OutOfMemory`] where there is no memory for them.
-pub fn names_listed<S: Store, R: Source + Drop, E: Sink>(
-    alloc: Global,
-    store: &S,
-    names_from: NamesFrom,
+/// [`Stop::OutOfMemory`] if memory runs out.
+pub fn names_listed<S: Store, T: Ticks, R: Source + Drop, E: Sink>(
+    job: &Job<'_, S, T>,
     lists: &[Vec<u8>],
     input: R,
     err: &mut E,
 ) -> Result<Option<Vec<Vec<u8>>>, Stop>
     requires { R.has_failed input ≡ false }
     ensures { let given = map (λ list. list.items) lists.now in Finds result E.Sink
-        (λ names. ListNames S.Store S.File.Source R.Source store.now input (end_of names_from) given
-        (map (λ name. name.items) names.items))
-        (ListNone S.Store S.File.Source R.Source store.now input given) err.old err.new }
+        (λ names. ListNames S.Store S.File.Source R.Source job.now.store.now input
+        (end_of job.now.options.names_from) given (map (λ name. name.items) names.items))
+        (ListNone S.Store S.File.Source R.Source job.now.store.now input given) err.old err.new }
 {
-    let Some(texts) = texts_named(alloc, store, lists, input, err)? else {
+    let Some(texts) = texts_named(job, lists, input, err)? else {
         return Ok(None);
     };
-    let names = names_in(alloc, end_of(names_from), &texts)?;
+    let names = names_in(job.alloc, end_of(job.options.names_from), &texts)?;
     Ok(Some(names))
 }
 
-// The byte that ends each name of a list.
+// Returns the byte that ends each name of a list.
 fn end_of(names_from: NamesFrom) -> u8
     ensures { result ≡ end_of names_from }
 {
@@ -49,7 +49,7 @@ fn end_of(names_from: NamesFrom) -> u8
     }
 }
 
-// The names of all texts.
+// Returns the names in all texts.
 fn names_in(alloc: Global, end: u8, texts: &[Vec<u8>]) -> Result<Vec<Vec<u8>>, AllocError>
     ensures { IfOk result (λ names. AreNamesIn end (map (λ text. text.items) texts.now)
         (map (λ name. name.items) names.items)) }
@@ -61,7 +61,7 @@ fn names_in(alloc: Global, end: u8, texts: &[Vec<u8>]) -> Result<Vec<Vec<u8>>, A
     Ok(names)
 }
 
-// Puts the names of a text behind these.
+// Appends the names in a text.
 fn add_names(
     alloc: Global,
     end: u8,

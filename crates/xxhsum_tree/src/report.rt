@@ -1,4 +1,4 @@
-//! What is printed of an audit.
+//! Prints the report of an audit.
 
 ghost use Rattle.std.specs.Prelude.{◌≡◌, ◌++◌, false, IfOk};
 ghost use Rattle.xxhsum_audit.specs.Found.{found_of, founds_of};
@@ -14,7 +14,7 @@ use xxhsum_program::say::print;
 use xxhsum_program::stop::Stop;
 use xxhsum_words::options::Options;
 
-// Prints what was found, and how much of each class.
+// Prints the verdicts, and the count of each class.
 pub(crate) fn print_report<W: Sink>(
     alloc: Global,
     options: Options,
@@ -34,7 +34,7 @@ pub(crate) fn print_report<W: Sink>(
     print(&counts, out)
 }
 
-// Prints the line of one: where it is quiet, none of what is the same.
+// Prints the line of a verdict. If it is quiet, files that are the same have none.
 fn print_one<W: Sink>(
     alloc: Global,
     is_quiet: bool,
@@ -53,7 +53,7 @@ fn print_one<W: Sink>(
     print(&line, out)
 }
 
-// How many there are of each class.
+// Returns the line with the count of each class.
 fn counts_line(alloc: Global, found: &[Verdict<'_>]) -> Result<Vec<u8>, AllocError>
     ensures { IfOk result (λ line. line.items ≡ counts_text (founds_of found.now)) }
 {
@@ -81,7 +81,7 @@ fn put_count(
     line.extend_from_slice(word)
 }
 
-// Whether all are the same.
+// True if all are the same.
 pub(crate) fn are_same(found: &[Verdict<'_>]) -> bool
     ensures { result ≡ are_same (founds_of found.now) }
 {

@@ -1,11 +1,11 @@
-//! The program over its arguments.
+//! Runs the program over its arguments.
 
 ghost use Rattle.std.specs.Prelude.{◌≡◌, false, Bool, List, ℕ, Option, Some, Result, drop, map, IfSome};
 ghost use Rattle.xxhsum_program.specs.Arguments.{AreArguments};
 ghost use Rattle.xxhsum_program.specs.Finish.{Finishes};
 ghost use Rattle.xxhsum_program.specs.Run.{end_text, status_of};
 ghost use Rattle.xxhsum_tree.specs.Prelude.{Options, Stop, TellsOn};
-ghost use Rattle.xxhsum_tree.specs.Run.{AuditsBelow, AuditsWords, DoesArguments, PerformsWatched, PerformsWords, WalksFolders, WalksNames, all_well};
+ghost use Rattle.xxhsum_tree.specs.Run.{AuditsBelow, AuditsWords, DoesArguments, PerformsWords, WalksFolders, WalksNames, all_well};
 ghost use Rattle.xxhsum_words.specs.Options.{are_listed};
 
 use crate::audit::audit_names;
@@ -21,19 +21,18 @@ use xxhsum_program::check::check_lists;
 use xxhsum_program::hash::hash_names;
 use xxhsum_program::job::Job;
 use xxhsum_program::process::{
-    Console, arguments_behind_name, conclude, perform, program_of, run_asked, shows_progress,
-    tell_answer, tell_wrong, waits_for_terminal,
+    Console, arguments_behind_name, end, perform, program_of, run_asked, tell_answer, tell_wrong,
+    waits_for_terminal,
 };
-use xxhsum_program::say::finish;
 use xxhsum_program::screen::Ticks;
 use xxhsum_program::stop::Stop;
 use xxhsum_program::tell::tell;
-use xxhsum_program::watched::WatchedFiles;
+use xxhsum_program::watched::ProgressDisplay;
 use xxhsum_words::name::default_kind;
 use xxhsum_words::options::{asked_by, words_behind};
 
-/// Does what the arguments ask for, over a store of files and these streams. Returns the exit status: 0 where every file was digested, or has its line's value, and all that was
-/// printed is written, and else 1.
+/// Does what the arguments ask for, over a store of files and these streams. Returns the exit status: 0 if every file
+/// was hashed or matches its line, and all output is written, otherwise 1.
 ///
 /// The caller shows that neither the input nor the output has failed.
 pub fn run<A, S, R, W, E, T>(
@@ -50,12 +49,12 @@ where
     R: Source + Drop,
     W: Output,
     E: Sink,
-    T: Sink + Ticks + Copy + Drop,
+    T: Ticks,
     requires reader { R.has_failed console.input ≡ false }
     requires writer { W.has_failed out.old ≡ false }
     ensures { (args : Option (List (List ℕ))) × (done ended : Result Bool Stop) × (met : W)
         × (told : E) × IfSome args (AreArguments A.holds A.ends arguments.now)
-        × DoesArguments (PerformsWatched T S.Store S.Folders S.File.Source R.Source W.Sink E.Sink
+        × DoesArguments (PerformsWords S.Store S.Folders S.File.Source R.Source W.Sink E.Sink
         store.now console.input out.old met err.old told done)
         E.Sink console.terminals args out.old met err.old told done
         × Finishes W.Sink W.held W.has_lost done met out.new ended
@@ -65,13 +64,13 @@ where
     match all_arguments(alloc, arguments) {
         Ok(args) => {
             let done = run_arguments(alloc, &args, store, console, out, err);
-            conclude(finish(done, out), err)
+            end(done, out, err)
         }
-        Err(AllocError) => conclude(finish(Err(Stop::OutOfMemory), out), err),
+        Err(AllocError) => end(Err(Stop::OutOfMemory), out, err),
     }
 }
 
-// Decides by the arguments what the program does, and does it. Returns whether all went well.
+// Decides by the arguments what to do, and does it. Returns whether all went well.
 fn run_arguments<S, R, W, E, T>(
     alloc: Global,
     args: &[Vec<u8>],
@@ -85,11 +84,11 @@ where
     R: Source + Drop,
     W: Output,
     E: Sink,
-    T: Sink + Ticks + Copy + Drop,
+    T: Ticks,
     requires reader { R.has_failed console.input ≡ false }
     requires writer { W.has_failed out.old ≡ false }
-    ensures { DoesArguments (PerformsWatched T S.Store S.Folders S.File.Source R.Source W.Sink
-        E.Sink store.now console.input out.old out.new err.old err.new result)
+    ensures { DoesArguments (PerformsWords S.Store S.Folders S.File.Source R.Source W.Sink E.Sink
+        store.now console.input out.old out.new err.old err.new result)
         E.Sink console.terminals (Some (map (λ argument. argument.items) args.now))
         out.old out.new err.old err.new result }
 {
@@ -110,24 +109,29 @@ where
         tell_wrong(&[b"Wrong parameters"], program, err);
         return Ok(false);
     }
-    let files = WatchedFiles::new(store, screen, shows_progress(terminals, options));
-    let input = files.watch(input);
     let job = Job {
         alloc,
-        store: &files,
+        store,
         options,
+        progress: ProgressDisplay::new(screen, terminals, options),
     };
     perform_words(&job, names, input, out, err)
 }
 
-// Audits the words, digests the files below folders, or digests or checks the words or the names in lists of names.
-fn perform_words<S: Store + Folders, R: Source + Drop, W: Output, E: Sink>(
-    job: &Job<'_, S>,
+// Audits, hashes the files below folders, or hashes or checks the words or the names in lists of names.
+fn perform_words<S, T, R, W, E>(
+    job: &Job<'_, S, T>,
     words: &[Vec<u8>],
     input: R,
     out: &mut W,
     err: &mut E,
 ) -> Result<bool, Stop>
+where
+    S: Store + Folders,
+    T: Ticks,
+    R: Source + Drop,
+    W: Output,
+    E: Sink,
     requires reader { R.has_failed input ≡ false }
     requires writer { W.has_failed out.old ≡ false }
     ensures { PerformsWords S.Store S.Folders S.File.Source R.Source W.Sink E.Sink
@@ -147,13 +151,19 @@ fn perform_words<S: Store + Folders, R: Source + Drop, W: Output, E: Sink>(
 }
 
 // Audits names against the list that the first argument names.
-fn walk_audit<S: Store + Folders, R: Source + Drop, W: Output, E: Sink>(
-    job: &Job<'_, S>,
+fn walk_audit<S, T, R, W, E>(
+    job: &Job<'_, S, T>,
     words: &[Vec<u8>],
     input: R,
     out: &mut W,
     err: &mut E,
 ) -> Result<bool, Stop>
+where
+    S: Store + Folders,
+    T: Ticks,
+    R: Source + Drop,
+    W: Output,
+    E: Sink,
     requires reader { R.has_failed input ≡ false }
     requires writer { W.has_failed out.old ≡ false }
     ensures { AuditsWords S.Store S.Folders S.File.Source R.Source W.Sink E.Sink job.now.store.now
@@ -168,20 +178,19 @@ fn walk_audit<S: Store + Folders, R: Source + Drop, W: Output, E: Sink>(
     if job.options.walks {
         return audit_below(job, list, rest, out, err);
     }
-    let names_from = job.options.names_from;
-    if !names_from.are_listed() {
+    if !job.options.names_from.are_listed() {
         return audit_names(job, list, rest, out, err);
     }
-    let Some(names) = names_listed(job.alloc, job.store, names_from, rest, input, err)? else {
+    let Some(names) = names_listed(job, rest, input, err)? else {
         return Ok(false);
     };
     audit_names(job, list, &names, out, err)
 }
 
-// Audits the files of the names and of the folders below them against `list`. Where a folder can't be read, there is no
-// audit: nobody knows whether a line of it is missing.
-fn audit_below<S: Store + Folders, W: Output, E: Sink>(
-    job: &Job<'_, S>,
+// Audits the files of the names and below their folders against `list`. If a folder can't be read, there is no audit,
+// since missing lines can't be told.
+fn audit_below<S: Store + Folders, T: Ticks, W: Output, E: Sink>(
+    job: &Job<'_, S, T>,
     list: &[u8],
     names: &[Vec<u8>],
     out: &mut W,
@@ -203,9 +212,9 @@ fn audit_below<S: Store + Folders, W: Output, E: Sink>(
     }
 }
 
-// Digests the files of the names and of the folders below them.
-fn walk_folders<S: Store + Folders, W: Output, E: Sink>(
-    job: &Job<'_, S>,
+// Hashes the files of the names and below their folders.
+fn walk_folders<S: Store + Folders, T: Ticks, W: Output, E: Sink>(
+    job: &Job<'_, S, T>,
     names: &[Vec<u8>],
     out: &mut W,
     err: &mut E,
@@ -224,7 +233,7 @@ fn walk_folders<S: Store + Folders, W: Output, E: Sink>(
     }
 }
 
-// Whether the names in each folder were read, and all went well with the files.
+// True if all folders were read, and all went well with the files.
 fn all_well(are_all: bool, done: Result<bool, Stop>) -> Result<bool, Stop>
     ensures { result ≡ all_well are_all done }
 {
@@ -234,10 +243,10 @@ fn all_well(are_all: bool, done: Result<bool, Stop>) -> Result<bool, Stop>
     }
 }
 
-// Digests or checks the names that stand in lists of names.
+// Hashes or checks the names in lists of names.
 #[tactic(auto, unfolding(xxhsum_program::specs::Run::PerformsAs))]
-fn walk_names<S: Store, R: Source + Drop, W: Output, E: Sink>(
-    job: &Job<'_, S>,
+fn walk_names<S: Store, T: Ticks, R: Source + Drop, W: Output, E: Sink>(
+    job: &Job<'_, S, T>,
     lists: &[Vec<u8>],
     input: R,
     out: &mut W,
@@ -249,8 +258,7 @@ fn walk_names<S: Store, R: Source + Drop, W: Output, E: Sink>(
         out.old out.new err.old err.new result job.now.options
         (map (λ list. list.items) lists.now) }
 {
-    let names_from = job.options.names_from;
-    let Some(names) = names_listed(job.alloc, job.store, names_from, lists, input, err)? else {
+    let Some(names) = names_listed(job, lists, input, err)? else {
         return Ok(false);
     };
     if job.options.checks {
@@ -258,14 +266,3 @@ fn walk_names<S: Store, R: Source + Drop, W: Output, E: Sink>(
     }
     hash_names(job, &names, out, err)
 }
-
-/// A law, with nothing to run: what a run does over watched files and a watched input it does over the files and the input
-/// themselves.
-pub fn watched_runs<S: Store + Folders, R: Source, W: Sink, E: Sink, T>()
-    ensures { (store : S) (input : R) (w_old w_new : W) (e_old e_new : E) (done : Result Bool Stop)
-        → (options : Options) (words : List (List ℕ)) (shows : Bool)
-        → PerformsWatched T S.Store S.Folders S.File.Source R.Source W.Sink E.Sink store input
-        w_old w_new e_old e_new done options words shows
-        → PerformsWords S.Store S.Folders S.File.Source R.Source W.Sink E.Sink store input
-        w_old w_new e_old e_new done options words }
-{}

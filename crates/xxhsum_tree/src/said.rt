@@ -1,7 +1,8 @@
-//! What the lines of a list say.
+//! Reads the entries of a list.
 
 ghost use Rattle.std.specs.Prelude.{map};
 ghost use Rattle.xxhsum_audit.specs.List.{said_by};
+ghost use Rattle.xxhsum_program.specs.Watched.{source_of};
 ghost use Rattle.xxhsum_tree.specs.Finds.{Finds};
 ghost use Rattle.xxhsum_tree.specs.Said.{ListSays, ListSaysNothing, SourceSays, SourceSaysNothing};
 
@@ -12,25 +13,27 @@ use xxhsum_audit::list::take_line;
 use xxhsum_files::store::Store;
 use xxhsum_line::entry::Entry;
 use xxhsum_program::check::tell_of_line;
+use xxhsum_program::job::Job;
 use xxhsum_program::lines::{Lines, Next};
+use xxhsum_program::screen::Ticks;
 use xxhsum_program::stop::Stop;
+use xxhsum_program::watched::Watched;
 
-// What the lines of the list of this name say. `None` where it can't be opened or read, or a line is malformed or too
-// long, which is reported.
-pub(crate) fn said_named<S: Store, E: Sink>(
-    alloc: Global,
-    store: &S,
-    is_little: bool,
+// Returns the entries of the list of this name. Returns `None` if it can't be opened or read, or a line is malformed or
+// too long, which is reported.
+pub(crate) fn said_named<S: Store, T: Ticks, E: Sink>(
+    job: &Job<'_, S, T>,
     list: &[u8],
     err: &mut E,
 ) -> Result<Option<Vec<Entry>>, Stop>
     ensures { Finds result E.Sink
-        (λ said. ListSays S.Store S.File.Source store.now is_little list.now
-        (map said_by said.items))
-        (ListSaysNothing S.Store S.File.Source store.now is_little list.now) err.old err.new }
+        (λ said. ListSays S.Store S.File.Source job.now.store.now
+        job.now.options.is_little_endian list.now (map said_by said.items))
+        (ListSaysNothing S.Store S.File.Source job.now.store.now job.now.options.is_little_endian
+        list.now) err.old err.new }
 {
-    match store.open(list) {
-        Ok(file) => said_by_lines(alloc, is_little, list, file, err),
+    match job.progress.open(job.store, list) {
+        Ok(file) => said_by_lines(job.alloc, job.options.is_little_endian, list, file, err),
         Err(refusal) => {
             tell_unopened(list, &refusal, err);
             Ok(None)
@@ -38,17 +41,17 @@ pub(crate) fn said_named<S: Store, E: Sink>(
     }
 }
 
-// What the lines of a source state, which is reported by this name.
-fn said_by_lines<R: Source + Drop, E: Sink>(
+// Returns the entries of a source, which is reported by this name.
+fn said_by_lines<R: Source + Drop, T: Ticks, E: Sink>(
     alloc: Global,
     is_little: bool,
     list: &[u8],
-    source: R,
+    source: Watched<R, T>,
     err: &mut E,
 ) -> Result<Option<Vec<Entry>>, Stop>
     ensures { Finds result E.Sink
-        (λ said. SourceSays R.Source is_little source (map said_by said.items))
-        (SourceSaysNothing R.Source is_little list.now source) err.old err.new }
+        (λ said. SourceSays R.Source is_little (source_of source) (map said_by said.items))
+        (SourceSaysNothing R.Source is_little list.now (source_of source)) err.old err.new }
 {
     let mut lines = Lines::new(source);
     let mut said = Vec::new(alloc);

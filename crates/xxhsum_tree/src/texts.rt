@@ -1,9 +1,10 @@
-//! The texts of lists.
+//! Reads whole lists.
 
 ghost use Rattle.std.specs.Prelude.{◌≡◌, ◌∷◌, ◌++◌, [], false, List, ℕ, IfOk, map};
 ghost use Rattle.xxhsum_tree.specs.Prelude.{EachHas, TellsOn};
 ghost use Rattle.xxhsum_program.specs.Run.{input_name};
 ghost use Rattle.xxhsum_program.specs.Task.{has_none};
+ghost use Rattle.xxhsum_program.specs.Watched.{source_of};
 ghost use Rattle.xxhsum_tree.specs.Finds.{Finds};
 ghost use Rattle.xxhsum_tree.specs.Texts.{Breaks, GiveTexts, GivesText, HasNoText, HasText, LackText, LacksOne, unopened_text, unread_text};
 
@@ -12,29 +13,31 @@ use xxh_io::ends::{Sink, Source};
 use xxhsum_audit::read::{ReadError, read_text};
 use xxhsum_files::refusal::Refusal;
 use xxhsum_files::store::Store;
+use xxhsum_program::job::Job;
+use xxhsum_program::screen::Ticks;
 use xxhsum_program::stop::Stop;
 use xxhsum_program::tell::tell_line;
+use xxhsum_program::watched::{ProgressDisplay, Watched};
 
-// What standard input is called.
+// The name of standard input.
 const INPUT: &[u8] = b"stdin";
 
-/// All bytes of the file of this name. `None` where it can't be opened or read, which is reported.
+/// Returns all bytes of the file of this name. Returns `None` if it can't be opened or read, which is reported.
 ///
 /// # Errors
 ///
-/// [`Stop::OutOfMemory`] where there is no memory for them.
-pub fn text_named<S: Store, E: Sink>(
-    alloc: Global,
-    store: &S,
+/// [`Stop::OutOfMemory`] if memory runs out.
+pub fn text_named<S: Store, T: Ticks, E: Sink>(
+    job: &Job<'_, S, T>,
     name: &[u8],
     err: &mut E,
 ) -> Result<Option<Vec<u8>>, Stop>
     ensures { Finds result E.Sink
-        (λ text. GivesText S.Store S.File.Source store.now name.now text.items)
-        (HasNoText S.Store S.File.Source store.now name.now) err.old err.new }
+        (λ text. GivesText S.Store S.File.Source job.now.store.now name.now text.items)
+        (HasNoText S.Store S.File.Source job.now.store.now name.now) err.old err.new }
 {
-    match store.open(name) {
-        Ok(file) => text_of(alloc, name, file, err),
+    match job.progress.open(job.store, name) {
+        Ok(file) => text_of(job.alloc, name, file, err),
         Err(refusal) => {
             tell_unopened(name, &refusal, err);
             Ok(None)
@@ -68,20 +71,20 @@ pub(crate) fn tell_unread<'a, E: Sink>(name: &'a [u8], err: &mut E)
     tell_line(&parts, err);
 }
 
-/// All bytes of a source that is reported by this name. `None` where it can't be read, which is reported.
+/// Returns all bytes of a source that is reported by this name. Returns `None` if it can't be read, which is reported.
 ///
 /// # Errors
 ///
-/// [`Stop::OutOfMemory`] where there is no memory for them.
-pub fn text_of<R: Source + Drop, E: Sink>(
+/// [`Stop::OutOfMemory`] if memory runs out.
+pub fn text_of<R: Source + Drop, T: Ticks, E: Sink>(
     alloc: Global,
     name: &[u8],
-    source: R,
+    source: Watched<R, T>,
     err: &mut E,
 ) -> Result<Option<Vec<u8>>, Stop>
-    requires { R.has_failed source ≡ false }
-    ensures { Finds result E.Sink (λ text. HasText R.Source source text.items)
-        (λ told. Breaks R.Source source × (told ≡ unread_text name.now)) err.old err.new }
+    requires { R.has_failed (source_of source) ≡ false }
+    ensures { Finds result E.Sink (λ text. HasText R.Source (source_of source) text.items)
+        (λ told. Breaks R.Source (source_of source) × (told ≡ unread_text name.now)) err.old err.new }
 {
     let mut source = source;
     match read_text(alloc, &mut source) {
@@ -94,30 +97,29 @@ pub fn text_of<R: Source + Drop, E: Sink>(
     }
 }
 
-/// The texts of the files of these names, or of the input where there are none. `None` where one can't be read, which
+/// Returns the texts of these files, or of the input if there are no names. Returns `None` if one can't be read, which
 /// is reported.
 ///
 /// # Errors
 ///
-/// [`Stop::OutOfMemory`] where there is no memory for them.
-pub fn texts_named<S: Store, R: Source + Drop, E: Sink>(
-    alloc: Global,
-    store: &S,
+/// [`Stop::OutOfMemory`] if memory runs out.
+pub fn texts_named<S: Store, T: Ticks, R: Source + Drop, E: Sink>(
+    job: &Job<'_, S, T>,
     names: &[Vec<u8>],
     input: R,
     err: &mut E,
 ) -> Result<Option<Vec<Vec<u8>>>, Stop>
     requires { R.has_failed input ≡ false }
     ensures { let given = map (λ name. name.items) names.now in Finds result E.Sink
-        (λ texts. GiveTexts S.Store S.File.Source R.Source store.now input given
+        (λ texts. GiveTexts S.Store S.File.Source R.Source job.now.store.now input given
         (map (λ text. text.items) texts.items) (has_none given))
-        (λ told. LackText S.Store S.File.Source R.Source store.now input given told
+        (λ told. LackText S.Store S.File.Source R.Source job.now.store.now input given told
         (has_none given)) err.old err.new }
 {
     if has_none(names) {
-        return text_of_input(alloc, input, err);
+        return text_of_input(job.alloc, job.progress, input, err);
     }
-    texts_of_files(alloc, store, names, err)
+    texts_of_files(job, names, err)
 }
 
 fn has_none(names: &[Vec<u8>]) -> bool
@@ -126,9 +128,10 @@ fn has_none(names: &[Vec<u8>]) -> bool
     names.is_empty()
 }
 
-// The text of the input, alone.
-fn text_of_input<R: Source + Drop, E: Sink>(
+// Returns the text of the input as the only text.
+fn text_of_input<R: Source + Drop, T: Ticks, E: Sink>(
     alloc: Global,
+    progress: ProgressDisplay<T>,
     input: R,
     err: &mut E,
 ) -> Result<Option<Vec<Vec<u8>>>, Stop>
@@ -138,7 +141,7 @@ fn text_of_input<R: Source + Drop, E: Sink>(
         × (map (λ text. text.items) texts.items ≡ text ∷ []))
         (λ told. Breaks R.Source input × (told ≡ unread_text input_name)) err.old err.new }
 {
-    let Some(text) = text_of(alloc, INPUT, input, err)? else {
+    let Some(text) = text_of(alloc, INPUT, progress.watch(input), err)? else {
         return Ok(None);
     };
     let mut texts = Vec::new(alloc);
@@ -146,21 +149,20 @@ fn text_of_input<R: Source + Drop, E: Sink>(
     Ok(Some(texts))
 }
 
-// The texts of the files of these names.
-fn texts_of_files<S: Store, E: Sink>(
-    alloc: Global,
-    store: &S,
+// Returns the texts of these files.
+fn texts_of_files<S: Store, T: Ticks, E: Sink>(
+    job: &Job<'_, S, T>,
     names: &[Vec<u8>],
     err: &mut E,
 ) -> Result<Option<Vec<Vec<u8>>>, Stop>
     ensures { let given = map (λ name. name.items) names.now in Finds result E.Sink
-        (λ texts. EachHas (GivesText S.Store S.File.Source store.now) given
+        (λ texts. EachHas (GivesText S.Store S.File.Source job.now.store.now) given
         (map (λ text. text.items) texts.items))
-        (LacksOne S.Store S.File.Source store.now given) err.old err.new }
+        (LacksOne S.Store S.File.Source job.now.store.now given) err.old err.new }
 {
-    let mut texts = Vec::new(alloc);
+    let mut texts = Vec::new(job.alloc);
     for name in names {
-        let Some(text) = text_named(alloc, store, name, err)? else {
+        let Some(text) = text_named(job, name, err)? else {
             return Ok(None);
         };
         add_text(&mut texts, text)?;

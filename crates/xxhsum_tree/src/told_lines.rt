@@ -1,9 +1,9 @@
-//! That a message is one line, as a law about all that names stand in.
+//! Lemma: each message is one line.
 
 ghost use Rattle.xxhsum_tree.specs.ToldLines.{AuditsAreSaidInLines, ListsAreToldInLines, TwiceIsToldInLines};
 
-/// A law, with nothing to run: the messages on lists and on duplicate names, and what is printed of each line and
-/// name of an audit, is one line, whatever bytes the names have. Of all else the law of `xxhsum_program` says it.
+/// Lemma: the messages about lists and duplicate names, and the printed line of each entry and name of an audit, are
+/// one line, whatever bytes the names have. The lemma of `xxhsum_program` covers the others.
 pub fn laws_of_told_lines()
     ensures lists { ListsAreToldInLines }
     ensures twice { TwiceIsToldInLines }

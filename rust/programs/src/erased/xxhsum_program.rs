@@ -1,7 +1,7 @@
 // SPDX-License-Identifier: MIT
 // crates/xxhsum_program/src/lib.rt without its contracts, written by rust/erase --programs: change that file.
 
-//! The program `xxhsum` over any store of files and any streams: digest lines of named files, and checks of lists of
+//! The program `xxhsum` over any store of files and any streams: prints digest lines of files, and checks lists of
 //! them.
 
 pub mod arguments;

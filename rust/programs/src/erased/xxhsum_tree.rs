@@ -1,8 +1,8 @@
 // SPDX-License-Identifier: MIT
 // crates/xxhsum_tree/src/lib.rt without its contracts, written by rust/erase --programs: change that file.
 
-//! The program `xxhsum` over whole trees: names that come from lists of names, and the audit of names against a list
-//! of digests. Where no tree is asked for, it is the program of `xxhsum_program`.
+//! The program `xxhsum` over its arguments: walks of folders, lists of names, and audits against a list of digests.
+//! Other runs are those of `xxhsum_program`.
 
 pub mod audit;
 mod digests;

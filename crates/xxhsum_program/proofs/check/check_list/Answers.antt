@@ -9,4 +9,4 @@ returns-then-failed g c =
 pub returns : goal.returns
 returns g c =
     let checks = c.check.ensures.checks in
-    (checks.0, checks.1, checks.2, checks.3, inl checks.4, checks.5)
+    (checks.0, checks.1, rw c.watch.ensures.source at checks.2, checks.3, inl checks.4, checks.5)

@@ -41,7 +41,7 @@ loop-side-preserved g c =
       done = so_far.done ++ side ∷ [];
       parts = so_far.parts ∙ ap (λ s. so_far.done ++ s) c.in-Some.ensures.is ∙ sym (append_assoc so_far.done (side ∷ []) left)
           ∙ ap (λ s. (so_far.done ++ side ∷ []) ++ s) behind;
-      are = rows-more g.S.Store g.S.File.Source c.args.store.now kind so_far.done rows side row so_far.are added.1;
+      are = rows-more g.S.Store g.S.File.Source c.args.job.now.store.now kind so_far.done rows side row so_far.are added.1;
       holds = record {
         settled = grows.0 ∙ ap (λ f. f ++ settled_in (first_of kind row)) so_far.holds.settled ∙ sym (first-push settled_one kind rows row);
         gone = grows.1 ∙ ap (λ f. f ++ missing_in (first_of kind row)) so_far.holds.gone ∙ sym (first-push missing_one kind rows row);
@@ -56,7 +56,7 @@ pub returns : goal.returns
 returns g c =
     let so_far = c.loop-side.invariant in
     let all = sym (so_far.parts ∙ ap (λ s. so_far.done ++ s) c.in_default.ensures ∙ append-nil so_far.done) in
-    (so_far.rows, subst (λ s. AreRows g.S.Store g.S.File.Source c.args.store.now c.args.kind s so_far.rows) all so_far.are, so_far.holds, so_far.tells)
+    (so_far.rows, subst (λ s. AreRows g.S.Store g.S.File.Source c.args.job.now.store.now c.args.kind s so_far.rows) all so_far.are, so_far.holds, so_far.tells)
 
 pub returns-in_err-add_side : goal.returns-in_err-add_side
 returns-in_err-add_side g c =

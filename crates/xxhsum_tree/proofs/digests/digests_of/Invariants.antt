@@ -13,7 +13,7 @@ invariant-loop-side g l = record {
   rows : List Row;
   done : List (Side Item (List ℕ));
   parts : by_path (items_of l.fn.lines) (texts_of l.fn.names) ≡ done ++ by_path (items_of l.lines_left) (texts_of l.names_left);
-  are : AreRows g.S.Store g.S.File.Source l.fn.store l.fn.kind done rows;
+  are : AreRows g.S.Store g.S.File.Source l.fn.job.store.now l.fn.kind done rows;
   holds : HoldsRows l.fn.kind rows l.compared;
   tells : TellsOn g.E.Sink (told_in rows) l.initial.err l.err;
 }

@@ -4,8 +4,7 @@ use Rattle.xxhsum_words.specs.Name.{kind_of_program}
 use Rattle.xxhsum_words.specs.Options.{asked_of}
 use Rattle.xxhsum_words.specs.declared.options.Asked.{Asked}
 use Rattle.xxhsum_program.specs.declared.process.Terminals.{Terminals}
-use Rattle.xxhsum_program.specs.Task.{Reads, Tells, answer_text, is_well, run_asked, shows_progress, task_from, task_of, waits_for_terminal, wrong_text}
-use Rattle.xxhsum_tree.specs.Run.{PerformsWatched}
+use Rattle.xxhsum_program.specs.Task.{Reads, Tells, answer_text, is_well, run_asked, task_from, task_of, waits_for_terminal, wrong_text}
 use Rattle.xxhsum_tree.proofs.run.run_arguments.Goals as goal
 
 -- What the words ask for is the task.
@@ -24,7 +23,7 @@ module _ (terminals : Terminals) (program : List ℕ) (words names : List (List 
       let still : waits_for_terminal terminals options (drop place words) ≡ true = rw same at waits in
       rw (is, still) refl
 
-  task-reads : waits_for_terminal terminals options names ≡ false → task_from terminals program words asked run ≡ Reads options names (shows_progress terminals options)
+  task-reads : waits_for_terminal terminals options names ≡ false → task_from terminals program words asked run ≡ Reads options names
   task-reads waits =
       let still : waits_for_terminal terminals options (drop place words) ≡ false = rw same at waits in
       rw (is, still, same) refl
@@ -50,7 +49,6 @@ returns-then-waits_for_terminal g c =
     (program, c.program_of-program.ensures, rw (task ∙ task-waits c.args.console.terminals program words names asked c.run_asked.result run.0 run.1 c.in-Some.is c.words_behind-names.ensures (sym c.waits_for_terminal.ensures ∙ c.if-waits_for_terminal.true)) (refl, refl, c.tell_wrong.ensures))
 
 pub returns : goal.returns
-unfolding PerformsWatched
 returns g c =
     let arguments = map (λ argument. argument.items) c.args.args.now in
     let program = c.program_of-program.result.now in
@@ -59,7 +57,4 @@ returns g c =
     let task = task-is c.args.console.terminals program arguments words c.default_kind.result asked c.run_asked.result c.arguments_behind_name-words.ensures c.default_kind.ensures c.asked_by-asked.ensures c.run_asked.ensures in
     let names = map (λ name. name.items) c.words_behind-names.result.now in
     let run = c.in-Some.found in
-    let on = c.new-files.ensures.shown ∙ c.shows_progress.ensures in
-    let watched : PerformsWatched _ g.S.Store g.S.Folders g.S.File.Source g.R.Source g.W.Sink g.E.Sink c.args.store.now c.args.console.input c.args.out.now c.perform_words.new.out c.args.err.now c.perform_words.new.err c.perform_words.result run.0 names (shows_progress c.args.console.terminals run.0) =
-    (c.new-files.result, c.watch-input.result, c.new-files.ensures.files, on, c.watch-input.ensures.source, c.watch-input.ensures.shown ∙ on, c.perform_words.ensures) in
-    (program, c.program_of-program.ensures, rw (task ∙ task-reads c.args.console.terminals program words names asked c.run_asked.result run.0 run.1 c.in-Some.is c.words_behind-names.ensures (sym c.waits_for_terminal.ensures ∙ c.if-waits_for_terminal.false)) watched)
+    (program, c.program_of-program.ensures, rw (task ∙ task-reads c.args.console.terminals program words names asked c.run_asked.result run.0 run.1 c.in-Some.is c.words_behind-names.ensures (sym c.waits_for_terminal.ensures ∙ c.if-waits_for_terminal.false)) c.perform_words.ensures)

@@ -2,6 +2,7 @@ use Rattle.std.proofs.Common.{◌≡◌, ◌+◌, List, ℕ, length, map}
 use Rattle.xxhsum_audit.specs.List.{said_by}
 use Rattle.xxhsum_program.proofs.CheckFacts.{Stands}
 use Rattle.xxhsum_tree.specs.Said.{HaveSaid}
+use Rattle.xxhsum_program.specs.Watched.{source_of}
 use Rattle.xxhsum_tree.proofs.said.said_by_lines.Given as goal
 
 -- what the lines so far say, and nothing is told
@@ -10,6 +11,6 @@ invariant-loop-number g l = record {
   read : List (List ℕ);
   said : HaveSaid l.fn.is_little read (map said_by l.said.items);
   count : l.number ≡ length read + 1;
-  stands : Stands g.R.Source l.fn.source l.lines read;
+  stands : Stands g.R.Source (source_of l.fn.source) l.lines read;
   silent : l.err ≡ l.initial.err;
 }

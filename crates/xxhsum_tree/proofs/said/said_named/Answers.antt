@@ -1,12 +1,13 @@
 use Rattle.std.proofs.Common.{inl, inr, refl}
 use Rattle.xxhsum_tree.specs.Texts.{unopened_text}
 use Rattle.xxhsum_tree.proofs.FindFacts.{finds-as}
+use Rattle.xxhsum_program.specs.Watched.{source_of}
 use Rattle.xxhsum_tree.proofs.said.said_named.Goals as goal
 
 pub returns-in-Ok : goal.returns-in-Ok
 returns-in-Ok g c =
     let opened = c.in-Ok.ensures.opens in
-    finds-as g.E.Sink _ _ _ _ _ _ (λ said says. (c.in-Ok.file, opened, says)) (λ text nothing. inr (c.in-Ok.file, opened, nothing)) c.said_by_lines.result c.said_by_lines.ensures
+    finds-as g.E.Sink _ _ _ _ _ _ (λ said says. (source_of c.in-Ok.file, opened, says)) (λ text nothing. inr (source_of c.in-Ok.file, opened, nothing)) c.said_by_lines.result c.said_by_lines.ensures
 
 pub returns-in-Err : goal.returns-in-Err
 returns-in-Err g c =

@@ -1,12 +1,13 @@
 use Rattle.std.proofs.Common.{inl, inr, refl}
 use Rattle.xxhsum_tree.specs.Texts.{unopened_text}
 use Rattle.xxhsum_tree.proofs.FindFacts.{finds-as}
+use Rattle.xxhsum_program.specs.Watched.{source_of}
 use Rattle.xxhsum_tree.proofs.texts.text_named.Goals as goal
 
 pub returns-in-Ok : goal.returns-in-Ok
 returns-in-Ok g c =
     let opened = c.in-Ok.ensures.opens in
-    finds-as g.E.Sink _ _ _ _ _ _ (λ text has. (c.in-Ok.file, opened, has)) (λ text breaks. inr (c.in-Ok.file, opened, breaks.0, breaks.1)) c.text_of.result c.text_of.ensures
+    finds-as g.E.Sink _ _ _ _ _ _ (λ text has. (source_of c.in-Ok.file, opened, has)) (λ text breaks. inr (source_of c.in-Ok.file, opened, breaks.0, breaks.1)) c.text_of.result c.text_of.ensures
 
 pub returns-in-Err : goal.returns-in-Err
 returns-in-Err g c =

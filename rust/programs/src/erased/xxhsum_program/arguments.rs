@@ -1,36 +1,36 @@
 // SPDX-License-Identifier: MIT
 // crates/xxhsum_program/src/arguments.rt without its contracts, written by rust/erase --programs: change that file.
 
-//! The arguments of a program, in bytes.
+//! The arguments of a program, as bytes.
 
 use crate::rattle::prelude::Vec;
 use crate::rattle::{AllocError, Global};
 use crate::rattle::env::FillError;
 use crate::rattle::rt::Env;
 
-// The capacity that is tried first for an argument, and how often it is doubled.
+// The first capacity that is tried for an argument, and how often it is doubled.
 const FIRST_ROOM: usize = 256;
 
 const MOST_ROOMS: u32 = 40;
 
-/// The arguments that a program is called with, by their index. That of the index 0 is the program's name.
+/// The arguments that a program is called with, by index. Argument 0 is the program's name.
 pub trait Arguments {
-    /// Copies the argument of this index to the front of `buf`, and returns its length.
+    /// Copies the argument at this index to the front of `buf` and returns its length.
     ///
     /// # Errors
     ///
-    /// [`FillError::NotPresent`] where there is none, and [`FillError::TooLong`] where it is longer than `buf`.
+    /// [`FillError::NotPresent`] if there is no such argument, and [`FillError::TooLong`] if it is longer than `buf`.
     fn fill(&self, index: usize, buf: &mut [u8]) -> Result<usize, FillError>;
 }
 
-/// The arguments of a process. No clause can say which they are.
+/// The arguments of a process. No clause says which they are.
 #[derive(Clone, Copy)]
 pub struct ProcessArguments<'a, P> {
     process: &'a P,
 }
 
 impl<'a, P: Env> ProcessArguments<'a, P> {
-    /// Those of this process.
+    /// Returns the arguments of this process.
     pub fn new(process: &'a P) -> ProcessArguments<'a, P> {
         ProcessArguments { process }
     }
@@ -42,7 +42,11 @@ impl<P: Env> Arguments for ProcessArguments<'_, P> {
     }
 }
 
-/// All arguments, the program's name first. `AllocError` where memory runs out.
+/// Returns all arguments, the program's name first.
+///
+/// # Errors
+///
+/// `AllocError` if memory runs out.
 pub fn all_arguments<A: Arguments>(alloc: Global, arguments: &A) -> Result<Vec<Vec<u8>>, AllocError> {
     let mut all = Vec::new(alloc);
     for index in 0..usize::MAX {
@@ -54,7 +58,7 @@ pub fn all_arguments<A: Arguments>(alloc: Global, arguments: &A) -> Result<Vec<V
     Err(AllocError)
 }
 
-// The argument of this index, where there is one. `AllocError` where memory runs out.
+// Returns the argument at this index, or `None` if there is none. `AllocError` if memory runs out.
 fn argument<A: Arguments>(
     alloc: Global,
     arguments: &A,
@@ -75,7 +79,7 @@ fn argument<A: Arguments>(
     Err(AllocError)
 }
 
-/// What stands behind the last slash of a path.
+/// Returns the part of a path after its last slash.
 pub fn last_part(path: &[u8]) -> &[u8] {
     match crate::rattle::memchr::memrchr(b'/', path) {
         Some(place) => &path[place + 1..],

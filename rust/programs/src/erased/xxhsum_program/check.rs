@@ -1,7 +1,7 @@
 // SPDX-License-Identifier: MIT
 // crates/xxhsum_program/src/check.rt without its contracts, written by rust/erase --programs: change that file.
 
-//! Lists of checksum lines, and whether their files are as the lines say.
+//! Checks lists of checksum lines against the files that they name.
 
 use crate::rattle::prelude::Vec;
 use crate::programs::xxhsum_program::entry::{Found, compare};
@@ -9,8 +9,10 @@ use crate::programs::xxhsum_program::job::Job;
 use crate::programs::xxhsum_program::lines::{Lines, Next};
 use crate::programs::xxhsum_program::outcome::OFFERED;
 use crate::programs::xxhsum_program::say::{line_of, print, release, say_line};
+use crate::programs::xxhsum_program::screen::Ticks;
 use crate::programs::xxhsum_program::stop::Stop;
-use crate::programs::xxhsum_program::tell::tell_line;
+use crate::programs::xxhsum_program::tell::{tell_line, tell_line_after};
+use crate::programs::xxhsum_program::watched::{ProgressDisplay, Watched};
 use crate::rattle::itoa::Buffer;
 use crate::rattle::{AllocError, Global};
 use crate::programs::xxh_io::ends::{Sink, Source};
@@ -20,26 +22,26 @@ use crate::programs::xxhsum_line::entry::{Meaning, meaning_of};
 use crate::programs::xxhsum_output::output::Output;
 use crate::programs::xxhsum_words::options::Options;
 
-/// Counts of the lines of a list, by what was found of them.
+/// Counts of a list's lines, by result.
 #[derive(Clone, Copy, Debug, PartialEq, Eq)]
 pub struct Report {
     /// Well-formed lines.
     pub proper: u64,
-    /// Malformed lines, and those of more than 32,767 bytes.
+    /// Malformed lines, including those longer than 32,767 bytes.
     pub improper: u64,
-    /// Well-formed lines whose file could not be opened, or not be read to its end. With `--ignore-missing` without
-    /// those whose file isn't there.
+    /// Well-formed lines whose file could not be opened or read to its end. With `--ignore-missing`, missing files are
+    /// not counted.
     pub unread: u64,
-    /// Well-formed lines whose file has their value.
+    /// Well-formed lines whose file matches.
     pub same: u64,
-    /// Well-formed lines whose file has another value.
+    /// Well-formed lines whose file doesn't match.
     pub different: u64,
-    /// A line is too long to be checked, or a read of the list failed.
+    /// True if a line is too long to be checked, or a read of the list failed.
     pub is_broken: bool,
 }
 
 impl Report {
-    // The report of no line.
+    // Returns the report of an empty list.
     fn new() -> Report {
         Report {
             proper: 0,
@@ -51,7 +53,7 @@ impl Report {
         }
     }
 
-    // Counts a well-formed line by `found`. A missing file that is passed over counts neither as read nor as unread.
+    // Counts a well-formed line by `found`. A missing file that is ignored is counted neither as read nor as unread.
     fn count(&mut self, found: &Found, ignores_missing: bool) {
         self.proper = self.proper.saturating_add(1);
         match found {
@@ -65,7 +67,7 @@ impl Report {
         }
     }
 
-    // This report, of a list that breaks off.
+    // Returns this report for a list that breaks off.
     fn with_broken_end(self) -> Report {
         Report {
             is_broken: true,
@@ -73,8 +75,8 @@ impl Report {
         }
     }
 
-    /// Whether the list is good: it has a well-formed line, each file was read and has its value, no line is too long,
-    /// no read of the list failed, and, where the check is strict, no line is malformed.
+    /// True if the list is good: it has a well-formed line, each file was read and matches, no line is too long, no
+    /// read of the list failed, and, under `--strict`, no line is malformed.
     pub fn is_good(&self, is_strict: bool) -> bool {
         self.proper > 0
             && self.different == 0
@@ -83,38 +85,39 @@ impl Report {
             && !self.is_broken
     }
 
-    // Whether no file has its value, under `--ignore-missing`.
+    // True if `--ignore-missing` is given and no file matches.
     fn is_unverified(&self, ignores_missing: bool) -> bool {
         ignores_missing && self.same == 0
     }
 
-    // Whether the list is good by `options`: under `--ignore-missing` a file of it has to have its value.
+    // True if the list is good by `options`. With `--ignore-missing` at least one file has to match.
     fn passes(&self, options: Options) -> bool {
         self.is_good(options.is_strict) && !self.is_unverified(options.ignores_missing)
     }
 }
 
-// A line of a list. One that has no text is too long.
+// A line of a list. Its text is `None` if it is too long.
 #[derive(Clone, Copy)]
 struct ListLine<'a> {
     number: u64,
     text: Option<&'a [u8]>,
 }
 
-// What the check of a list needs.
+// The inputs of the check of one list.
 #[derive(Clone, Copy)]
-struct ListCheck<'a, S> {
+struct ListCheck<'a, S, T> {
     alloc: Global,
     store: &'a S,
     options: Options,
+    progress: ProgressDisplay<T>,
     name: &'a [u8],
 }
 
-impl<S: Store> ListCheck<'_, S> {
-    // Checks the lines of `source`, and prints and reports what was found.
+impl<S: Store, T: Ticks> ListCheck<'_, S, T> {
+    // Checks the lines of `source`, prints and reports the results, and returns whether the list is good.
     fn check<R: Source , W: Output, E: Sink>(
         &self,
-        source: R,
+        source: Watched<R, T>,
         out: &mut W,
         err: &mut E,
     ) -> Result<bool, Stop> {
@@ -124,10 +127,10 @@ impl<S: Store> ListCheck<'_, S> {
         Ok(report.passes(self.options))
     }
 
-    // Checks the lines of `source` up to its end, to a line without one, or as many as have numbers.
+    // Checks the lines of `source`: up to its end, to a line without an end, or to the last line number.
     fn check_lines<R: Source , W: Output, E: Sink>(
         &self,
-        source: R,
+        source: Watched<R, T>,
         out: &mut W,
         err: &mut E,
     ) -> Result<Report, Stop> {
@@ -139,7 +142,7 @@ impl<S: Store> ListCheck<'_, S> {
                 Next::End => return Ok(report),
                 Next::Failed => {
                     release(out);
-                    self.tell_of_failure(number, &report, err);
+                    self.tell_of_failure(number, &report, out, err);
                     return Ok(report.with_broken_end());
                 }
                 Next::Endless => {
@@ -158,7 +161,7 @@ impl<S: Store> ListCheck<'_, S> {
         Ok(report)
     }
 
-    // Compares the file that `line` names, counts the line and prints the result. A comment isn't counted.
+    // Compares the file that `line` names, counts the line and prints the result. Comments are not counted.
     fn check_line<W: Output, E: Sink>(
         &self,
         line: ListLine<'_>,
@@ -179,7 +182,7 @@ impl<S: Store> ListCheck<'_, S> {
                 return Ok(());
             }
         };
-        let found = compare(self.store, &entry, buf);
+        let found = compare(self.store, self.progress, &entry, buf);
         report.count(&found, self.options.ignores_missing);
         if is_silent(self.options, &found) {
             return Ok(());
@@ -187,7 +190,7 @@ impl<S: Store> ListCheck<'_, S> {
         self.say_found(line.number, &entry.name, &found, out)
     }
 
-    // Counts a malformed line, and reports it under `--warn`.
+    // Counts a malformed line. Reports it if `--warn` is given.
     fn count_improper<W: Output, E: Sink>(
         &self,
         number: u64,
@@ -198,10 +201,11 @@ impl<S: Store> ListCheck<'_, S> {
         report.improper = report.improper.saturating_add(1);
         if self.options.warns {
             release(out);
-            tell_of_line(
+            tell_of_line_after(
                 self.name,
                 number,
                 b"Improperly formatted checksum line",
+                out,
                 err,
             );
         }
@@ -222,13 +226,13 @@ impl<S: Store> ListCheck<'_, S> {
         self.tell_too_long(number, out, err);
     }
 
-    // Reports that the line of this number is too long.
+    // Reports that line `number` is too long.
     fn tell_too_long<W: Output, E: Sink>(&self, number: u64, out: &mut W, err: &mut E) {
         release(out);
-        tell_of_line(self.name, number, b"Line too long", err);
+        tell_of_line_after(self.name, number, b"Line too long", out, err);
     }
 
-    // Prints `found`, of the line of this number.
+    // Prints the result of line `number`.
     fn say_found<W: Output>(
         &self,
         number: u64,
@@ -246,21 +250,27 @@ impl<S: Store> ListCheck<'_, S> {
         }
     }
 
-    // Reports that a read of the list failed. Where it has no well-formed line so far, the summary reports that
-    // instead.
-    fn tell_of_failure<E: Sink>(&self, number: u64, report: &Report, err: &mut E) {
+    // Reports that a read of the list failed. If the list has no well-formed line so far, only the summary reports it.
+    fn tell_of_failure<W: Output, E: Sink>(
+        &self,
+        number: u64,
+        report: &Report,
+        out: &W,
+        err: &mut E,
+    ) {
         if report.proper == 0 {
             return;
         }
-        tell_of_line(
+        tell_of_line_after(
             self.name,
             number,
             b"A failure occurred reading the list",
+            out,
             err,
         );
     }
 
-    // The line `no file was verified`.
+    // Returns the line "no file was verified".
     fn unverified_line(&self) -> Result<Vec<u8>, AllocError> {
         line_of(self.alloc, &[self.name, b": no file was verified"])
     }
@@ -277,7 +287,7 @@ impl<S: Store> ListCheck<'_, S> {
         self.say_unverified(report, unverified, out)
     }
 
-    // Prints `unverified` where no file has its value, under `--ignore-missing`.
+    // Prints `unverified` if `--ignore-missing` is given and no file matches.
     fn say_unverified<W: Output>(
         &self,
         report: &Report,
@@ -290,7 +300,7 @@ impl<S: Store> ListCheck<'_, S> {
         Ok(())
     }
 
-    // Prints how many lines are malformed, unread and different, or reports that none is well-formed.
+    // Prints the numbers of malformed lines, unread files and mismatches, or reports that no line is well-formed.
     fn say_counts<W: Output, E: Sink>(
         &self,
         report: &Report,
@@ -299,11 +309,12 @@ impl<S: Store> ListCheck<'_, S> {
     ) -> Result<(), Stop> {
         if report.proper == 0 {
             release(out);
-            tell_line(
+            tell_line_after(
                 &[
                     self.name,
                     b": no properly formatted xxHash checksum lines found",
                 ],
+                out,
                 err,
             );
             return Ok(());
@@ -332,12 +343,12 @@ impl<S: Store> ListCheck<'_, S> {
     }
 }
 
-// Whether nothing is printed of a file.
+// True if nothing is printed about a file.
 fn is_silent(options: Options, found: &Found) -> bool {
     options.is_status_only || (options.ignores_missing && found.is_missing())
 }
 
-// Prints why the file of the line of this number in `list` could not be read.
+// Prints why the file of line `number` of `list` could not be read.
 fn say_unread<'a, W: Output>(
     alloc: Global,
     list: &'a [u8],
@@ -361,7 +372,7 @@ fn say_unread<'a, W: Output>(
     say_line(alloc, &parts, out)
 }
 
-/// Reports what is wrong with the line of this number in `list`.
+/// Reports what is wrong with line `number` of `list`.
 pub fn tell_of_line<'a, E: Sink>(list: &'a [u8], number: u64, what: &'a [u8], err: &mut E) {
     let mut digits = Buffer::new();
     let digits = digits.format(number).as_bytes();
@@ -369,10 +380,23 @@ pub fn tell_of_line<'a, E: Sink>(list: &'a [u8], number: u64, what: &'a [u8], er
     tell_line(&parts, err);
 }
 
-// The most bytes that a line with a count has.
+// Reports what is wrong with line `number` of `list`, after the output `out`. The caller shows that all printed lines
+// are written, or were lost.
+fn tell_of_line_after<W: Output, E: Sink>(
+    list: &[u8],
+    number: u64,
+    what: &[u8],
+    out: &W,
+    err: &mut E,
+) {
+    let _ = out;
+    tell_of_line(list, number, what, err);
+}
+
+// Maximum length of a line with a count, in bytes.
 const MOST_COUNT_LINE: usize = 80;
 
-// Prints `count` with `one` or `more` behind it, unless it is 0.
+// Prints `count` followed by `one` or `more`, unless it is 0.
 fn say_count<W: Output>(count: u64, one: &[u8], more: &[u8], out: &mut W) -> Result<(), Stop> {
     if count == 0 {
         return Ok(());
@@ -390,19 +414,20 @@ fn word_for<'a>(count: u64, one: &'a [u8], more: &'a [u8]) -> &'a [u8] {
     if count == 1 { one } else { more }
 }
 
-/// Checks the lines of the list `name`: prints for each well-formed line whether its file has the value, and at the end
-/// how many lines failed. Returns whether the list is good, up to its end or to a read of it that fails. A file that
-/// can't be read is printed as such, and the next line is checked. A line of more than 32,767 bytes is reported, counts
-/// as malformed and keeps the list from being good; the lines after it are checked. Under `--ignore-missing` a file
-/// that isn't there is neither printed nor counted; a list of which no file has its value is then reported and isn't
-/// good.
+/// Checks the lines of the list `name`. Prints for each well-formed line whether its file matches, and at the end how
+/// many lines failed. Returns whether the list is good.
+///
+/// A file that can't be read is printed as such, and the next line is checked. A line longer than 32,767 bytes is
+/// reported, counts as malformed, and makes the list fail; later lines are still checked. A failed read of the list is
+/// reported and ends it. With `--ignore-missing`, missing files are neither printed nor counted; if then no file
+/// matches, that is printed and the list fails.
 ///
 /// # Errors
 ///
-/// [`Stop::WriteFailed`] where a write to standard output fails, or one had failed before; [`Stop::OutOfMemory`] where
-/// there is no memory for a line: at once. What was found before it is printed.
-pub fn check_list<S: Store, R: Source , W: Output, E: Sink>(
-    job: &Job<'_, S>,
+/// Both errors end the check at once; the results before it are printed. [`Stop::WriteFailed`] if a write to standard
+/// output fails, or failed before, and [`Stop::OutOfMemory`] if memory for a line runs out.
+pub fn check_list<S: Store, T: Ticks, R: Source , W: Output, E: Sink>(
+    job: &Job<'_, S, T>,
     name: &[u8],
     source: R,
     out: &mut W,
@@ -415,32 +440,35 @@ pub fn check_list<S: Store, R: Source , W: Output, E: Sink>(
         alloc: job.alloc,
         store: job.store,
         options: job.options,
+        progress: job.progress,
         name,
     };
-    list.check(source, out, err)
+    list.check(job.progress.watch(source), out, err)
 }
 
-// Checks the list `name`. One that can't be opened is reported, and isn't good.
-fn check_named<S: Store, W: Output, E: Sink>(
-    job: &Job<'_, S>,
+// Checks the list `name`. A list that can't be opened is reported, and fails.
+fn check_named<S: Store, T: Ticks, W: Output, E: Sink>(
+    job: &Job<'_, S, T>,
     name: &[u8],
     out: &mut W,
     err: &mut E,
 ) -> Result<bool, Stop> {
-    match job.store.open(name) {
+    match job.progress.open(job.store, name) {
         Ok(file) => {
             let list = ListCheck {
                 alloc: job.alloc,
                 store: job.store,
                 options: job.options,
+                progress: job.progress,
                 name,
             };
             list.check(file, out, err)
         }
         Err(refusal) => {
             release(out);
-            tell_line(
+            tell_line_after(
                 &[b"Error: Could not open '", name, b"': ", refusal.text()],
+                out,
                 err,
             );
             Ok(false)
@@ -448,13 +476,13 @@ fn check_named<S: Store, W: Output, E: Sink>(
     }
 }
 
-/// Checks each list of `names`. Returns whether all are good. A list that can't be opened is reported, and isn't good.
+/// Checks each list of `names`. Returns whether all are good. A list that can't be opened is reported, and fails.
 ///
 /// # Errors
 ///
-/// As [`check_list`], at once: the lists before are checked, and those after are not opened.
-pub fn check_lists<S: Store, W: Output, E: Sink>(
-    job: &Job<'_, S>,
+/// As [`check_list`], at once. Later lists are not opened.
+pub fn check_lists<S: Store, T: Ticks, W: Output, E: Sink>(
+    job: &Job<'_, S, T>,
     names: &[Vec<u8>],
     out: &mut W,
     err: &mut E,

@@ -5,29 +5,30 @@
 
 use crate::rattle::prelude::Vec;
 use crate::programs::xxhsum_program::job::Job;
-use crate::programs::xxhsum_program::outcome::{MAX_READS, OFFERED, Outcome, Reason, outcome_of};
+use crate::programs::xxhsum_program::outcome::{OFFERED, Outcome, Reason, outcome_of};
 use crate::programs::xxhsum_program::say::{print, release};
+use crate::programs::xxhsum_program::screen::Ticks;
 use crate::programs::xxhsum_program::stop::Stop;
-use crate::programs::xxhsum_program::tell::tell_line;
+use crate::programs::xxhsum_program::tell::{tell_line, tell_line_after};
+use crate::programs::xxhsum_program::watched::Watched;
 use crate::rattle::Global;
 use crate::programs::xxh_io::ends::{Sink, Source};
-use crate::programs::xxh_program::program::value_of_source;
 use crate::programs::xxhsum_files::store::Store;
 use crate::programs::xxhsum_line::printed::{Shape, Style, styled_line};
 use crate::programs::xxhsum_output::output::Output;
 use crate::programs::xxhsum_words::options::Options;
 
-/// Writes the digest line of each named file, in order, and reports the names that have none, because they are
-/// directories, can't be opened or can't be read to their end. Returns whether all have one.
+/// Writes the digest line of each named file, in order. Reports names that have none: directories, and files that can't
+/// be opened or read to their end. Returns whether all have one.
 ///
 /// The caller shows that no write to the output has failed before.
 ///
 /// # Errors
 ///
-/// [`Stop::WriteFailed`] where a write of a line fails, and [`Stop::OutOfMemory`] where there is no memory for a line:
-/// at once, and the names after it are not opened. The lines before it are written. Nothing else stops it.
-pub fn hash_names<S: Store, W: Output, E: Sink>(
-    job: &Job<'_, S>,
+/// Both errors end the run at once; the lines before it are written. [`Stop::WriteFailed`] if a write of a line fails,
+/// and [`Stop::OutOfMemory`] if memory for a line runs out.
+pub fn hash_names<S: Store, T: Ticks, W: Output, E: Sink>(
+    job: &Job<'_, S, T>,
     names: &[Vec<u8>],
     out: &mut W,
     err: &mut E,
@@ -35,31 +36,31 @@ pub fn hash_names<S: Store, W: Output, E: Sink>(
     let mut buf = [0; OFFERED];
     let mut all = true;
     for name in names {
-        let outcome = outcome_of(job.store, job.options.kind, name, &mut buf);
+        let outcome = outcome_of(job, job.options.kind, name, &mut buf);
         print_outcome(job.alloc, job.options, name, &outcome, out)?;
-        tell_outcome(name, &outcome, err);
+        tell_outcome_after(name, &outcome, out, err);
         all = all && outcome.is_digested();
     }
     Ok(all)
 }
 
-/// Writes the digest line of what `input` gives, under this name. Where it can't be read to its end, that is reported.
-/// Returns whether it was.
+/// Writes the digest line of `input` under this name. Reports an input that can't be read to its end. Returns whether
+/// it was read.
 ///
 /// The caller shows that neither the source nor the output has failed.
 ///
 /// # Errors
 ///
-/// [`Stop::WriteFailed`] where a write of the line fails, and [`Stop::OutOfMemory`] where there is no memory for it.
-pub fn hash_input<R: Source, W: Output, E: Sink>(
+/// [`Stop::WriteFailed`] if a write of the line fails, and [`Stop::OutOfMemory`] if memory for it runs out.
+pub fn hash_input<R: Source, T: Ticks, W: Output, E: Sink>(
     alloc: Global,
     options: Options,
     name: &[u8],
-    input: &mut R,
+    input: &mut Watched<R, T>,
     out: &mut W,
     err: &mut E,
 ) -> Result<bool, Stop> {
-    match value_of_source(options.kind, 0, MAX_READS, input, &mut [0; OFFERED]) {
+    match input.value(options.kind, &mut [0; OFFERED]) {
         Ok(value) => {
             let line = styled_line(alloc, options.kind, style_of(options), value, name)?;
             print(&line, out)?;
@@ -67,14 +68,14 @@ pub fn hash_input<R: Source, W: Output, E: Sink>(
         }
         Err(error) => {
             release(out);
-            tell_line(&[b"Error: ", Reason::from(error).text(), b"."], err);
+            tell_line_after(&[b"Error: ", Reason::from(error).text(), b"."], out, err);
             Ok(false)
         }
     }
 }
 
-// Writes the digest line of a name that has a value. For one that has none, writes what `out` holds, since a message
-// follows.
+// Writes the digest line of a name that has a value. For a name without one, writes the bytes that `out` holds, since a
+// message follows.
 fn print_outcome<W: Output>(
     alloc: Global,
     options: Options,
@@ -94,7 +95,7 @@ fn print_outcome<W: Output>(
     }
 }
 
-// The style of lines by the options.
+// Returns the style of lines by the options.
 fn style_of(options: Options) -> Style {
     Style {
         shape: Shape {
@@ -105,7 +106,7 @@ fn style_of(options: Options) -> Style {
     }
 }
 
-/// Reports why a name has no value. Of one that has, nothing.
+/// Reports why a name has no value. Writes nothing for a name that has one.
 pub fn tell_outcome<'a, E: Sink>(name: &'a [u8], outcome: &'a Outcome, err: &mut E) {
     match outcome {
         Outcome::Digested { .. } => {}
@@ -123,4 +124,11 @@ pub fn tell_outcome<'a, E: Sink>(name: &'a [u8], outcome: &'a Outcome, err: &mut
             tell_line(&parts, err);
         }
     }
+}
+
+// Reports why a name has no value, after the output `out`. The caller shows that all printed lines are written, or were
+// lost, if there is something to report.
+fn tell_outcome_after<W: Output, E: Sink>(name: &[u8], outcome: &Outcome, out: &W, err: &mut E) {
+    let _ = out;
+    tell_outcome(name, outcome, err);
 }

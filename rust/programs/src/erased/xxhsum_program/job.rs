@@ -3,16 +3,19 @@
 
 //! What the tasks of a run have in common.
 
+use crate::programs::xxhsum_program::watched::ProgressDisplay;
 use crate::rattle::Global;
 use crate::programs::xxhsum_words::options::Options;
 
-/// What each task of a run works with: memory, the files, and what the options ask for.
+/// What each task of a run works with: memory, the files, the options, and where progress is shown.
 #[derive(Clone, Copy)]
-pub struct Job<'a, S> {
+pub struct Job<'a, S, T> {
     /// Where memory comes from.
     pub alloc: Global,
     /// The files.
     pub store: &'a S,
     /// The options.
     pub options: Options,
+    /// Where the progress of reads is shown.
+    pub progress: ProgressDisplay<T>,
 }

@@ -1,30 +1,32 @@
 // SPDX-License-Identifier: MIT
 // crates/xxhsum_program/src/lines.rt without its contracts, written by rust/erase --programs: change that file.
 
-//! The lines of a list.
+//! Splits a list into lines.
 
+use crate::programs::xxhsum_program::screen::Ticks;
+use crate::programs::xxhsum_program::watched::Watched;
 use crate::programs::xxh_io::ends::{Failed, Source};
 
 const BUFFER: usize = 65536;
 
-// The most bytes that a line has, without its line feed. A longer one is skipped.
+// Maximum length of a line in bytes, without its line feed. A longer line is skipped.
 const MOST: usize = 32767;
 
-/// What comes next in a list.
+/// The next item of a list.
 #[derive(Clone, Copy, Debug, PartialEq, Eq)]
 pub enum Next {
-    /// A line, or one that is too long.
+    /// A line. It may be too long.
     Line,
-    /// A line that didn't end within 2^64 - 1 reads: its list ends there.
+    /// A line without an end within 2^64 - 1 reads. The list ends there.
     Endless,
     End,
     /// A read failed.
     Failed,
 }
 
-/// The lines of a source, one after another.
-pub struct Lines<R> {
-    source: R,
+/// Reads the lines of a source, one after another.
+pub struct Lines<R, T> {
+    source: Watched<R, T>,
     buf: [u8; BUFFER],
     // `buf[start..end]` is buffered.
     start: usize,
@@ -32,14 +34,14 @@ pub struct Lines<R> {
     // `buf[line_start..line_end]` is the current line, without its line feed.
     line_start: usize,
     line_end: usize,
-    // The current line has more than MOST bytes.
+    // True if the current line has more than MOST bytes.
     is_long: bool,
     has_ended: bool,
 }
 
-impl<R: Source > Lines<R> {
-    /// The lines of a source of which nothing was read yet.
-    pub fn new(source: R) -> Lines<R> {
+impl<R: Source , T: Ticks> Lines<R, T> {
+    /// Returns the lines of a source that has not been read yet.
+    pub fn new(source: Watched<R, T>) -> Lines<R, T> {
         Lines {
             source,
             buf: [0; BUFFER],
@@ -52,7 +54,7 @@ impl<R: Source > Lines<R> {
         }
     }
 
-    // Moves the buffered bytes to the front, and reads once behind them.
+    // Moves the buffered bytes to the front, and reads once more.
     fn refill(&mut self) -> Result<(), Failed> {
         let len = self.end - self.start;
         self.buf.copy_within(self.start..self.end, 0);
@@ -67,13 +69,13 @@ impl<R: Source > Lines<R> {
         Ok(())
     }
 
-    // How many of the buffered bytes come before the first line feed.
+    // Returns the number of buffered bytes before the first line feed.
     fn before_line_feed(&self) -> Option<usize> {
         crate::rattle::memchr::memchr(b'\n', &self.buf[self.start..self.end])
     }
 
-    // Reads until the buffered bytes have a line feed or are more than a line has, or the source has ended. Returns how
-    // many come before the line feed.
+    // Reads until a line feed is buffered, too many bytes for a line are, or the source ends. Returns the number of
+    // bytes before the line feed.
     fn gather(&mut self) -> Result<Option<usize>, Failed> {
         loop {
             let found = self.before_line_feed();
@@ -84,7 +86,7 @@ impl<R: Source > Lines<R> {
         }
     }
 
-    // Consumes `taken` buffered bytes: the first `len` are the line, or all belong to one that is too long.
+    // Consumes `taken` buffered bytes. The first `len` are the line, unless it is too long.
     fn take(&mut self, len: usize, taken: usize, is_long: bool) {
         self.line_start = self.start;
         self.line_end = self.start + len;
@@ -92,7 +94,7 @@ impl<R: Source > Lines<R> {
         self.is_long = is_long;
     }
 
-    // Skips a line of which more than MOST bytes are buffered: to behind its line feed, or to the end.
+    // Skips a line with more than MOST buffered bytes, up to its line feed or the end.
     fn pass_over(&mut self) -> Next {
         for turn in 0..u64::MAX {
             let waiting = self.end - self.start;
@@ -135,7 +137,7 @@ impl<R: Source > Lines<R> {
         }
     }
 
-    /// The current line, without its line feed. `None` where it has more than 32,767 bytes.
+    /// Returns the current line without its line feed, or `None` if it is longer than 32,767 bytes.
     pub fn line(&self) -> Option<&[u8]> {
         if self.is_long {
             return None;

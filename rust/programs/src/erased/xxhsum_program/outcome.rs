@@ -1,45 +1,43 @@
 // SPDX-License-Identifier: MIT
 // crates/xxhsum_program/src/outcome.rt without its contracts, written by rust/erase --programs: change that file.
 
-//! The outcome of one name of a hashing run.
+//! The outcome of one name in a hashing run.
 
-use crate::programs::xxh_io::ends::Source;
+use crate::programs::xxhsum_program::job::Job;
+use crate::programs::xxhsum_program::screen::Ticks;
+use crate::programs::xxhsum_program::watched::ProgressDisplay;
 use crate::programs::xxh_io::error::DigestError;
 use crate::programs::xxh_io::kind::Kind;
-use crate::programs::xxh_program::program::value_of_source;
 use crate::programs::xxhsum_files::refusal::Refusal;
 use crate::programs::xxhsum_files::store::Store;
 
-// How many reads a file has at most.
-pub(crate) const MAX_READS: u64 = u64::MAX;
-
-/// How many bytes each read of a file is offered.
+/// Size of the buffer for each read of a file, in bytes.
 pub const OFFERED: usize = 131072;
 
 /// The outcome of a name.
 #[derive(Clone, Copy, Debug, PartialEq, Eq)]
 pub enum Outcome {
-    /// Its file was read to the end, and has this value.
+    /// The file was read to its end and has this value.
     Digested { value: u128 },
-    /// It is a directory.
+    /// The name is a directory.
     IsDirectory,
-    /// It has no value, for this reason.
+    /// The name has no value.
     Unread { reason: Reason },
 }
 
-/// Why a name that is no directory has no value.
+/// The reason why a name that isn't a directory has no value.
 #[derive(Clone, Copy, Debug, PartialEq, Eq)]
 pub enum Reason {
-    /// It leads to no file, for this reason.
+    /// The file could not be opened.
     Unopened { refusal: Refusal },
-    /// A read of its file failed.
+    /// A read of the file failed.
     ReadFailed,
-    /// Its file is too long: 2^64 - 1 reads each gave some of it.
+    /// The file is too long: 2^64 - 1 reads did not reach its end.
     TooLong,
 }
 
 impl Outcome {
-    /// Whether the name has a value.
+    /// True if the name has a value.
     pub fn is_digested(&self) -> bool {
         match self {
             Outcome::Digested { .. } => true,
@@ -49,7 +47,7 @@ impl Outcome {
 }
 
 impl Reason {
-    // Whether there is no file of the name.
+    // True if there is no file of this name.
     pub(crate) fn is_missing(&self) -> bool {
         match self {
             Reason::Unopened { refusal } => refusal.is_missing(),
@@ -57,7 +55,7 @@ impl Reason {
         }
     }
 
-    // The reason as text: the system's where the file can't be opened.
+    // Returns the reason as text: the system's message if the file can't be opened.
     pub(crate) fn text(&self) -> &[u8] {
         match self {
             Reason::Unopened { refusal } => refusal.text(),
@@ -66,7 +64,7 @@ impl Reason {
         }
     }
 
-    // The step that failed: `open` or `read`.
+    // Returns the step that failed: `open` or `read`.
     pub(crate) fn step(&self) -> &[u8] {
         match self {
             Reason::Unopened { .. } => b"open",
@@ -76,7 +74,7 @@ impl Reason {
 }
 
 impl From<DigestError> for Reason {
-    // No write is made where a file is read.
+    // Reading a file writes nothing, so a write can't fail here.
     fn from(error: DigestError) -> Reason {
         match error {
             DigestError::ReadFailed | DigestError::WriteFailed => Reason::ReadFailed,
@@ -85,29 +83,36 @@ impl From<DigestError> for Reason {
     }
 }
 
-/// Opens the name and digests its file. Each read is offered the whole of `buf`. An error says why there is no value.
-pub(crate) fn value_named<S: Store>(
+/// Opens and hashes the file of this name. Each read is offered the whole of `buf`. An error is the reason why there is
+/// no value.
+pub(crate) fn value_named<S: Store, T: Ticks>(
     store: &S,
+    progress: ProgressDisplay<T>,
     kind: Kind,
     name: &[u8],
     buf: &mut [u8],
 ) -> Result<u128, Reason> {
-    match store.open(name) {
+    match progress.open(store, name) {
         Ok(file) => {
             let mut file = file;
-            Ok(value_of_source(kind, 0, MAX_READS, &mut file, buf)?)
+            Ok(file.value(kind, buf)?)
         }
         Err(refusal) => Err(Reason::Unopened { refusal }),
     }
 }
 
-/// Opens the name and digests its file. Each read is offered the whole of `buf`. A name is a directory exactly where
-/// the store says so.
-pub fn outcome_of<S: Store>(store: &S, kind: Kind, name: &[u8], buf: &mut [u8]) -> Outcome {
-    if store.is_directory(name) {
+/// Opens and hashes the file of this name. Each read is offered the whole of `buf`. Directories are found by
+/// `is_directory` of the store.
+pub fn outcome_of<S: Store, T: Ticks>(
+    job: &Job<'_, S, T>,
+    kind: Kind,
+    name: &[u8],
+    buf: &mut [u8],
+) -> Outcome {
+    if job.store.is_directory(name) {
         return Outcome::IsDirectory;
     }
-    match value_named(store, kind, name, buf) {
+    match value_named(job.store, job.progress, kind, name, buf) {
         Ok(value) => Outcome::Digested { value },
         Err(reason) => Outcome::Unread { reason },
     }

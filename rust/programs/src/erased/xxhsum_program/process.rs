@@ -1,13 +1,15 @@
 // SPDX-License-Identifier: MIT
 // crates/xxhsum_program/src/process.rt without its contracts, written by rust/erase --programs: change that file.
 
-//! What the arguments ask for, and a run over files and lists.
+//! Decides what the arguments ask for, and runs over files and lists.
 
 use crate::rattle::prelude::Vec;
 use crate::programs::xxhsum_program::arguments::last_part;
 use crate::programs::xxhsum_program::check::{check_list, check_lists};
 use crate::programs::xxhsum_program::hash::{hash_input, hash_names};
 use crate::programs::xxhsum_program::job::Job;
+use crate::programs::xxhsum_program::say::finish;
+use crate::programs::xxhsum_program::screen::Ticks;
 use crate::programs::xxhsum_program::stop::Stop;
 use crate::programs::xxhsum_program::tell::{tell, tell_line};
 use crate::programs::xxhsum_program::usage::{ABOUT, BEFORE, BEHIND, NO_BENCHMARK, TITLE, tell_options};
@@ -16,14 +18,14 @@ use crate::programs::xxhsum_files::store::Store;
 use crate::programs::xxhsum_output::output::Output;
 use crate::programs::xxhsum_words::options::{Asked, Options};
 
-// What standard input is called in lines.
+// The name of standard input in lines.
 const INPUT: &[u8] = b"stdin";
 
-// The message where `-` stands beside names or behind `--`.
+// The message for `-` beside names or after `--`.
 const INPUT_BESIDE_NAMES: &[u8] =
     b"Error: '-' is standard input, which is read alone; a file of that name is './-'.\n";
 
-/// Which of the standard streams are terminals.
+/// True for each standard stream that is a terminal.
 #[derive(Clone, Copy, Debug, PartialEq, Eq)]
 pub struct Terminals {
     /// Standard input.
@@ -32,17 +34,17 @@ pub struct Terminals {
     pub errors: bool,
 }
 
-/// What the program has of where it was called: its input, and what it is to know of terminals.
+/// The environment of a run: the input, which streams are terminals, and the screen for progress.
 pub struct Console<R, T> {
     /// Standard input.
     pub input: R,
     /// Which of the standard streams are terminals.
     pub terminals: Terminals,
-    /// Where progress is shown, which is standard error too.
+    /// The screen for progress, which is standard error too.
     pub screen: T,
 }
 
-/// The options of the run that is asked for, and the index of the argument at which its names begin.
+/// Returns the options of the requested run, and the index of the argument at which its names begin.
 pub fn run_asked(asked: Asked) -> Option<(Options, usize)> {
     match asked {
         Asked::Run {
@@ -61,7 +63,7 @@ pub fn run_asked(asked: Asked) -> Option<(Options, usize)> {
     }
 }
 
-/// The name by which the program was called.
+/// Returns the name by which the program was called.
 pub fn program_of(args: &[Vec<u8>]) -> &[u8] {
     match args.split_first() {
         Some((path, _)) => last_part(path),
@@ -69,7 +71,7 @@ pub fn program_of(args: &[Vec<u8>]) -> &[u8] {
     }
 }
 
-/// The arguments behind the program's name.
+/// Returns the arguments after the program's name.
 pub fn arguments_behind_name(args: &[Vec<u8>]) -> &[Vec<u8>] {
     match args.split_first() {
         Some((_, words)) => words,
@@ -77,22 +79,23 @@ pub fn arguments_behind_name(args: &[Vec<u8>]) -> &[Vec<u8>] {
     }
 }
 
-// Whether a run over a tree is asked for: an audit, the files below folders, or names that stand in lists of names.
+// True if the run is an audit, walks folders, or takes names from lists.
 fn is_tree(options: Options) -> bool {
     options.audits || options.walks || options.names_from.are_listed()
 }
 
-/// Whether progress is to be shown: on a terminal, and there neither with `-q` nor with `--status`.
+/// True if progress is shown: standard error is a terminal, and neither `-q` nor `--status` is given.
 pub fn shows_progress(terminals: Terminals, options: Options) -> bool {
     terminals.errors && !options.is_quiet && !options.is_status_only
 }
 
-/// Whether standard input would be read from a terminal that nobody asked for.
+/// True if standard input would be read from a terminal without `-`.
 pub fn waits_for_terminal(terminals: Terminals, options: Options, names: &[Vec<u8>]) -> bool {
     has_none(names) && !is_tree(options) && !options.takes_terminal && terminals.input
 }
 
-/// Writes what is asked for where that is no run, and returns whether all is well. Of a run nothing is written.
+/// Answers arguments that ask for no run: writes help, version or an error, and returns whether all is well. Writes
+/// nothing for a run.
 pub fn tell_answer<E: Sink>(program: &[u8], words: &[Vec<u8>], asked: Asked, err: &mut E) -> bool {
     match asked {
         Asked::Version => {
@@ -147,7 +150,7 @@ pub fn tell_answer<E: Sink>(program: &[u8], words: &[Vec<u8>], asked: Asked, err
     }
 }
 
-// The argument of this index.
+// Returns the argument at this index.
 fn word_at(words: &[Vec<u8>], at: usize) -> &[u8] {
     match words.get(at) {
         Some(word) => word,
@@ -155,14 +158,14 @@ fn word_at(words: &[Vec<u8>], at: usize) -> &[u8] {
     }
 }
 
-/// Reports what is wrong with the arguments, in these parts of a line, and how the program is used.
+/// Reports what is wrong with the arguments, as one line of these parts, and the usage.
 pub fn tell_wrong<E: Sink>(line: &[&[u8]], program: &[u8], err: &mut E) {
     tell_line(line, err);
     tell(b"\n", err);
     tell_usage(program, err);
 }
 
-// Reports how the program is used.
+// Reports the usage.
 fn tell_usage<E: Sink>(program: &[u8], err: &mut E) {
     tell_line(&[program, TITLE], err);
     tell(ABOUT, err);
@@ -172,15 +175,15 @@ fn tell_usage<E: Sink>(program: &[u8], err: &mut E) {
     tell(BEHIND, err);
 }
 
-/// Digests the files of the names, or checks the lists of these names. Returns whether all went well.
+/// Hashes the files of the names, or checks the lists of these names. Returns whether all went well.
 ///
 /// The caller shows that neither the input nor the output has failed.
 ///
 /// # Errors
 ///
-/// [`Stop::WriteFailed`] where a write to the output fails, and [`Stop::OutOfMemory`] where memory runs out.
-pub fn perform<S, R, W, E>(
-    job: &Job<'_, S>,
+/// [`Stop::WriteFailed`] if a write to the output fails, and [`Stop::OutOfMemory`] if memory runs out.
+pub fn perform<S, T, R, W, E>(
+    job: &Job<'_, S, T>,
     names: &[Vec<u8>],
     input: R,
     out: &mut W,
@@ -188,10 +191,10 @@ pub fn perform<S, R, W, E>(
 ) -> Result<bool, Stop>
 where
     S: Store,
+    T: Ticks,
     R: Source ,
     W: Output,
     E: Sink, {
-    let mut input = input;
     if job.options.checks {
         if has_none(names) {
             return check_list(job, INPUT, input, out, err);
@@ -199,6 +202,7 @@ where
         return check_lists(job, names, out, err);
     }
     if has_none(names) {
+        let mut input = job.progress.watch(input);
         return hash_input(job.alloc, job.options, INPUT, &mut input, out, err);
     }
     hash_names(job, names, out, err)
@@ -208,8 +212,8 @@ fn has_none(names: &[Vec<u8>]) -> bool {
     names.is_empty()
 }
 
-/// Reports why the program stops, and returns the exit status: 0 where all went well, and else 1.
-pub fn conclude<E: Sink>(done: Result<bool, Stop>, err: &mut E) -> u8 {
+// Reports why the program stops, and returns the exit status: 0 if all went well, otherwise 1.
+fn conclude<E: Sink>(done: Result<bool, Stop>, err: &mut E) -> u8 {
     match done {
         Ok(true) => 0,
         Ok(false) => 1,
@@ -220,7 +224,21 @@ pub fn conclude<E: Sink>(done: Result<bool, Stop>, err: &mut E) -> u8 {
     }
 }
 
-// The message of why the program stops.
+/// Ends a run: writes the bytes that the output holds, and then reports why the run stops, if it does. Returns the exit
+/// status.
+pub fn end<W: Output, E: Sink>(done: Result<bool, Stop>, out: &mut W, err: &mut E) -> u8 {
+    let ended = finish(done, out);
+    conclude_after(ended, out, err)
+}
+
+// Reports why the run stops, after the output `out`, and returns the exit status. The caller shows that all printed
+// lines are written, or were lost.
+fn conclude_after<W: Output, E: Sink>(done: Result<bool, Stop>, out: &W, err: &mut E) -> u8 {
+    let _ = out;
+    conclude(done, err)
+}
+
+// Returns the message for this reason to stop.
 fn line_of(stop: Stop) -> &'static [u8] {
     match stop {
         Stop::WriteFailed => b"Error: a failure occurred writing the output.\n",

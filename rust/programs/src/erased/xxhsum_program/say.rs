@@ -1,7 +1,7 @@
 // SPDX-License-Identifier: MIT
 // crates/xxhsum_program/src/say.rt without its contracts, written by rust/erase --programs: change that file.
 
-//! Lines on standard output, of which none may be lost.
+//! Lines on standard output. A lost line is an error.
 
 use crate::rattle::prelude::Vec;
 use crate::programs::xxhsum_program::stop::Stop;
@@ -22,7 +22,7 @@ fn put_parts(text: &mut Vec<u8>, parts: &[&[u8]]) -> Result<(), AllocError> {
     }
 }
 
-// The parts as one line, whatever names are among them.
+// Returns the parts as one line. Names in them are escaped.
 pub(crate) fn line_of(alloc: Global, parts: &[&[u8]]) -> Result<Vec<u8>, AllocError> {
     let mut text = Vec::new(alloc);
     put_parts(&mut text, parts)?;
@@ -37,7 +37,11 @@ pub(crate) fn say_line<W: Sink>(alloc: Global, parts: &[&[u8]], out: &mut W) -> 
     print(&line, out)
 }
 
-/// Writes the bytes. `Stop::WriteFailed` where a write fails.
+/// Writes the bytes.
+///
+/// # Errors
+///
+/// [`Stop::WriteFailed`] if a write fails.
 pub fn print<W: Sink>(bytes: &[u8], out: &mut W) -> Result<(), Stop> {
     match write_all(bytes, out) {
         Ok(()) => Ok(()),
@@ -45,13 +49,13 @@ pub fn print<W: Sink>(bytes: &[u8], out: &mut W) -> Result<(), Stop> {
     }
 }
 
-// Writes what the output holds, before a message.
+// Writes the bytes that the output holds. Called before a message.
 pub(crate) fn release<W: Output>(out: &mut W) {
     out.release();
 }
 
-/// Writes what the output holds at the end of a run. Where that fails the run has failed too: it ends with
-/// [`Stop::WriteFailed`], unless it stopped before.
+/// Writes the bytes that the output holds at the end of a run. If that fails, the result is [`Stop::WriteFailed`],
+/// unless the run stopped before.
 pub fn finish<W: Output>(done: Result<bool, Stop>, out: &mut W) -> Result<bool, Stop> {
     out.release();
     match done {

@@ -1,16 +1,16 @@
 // SPDX-License-Identifier: MIT
 // crates/xxhsum_program/src/stop.rt without its contracts, written by rust/erase --programs: change that file.
 
-//! Why the program stops before it has come to its last name.
+//! The reason why a run stops early.
 
 use crate::rattle::AllocError;
 
-/// Why the program stops before it has come to its last name. A file that can't be read stops nothing.
+/// The reason why a run stops before its last name. An unreadable file is no such reason.
 #[derive(Clone, Copy, Debug, PartialEq, Eq)]
 pub enum Stop {
     /// A write to standard output failed.
     WriteFailed,
-    /// There was no memory.
+    /// Memory ran out.
     OutOfMemory,
 }
 

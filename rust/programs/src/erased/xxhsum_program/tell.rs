@@ -1,36 +1,46 @@
 // SPDX-License-Identifier: MIT
 // crates/xxhsum_program/src/tell.rt without its contracts, written by rust/erase --programs: change that file.
 
-//! Messages on standard error. One that can't be written stops nothing.
+//! Messages on standard error. A failed write of a message is ignored.
 
 use crate::programs::xxh_io::ends::Sink;
 use crate::programs::xxh_io::write::write_all;
 use crate::programs::xxhsum_line::escapes::{escape, needs_escape};
+use crate::programs::xxhsum_output::output::Output;
 
 /// Writes the bytes, unless a write has failed before.
 pub fn tell<E: Sink>(bytes: &[u8], err: &mut E) {
     if !err.failed() {
-        // Standard error has no other place for what it refuses.
+        // There is no other stream for a message that standard error refuses.
         let _ = write_all(bytes, err);
     }
 }
 
-/// Writes the parts as one line, whatever names are among them: escaped as names in lists are, with a backslash before
-/// them where one of them needs it, and with a line feed.
+/// Writes the parts as one line, with a line feed. Bytes are escaped as in names of lists, with a backslash at the
+/// front if one is.
 pub fn tell_line<E: Sink>(parts: &[&[u8]], err: &mut E) {
     tell_mark(parts, err);
     tell_escaped_parts(parts, err);
     tell(b"\n", err);
 }
 
-// Writes a backslash where one of the parts has a byte that is escaped.
+/// Writes the parts as one line, as [`tell_line`] does, after the output `out`.
+///
+/// The caller shows that all printed lines are written, or were lost. So a message never appears before output that was
+/// printed before it.
+pub fn tell_line_after<W: Output, E: Sink>(parts: &[&[u8]], out: &W, err: &mut E) {
+    let _ = out;
+    tell_line(parts, err);
+}
+
+// Writes a backslash if one of the parts has a byte that is escaped.
 fn tell_mark<E: Sink>(parts: &[&[u8]], err: &mut E) {
     if need_escape(parts) {
         tell(b"\\", err);
     }
 }
 
-// Whether one of the parts has a byte that is escaped.
+// True if one of the parts has a byte that is escaped.
 fn need_escape(parts: &[&[u8]]) -> bool {
     match parts.split_first() {
         Some((part, rest)) => needs_escape(part) || need_escape(rest),
@@ -45,7 +55,7 @@ fn tell_escaped_parts<E: Sink>(parts: &[&[u8]], err: &mut E) {
     }
 }
 
-// Writes a text as it stands where none of its bytes is escaped, and else byte by byte.
+// Writes a text, escaped byte by byte if one of its bytes needs that.
 fn tell_escaped<E: Sink>(text: &[u8], err: &mut E) {
     if !needs_escape(text) {
         tell(text, err);

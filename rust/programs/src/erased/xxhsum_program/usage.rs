@@ -7,14 +7,14 @@ use crate::programs::xxhsum_program::tell::tell_parts;
 use crate::programs::xxh_io::ends::Sink;
 use crate::programs::xxhsum_words::table::{Does, NO_LETTER, ROWS};
 
-// The first line of both, after the program's name.
+// The first line of help and version, after the program's name.
 pub(crate) const TITLE: &[u8] =
     b" 0.1.0 of twox_hash, compiled by rustc from proved source, with the messages of xxhsum 0.8.1 and the options and lines of 0.8.3";
 
 pub(crate) const ABOUT: &[u8] =
     b"Prints or checks the digests of files by xxHash: XXH32, XXH64, XXH3.\n\n";
 
-// What stands before the options of the table, and behind them.
+// The help before and after the table of options.
 pub(crate) const BEFORE: &[u8] = b"
 With no FILE, or when FILE is -, read standard input.
 
@@ -29,7 +29,7 @@ The exit status is 0 if every file was read and matches its checksum, if there i
 
 pub(crate) const NO_BENCHMARK: &[u8] = b": this xxhsum has no benchmark";
 
-// Writes the lines of all options that the help has.
+// Writes the lines of all options in the help.
 pub(crate) fn tell_options<E: Sink>(err: &mut E) {
     tell_rows(&ROWS, err);
 }
@@ -42,7 +42,7 @@ fn tell_rows<E: Sink>(rows: &[(u8, &str, Does, &str)], err: &mut E) {
     }
 }
 
-// Writes the line of an option, unless the help has none.
+// Writes the line of an option. Options without help text have none.
 fn tell_row<'a, E: Sink>(letter: u8, name: &'a [u8], help: &'a [u8], err: &mut E) {
     if help.len() == 0 {
         return;
@@ -53,7 +53,7 @@ fn tell_row<'a, E: Sink>(letter: u8, name: &'a [u8], help: &'a [u8], err: &mut E
     tell_parts(&parts, err);
 }
 
-// The text before the name of an option with this letter.
+// Returns the text before the name of an option with this letter.
 fn shown_letter<'a>(letter: u8, short: &'a [u8; 4]) -> &'a [u8] {
     if letter == NO_LETTER { b"" } else { short }
 }

@@ -1,31 +1,47 @@
 // SPDX-License-Identifier: MIT
 // crates/xxhsum_program/src/watched.rt without its contracts, written by rust/erase --programs: change that file.
 
-//! Sources and stores whose reads are shown, and which give just what they give without.
+//! Sources whose reads are shown as progress. A watched source returns the same bytes as the source itself.
 
-use crate::rattle::prelude::Vec;
+use crate::programs::xxhsum_program::process::{Terminals, shows_progress};
 use crate::programs::xxhsum_program::progress::{Meter, time_of};
 use crate::programs::xxhsum_program::screen::Ticks;
-use crate::rattle::Global;
-use crate::programs::xxh_io::ends::{Failed, Sink, Source};
-use crate::programs::xxhsum_files::folders::{FolderError, Folders, PathKind};
+use crate::programs::xxh_io::ends::{Failed, Source};
+use crate::programs::xxh_io::error::DigestError;
+use crate::programs::xxh_io::kind::Kind;
+use crate::programs::xxh_program::program::value_of_source;
 use crate::programs::xxhsum_files::refusal::Refusal;
 use crate::programs::xxhsum_files::store::Store;
+use crate::programs::xxhsum_words::options::Options;
 
-/// A source whose reads a meter shows. It gives just what its source gives.
-pub struct Watched<R, E> {
+// The maximum number of reads of a file.
+const MAX_READS: u64 = u64::MAX;
+
+/// A source whose reads a meter shows. It returns the same bytes as its source.
+pub struct Watched<R, T> {
     source: R,
-    meter: Meter<E>,
+    meter: Meter<T>,
 }
 
-impl<R: Source, E: Sink> Watched<R, E> {
-    /// This source, watched by this meter.
-    pub fn new(source: R, meter: Meter<E>) -> Watched<R, E> {
+impl<R: Source, T: Ticks> Watched<R, T> {
+    /// Returns this source, watched by this meter.
+    pub fn new(source: R, meter: Meter<T>) -> Watched<R, T> {
         Watched { source, meter }
+    }
+
+    /// Reads the source to its end and returns the hash of the bytes. Each read is offered the whole of `buf`.
+    ///
+    /// The caller shows that the source has not failed.
+    ///
+    /// # Errors
+    ///
+    /// [`DigestError::ReadFailed`] if a read fails, and [`DigestError::TooLong`] if 2^64 - 1 reads don't reach the end.
+    pub(crate) fn value(&mut self, kind: Kind, buf: &mut [u8]) -> Result<u128, DigestError> {
+        value_of_source(kind, 0, MAX_READS, self, buf)
     }
 }
 
-impl<R: Source, E: Sink + Ticks> Source for Watched<R, E> {
+impl<R: Source, T: Ticks> Source for Watched<R, T> {
     fn failed(&self) -> bool {
         self.source.failed()
     }
@@ -40,81 +56,44 @@ impl<R: Source, E: Sink + Ticks> Source for Watched<R, E> {
     }
 }
 
-/// The files of a store, each watched by a meter of its own on one screen.
+/// Where the progress of reads is shown, or that it isn't.
 #[derive(Clone, Copy)]
-pub struct WatchedFiles<'a, S, W> {
-    files: &'a S,
-    screen: W,
+pub struct ProgressDisplay<T> {
+    screen: T,
     is_on: bool,
 }
 
-impl<'a, S: Store, W: Sink + Ticks + Copy > WatchedFiles<'a, S, W> {
-    /// The files of this store. Where it is off, nothing is shown.
-    pub fn new(files: &'a S, screen: W, is_on: bool) -> WatchedFiles<'a, S, W> {
-        WatchedFiles {
-            files,
+impl<T: Ticks> ProgressDisplay<T> {
+    /// Returns a display on `screen`. It is on if [`shows_progress`] returns true.
+    pub fn new(screen: T, terminals: Terminals, options: Options) -> ProgressDisplay<T> {
+        ProgressDisplay {
             screen,
-            is_on,
+            is_on: shows_progress(terminals, options),
         }
     }
-}
 
-impl<S: Store, W: Sink + Ticks + Copy > WatchedFiles<'_, S, W> {
-    /// This source, watched as the files are. Its size is not known.
-    pub fn watch<R: Source>(&self, source: R) -> Watched<R, W> {
+    /// Returns this source, watched. Its size is not known.
+    pub fn watch<R: Source>(&self, source: R) -> Watched<R, T> {
         let started = time_of(&self.screen, self.is_on);
         Watched::new(source, Meter::new(self.screen, self.is_on, None, started))
     }
 
-    // A meter for the file of this name.
-    fn meter_of(&self, name: &[u8]) -> Meter<W> {
-        let size = if self.is_on {
-            self.files.size(name)
-        } else {
-            None
-        };
+    /// Opens the file of this name, watched. Its expected size is the store's.
+    ///
+    /// # Errors
+    ///
+    /// The store's reason if it doesn't open the file.
+    pub fn open<S: Store>(&self, store: &S, name: &[u8]) -> Result<Watched<S::File, T>, Refusal> {
+        match store.open(name) {
+            Ok(file) => { Ok(Watched::new(file, self.meter_of(store, name))) }
+            Err(refusal) => Err(refusal),
+        }
+    }
+
+    // Returns a meter for the file of this name.
+    fn meter_of<S: Store>(&self, store: &S, name: &[u8]) -> Meter<T> {
+        let size = if self.is_on { store.size(name) } else { None };
         let started = time_of(&self.screen, self.is_on);
         Meter::new(self.screen, self.is_on, size, started)
     }
 }
-
-impl<S: Store, W: Sink + Ticks + Copy > Store for WatchedFiles<'_, S, W> {
-    type File = Watched<S::File, W>;
-
-    fn is_directory(&self, name: &[u8]) -> bool {
-        self.files.is_directory(name)
-    }
-
-    fn size(&self, name: &[u8]) -> Option<u64> {
-        self.files.size(name)
-    }
-
-    fn open(&self, name: &[u8]) -> Result<Watched<S::File, W>, Refusal> {
-        match self.files.open(name) {
-            Ok(file) => { Ok(Watched::new(file, self.meter_of(name))) }
-            Err(refusal) => Err(refusal),
-        }
-    }
-}
-
-impl<S: Folders, W> Folders for WatchedFiles<'_, S, W> {
-    fn kind_of(&self, name: &[u8]) -> PathKind {
-        self.files.kind_of(name)
-    }
-
-    fn names_in(&self, alloc: Global, folder: &[u8]) -> Result<Vec<Vec<u8>>, FolderError> {
-        self.files.names_in(alloc, folder)
-    }
-}
-
-/// A law, with nothing to run: the pieces that a watched source gives are those of its source.
-pub fn watched_pieces<R: Source, E: Sink + Ticks>() {}
-
-/// A law, with nothing to run: the outcomes of a hashing run over watched files are those of the files.
-pub fn watched_names<S: Store, W: Sink + Ticks + Copy >() {}
-
-/// A law, with nothing to run: the findings of a watched list over watched files are those of the list and the files.
-pub fn watched_list<S: Store, W: Sink + Ticks + Copy , R: Source, E: Sink + Ticks>() {}
-
-/// A law, with nothing to run: the outcomes of checks of watched lists are those of the lists.
-pub fn watched_lists<S: Store, W: Sink + Ticks + Copy >() {}

@@ -1,7 +1,7 @@
 // SPDX-License-Identifier: MIT
 // crates/xxhsum_tree/src/names.rt without its contracts, written by rust/erase --programs: change that file.
 
-//! The names that stand in lists of names.
+//! Reads names from lists of names.
 
 use crate::rattle::prelude::Vec;
 use crate::programs::xxhsum_tree::texts::texts_named;
@@ -9,31 +9,31 @@ use crate::rattle::{AllocError, Global};
 use crate::programs::xxh_io::ends::{Sink, Source};
 use crate::programs::xxhsum_audit::parts::cut_at;
 use crate::programs::xxhsum_files::store::Store;
+use crate::programs::xxhsum_program::job::Job;
+use crate::programs::xxhsum_program::screen::Ticks;
 use crate::programs::xxhsum_program::stop::Stop;
 use crate::programs::xxhsum_words::options::NamesFrom;
 
-/// The names that stand in the lists of these names, or in the input where there are none: those of the first list and
-/// then those of the next, in their order there. `None` where a list can't be opened or read, which is reported.
+/// Returns the names in these lists, or in the input if there is no list, in order. Returns `None` if a list can't be
+/// opened or read, which is reported.
 ///
 /// # Errors
 ///
-/// [`Stop::OutOfMemory`] where there is no memory for them.
-pub fn names_listed<S: Store, R: Source , E: Sink>(
-    alloc: Global,
-    store: &S,
-    names_from: NamesFrom,
+/// [`Stop::OutOfMemory`] if memory runs out.
+pub fn names_listed<S: Store, T: Ticks, R: Source , E: Sink>(
+    job: &Job<'_, S, T>,
     lists: &[Vec<u8>],
     input: R,
     err: &mut E,
 ) -> Result<Option<Vec<Vec<u8>>>, Stop> {
-    let Some(texts) = texts_named(alloc, store, lists, input, err)? else {
+    let Some(texts) = texts_named(job, lists, input, err)? else {
         return Ok(None);
     };
-    let names = names_in(alloc, end_of(names_from), &texts)?;
+    let names = names_in(job.alloc, end_of(job.options.names_from), &texts)?;
     Ok(Some(names))
 }
 
-// The byte that ends each name of a list.
+// Returns the byte that ends each name of a list.
 fn end_of(names_from: NamesFrom) -> u8 {
     match names_from {
         NamesFrom::Nuls => 0,
@@ -41,7 +41,7 @@ fn end_of(names_from: NamesFrom) -> u8 {
     }
 }
 
-// The names of all texts.
+// Returns the names in all texts.
 fn names_in(alloc: Global, end: u8, texts: &[Vec<u8>]) -> Result<Vec<Vec<u8>>, AllocError> {
     let mut names = Vec::new(alloc);
     for text in texts {
@@ -50,7 +50,7 @@ fn names_in(alloc: Global, end: u8, texts: &[Vec<u8>]) -> Result<Vec<Vec<u8>>, A
     Ok(names)
 }
 
-// Puts the names of a text behind these.
+// Appends the names in a text.
 fn add_names(
     alloc: Global,
     end: u8,

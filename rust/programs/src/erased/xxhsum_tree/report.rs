@@ -1,7 +1,7 @@
 // SPDX-License-Identifier: MIT
 // crates/xxhsum_tree/src/report.rt without its contracts, written by rust/erase --programs: change that file.
 
-//! What is printed of an audit.
+//! Prints the report of an audit.
 
 use crate::rattle::prelude::Vec;
 use crate::rattle::itoa::Buffer;
@@ -13,7 +13,7 @@ use crate::programs::xxhsum_program::say::print;
 use crate::programs::xxhsum_program::stop::Stop;
 use crate::programs::xxhsum_words::options::Options;
 
-// Prints what was found, and how much of each class.
+// Prints the verdicts, and the count of each class.
 pub(crate) fn print_report<W: Sink>(
     alloc: Global,
     options: Options,
@@ -30,7 +30,7 @@ pub(crate) fn print_report<W: Sink>(
     print(&counts, out)
 }
 
-// Prints the line of one: where it is quiet, none of what is the same.
+// Prints the line of a verdict. If it is quiet, files that are the same have none.
 fn print_one<W: Sink>(
     alloc: Global,
     is_quiet: bool,
@@ -44,7 +44,7 @@ fn print_one<W: Sink>(
     print(&line, out)
 }
 
-// How many there are of each class.
+// Returns the line with the count of each class.
 fn counts_line(alloc: Global, found: &[Verdict<'_>]) -> Result<Vec<u8>, AllocError> {
     let mut line = Vec::new(alloc);
     put_count(&mut line, Class::Same, found, b" same, ")?;
@@ -67,7 +67,7 @@ fn put_count(
     line.extend_from_slice(word)
 }
 
-// Whether all are the same.
+// True if all are the same.
 pub(crate) fn are_same(found: &[Verdict<'_>]) -> bool {
     for verdict in found {
         if verdict.class() != Class::Same {

@@ -1,7 +1,7 @@
 // SPDX-License-Identifier: MIT
 // crates/xxhsum_tree/src/run.rt without its contracts, written by rust/erase --programs: change that file.
 
-//! The program over its arguments.
+//! Runs the program over its arguments.
 
 use crate::rattle::prelude::Vec;
 use crate::programs::xxhsum_tree::audit::audit_names;
@@ -17,19 +17,18 @@ use crate::programs::xxhsum_program::check::check_lists;
 use crate::programs::xxhsum_program::hash::hash_names;
 use crate::programs::xxhsum_program::job::Job;
 use crate::programs::xxhsum_program::process::{
-    Console, arguments_behind_name, conclude, perform, program_of, run_asked, shows_progress,
-    tell_answer, tell_wrong, waits_for_terminal,
+    Console, arguments_behind_name, end, perform, program_of, run_asked, tell_answer, tell_wrong,
+    waits_for_terminal,
 };
-use crate::programs::xxhsum_program::say::finish;
 use crate::programs::xxhsum_program::screen::Ticks;
 use crate::programs::xxhsum_program::stop::Stop;
 use crate::programs::xxhsum_program::tell::tell;
-use crate::programs::xxhsum_program::watched::WatchedFiles;
+use crate::programs::xxhsum_program::watched::ProgressDisplay;
 use crate::programs::xxhsum_words::name::default_kind;
 use crate::programs::xxhsum_words::options::{asked_by, words_behind};
 
-/// Does what the arguments ask for, over a store of files and these streams. Returns the exit status: 0 where every file was digested, or has its line's value, and all that was
-/// printed is written, and else 1.
+/// Does what the arguments ask for, over a store of files and these streams. Returns the exit status: 0 if every file
+/// was hashed or matches its line, and all output is written, otherwise 1.
 ///
 /// The caller shows that neither the input nor the output has failed.
 pub fn run<A, S, R, W, E, T>(
@@ -46,17 +45,17 @@ where
     R: Source ,
     W: Output,
     E: Sink,
-    T: Sink + Ticks + Copy , {
+    T: Ticks, {
     match all_arguments(alloc, arguments) {
         Ok(args) => {
             let done = run_arguments(alloc, &args, store, console, out, err);
-            conclude(finish(done, out), err)
+            end(done, out, err)
         }
-        Err(AllocError) => conclude(finish(Err(Stop::OutOfMemory), out), err),
+        Err(AllocError) => end(Err(Stop::OutOfMemory), out, err),
     }
 }
 
-// Decides by the arguments what the program does, and does it. Returns whether all went well.
+// Decides by the arguments what to do, and does it. Returns whether all went well.
 fn run_arguments<S, R, W, E, T>(
     alloc: Global,
     args: &[Vec<u8>],
@@ -70,7 +69,7 @@ where
     R: Source ,
     W: Output,
     E: Sink,
-    T: Sink + Ticks + Copy , {
+    T: Ticks, {
     let Console {
         input,
         terminals,
@@ -88,24 +87,29 @@ where
         tell_wrong(&[b"Wrong parameters"], program, err);
         return Ok(false);
     }
-    let files = WatchedFiles::new(store, screen, shows_progress(terminals, options));
-    let input = files.watch(input);
     let job = Job {
         alloc,
-        store: &files,
+        store,
         options,
+        progress: ProgressDisplay::new(screen, terminals, options),
     };
     perform_words(&job, names, input, out, err)
 }
 
-// Audits the words, digests the files below folders, or digests or checks the words or the names in lists of names.
-fn perform_words<S: Store + Folders, R: Source , W: Output, E: Sink>(
-    job: &Job<'_, S>,
+// Audits, hashes the files below folders, or hashes or checks the words or the names in lists of names.
+fn perform_words<S, T, R, W, E>(
+    job: &Job<'_, S, T>,
     words: &[Vec<u8>],
     input: R,
     out: &mut W,
     err: &mut E,
-) -> Result<bool, Stop> {
+) -> Result<bool, Stop>
+where
+    S: Store + Folders,
+    T: Ticks,
+    R: Source ,
+    W: Output,
+    E: Sink, {
     if job.options.audits {
         return walk_audit(job, words, input, out, err);
     }
@@ -119,13 +123,19 @@ fn perform_words<S: Store + Folders, R: Source , W: Output, E: Sink>(
 }
 
 // Audits names against the list that the first argument names.
-fn walk_audit<S: Store + Folders, R: Source , W: Output, E: Sink>(
-    job: &Job<'_, S>,
+fn walk_audit<S, T, R, W, E>(
+    job: &Job<'_, S, T>,
     words: &[Vec<u8>],
     input: R,
     out: &mut W,
     err: &mut E,
-) -> Result<bool, Stop> {
+) -> Result<bool, Stop>
+where
+    S: Store + Folders,
+    T: Ticks,
+    R: Source ,
+    W: Output,
+    E: Sink, {
     let Some((list, rest)) = words.split_first() else {
         tell(b"Error: --audit needs a list.\n", err);
         return Ok(false);
@@ -133,20 +143,19 @@ fn walk_audit<S: Store + Folders, R: Source , W: Output, E: Sink>(
     if job.options.walks {
         return audit_below(job, list, rest, out, err);
     }
-    let names_from = job.options.names_from;
-    if !names_from.are_listed() {
+    if !job.options.names_from.are_listed() {
         return audit_names(job, list, rest, out, err);
     }
-    let Some(names) = names_listed(job.alloc, job.store, names_from, rest, input, err)? else {
+    let Some(names) = names_listed(job, rest, input, err)? else {
         return Ok(false);
     };
     audit_names(job, list, &names, out, err)
 }
 
-// Audits the files of the names and of the folders below them against `list`. Where a folder can't be read, there is no
-// audit: nobody knows whether a line of it is missing.
-fn audit_below<S: Store + Folders, W: Output, E: Sink>(
-    job: &Job<'_, S>,
+// Audits the files of the names and below their folders against `list`. If a folder can't be read, there is no audit,
+// since missing lines can't be told.
+fn audit_below<S: Store + Folders, T: Ticks, W: Output, E: Sink>(
+    job: &Job<'_, S, T>,
     list: &[u8],
     names: &[Vec<u8>],
     out: &mut W,
@@ -163,9 +172,9 @@ fn audit_below<S: Store + Folders, W: Output, E: Sink>(
     }
 }
 
-// Digests the files of the names and of the folders below them.
-fn walk_folders<S: Store + Folders, W: Output, E: Sink>(
-    job: &Job<'_, S>,
+// Hashes the files of the names and below their folders.
+fn walk_folders<S: Store + Folders, T: Ticks, W: Output, E: Sink>(
+    job: &Job<'_, S, T>,
     names: &[Vec<u8>],
     out: &mut W,
     err: &mut E,
@@ -179,7 +188,7 @@ fn walk_folders<S: Store + Folders, W: Output, E: Sink>(
     }
 }
 
-// Whether the names in each folder were read, and all went well with the files.
+// True if all folders were read, and all went well with the files.
 fn all_well(are_all: bool, done: Result<bool, Stop>) -> Result<bool, Stop> {
     match done {
         Ok(all) => Ok(are_all && all),
@@ -187,16 +196,15 @@ fn all_well(are_all: bool, done: Result<bool, Stop>) -> Result<bool, Stop> {
     }
 }
 
-// Digests or checks the names that stand in lists of names.
-fn walk_names<S: Store, R: Source , W: Output, E: Sink>(
-    job: &Job<'_, S>,
+// Hashes or checks the names in lists of names.
+fn walk_names<S: Store, T: Ticks, R: Source , W: Output, E: Sink>(
+    job: &Job<'_, S, T>,
     lists: &[Vec<u8>],
     input: R,
     out: &mut W,
     err: &mut E,
 ) -> Result<bool, Stop> {
-    let names_from = job.options.names_from;
-    let Some(names) = names_listed(job.alloc, job.store, names_from, lists, input, err)? else {
+    let Some(names) = names_listed(job, lists, input, err)? else {
         return Ok(false);
     };
     if job.options.checks {
@@ -204,7 +212,3 @@ fn walk_names<S: Store, R: Source , W: Output, E: Sink>(
     }
     hash_names(job, &names, out, err)
 }
-
-/// A law, with nothing to run: what a run does over watched files and a watched input it does over the files and the input
-/// themselves.
-pub fn watched_runs<S: Store + Folders, R: Source, W: Sink, E: Sink, T>() {}

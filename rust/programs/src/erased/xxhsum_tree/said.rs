@@ -1,7 +1,7 @@
 // SPDX-License-Identifier: MIT
 // crates/xxhsum_tree/src/said.rt without its contracts, written by rust/erase --programs: change that file.
 
-//! What the lines of a list say.
+//! Reads the entries of a list.
 
 use crate::rattle::prelude::Vec;
 use crate::programs::xxhsum_tree::texts::{tell_unopened, tell_unread};
@@ -11,20 +11,21 @@ use crate::programs::xxhsum_audit::list::take_line;
 use crate::programs::xxhsum_files::store::Store;
 use crate::programs::xxhsum_line::entry::Entry;
 use crate::programs::xxhsum_program::check::tell_of_line;
+use crate::programs::xxhsum_program::job::Job;
 use crate::programs::xxhsum_program::lines::{Lines, Next};
+use crate::programs::xxhsum_program::screen::Ticks;
 use crate::programs::xxhsum_program::stop::Stop;
+use crate::programs::xxhsum_program::watched::Watched;
 
-// What the lines of the list of this name say. `None` where it can't be opened or read, or a line is malformed or too
-// long, which is reported.
-pub(crate) fn said_named<S: Store, E: Sink>(
-    alloc: Global,
-    store: &S,
-    is_little: bool,
+// Returns the entries of the list of this name. Returns `None` if it can't be opened or read, or a line is malformed or
+// too long, which is reported.
+pub(crate) fn said_named<S: Store, T: Ticks, E: Sink>(
+    job: &Job<'_, S, T>,
     list: &[u8],
     err: &mut E,
 ) -> Result<Option<Vec<Entry>>, Stop> {
-    match store.open(list) {
-        Ok(file) => said_by_lines(alloc, is_little, list, file, err),
+    match job.progress.open(job.store, list) {
+        Ok(file) => said_by_lines(job.alloc, job.options.is_little_endian, list, file, err),
         Err(refusal) => {
             tell_unopened(list, &refusal, err);
             Ok(None)
@@ -32,12 +33,12 @@ pub(crate) fn said_named<S: Store, E: Sink>(
     }
 }
 
-// What the lines of a source state, which is reported by this name.
-fn said_by_lines<R: Source , E: Sink>(
+// Returns the entries of a source, which is reported by this name.
+fn said_by_lines<R: Source , T: Ticks, E: Sink>(
     alloc: Global,
     is_little: bool,
     list: &[u8],
-    source: R,
+    source: Watched<R, T>,
     err: &mut E,
 ) -> Result<Option<Vec<Entry>>, Stop> {
     let mut lines = Lines::new(source);

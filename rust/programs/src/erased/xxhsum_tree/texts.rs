@@ -1,7 +1,7 @@
 // SPDX-License-Identifier: MIT
 // crates/xxhsum_tree/src/texts.rt without its contracts, written by rust/erase --programs: change that file.
 
-//! The texts of lists.
+//! Reads whole lists.
 
 use crate::rattle::prelude::Vec;
 use crate::rattle::{AllocError, Global};
@@ -9,25 +9,27 @@ use crate::programs::xxh_io::ends::{Sink, Source};
 use crate::programs::xxhsum_audit::read::{ReadError, read_text};
 use crate::programs::xxhsum_files::refusal::Refusal;
 use crate::programs::xxhsum_files::store::Store;
+use crate::programs::xxhsum_program::job::Job;
+use crate::programs::xxhsum_program::screen::Ticks;
 use crate::programs::xxhsum_program::stop::Stop;
 use crate::programs::xxhsum_program::tell::tell_line;
+use crate::programs::xxhsum_program::watched::{ProgressDisplay, Watched};
 
-// What standard input is called.
+// The name of standard input.
 const INPUT: &[u8] = b"stdin";
 
-/// All bytes of the file of this name. `None` where it can't be opened or read, which is reported.
+/// Returns all bytes of the file of this name. Returns `None` if it can't be opened or read, which is reported.
 ///
 /// # Errors
 ///
-/// [`Stop::OutOfMemory`] where there is no memory for them.
-pub fn text_named<S: Store, E: Sink>(
-    alloc: Global,
-    store: &S,
+/// [`Stop::OutOfMemory`] if memory runs out.
+pub fn text_named<S: Store, T: Ticks, E: Sink>(
+    job: &Job<'_, S, T>,
     name: &[u8],
     err: &mut E,
 ) -> Result<Option<Vec<u8>>, Stop> {
-    match store.open(name) {
-        Ok(file) => text_of(alloc, name, file, err),
+    match job.progress.open(job.store, name) {
+        Ok(file) => text_of(job.alloc, name, file, err),
         Err(refusal) => {
             tell_unopened(name, &refusal, err);
             Ok(None)
@@ -57,15 +59,15 @@ pub(crate) fn tell_unread<'a, E: Sink>(name: &'a [u8], err: &mut E) {
     tell_line(&parts, err);
 }
 
-/// All bytes of a source that is reported by this name. `None` where it can't be read, which is reported.
+/// Returns all bytes of a source that is reported by this name. Returns `None` if it can't be read, which is reported.
 ///
 /// # Errors
 ///
-/// [`Stop::OutOfMemory`] where there is no memory for them.
-pub fn text_of<R: Source , E: Sink>(
+/// [`Stop::OutOfMemory`] if memory runs out.
+pub fn text_of<R: Source , T: Ticks, E: Sink>(
     alloc: Global,
     name: &[u8],
-    source: R,
+    source: Watched<R, T>,
     err: &mut E,
 ) -> Result<Option<Vec<u8>>, Stop> {
     let mut source = source;
@@ -79,36 +81,36 @@ pub fn text_of<R: Source , E: Sink>(
     }
 }
 
-/// The texts of the files of these names, or of the input where there are none. `None` where one can't be read, which
+/// Returns the texts of these files, or of the input if there are no names. Returns `None` if one can't be read, which
 /// is reported.
 ///
 /// # Errors
 ///
-/// [`Stop::OutOfMemory`] where there is no memory for them.
-pub fn texts_named<S: Store, R: Source , E: Sink>(
-    alloc: Global,
-    store: &S,
+/// [`Stop::OutOfMemory`] if memory runs out.
+pub fn texts_named<S: Store, T: Ticks, R: Source , E: Sink>(
+    job: &Job<'_, S, T>,
     names: &[Vec<u8>],
     input: R,
     err: &mut E,
 ) -> Result<Option<Vec<Vec<u8>>>, Stop> {
     if has_none(names) {
-        return text_of_input(alloc, input, err);
+        return text_of_input(job.alloc, job.progress, input, err);
     }
-    texts_of_files(alloc, store, names, err)
+    texts_of_files(job, names, err)
 }
 
 fn has_none(names: &[Vec<u8>]) -> bool {
     names.is_empty()
 }
 
-// The text of the input, alone.
-fn text_of_input<R: Source , E: Sink>(
+// Returns the text of the input as the only text.
+fn text_of_input<R: Source , T: Ticks, E: Sink>(
     alloc: Global,
+    progress: ProgressDisplay<T>,
     input: R,
     err: &mut E,
 ) -> Result<Option<Vec<Vec<u8>>>, Stop> {
-    let Some(text) = text_of(alloc, INPUT, input, err)? else {
+    let Some(text) = text_of(alloc, INPUT, progress.watch(input), err)? else {
         return Ok(None);
     };
     let mut texts = Vec::new(alloc);
@@ -116,16 +118,15 @@ fn text_of_input<R: Source , E: Sink>(
     Ok(Some(texts))
 }
 
-// The texts of the files of these names.
-fn texts_of_files<S: Store, E: Sink>(
-    alloc: Global,
-    store: &S,
+// Returns the texts of these files.
+fn texts_of_files<S: Store, T: Ticks, E: Sink>(
+    job: &Job<'_, S, T>,
     names: &[Vec<u8>],
     err: &mut E,
 ) -> Result<Option<Vec<Vec<u8>>>, Stop> {
-    let mut texts = Vec::new(alloc);
+    let mut texts = Vec::new(job.alloc);
     for name in names {
-        let Some(text) = text_named(alloc, store, name, err)? else {
+        let Some(text) = text_named(job, name, err)? else {
             return Ok(None);
         };
         add_text(&mut texts, text)?;

@@ -1,7 +1,7 @@
 // SPDX-License-Identifier: MIT
 // crates/xxhsum_tree/src/walk.rt without its contracts, written by rust/erase --programs: change that file.
 
-//! The files below folders.
+//! Finds the files below folders.
 
 use crate::rattle::prelude::Vec;
 use crate::rattle::{AllocError, Global};
@@ -13,27 +13,29 @@ use crate::programs::xxhsum_program::hash::tell_outcome;
 use crate::programs::xxhsum_program::outcome::{Outcome, Reason};
 use crate::programs::xxhsum_program::stop::Stop;
 
-/// The files of names and of the folders below them.
+/// The result of a walk.
 pub struct Walked {
-    /// Their names, in order.
+    /// The names of the files, in order.
     pub files: Vec<Vec<u8>>,
-    /// Whether the names in each folder could be read, and looked up.
+    /// True if the names in each folder could be read and looked up.
     pub are_all: bool,
 }
 
-// A name that is still to be looked at: one that was given, or one in a folder.
+// A name to visit: a given name, or a name in a folder.
 pub(crate) struct Waiting {
     pub(crate) name: Vec<u8>,
     pub(crate) is_given: bool,
 }
 
-/// The files of these names, and in place of a folder those below it, in the order of their names' bytes. A name that
-/// was given is followed where it is a link. A link in a folder is passed over, and so is what is neither a file nor a
-/// folder. A folder whose names can't be read, and a name in a folder that can't be looked up, is reported.
+/// Returns the files of these names, with each folder replaced by the files below it, in the order of the bytes of
+/// their names.
+///
+/// A given name that is a link is followed. Links in folders are skipped, and so is anything that is neither a file nor
+/// a folder. A folder that can't be read, and a name in a folder that can't be looked up, is reported.
 ///
 /// # Errors
 ///
-/// [`Stop::OutOfMemory`] where there is no memory for their names.
+/// [`Stop::OutOfMemory`] if memory for the names runs out.
 pub fn files_below<S: Store + Folders, E: Sink>(
     alloc: Global,
     store: &S,
@@ -55,7 +57,7 @@ pub fn files_below<S: Store + Folders, E: Sink>(
     Err(Stop::OutOfMemory)
 }
 
-// Puts the names in a folder on top of those that wait, the first of them on top.
+// Pushes the names in a folder, so that the first of them is visited next.
 fn put_names(
     alloc: Global,
     folder: &[u8],
@@ -92,7 +94,7 @@ fn put_name(
     Ok(())
 }
 
-// Looks at a name: takes it for a file, or puts the names in its folder before those that wait.
+// Visits a name: adds a file, or pushes the names in a folder.
 fn see<S: Store + Folders, E: Sink>(
     alloc: Global,
     store: &S,
@@ -116,7 +118,7 @@ fn see<S: Store + Folders, E: Sink>(
     }
 }
 
-// What a name leads to: a link is followed where its name was given.
+// Returns the kind of a name. A given link is followed.
 fn kind_at<S: Store + Folders>(store: &S, name: &[u8], is_given: bool) -> PathKind {
     if !is_given {
         return store.kind_of(name);
@@ -133,7 +135,7 @@ fn add_file(name: Vec<u8>, files: &mut Vec<Vec<u8>>) -> Result<(), AllocError> {
     Ok(())
 }
 
-// Puts the names in a folder before those that wait, in order. Where they can't be read, that is reported.
+// Pushes the names in a folder, in order. Reports a folder that can't be read.
 fn open_folder<S: Store + Folders, E: Sink>(
     alloc: Global,
     store: &S,
@@ -157,7 +159,7 @@ fn open_folder<S: Store + Folders, E: Sink>(
     }
 }
 
-// The name of a folder with a slash behind it, unless it ends with one.
+// Returns the name of a folder with a slash at its end.
 fn with_slash(alloc: Global, name: &[u8]) -> Result<Vec<u8>, AllocError> {
     let mut folder = Vec::new(alloc);
     folder.extend_from_slice(name)?;
@@ -167,20 +169,20 @@ fn with_slash(alloc: Global, name: &[u8]) -> Result<Vec<u8>, AllocError> {
     Ok(folder)
 }
 
-// The names in the order of their bytes.
+// Returns the names in the order of their bytes.
 fn in_order(names: Vec<Vec<u8>>) -> Vec<Vec<u8>> {
     let mut names = names;
     names.sort_unstable();
     names
 }
 
-// Reports a folder whose names can't be read, or a name that can't be looked up: not all files are known.
+// Reports a folder that can't be read, or a name that can't be looked up. The walk is then incomplete.
 fn lose<E: Sink>(name: &[u8], refusal: Refusal, are_all: &mut bool, err: &mut E) {
     tell_closed(name, refusal, err);
     *are_all = false;
 }
 
-// Reports why nothing is known of a name, or of those in a folder.
+// Reports why a name can't be looked up, or a folder can't be read.
 fn tell_closed<'a, E: Sink>(name: &'a [u8], refusal: Refusal, err: &mut E) {
     let outcome = Outcome::Unread {
         reason: Reason::Unopened { refusal },
@@ -188,8 +190,7 @@ fn tell_closed<'a, E: Sink>(name: &'a [u8], refusal: Refusal, err: &mut E) {
     tell_outcome(name, &outcome, err);
 }
 
-/// A law, with nothing to run. The files of a walk are those that names in folders lead to from the names that were
-/// given, and no other; and each of those is found, where the names in each folder could be read and the store says one
-/// thing of each name. Below one name no path is found twice, where each name in a folder stands there once and has no
-/// slash. `hash_names` then has one outcome for each.
+/// Lemma: a walk finds exactly the files that the given names lead to through names in folders, if each folder could be
+/// read and the store gives one answer per name. Below one given name no path is found twice, if each name occurs once
+/// in its folder and has no slash. `hash_names` then has one outcome for each.
 pub fn laws_of_walks<S: Store + Folders>() {}

@@ -11,6 +11,7 @@ use Rattle.xxhsum_program.proofs.OutcomeFacts.{took-nothing-more}
 use Rattle.xxhsum_program.proofs.SaidFacts.{numbered-push}
 use Rattle.xxhsum_program.proofs.StopFacts.{lines-stop, tells-as, tells-break}
 use Rattle.xxhsum_program.proofs.ToldFacts.{tells-more, tells-nothing}
+use Rattle.xxhsum_program.specs.Watched.{source_of}
 use Rattle.xxhsum_program.proofs.check.ListCheck.check_lines.Goals as goal
 
 pub loop-number-init : goal.loop-number-init
@@ -21,7 +22,7 @@ loop-number-init g c = record {
   report = c.new-report.ensures;
   lines = refl;
   count = refl;
-  stands = stands-new g.R.Source c.args.source c.new-lines.result c.new-lines.ensures;
+  stands = stands-new g.R.Source (source_of c.args.source) c.new-lines.result c.new-lines.ensures;
   prints = ([], refl, refl);
   tells = tells-nothing g.E.Sink c.args.err.now;
   works = c.requires;
@@ -31,7 +32,7 @@ pub loop-number-preserved : goal.loop-number-preserved
 loop-number-preserved g c =
     let so_far = c.loop-number.invariant in
     let state = c.next.new.self in
-    let (line, held, stands) = stands-line g.R.Source c.args.source c.loop-number.lines state so_far.read so_far.stands c.in-Line.ensures.next c.in-Line.ensures.ended in
+    let (line, held, stands) = stands-line g.R.Source (source_of c.args.source) c.loop-number.lines state so_far.read so_far.stands c.in-Line.ensures.next c.in-Line.ensures.ended in
     let checked = c.in_ok-check_line-in-Line.ensures.checks line (c.line.ensures line held) in
     let finding = checked.0 in
     let options = c.args.self.now.options in
@@ -56,7 +57,7 @@ returns-in-End-clause-checks g c =
     let said = numbered (told_finding c.args.self.now.options c.args.self.now.name.now) 1 so_far.findings in (
       so_far.findings,
       Some Whole,
-      (so_far.read, so_far.each, ends-well g.R.Source c.args.source c.loop-number.lines c.next.new.self so_far.read so_far.stands c.in-End.ensures.next),
+      (so_far.read, so_far.each, ends-well g.R.Source (source_of c.args.source) c.loop-number.lines c.next.new.self so_far.read so_far.stands c.in-End.ensures.next),
       so_far.report,
       so_far.prints,
       tells-as g.E.Sink said (said ++ []) _ _ (append-nil said) so_far.tells,
@@ -68,7 +69,7 @@ returns-in-Failed-clause-checks g c =
     let count : c.loop-number.number ≡ length so_far.findings + 1 = omega (arith, so_far.count) in (
       so_far.findings,
       Some FailedRead,
-      (so_far.read, so_far.each, breaks-failed g.R.Source c.args.source c.loop-number.lines c.next.new.self so_far.read so_far.stands c.in-Failed.ensures.next c.in-Failed.ensures.ended),
+      (so_far.read, so_far.each, breaks-failed g.R.Source (source_of c.args.source) c.loop-number.lines c.next.new.self so_far.read so_far.stands c.in-Failed.ensures.next c.in-Failed.ensures.ended),
       c.with_broken_end.ensures ∙ ap with_broken_end so_far.report,
       took-nothing-more g.W.Sink _ _ _ _ so_far.prints c.release.ensures.prints,
       tells-more g.E.Sink _ _ c.args.err.now c.loop-number.err c.tell_of_failure.new.err so_far.tells (tells-break g.E.Sink c.args.self.now.name.now FailedRead c.loop-number.number (length so_far.findings + 1) c.loop-number.report (report_of c.args.self.now.options.ignores_missing so_far.findings) c.loop-number.err c.tell_of_failure.new.err count so_far.report c.tell_of_failure.ensures),
@@ -80,7 +81,7 @@ returns-in-Endless-clause-checks g c =
     let count : c.loop-number.number ≡ length so_far.findings + 1 = omega (arith, so_far.count) in (
       so_far.findings,
       Some Endless,
-      (so_far.read, so_far.each, breaks-endless g.R.Source c.args.source c.loop-number.lines c.next.new.self so_far.read so_far.stands c.in-Endless.ensures.next c.in-Endless.ensures.ended),
+      (so_far.read, so_far.each, breaks-endless g.R.Source (source_of c.args.source) c.loop-number.lines c.next.new.self so_far.read so_far.stands c.in-Endless.ensures.next c.in-Endless.ensures.ended),
       c.with_broken_end-in-Endless.ensures ∙ ap with_broken_end so_far.report,
       took-nothing-more g.W.Sink _ _ _ _ so_far.prints c.tell_too_long.ensures.prints,
       tells-more g.E.Sink _ _ c.args.err.now c.loop-number.err c.tell_too_long.new.err so_far.tells (tells-break g.E.Sink c.args.self.now.name.now Endless c.loop-number.number (length so_far.findings + 1) c.loop-number.report (report_of c.args.self.now.options.ignores_missing so_far.findings) c.loop-number.err c.tell_too_long.new.err count so_far.report c.tell_too_long.ensures.tells),
@@ -93,7 +94,7 @@ returns-clause-checks g c =
     let most : length so_far.read ≡ 2 ^ 64 - 2 = omega (arith, so_far.lines) in (
       so_far.findings,
       Some TooMany,
-      (so_far.read, so_far.each, (some-read g.R.Source c.args.source c.loop-number.lines so_far.read so_far.stands, most)),
+      (so_far.read, so_far.each, (some-read g.R.Source (source_of c.args.source) c.loop-number.lines so_far.read so_far.stands, most)),
       so_far.report,
       so_far.prints,
       tells-as g.E.Sink said (said ++ []) _ _ (append-nil said) so_far.tells,
@@ -104,8 +105,8 @@ returns-in_err-check_line-in-Line-clause-checks g c =
     let so_far = c.loop-number.invariant in
     let state = c.next.new.self in
     let stop = c.in_err-check_line-in-Line.field-0.0 in
-    let (line, held, stands) = stands-line g.R.Source c.args.source c.loop-number.lines state so_far.read so_far.stands c.in-Line.ensures.next c.in-Line.ensures.ended in
+    let (line, held, stands) = stands-line g.R.Source (source_of c.args.source) c.loop-number.lines state so_far.read so_far.stands c.in-Line.ensures.next c.in-Line.ensures.ended in
     let checked = c.in_err-check_line-in-Line.ensures.checks line (c.line.ensures line held) in
     let is_finding = IsFinding g.S.Store g.S.File.Source c.args.self.now.store.now c.args.self.now.options.is_little_endian in
     rw (is-err c.from_residual.result stop c.from_residual.ensures.1)
-    (lines-stop is_finding g.R.Source g.W.Sink g.E.Sink c.args.self.now.options c.args.self.now.name.now c.args.source c.args.out.now c.loop-number.out _ c.args.err.now c.loop-number.err _ c.loop-number.lines state so_far.read so_far.findings line c.loop-number.number c.loop-number.report c.check_line.new.report stop so_far.each so_far.stands stands so_far.count so_far.prints so_far.tells checked)
+    (lines-stop is_finding g.R.Source g.W.Sink g.E.Sink c.args.self.now.options c.args.self.now.name.now (source_of c.args.source) c.args.out.now c.loop-number.out _ c.args.err.now c.loop-number.err _ c.loop-number.lines state so_far.read so_far.findings line c.loop-number.number c.loop-number.report c.check_line.new.report stop so_far.each so_far.stands stands so_far.count so_far.prints so_far.tells checked)

@@ -25,4 +25,4 @@ returns-clause-prints g c =
 
 pub returns-then-report-eq0-clause-tells : goal.returns-then-report-eq0-clause-tells
 returns-then-report-eq0-clause-tells g c =
-    rw (none-is c.args.self.now.name.now c.args.report.now c.if-report-eq0.true) c.tell_line.ensures
+    rw (none-is c.args.self.now.name.now c.args.report.now c.if-report-eq0.true) c.tell_line_after.ensures

@@ -8,4 +8,4 @@ returns-then-report-eq0 g c =
 
 pub returns : goal.returns
 returns g c =
-    rw (break-some c.args.self.now.name.now c.args.number c.args.report.now c.if-report-eq0.false) c.tell_of_line.ensures
+    rw (break-some c.args.self.now.name.now c.args.number c.args.report.now c.if-report-eq0.false) c.tell_of_line_after.ensures

@@ -2,6 +2,7 @@ use Rattle.std.proofs.Common.{◌≡◌, ◌+◌, ◌-◌, ◌++◌, ◌≤◌, 
 use Rattle.std.proofs.lemmas.List.{length-take-le}
 use borrow.Rule.Slice.PartMut.{put_mid}
 use Rattle.xxhsum_program.specs.LinesView.{waiting}
+use Rattle.xxhsum_program.specs.Watched.{source_of}
 use Rattle.xxhsum_program.proofs.LineFacts.{moved, put-behind, reads-on}
 use Rattle.xxhsum_program.proofs.lines.Lines.refill.Goals as goal
 
@@ -15,5 +16,5 @@ returns-clause-reads g c = λ from done read.
     let within : count ≤ length room = c.in_ok-count.ensures.within in
     let front : take len moved_to ≡ waiting old = moved old.buf moved_to old.start old.end len (omega arith) (omega arith) refl c.copy_within.ensures.after in
     let grown : slice_range (put_mid len (65536 - len) moved_to room) 0 (len + count) ≡ waiting old ++ take count room = put-behind moved_to (waiting old) room len (65536 - len) count front (omega arith) within in
-    let reads = reads-on g.R.Source from old.source c.read.new.self done (waiting old) (take count room) old.has_ended count c.requires.open (length-take-le count room within) read c.in_ok-count.ensures.piece in
+    let reads = reads-on g.R.Source from (source_of old.source) (source_of c.read.new.self) done (waiting old) (take count room) old.has_ended count c.requires.open (length-take-le count room within) read c.in_ok-count.ensures.piece in
     (reads.0, reads.1, reads.2, reads.3 ∙ ap (λ bytes. done ++ bytes) (sym grown))

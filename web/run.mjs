@@ -1,1 +1,0 @@
-import * as entry from "file:///work/clones/h3/web/node.js";import * as node from "file:///work/clones/h3/web/node.js";import * as streams from "file:///work/clones/h3/web/streams.js";  import { report } from "file:///work/clones/h3/web/tests/run_node.mjs";await report(process.argv[2], { entry, node, streams });
