@@ -1,5 +1,5 @@
-"""Headers that are wrong on purpose, and some that aren't: each a change of the header's text, which the induction
-has to refuse, or show. Many of them differ only at lengths that no table of values can have."""
+"""Wrong headers, and a few correct ones: each is a change of the header's source that the induction must refuse, or
+prove. Many of them differ only at lengths that no table of values can contain."""
 import os
 import tempfile
 

@@ -1,11 +1,11 @@
-"""Changes of either side, each of which must be detected: a comparison that no change fails would show nothing.
+"""Changes of either side, each of which must be detected: a comparison that fails for none would prove nothing.
 
     of one token of the definition's text     mutants.py's; those that change no value are in equal_changes.txt
     of LLVM's text of the reference           another operation, or a number that is one more or one less
     by hand                                   of the definition's text, that differ on one input in 2 ^ 32 or fewer
 
-A change is detected where the terms differ and a point is known at which their values do; where the terms differ and
-none is known, it is refused. A crash of this program is neither."""
+A change is detected if the terms differ and a point is known where their values do. If the terms differ and no such
+point is known, it is refused. A crash of this program counts as neither."""
 import collections
 import contextlib
 import os

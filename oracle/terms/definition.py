@@ -1,7 +1,7 @@
-"""The definition's side: the texts in specs/, read and evaluated by antt.py as it is, over terms.
+"""The definition's side: the files in specs/, parsed and evaluated unchanged by antt.py, over terms.
 
-What is said to antt.py for that: how numbers that it can't order are subtracted, what a message is as a list, and, for
-induction, that some calls of a recursion have a value that is supposed."""
+Extends antt.py for this: how to subtract numbers that it can't order, how a message is represented as a list, and,
+for induction, that some calls of a recursion have an assumed value."""
 import functools
 
 import antt

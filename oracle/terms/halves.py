@@ -1,5 +1,5 @@
-"""Products of two words of 64 bits that are made of the products of their halves, as machines without wide products
-make them.
+"""Products of two 64-bit words computed from the products of their halves, as on machines without wide
+multiplication.
 
 For halves a0, a1, b0, b1 below 2 ^ 32, a = a0 + 2^32 a1 and b = b0 + 2^32 b1:
 
@@ -7,8 +7,8 @@ For halves a0, a1, b0, b1 below 2 ^ 32, a = a0 + 2^32 a1 and b = b0 + 2^32 b1:
     product_by_halves     a b / 2^64 = a1 b1 + t / 2^32 + u / 2^32
                           a b mod 2^64 = 2^32 (u mod 2^32) + a0 b0 mod 2^32
 
-crates/symbolic_rules proves both. The canonical form of a product with a number doesn't show its factors: so the steps
-are found by the operations that gave a value, which are kept here."""
+crates/symbolic_rules proves both. The canonical form of a product with a number doesn't show its factors, so the
+steps are found by the operations that produced a value, which are recorded here."""
 from . import operations, rules
 from .nodes import Node, WrongRule, is_same, memo, most_of, use
 

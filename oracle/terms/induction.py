@@ -1,11 +1,11 @@
-"""Loops of any number of turns, shown by induction, whatever runs them.
+"""Proves loops of any number of iterations (turns) by induction, whatever runs them.
 
-At a loop's head after k turns the cells of `words` hold words of the definition, those of `places` have advanced by k steps,
-those of `counts` by one step for each turn in the block, those of `unset` may hold anything, and all others are as at the start.
-First turns show which cells are which. A turn from any k is then shown to lead to the same for k + 1. A cell that does anything
-else may hold anything from then on, if it is allowed to, and the turn is run again.
+At a loop's head after k turns, the cells of `words` hold words of the definition, those of `places` have advanced k
+steps, those of `counts` one step per turn in the block, those of `unset` may hold anything, and all others are
+unchanged. First turns show which cells are which. A turn from any k is then proved to lead to the same for k + 1. A
+cell that does anything else may hold anything from then on, if it is allowed to, and the turn is run again.
 
-loops.py has the states of LLVM's text, text/induction.py those of an assembly source, text/wasm/induction.py of a module."""
+loops.py has the states for LLVM's text, text/induction.py for assembly, text/wasm/induction.py for a module."""
 from .polynomials import agree, given, is_number, minus, plus, times, variable
 from .polynomials import is_same as is_same_number
 from .refusals import NotShown

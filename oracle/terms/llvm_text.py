@@ -1,6 +1,6 @@
 """Reads LLVM's text, as clang 14 writes it at -O0: types, constants, and instructions as (target, operation, parts).
 
-What isn't read here is Unsupported: nothing is skipped in silence but attributes, alignments and metadata."""
+Anything else is Unsupported: only attributes, alignments and metadata are skipped silently."""
 import re
 from dataclasses import dataclass
 

@@ -1,9 +1,9 @@
-"""Loops of LLVM's text, shown by induction (induction.py).
+"""Loops of LLVM's text, proved by induction (induction.py).
 
-The words are the accumulators, whose cells are named by their names in the header: they hold the definition's values at the
-start, or it isn't shown. What a first turn changes goes on by a step, or is unset at the head, so that a read of it is an
-error. Nothing else that lives may change. From the last turn the loop is left. Heads aren't named: they are the blocks to which
-a function goes back."""
+The words are the accumulators, whose cells are found by their names in the header: they hold the definition's values
+at the start, or the proof fails. A cell that a first iteration changes advances by a step, or is unset at the head,
+so that reading it is an error. No other live cell may change. The loop is left after the last iteration. Heads
+aren't named: they are the blocks to which a function jumps back."""
 from .induction import Induction, moved
 from .nodes import is_same, symbol
 from .polynomials import given, is_natural, minus, variable

@@ -1,5 +1,5 @@
-"""Checks of the machinery: random operations against numbers, laws, the reference's terms on the rows of the table,
-and a second opinion on each use of a rule, by a solver of another making (z3)."""
+"""Checks of the verifier itself: random operations against numbers, algebraic laws, the reference's terms on the
+rows of the table, and a second opinion on each use of a rule by an independent solver (z3)."""
 import glob
 import os
 import random

@@ -1,7 +1,7 @@
-"""Memory: objects that are stored to, and inputs, which are read only and of which only the length is known.
+"""Memory: objects that are stored to, and inputs, which are read-only and of which only the length is known.
 
-An address is (object, offset). An offset and a length may be polynomials. Each access has to be shown to lie inside of
-its object, and a load of a byte that was never stored is an error."""
+An address is (object, offset). Offsets and lengths may be polynomials. Each access must be proved to lie inside its
+object. Loading a byte that was never stored is an error."""
 from . import operations
 from .refusals import Unsupported
 from .nodes import symbol

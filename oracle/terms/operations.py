@@ -1,8 +1,8 @@
 """Operations on terms: those on naturals, which the definitions use, and those on words of a width, which LLVM's text
 uses. A polynomial among the arguments of an operator becomes a word.
 
-Each operation is done once on the same arguments, and compared then, at the points of nodes.py, with the operation on
-numbers: CHECKED turns that off."""
+Each operation is computed once for the same arguments, and its result is then compared, at the points of nodes.py,
+with the operation on numbers. CHECKED turns that off."""
 import functools
 
 from . import nodes, rules

@@ -1,8 +1,8 @@
-"""Naturals that depend on a length: polynomials over variables that are naturals, under facts, each a polynomial that
-isn't negative. A comparison is decided where the facts decide it for all values, and is Undecided else.
+"""Naturals that depend on a length: polynomials over natural variables, under facts, each a polynomial that isn't
+negative. A comparison is decided if the facts decide it for all values, and is Undecided otherwise.
 
-`is_natural(x)` looks for x as a sum of facts times monomials and of monomials, after each variable was moved to begin
-at 0. Each "yes" is compared with the value at some points at which the facts hold."""
+`is_natural(x)` tries to write x as a sum of monomials and of facts times monomials, after shifting each variable to
+begin at 0. Each "yes" is compared with the value at some points where the facts hold."""
 import contextlib
 import random
 

@@ -1,5 +1,5 @@
-"""Rows of a check, each asked in a process of its own, so many at once, what is said of them, and the words that choose
-them."""
+"""Runs the rows of a check, each in its own process and several at once, prints their results, and selects rows by
+the arguments of the command line."""
 import argparse
 import concurrent.futures
 import multiprocessing

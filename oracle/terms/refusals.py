@@ -1,4 +1,4 @@
-"""What a comparison, a reader or a run is refused by. Each is an error of its own: a crash is no refusal."""
+"""The reasons for which a comparison, a reader or a run refuses. Each is its own exception: a crash is no refusal."""
 
 
 class Unsupported(Exception):

@@ -1,4 +1,4 @@
-"""A request of a hash, and what the definition says of it, as a term."""
+"""A request of a hash, and its value by the definition, as a term."""
 import os
 import random
 

@@ -1,4 +1,4 @@
-"""The rows of oracle/symbolic: what is asked, in processes of its own each, and what is said of it."""
+"""The rows of oracle/symbolic: the requests, each in its own process, and their results."""
 import collections
 import functools
 import os

@@ -1,4 +1,4 @@
-"""Shows the term of a request, step by step, as each side comes to it."""
+"""Shows the term of a request step by step, as each side computes it."""
 from . import definition, nodes, sides
 from .nodes import BITS, NODES, PRODUCT, SUM, SYMBOL, Node
 from .requests import Request

@@ -1,4 +1,4 @@
-"""The reference's code as LLVM's text, and what it computes for a request."""
+"""The reference's code as LLVM's text, and its result for a request."""
 import hashlib
 import os
 import shutil

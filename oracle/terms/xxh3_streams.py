@@ -6,9 +6,9 @@ in a block, f <= 256 the bytes in the buffer, f = 0 only where N = 0, and K is 0
 the definition's after K stripes, its counters j, f and N; its buffer begins with the f bytes behind the stripes, and
 where K > 0 the buffer's bytes from 192 on that aren't among these are those of the last stripe.
 
-The secret lies outside of the state, with any length, or inside, where a seed's is derived to. Which bytes it has
-doesn't matter to an update or a digest, so they are symbols: a secret that a seed derives, and the default one, are
-cases of these."""
+The secret lies outside of the state, with any length, or inside, where the one derived from a seed is stored. Its
+bytes don't matter to an update or a digest, so they are symbols: a secret derived from a seed and the default one
+are cases of these."""
 from . import definition, nodes
 from .definition import Bytes
 from .every_length import DEFAULT_STRIPES, SHORTEST_SECRET_STRIPES, Proof, cells_at, suppositions, xxh3_loop
