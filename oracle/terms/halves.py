@@ -17,7 +17,7 @@ givers = memo()      # number of a node -> the operations on words of 64 bits th
 
 
 def noted(name, a, b, answer):
-    """The result of an operation on words of 64 bits: add, mul, and, or, shl, lshr. Where it is the last step of such a
+    """The result of an operation on words of 64 bits: add, mul, and, or, shl, lshr. If it is the last step of such a
     product, it becomes a term with that product."""
     if not isinstance(answer, Node):
         return answer
@@ -30,19 +30,19 @@ def noted(name, a, b, answer):
 
 
 def pairs(x, name):
-    """The pairs of arguments, in both orders, of which an operation gave a value."""
+    """The pairs of arguments, in both orders, for which an operation returned a value."""
     for word, a, b in givers.get(x.number, ()) if isinstance(x, Node) else ():
         if word == name:
             yield from ((a, b), (b, a))
 
 
 def argument(x, name, number):
-    """What x is the operation of, with a number."""
+    """The value that gave x by an operation with a number, or None."""
     return next((a for a, b in pairs(x, name) if b.__class__ is int and b == number), None)
 
 
 def steps_to(u):
-    """(a0, a1, b0, b1, t, a0 b0) where u is that sum."""
+    """(a0, a1, b0, b1, t, a0 b0) if u is that sum."""
     for second, of_t in pairs(u, "add"):
         t = argument(of_t, "and", rules.ones(HALF))
         for first, of_lowest in pairs(t, "add"):
@@ -60,7 +60,7 @@ def joined(low, high):
 
 
 def same(answer, other):
-    """The result, which must have the values of the other."""
+    """The result, which must have the same values as the other."""
     use("product_by_halves")
     if isinstance(answer, Node) and answer.values != other.values:
         raise WrongRule("a product by halves")

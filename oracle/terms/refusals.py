@@ -2,7 +2,7 @@
 
 
 class Unsupported(Exception):
-    """Text or an operation that isn't known here, or one that a program mustn't do, as an access outside of an
+    """Text or an operation that isn't supported, or one that a program mustn't do, such as an access outside of an
     object."""
 
 
@@ -11,7 +11,7 @@ class Undecided(Exception):
 
 
 class NotShown(Exception):
-    """The two sides aren't shown to be the same."""
+    """The two sides aren't proved to be equal."""
 
 
 REFUSALS = NotShown, Undecided, Unsupported
