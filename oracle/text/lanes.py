@@ -16,7 +16,7 @@ def is_vector(operand):
 
 
 def lanes_count(x):
-    """2, 4 or 8, by the widest register."""
+    """The number of lanes: 2, 4 or 8, by the widest register."""
     return max((WIDTHS[y.name[0]] for y in x.operands if is_vector(y)), default=2)
 
 

@@ -18,7 +18,7 @@ RETURN = "return"                             # where the first function returns
 
 
 class ReturnTo:
-    """Where a function returns to."""
+    """The return address of a function."""
 
     def __init__(self, section, at):
         self.place = section, at

@@ -39,7 +39,7 @@ class Stripes(Family):
         return plus(times(self.q, place[0]), place[1])
 
     def supposed(self):
-        """What the words are supposed to be, to be restored."""
+        """The assumed values of the words, to be restored."""
         return dict(suppositions.values)
 
     def restore(self, known):
@@ -48,7 +48,7 @@ class Stripes(Family):
         self.known.clear()
 
     def before(self, place, n):
-        """n stripes before a place."""
+        """The place n stripes before another."""
         b, j = place
         return (minus(b, 1), minus(self.q, n)) if is_same_number(j, 0) else (b, minus(j, n))
 
@@ -58,7 +58,7 @@ class Stripes(Family):
 
 
 class StripesProof(Proof):
-    """A loop over stripes. Its head may come before the first stripe or behind it."""
+    """A loop over stripes. Its head may be before the first stripe or after it."""
 
     HAS_INNER = True
 
@@ -102,7 +102,7 @@ class StripesProof(Proof):
         return part.turns in (0, 1) or isinstance(minus(self.family.q, part.start[1]), int)
 
     def holds(self, first):
-        """Whether the words after so many stripes are there."""
+        """True if the words after so many stripes are there."""
         numbers = {x for x in self.start.values() if isinstance(x, int)}
         terms = {x.number for x in self.start.values() if isinstance(x, Node)}
         try:
@@ -201,7 +201,7 @@ class Summary:
         self.is_in_place = is_in_place   # whether it writes the record that it reads
 
     def registers(self, cpu):
-        """Where its arguments lie."""
+        """The places of its arguments."""
         return cpu.TAKES_STRIPES[:5] if self.is_in_place else cpu.TAKES_STRIPES
 
     def put_into(self, cpu, family, source, secret):
@@ -254,7 +254,7 @@ class Summary:
 
 
 def is_at(place, source, at, n):
-    """Whether the n bytes at an address are those of an input at a place."""
+    """True if the n bytes at an address are those of an input at a place."""
     memory, offset = place.place()
     if isinstance(memory, Input):
         found, first = memory.origin(offset)
