@@ -1,6 +1,6 @@
 -- A hashing run over names: one outcome a name, in their order.
 use Rattle.std.specs.Prelude.{◌≡◌, ℕ, Bool, List, [], ◌∷◌, ◌++◌, is_ok, IfOk, Result, Ok, Err}
-use Rattle.xxhsum_program.specs.Prelude.{Digested, EachHas, IsDirectory, Kind, Outcome, SinkRules, SourceRules, Stop, StoreRules, Style, TellsOn, Unread, concat}
+use Rattle.xxhsum_program.specs.Prelude.{Digested, EachHas, IsDirectory, Kind, OutOfMemory, Outcome, SinkRules, SourceRules, Stop, StoreRules, Style, TellsOn, Unread, WriteFailed, concat}
 use Rattle.xxh_io.specs.declared.error.DigestError.{DigestError}
 use Rattle.xxh_io.specs.Digest.{ReadsTo}
 use Rattle.xxh_program.specs.Kind.{value_of}
@@ -66,3 +66,20 @@ HashesInOrder opening reading rules store kind style names old new result =
     (outcomes : List Outcome) × (done rest : List (List ℕ))
     × HashesNames opening reading store kind names done rest outcomes result
     × EmitsTo rules (events_of kind style done outcomes) old new result
+
+-- standard input has its line, or its message; where there was no memory for its line, neither
+abbrev pub input_event : Kind → Style → List ℕ → ℕ → Result ℕ DigestError → Event
+input_event kind style name value (Ok hash) = Printed (printed_input kind style name value (Ok hash))
+input_event kind style name value (Err e) = Reported (told_input (Err e))
+
+abbrev pub input_events : Kind → Style → List ℕ → ℕ → Result ℕ DigestError → Result Bool Stop → List Event
+input_events kind style name value read (Ok all) = input_event kind style name value read ∷ []
+input_events kind style name value read (Err WriteFailed) = input_event kind style name value read ∷ []
+input_events kind style name value read (Err OutOfMemory) = []
+
+-- A source was read to its end, or not, and then its line or its message is written.
+abbrev pub HashesInputInOrder : {R W E : Type 0} → SourceRules R → StreamRules W E → Kind → Style → List ℕ → R → R
+    → Streams W E → Streams W E → Result Bool Stop → Type 0
+HashesInputInOrder reading rules kind style name r_old r_new old new result =
+    (pieces : List (List ℕ)) × (read : Result ℕ DigestError) × ReadsTo reading most_reads pieces r_old r_new read
+    × EmitsTo rules (input_events kind style name (value_of kind 0 (concat pieces)) read result) old new result
