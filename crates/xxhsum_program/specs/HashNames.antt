@@ -9,7 +9,7 @@ use Rattle.xxhsum_program.specs.Outcomes.{Comes, are_digested}
 use Rattle.xxhsum_program.specs.Order.{EmitsTo, Event, Printed, Reported, StreamRules, Streams}
 use Rattle.xxhsum_program.specs.Lines.{PrintsLine, PrintsLines, lines_of, printed_input, told_input, told_line, written_line}
 
--- Where the run came to its end, no name is left, and the answer is whether each has a value. Only a write that failed
+-- If the run reached its end, no name is left, and the result is whether each has a value. Only a write that failed
 -- or want of memory keeps it from there: no reason of a `Stop` is another.
 abbrev pub EndsWith : List (List ℕ) → List Outcome → Result Bool Stop → Type 0
 EndsWith rest outcomes (Ok all) = (rest ≡ []) × (all ≡ are_digested outcomes)
@@ -36,7 +36,7 @@ SaysNames opening reading writing telling store kind style names w_old w_new e_o
     × TellsOn telling (lines_of told_line done outcomes) e_old e_new
 
 -- A source was read to its end, or not. Standard output has the line of its value, or standard error why there is none;
--- the answer is whether there is one.
+-- the result is whether there is one.
 abbrev pub SaysInput : {R W E : Type 0} → SourceRules R → SinkRules W → SinkRules E → Kind → Style → List ℕ → R → R → W
     → W → E → E → Result Bool Stop → Type 0
 SaysInput reading writing telling kind style name r_old r_new w_old w_new e_old e_new result =
