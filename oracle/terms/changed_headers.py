@@ -1,5 +1,5 @@
-"""Headers that are wrong on purpose, and some that aren't: each a change of the header's text, which the induction
-has to refuse, or show. Many of them differ only at lengths that no table of values can have."""
+"""Wrong headers, and a few correct ones: each is a change of the header's source that the induction must refuse, or
+prove. Many of them differ only at lengths that no table of values can contain."""
 import os
 import tempfile
 
@@ -75,7 +75,7 @@ DEAR = [
 
 
 def changed(header, function, old, new):
-    """The header with another text in the body of a function."""
+    """The header with another body in a function."""
     start = header.index(function)
     while ";" in header[start:header.index("{", start)]:     # a declaration or a call
         start = header.index(function, start + 1)
@@ -84,7 +84,7 @@ def changed(header, function, old, new):
 
 
 def outcome(header, show, kind):
-    """What is refused of a header, or None where the kind is shown."""
+    """The refusal of a header, or None if the kind is proved."""
     with tempfile.TemporaryDirectory(prefix="symbolic-") as room:
         with open(os.path.join(room, "xxhash.h"), "w", encoding="utf-8") as file:
             file.write(header)
@@ -97,7 +97,7 @@ def outcome(header, show, kind):
 
 
 def tell(changes):
-    """Of each change and kind: whether it is as it should be, and a line."""
+    """For each change and kind: whether it has the expected result, and a line."""
     with open(os.path.join(HEADERS, "xxhash.h"), encoding="utf-8") as file:
         header = file.read()
     for show, kinds, function, old, new, is_equal in changes:

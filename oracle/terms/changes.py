@@ -1,11 +1,11 @@
-"""Changes of either side, each of which must be detected: a comparison that no change fails would show nothing.
+"""Changes of either side, each of which must be detected: a comparison that fails for none would prove nothing.
 
     of one token of the definition's text     mutants.py's; those that change no value are in equal_changes.txt
     of LLVM's text of the reference           another operation, or a number that is one more or one less
     by hand                                   of the definition's text, that differ on one input in 2 ^ 32 or fewer
 
-A change is detected where the terms differ and a point is known at which their values do; where the terms differ and
-none is known, it is refused. A crash of this program is neither."""
+A change is detected if the terms differ and a point is known where their values do. If the terms differ and no such
+point is known, it is refused. A crash of this program counts as neither."""
 import collections
 import contextlib
 import os
@@ -48,7 +48,7 @@ def limits():
 
 
 class Limited:
-    """A `with` that raises Slow after some seconds of processor time."""
+    """A context manager that raises Slow after some seconds of processor time."""
 
     def __enter__(self):
         signal.signal(signal.SIGPROF, self.stop)
@@ -62,7 +62,7 @@ class Limited:
 
 
 def asked():
-    """The requests that changes are asked on, the shortest first: the lengths of the rows that the proofs compute."""
+    """The requests that test changes, the shortest first: the lengths of the rows that the proofs compute."""
     out = []
     for name, lengths in proved_rows.PLAIN.items():
         out += [Request(name, "seed", n) for n in lengths]
@@ -82,14 +82,14 @@ def difference(request, a, b):
 # ---- the definition's text
 
 class Asked:
-    """A request with the reference's term, as mutants.py asks a row of the table: `outcome` is its last result."""
+    """A request with the reference's term, in the form of mutants.py's rows: `outcome` is its last result."""
 
     def __init__(self, request, module):
         self.request, self.length, self.outcome = request, request.length, None
         self.answer = sides.of_reference(request, module)
 
     def agrees(self, entries):
-        """Whether another row has to be asked: False where the two differ at a point."""
+        """True if another row has to be asked: False if the two differ at a point."""
         try:
             with Limited():
                 value = self.request.of_definition(entries)
@@ -157,7 +157,7 @@ NUMBER = re.compile(r"(?<=[ ])(?:i\d+ )?(-?\d+)(?=[,)]|$)")
 
 
 def changed_lines(line):
-    """The line with another operation, or with a number that is one more or one less."""
+    """The line with another operation, or with a number plus or minus one."""
     match = LINE.match(line)
     if not match or match.group(2) in ("alloca", "ret", "br"):
         return []
@@ -195,7 +195,7 @@ def with_line(module, name, k, other):
 
 
 def reaching(module, requests):
-    """Function's name -> the requests that run it."""
+    """A dictionary: function's name -> the requests that run it."""
     out, run = collections.defaultdict(list), Function.run
     seen = set()
 
@@ -314,7 +314,7 @@ def by_induction(module):
 
 
 def with_text(program, path, old, new):
-    """Gives the clause that has the old text the new one."""
+    """Replaces the old text of a clause by the new one."""
     words, others = ([word for word, _ in antt.tokens(text)] for text in (old, new))
     for changed in program.order:
         for number, (left, right) in enumerate(changed.clauses if changed.module.path == f"Rattle.{path}" else ()):
@@ -330,7 +330,7 @@ def with_text(program, path, old, new):
 
 
 def by_hand(module):
-    """Yields for each change by hand: (as expected, what was found)."""
+    """Yields for each change by hand: (whether the result is the expected one, a line)."""
     out = []
     for path, old, new, hashes, is_equal in BY_HAND:
         nodes.forget()

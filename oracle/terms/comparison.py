@@ -25,14 +25,14 @@ def kinds(secrets):
 
 
 def edges(secret_length):
-    """Lengths at the edges of blocks, of those above 1,100."""
+    """Lengths above 1,100 at the edges of blocks."""
     block = 64 * ((secret_length or 192) - 64) // 8
     ends = [b * block + d for b in range(1, LONGEST // block + 1) for d in (0, 1)]
     return sorted({n for n in [*ends, 2048, 2049, 4096, 4097, LONGEST - 1, LONGEST] if EDGES_FROM <= n <= LONGEST})
 
 
 def cuts_of(length):
-    """Where the streams of a length are cut: nowhere, at one and at two of the edges, from the start and from the
+    """The cuts of the streams of a length: none, one and two of the edges, counted from the start and from the
     end."""
     ends = sorted({end for end in [*CUTS, *(length - end for end in CUTS), 0, length] if 0 <= end <= length})
     draw = random.Random(length)
@@ -48,7 +48,7 @@ def requests(hash_name, kind, secret_length, lengths, streams=False):
 
 
 def complaint(request, name, ours, theirs):
-    """What there is to say where the definition's term isn't that of another side."""
+    """The message if the definition's term differs from another side's."""
     found = differing_point(request, ours, theirs)
     if not found:
         return f"{request}: {name} gives another term, though no point was found at which they differ"
@@ -59,8 +59,8 @@ def complaint(request, name, ours, theirs):
 
 
 def compare(sides, asked):
-    """Compares requests: how many values of the other sides, name -> a function of a request, are the definition's
-    term, and what there is to say of those that didn't."""
+    """Compares requests: returns how many values of the other sides (name -> a function of a request) are the
+    definition's term, and the messages on those that aren't."""
     texts, equal, complaints = {}, 0, []
     nodes.forget()
     entries = definition.program().run()

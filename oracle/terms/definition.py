@@ -1,7 +1,7 @@
-"""The definition's side: the texts in specs/, read and evaluated by antt.py as it is, over terms.
+"""The definition's side: the files in specs/, parsed and evaluated unchanged by antt.py, over terms.
 
-What is said to antt.py for that: how numbers that it can't order are subtracted, what a message is as a list, and, for
-induction, that some calls of a recursion have a value that is supposed."""
+Extends antt.py for this: how to subtract numbers that it can't order, how a message is represented as a list, and,
+for induction, that some calls of a recursion have an assumed value."""
 import functools
 
 import antt
@@ -18,7 +18,7 @@ FARTHEST = 64            # steps of a recursion from a hypothesis
 
 
 class Bytes:
-    """Bytes first .. end - 1 of an input, which the evaluator takes for a list of numbers below 256."""
+    """Bytes first .. end - 1 of an input, which the evaluator treats as a list of numbers below 256."""
 
     def __init__(self, source, first, end):
         self.source, self.first, self.end = source, first, end
@@ -50,7 +50,7 @@ compared = set()         # (bits, bytes) of which a word was compared with what 
 
 
 def from_le_bytes(bits, xs):
-    """Bytes of an input are a symbol's, and their word is so many bits of it."""
+    """Bytes of an input are those of a symbol, and a word of them is that many of its bits."""
     if not isinstance(xs, Bytes):
         return word_of_bytes(bits, xs)
     n = min(xs.length(), bits // 8)
@@ -86,7 +86,7 @@ antt.LIBRARY.update({
 # ---- suppositions: the value of a call in a recursion
 
 class Suppositions:
-    """Calls with a polynomial among their arguments, and the values that they are supposed to have."""
+    """Calls with a polynomial among their arguments, and the values that are assumed for them."""
 
     def __init__(self):
         self.values, self.next, self.kept, self.depth = {}, [], [], 0
@@ -96,14 +96,14 @@ class Suppositions:
             known.clear()
 
     def suppose(self, call, values):
-        """Names the values of call(0), call(1), ..: each has to come to one call of a recursion, whose value it is."""
+        """Names the values of call(0), call(1), ..: each must reach one call of a recursion, whose value it is."""
         for i, value in enumerate(values):
             self.next.append(value)
             if call(i) is not value or self.next:
                 raise Undecided("the hypothesis isn't of the recursion")
 
     def around(self, function, definition):
-        """The function of a recursion, with the suppositions."""
+        """The function of a recursion, with the assumed values."""
         def call(*arguments):
             if any(isinstance(x, Poly) for x in arguments):
                 key = str(definition), tuple(self.identity(x) for x in arguments)
@@ -145,7 +145,7 @@ plain_noted = antt.noted
 
 
 def noted(function, definition, traced):
-    """Where antt.py lets a caller wrap each function: `traced` is a set of definitions, or these suppositions."""
+    """antt.py's hook to wrap each function: `traced` is a set of definitions, or these assumptions."""
     if traced is not suppositions:
         return plain_noted(function, definition, traced)
     return suppositions.around(function, definition) if definition.name in RECURSIONS else function
@@ -157,7 +157,7 @@ antt.noted = noted
 # ---- the definitions
 
 class Named(antt.Definitions):
-    """A definition is found by its own name, or with its module's before it."""
+    """Finds a definition by its own name, or with its module's before it."""
 
     def entry(self, name):
         module, dot, own = name.rpartition(".")
@@ -168,7 +168,7 @@ class Named(antt.Definitions):
 
 
 def read(crates=(), entries=()):
-    """The definitions, with those of further crates: a caller that changes their text reads them itself."""
+    """The definitions, with those of further crates. A caller that changes their text parses them itself."""
     return antt.Program(Named(table.TOP, [*table.CRATES, *crates]), [*ENTRIES, *entries])
 
 
@@ -176,7 +176,7 @@ program = functools.cache(read)      # the same, read once
 
 
 def value(entries, hash_name, kind, seed, secret, message):
-    """What the definition says, by the rule of table.Row.ask: `kind` is seed, default, secret or both."""
+    """The definition's value, by the rule of table.Row.ask: `kind` is seed, default, secret or both."""
     entry = entries[table.HASHES[hash_name]]
     if hash_name in ("32", "64"):
         return entry(seed, message)

@@ -27,7 +27,7 @@ def shortest(kind):
 
 
 class Proof:
-    """A run of the induction over a module: its report on the loops, and the number of its cases."""
+    """Runs the induction over a module: its report on the loops, and the number of its cases."""
 
     def __init__(self, module, program=None):
         self.module, self.told, self.cases = module, [], 0
@@ -36,13 +36,13 @@ class Proof:
         self.texts = (program or definition.program()).run(traced=suppositions)
 
     def prepare(self, said, memories=()):
-        """Before the reference runs: what there is to say of its loops, and which memories live."""
+        """Prepares a run of the reference: how its loops are proved, and which memories live."""
         self.module.reset()
         self.module.loops = Loops(said, self.told)
         self.module.live[:] = [*self.module.globals.values(), *memories]
 
     def lines(self):
-        """The report on the loops, each once, under one name of the turns."""
+        """The report on the loops, each once, with one name for the turns."""
         return list(dict.fromkeys(self.told))
 
     # ---- XXH32 and XXH64
@@ -119,14 +119,14 @@ class Proof:
         self.cases += 1
 
     def expect_internal(self, hash_name, message, n, secret, length, value):
-        """That the library's function for long inputs was called with these, and its value is the result."""
+        """Checks that the function for long inputs was called with these, and that its value is the result."""
         *arguments, answer = self.called
         asked = [(message, 0), n, secret, length]
         if not all(agree(a, b) for a, b in zip(arguments[:4], asked, strict=True)) or not nodes.is_same(answer, value):
             raise NotShown(f"XXH{hash_name}: another call of the function for long inputs")
 
     def call(self, hash_name, way, arguments, seed, said):
-        """What a one-shot of the reference gives. Without a secret of its own a long input's value is a symbol."""
+        """The result of a one-shot of the reference. Without its own secret, a long input's value is a symbol."""
         out = Memory("out", 16)
         self.prepare(said, [out])
         self.watch(f"@XXH3_hashLong_{hash_name[2:]}b_internal", runs=way in OWN_SECRET)
@@ -140,7 +140,7 @@ class Proof:
         return out.load(0, 16)
 
     def watch(self, name, runs):
-        """Keeps the arguments and the value of a call of a function, which runs or has symbols as its value."""
+        """Records the arguments and the value of each call of a function, which runs or returns symbols."""
         function = self.module.functions[name]
         self.called = None
 
@@ -208,8 +208,8 @@ def long_loops(accumulator_after, q, B, J, secret, message):
 
 
 def show(module, kind, program=None):
-    """Shows one kind for every length from shortest(kind) on, or raises; gives the Proof. `program` is the definition's
-    text, where it is changed."""
+    """Proves one kind for every length from shortest(kind) on, or raises; returns the Proof. `program` is the
+    definition's text, if it is changed."""
     proof = Proof(module, program)
     name, _, way = kind.partition(":")
     if way:

@@ -1,5 +1,5 @@
-"""Products of two words of 64 bits that are made of the products of their halves, as machines without wide products
-make them.
+"""Products of two 64-bit words computed from the products of their halves, as on machines without wide
+multiplication.
 
 For halves a0, a1, b0, b1 below 2 ^ 32, a = a0 + 2^32 a1 and b = b0 + 2^32 b1:
 
@@ -7,8 +7,8 @@ For halves a0, a1, b0, b1 below 2 ^ 32, a = a0 + 2^32 a1 and b = b0 + 2^32 b1:
     product_by_halves     a b / 2^64 = a1 b1 + t / 2^32 + u / 2^32
                           a b mod 2^64 = 2^32 (u mod 2^32) + a0 b0 mod 2^32
 
-crates/symbolic_rules proves both. The canonical form of a product with a number doesn't show its factors: so the steps
-are found by the operations that gave a value, which are kept here."""
+crates/symbolic_rules proves both. The canonical form of a product with a number doesn't show its factors, so the
+steps are found by the operations that produced a value, which are recorded here."""
 from . import operations, rules
 from .nodes import Node, WrongRule, is_same, memo, most_of, use
 
@@ -17,7 +17,7 @@ givers = memo()      # number of a node -> the operations on words of 64 bits th
 
 
 def noted(name, a, b, answer):
-    """The result of an operation on words of 64 bits: add, mul, and, or, shl, lshr. Where it is the last step of such a
+    """The result of an operation on words of 64 bits: add, mul, and, or, shl, lshr. If it is the last step of such a
     product, it becomes a term with that product."""
     if not isinstance(answer, Node):
         return answer
@@ -30,19 +30,19 @@ def noted(name, a, b, answer):
 
 
 def pairs(x, name):
-    """The pairs of arguments, in both orders, of which an operation gave a value."""
+    """The pairs of arguments, in both orders, for which an operation returned a value."""
     for word, a, b in givers.get(x.number, ()) if isinstance(x, Node) else ():
         if word == name:
             yield from ((a, b), (b, a))
 
 
 def argument(x, name, number):
-    """What x is the operation of, with a number."""
+    """The value that gave x by an operation with a number, or None."""
     return next((a for a, b in pairs(x, name) if b.__class__ is int and b == number), None)
 
 
 def steps_to(u):
-    """(a0, a1, b0, b1, t, a0 b0) where u is that sum."""
+    """(a0, a1, b0, b1, t, a0 b0) if u is that sum."""
     for second, of_t in pairs(u, "add"):
         t = argument(of_t, "and", rules.ones(HALF))
         for first, of_lowest in pairs(t, "add"):
@@ -60,7 +60,7 @@ def joined(low, high):
 
 
 def same(answer, other):
-    """The result, which must have the values of the other."""
+    """The result, which must have the same values as the other."""
     use("product_by_halves")
     if isinstance(answer, Node) and answer.values != other.values:
         raise WrongRule("a product by halves")

@@ -1,11 +1,11 @@
-"""Loops of any number of turns, shown by induction, whatever runs them.
+"""Proves loops of any number of iterations (turns) by induction, whatever runs them.
 
-At a loop's head after k turns the cells of `words` hold words of the definition, those of `places` have advanced by k steps,
-those of `counts` by one step for each turn in the block, those of `unset` may hold anything, and all others are as at the start.
-First turns show which cells are which. A turn from any k is then shown to lead to the same for k + 1. A cell that does anything
-else may hold anything from then on, if it is allowed to, and the turn is run again.
+At a loop's head after k turns, the cells of `words` hold words of the definition, those of `places` have advanced k
+steps, those of `counts` one step per turn in the block, those of `unset` may hold anything, and all others are
+unchanged. First turns show which cells are which. A turn from any k is then proved to lead to the same for k + 1. A
+cell that does anything else may hold anything from then on, if it is allowed to, and the turn is run again.
 
-loops.py has the states of LLVM's text, text/induction.py those of an assembly source, text/wasm/induction.py of a module."""
+loops.py has the states for LLVM's text, text/induction.py for assembly, text/wasm/induction.py for a module."""
 from .polynomials import agree, given, is_number, minus, plus, times, variable
 from .polynomials import is_same as is_same_number
 from .refusals import NotShown
@@ -32,7 +32,7 @@ def step_between(old, now):
 
 
 def moved(x, step, k):
-    """A value that has advanced by k steps."""
+    """A value after it advanced by k steps."""
     if isinstance(x, tuple):
         return *x[:-1], moved(x[-1], step, k)
     if hasattr(x, "bases"):
@@ -52,7 +52,7 @@ class Induction:
         self.forget()
 
     def forget(self):
-        """Forgets what was guessed."""
+        """Forgets the guesses."""
         self.words, self.places, self.counts, self.unset = {}, {}, {}, set()
 
     def expected(self, k, words, j=0):
@@ -74,13 +74,13 @@ class Induction:
         self.put(self.expected(k, words, j))
 
     def show_below(self, last):
-        """Shows a turn from any k below `last`."""
+        """Proves a turn from any k below `last`."""
         k = variable(self.new_name("k"))
         with given(minus(minus(last, k), 1)):
             self.until_settled(lambda: self.show_turn(k))
 
     def until_settled(self, show):
-        """Shows something over and over until no more cell may hold anything."""
+        """Repeats a proof until no more cell may hold anything."""
         size = None
         while size != len(self.unset):
             size = len(self.unset)
@@ -92,7 +92,7 @@ class Induction:
         self.compare(plus(k, 1))
 
     def compare(self, k, j=0):
-        """That the cells are those after k turns."""
+        """Checks that the cells are those after k turns."""
         expected, now = self.expected(k, self.said(k), j), self.state()
         for cell in {*expected, *now} - self.unset:
             if not same(now.get(cell), expected.get(cell)):
@@ -108,7 +108,7 @@ class Induction:
     # ---- guesses
 
     def changed(self, now):
-        """The cells that aren't as at the start."""
+        """The cells that differ from the start."""
         return {cell for cell in {*self.start, *now} if not same(self.start.get(cell), now.get(cell))}
 
     def guess_places(self, cells, once, twice=None):

@@ -1,6 +1,6 @@
 """Reads LLVM's text, as clang 14 writes it at -O0: types, constants, and instructions as (target, operation, parts).
 
-What isn't read here is Unsupported: nothing is skipped in silence but attributes, alignments and metadata."""
+Anything else is Unsupported: only attributes, alignments and metadata are skipped silently."""
 import re
 from dataclasses import dataclass
 
@@ -156,7 +156,7 @@ class Reader:
         raise Unsupported(f"the type {word} in {' '.join(self.words)}")
 
     def counted(self, end):
-        """`8 x i64` and an end."""
+        """Parses `8 x i64` and the closing bracket."""
         count = int(self.next())
         self.expect("x")
         element = self.type()
@@ -211,7 +211,7 @@ class Reader:
         raise Unsupported(f"the operand {word} in {' '.join(self.words)}")
 
     def empty_assembly(self):
-        """Assembly with no instructions: the compiler's guard, which hands its argument on."""
+        """Inline assembly without instructions: the compiler's guard, which returns its argument."""
         self.take("sideeffect")
         if self.peek() != '""':
             raise Unsupported(" ".join(self.words))
@@ -266,7 +266,7 @@ class Reader:
 
 
 def place_of(t, address, *steps):
-    """What getelementptr says, where all steps are numbers with their signs."""
+    """The result of getelementptr, if all steps are numbers with their signs."""
     memory, at = address
     for k, index in enumerate(steps):
         if k and isinstance(t, Struct):
@@ -360,7 +360,7 @@ def read_alloca(reader, target):
 
 
 def alignment_said(reader):
-    """The number behind `align`, or 1."""
+    """The number after `align`, or 1."""
     rest = reader.words[reader.at:]
     return int(rest[rest.index("align") + 1]) if "align" in rest else 1
 

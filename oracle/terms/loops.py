@@ -1,9 +1,9 @@
-"""Loops of LLVM's text, shown by induction (induction.py).
+"""Loops of LLVM's text, proved by induction (induction.py).
 
-The words are the accumulators, whose cells are named by their names in the header: they hold the definition's values at the
-start, or it isn't shown. What a first turn changes goes on by a step, or is unset at the head, so that a read of it is an
-error. Nothing else that lives may change. From the last turn the loop is left. Heads aren't named: they are the blocks to which
-a function goes back."""
+The words are the accumulators, whose cells are found by their names in the header: they hold the definition's values
+at the start, or the proof fails. A cell that a first iteration changes advances by a step, or is unset at the head,
+so that reading it is an error. No other live cell may change. The loop is left after the last iteration. Heads
+aren't named: they are the blocks to which a function jumps back."""
 from .induction import Induction, moved
 from .nodes import is_same, symbol
 from .polynomials import given, is_natural, minus, variable
@@ -12,9 +12,9 @@ from .refusals import NotShown
 
 
 class Loop:
-    """What is said of a loop: after k turns, k from 0 to `last`, the cells (memory, offset) hold definition(k).
-    `suppose(k, values)` makes that the hypothesis. From the last k the loop is left, or, with `then`, comes to its
-    head once more, where `then` is said of the turns that are left."""
+    """The claim on a loop: after k turns, k from 0 to `last`, the cells (memory, offset) hold definition(k).
+    `suppose(k, values)` makes that the hypothesis. The loop is left from the last k, or, with `then`, comes to its
+    head once more, where `then` is claimed of the turns that are left."""
 
     def __init__(self, name, last, cells, width, suppose, definition, then=None):
         self.name, self.last, self.cells, self.width = name, last, cells, width
@@ -32,7 +32,7 @@ def successors(function):
 
 
 def reached(after, first, without=None):
-    """The blocks that are reached from one, by ways that avoid another."""
+    """The blocks that are reachable from one, on paths that avoid another."""
     seen, waiting = set(), [first] if first != without else []
     while waiting:
         block = waiting.pop()
@@ -43,7 +43,7 @@ def reached(after, first, without=None):
 
 
 def loops_of(function):
-    """Head -> the blocks of the loop. A head is reached on each way to a block that goes back to it."""
+    """A dictionary: head -> the blocks of the loop. A head is on each path to a block that jumps back to it."""
     if not hasattr(function, "loops"):
         after, function.loops = successors(function), {}
         for head in function.blocks:
@@ -66,15 +66,15 @@ def blocks_of_loop(after, head, back):
 
 
 class Loops:
-    """Asks, for each loop that is come to, what there is to say of it. `said` has for the beginning of a function's
-    name a function of the module's function and the registers, that gives a Loop, or None where the turns are a
+    """Asks `said` how to prove each loop that is reached. `said` has, for the beginning of a function's name, a
+    function of the module's function and the registers that returns a Loop, or None if the turns are a
     number."""
 
     def __init__(self, said, told):
         self.said, self.told, self.running = said, told, {}
 
     def pass_by(self, function, registers, before, block):
-        """(before, block) behind the loop, or as given."""
+        """(before, block) after the loop, or as given."""
         say = next((say for name, say in self.said.items() if function.name.startswith(name)), None)
         if say is None or block not in loops_of(function):
             return before, block
@@ -94,7 +94,7 @@ class Loops:
 
 
 class Proof(Induction):
-    """A cell is one of a memory that lives, with its size."""
+    """A cell is one of a live memory, with its size."""
 
     def __init__(self, loops, loop, function, registers, before, head):
         self.loops, self.loop, self.function, self.registers = loops, loop, function, registers
@@ -116,7 +116,7 @@ class Proof(Induction):
         self.registers.update(self.kept)
 
     def behind(self):
-        """Shows the loop, and gives (before, block) behind it, where the registers and memories are those of then."""
+        """Proves the loop, and returns (before, block) after it, with the registers and memories at that place."""
         loop = self.loop
         if not is_natural(loop.last):
             raise NotShown(f"{loop.name}: no number of turns")

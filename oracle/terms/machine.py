@@ -176,7 +176,7 @@ def intrinsic(name, arguments):
 
 
 def copy(to, source, n):
-    """memcpy. What is copied with a length that isn't a number, or to where runs are kept, stays a run of an input."""
+    """memcpy. A copy with a length that isn't a number, or to a place where runs are kept, stays a run of an input."""
     (memory, at), (source, first) = to, source
     area = memory.run_area
     if not (isinstance(n, int) and isinstance(at, int)) or area and area[0] <= at < area[1]:
@@ -280,8 +280,8 @@ class Function:
             del self.module.live[live:]
 
     def walk(self, registers, before, block, body=None, stop=None):
-        """Runs from a block to the function's end, and gives its value. With `body`, the blocks of a loop whose head
-        it is, it runs to the block `stop` or out of the loop; then the result is (before, block)."""
+        """Runs from a block to the function's end, and returns its value. With `body`, the blocks of a loop whose
+        head it is, it runs to the block `stop` or out of the loop; then the result is (before, block)."""
         is_first = True
         while True:
             if body is None or not is_first:
@@ -298,7 +298,7 @@ class Function:
             before, block = block, target
 
     def run_block(self, registers, before, block):
-        """Where it goes from a block, or (None, the function's value)."""
+        """The target of a block's branch, or (None, the function's value)."""
         def value(x):
             return registers[x.name] if x.__class__ is Register else x.value
         for target, operation, parts in self.blocks[block]:
@@ -361,7 +361,7 @@ class Module:
         return (self.globals[name], 0) if name in self.globals else FunctionName(name)
 
     def fresh(self, prefix):
-        """A name that no symbol has."""
+        """A name that no other symbol has."""
         self.made += 1
         return f"{prefix}#{self.made}"
 

@@ -1,5 +1,5 @@
-"""Checks of the machinery: random operations against numbers, laws, the reference's terms on the rows of the table,
-and a second opinion on each use of a rule, by a solver of another making (z3)."""
+"""Checks of the verifier itself: random operations against numbers, algebraic laws, the reference's terms on the
+rows of the table, and a second opinion on each use of a rule by an independent solver (z3)."""
 import glob
 import os
 import random
@@ -26,7 +26,7 @@ MOST_NODES = 1_000_000
 # ---- the names of the rules
 
 def rules_are_proved(module):
-    """Each rule that the program names is the contract of a function in crates/symbolic_rules."""
+    """Checks that each rule that the program names is the contract of a function in crates/symbolic_rules."""
     with open(os.path.join(table.TOP, "crates", "symbolic_rules", "src", "lib.rt"), encoding="utf-8") as file:
         proved = set(re.findall(r"^pub fn (\w+)\(", file.read(), re.M))
     named = set()
@@ -48,12 +48,12 @@ def rotated(x, k, width=64):
 
 
 def turned(x):
-    """A word with its bytes in the other order."""
+    """A word with its bytes reversed."""
     return sum((bits(x, 8 * k, 8) << 8 * (7 - k) for k in range(8)), 0)
 
 
 def by_halves(x, y):
-    """The upper and the lower word of a product, by the steps of halves.py."""
+    """The upper and the lower word of a product, computed by the steps of halves.py."""
     def step(name, a, b):
         return halves.noted(name, a, b, BINARY[name](64, a, b))
     (a0, a1), (b0, b1) = ((bits(z, 0, 32), bits(z, 32, 32)) for z in (x, y))
@@ -93,7 +93,7 @@ def random_operations(module, rounds):
 
 
 def laws(draw, message):
-    """Equal functions written in two ways."""
+    """Equal functions in two forms."""
     def word():
         return bits(message, 8 * draw.randrange(50), 64)
 
@@ -134,8 +134,8 @@ def asked_by(row):
 
 
 def table_rows(module):
-    """The reference's terms at the bytes of each row: what gcc compiled has to agree with what came of the header
-    here."""
+    """The reference's terms at the bytes of each row: the compiled code by gcc must agree with the result of the
+    header here."""
     rows = [row for row in map(table.Row, table.lines()) if row.length <= LONGEST_ROW]
     nodes.forget()
     terms, bad = {}, []
@@ -163,7 +163,7 @@ DEEPEST = 6
 
 class Solver:
     """Asks z3 whether a result is the operation on its arguments, for all values. The parts of the terms below some
-    depth are variables: what holds for any values of these holds for theirs."""
+    depth are variables: what holds for any values of these also holds for theirs."""
 
     def __init__(self):
         sys.path.append(DEBIAN_PYTHON)
@@ -171,12 +171,12 @@ class Solver:
         self.z3, self.asked, self.bad = z3, {}, []
 
     def watch(self, name, answer, arguments):
-        """Keeps an operation, once."""
+        """Records an operation, once."""
         if any(isinstance(x, Node) for x in arguments):
             self.asked[name, key_of(answer), tuple(map(key_of, arguments))] = name, answer, arguments
 
     def sized(self, x, width):
-        """A bit vector cut or filled up to a width."""
+        """A bit vector truncated or extended to a width."""
         size = x.size()
         if size < width:
             return self.z3.ZeroExt(width - size, x)
@@ -218,7 +218,7 @@ class Solver:
         return out
 
     def meaning(self, name, arguments, width, depth, known):
-        """The operation on its arguments, at a width that holds it."""
+        """The operation on its arguments, at a width that holds the result."""
         def at(x, size=width):
             return self.sized(self.term(x, depth, known), size)
         if name == "add_at":

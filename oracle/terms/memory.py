@@ -1,7 +1,7 @@
-"""Memory: objects that are stored to, and inputs, which are read only and of which only the length is known.
+"""Memory: objects that are stored to, and inputs, which are read-only and of which only the length is known.
 
-An address is (object, offset). An offset and a length may be polynomials. Each access has to be shown to lie inside of
-its object, and a load of a byte that was never stored is an error."""
+An address is (object, offset). Offsets and lengths may be polynomials. Each access must be proved to lie inside its
+object. Loading a byte that was never stored is an error."""
 from . import operations
 from .refusals import Unsupported
 from .nodes import symbol
@@ -15,7 +15,7 @@ RUNS = "runs"
 
 
 class Unset(Unsupported):
-    """A load of bytes that were never stored."""
+    """Raised by a load of bytes that were never stored."""
 
 
 def is_inside(at, n, length):
@@ -30,8 +30,8 @@ def is_within(first, end, low, high):
 
 
 class Input:
-    """The bytes of a message or a secret. Those at x + c, c a number, are bytes of a symbol of its own for each x:
-    two such windows may be the same bytes, of which nothing here makes use."""
+    """The bytes of a message or a secret. Those at x + c, c a number, are bytes of a separate symbol for each x: two
+    such windows may be the same bytes, but nothing here uses that."""
 
     alignment = 1
 
@@ -62,7 +62,7 @@ class Input:
 
 
 class Piece(Input):
-    """The bytes of an input from `first` on, as an object of its own."""
+    """The bytes of an input from `first` on, as a separate object."""
 
     def __init__(self, whole, first, length):
         super().__init__(whole.name, length)
@@ -172,7 +172,7 @@ class Memory:
         raise Unset(f"{n} bytes at {at} of {self.name}")
 
     def has_run(self, run):
-        """Whether the bytes of a run are known to be those."""
+        """True if the bytes of a run are known to be those."""
         low, high, source, place = run
         return any(other[2] is source and is_same(other[3], place) and is_within(low, high, other[0], other[1])
                    for other in self.runs())
@@ -195,7 +195,7 @@ class Memory:
 
 
 def in_order(a, b):
-    """The two, the one that is no greater first."""
+    """The two, the smaller one first."""
     if is_natural(minus(b, a)):
         return a, b
     if is_natural(minus(a, b)):
@@ -204,7 +204,7 @@ def in_order(a, b):
 
 
 def outside(run, at, end):
-    """What is left of a run outside of at .. end - 1."""
+    """The rest of a run outside of at .. end - 1."""
     low, high, source, place = run
     if is_natural(minus(at, high)) or is_natural(minus(low, end)):
         return [run]

@@ -20,7 +20,7 @@ WORD = 64   # a symbol above this width has its values as bytes
 
 
 class WrongRule(Exception):
-    """A rule gave a term of another value: this program is wrong."""
+    """Raised if a rule returned a term of another value: this program is wrong."""
 
 
 class Node:
@@ -39,7 +39,7 @@ draw = random.Random(20240229)
 
 
 def memo():
-    """A dictionary that forgets with the table."""
+    """A dictionary that is cleared with the table."""
     MEMOS.append({})
     return MEMOS[-1]
 
@@ -56,7 +56,7 @@ def forget():
 
 
 def mark():
-    """A point to come back to by `release`."""
+    """A point to return to by `release`."""
     return len(NODES), [len(known) for known in MEMOS]
 
 
@@ -151,7 +151,7 @@ def meaning(x, value):
 
 
 def children(x):
-    """The nodes that a node is made of."""
+    """The nodes inside a node."""
     if x.kind is BITS:
         return [NODES[atom] for _, _, atoms in x.parts for atom, _ in atoms]
     if x.kind is SUM:
@@ -160,7 +160,7 @@ def children(x):
 
 
 def values_at(roots, symbols):
-    """The values of some values where the symbols have those of a dictionary."""
+    """The values of some values at the symbols' values in a dictionary."""
     known = {}
 
     def value(x):
@@ -183,5 +183,5 @@ def most_of(x):
 
 
 def is_same(a, b):
-    """Whether two values are one term."""
+    """True if two values are one term."""
     return a is b or isinstance(a, int) and isinstance(b, int) and a == b

@@ -1,8 +1,8 @@
 """Operations on terms: those on naturals, which the definitions use, and those on words of a width, which LLVM's text
 uses. A polynomial among the arguments of an operator becomes a word.
 
-Each operation is done once on the same arguments, and compared then, at the points of nodes.py, with the operation on
-numbers: CHECKED turns that off."""
+Each operation is computed once for the same arguments, and its result is then compared, at the points of nodes.py,
+with the operation on numbers. CHECKED turns that off."""
 import functools
 
 from . import nodes, rules
@@ -46,8 +46,8 @@ def checked(name, answer, *arguments):
 
 
 def once(operation):
-    """An operation that remembers its results, until the nodes are forgotten. Two arguments are one where they are the same
-    node or the same number."""
+    """An operation that remembers its results, until the nodes are forgotten. Two arguments are equal if they are
+    the same node or the same number."""
     known = memo()
 
     @functools.wraps(operation)
@@ -73,7 +73,7 @@ def multiply(a, b):
 
 @once
 def monus(a, b):
-    """a - b, and 0 where b is greater."""
+    """a - b, or 0 if b is greater."""
     if isinstance(a, int) and most_of(b) <= a:
         answer = sum_at(a.bit_length(), a, [(-1, b)])
     else:
@@ -199,7 +199,7 @@ def masked(a, mask):
 
 
 def is_below(a, b):
-    """a < b, where the bounds decide it."""
+    """a < b, if the bounds decide it."""
     if a is b or isinstance(a, int) and most_of(b) <= a:
         return False
     if isinstance(b, int) and most_of(a) < b:

@@ -85,7 +85,7 @@ class PlainStreams(Proof):
             self.expect_state("reset", memory, 0, 0)
 
     def up_to(self, n, *more):
-        """The facts: n bytes of the whole message, which has at most 2 ^ 64 - 1."""
+        """The facts: n bytes of the whole message, whose length is at most 2 ^ 64 - 1."""
         return given(at_most(self.whole, LONGEST), minus(self.whole, n), *more)
 
     def updates(self):
@@ -153,17 +153,17 @@ class PlainStreams(Proof):
 
 
 def at_least_one(a):
-    """The fact that there were stripes, where their number isn't 0."""
+    """The fact that there were stripes, if their number isn't 0."""
     return [] if is_same(a, 0) else [minus(a, 1)]
 
 
 def of_any_length(say):
-    """What there is to say of a loop in a function, where its length isn't a number."""
+    """How to prove a loop in a function, if its length isn't a number."""
     return lambda function, registers: None if isinstance(registers.get("%len"), int) else say(function, registers)
 
 
 def show(module, kind):
-    """Shows the streams of XXH32 or XXH64, or raises; gives the proof."""
+    """Proves the streams of XXH32 or XXH64, or raises; returns the proof."""
     streams = PlainStreams(module, int(kind))
     streams.reset()
     streams.update_of_nothing()

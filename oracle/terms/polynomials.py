@@ -1,8 +1,8 @@
-"""Naturals that depend on a length: polynomials over variables that are naturals, under facts, each a polynomial that
-isn't negative. A comparison is decided where the facts decide it for all values, and is Undecided else.
+"""Naturals that depend on a length: polynomials over natural variables, under facts, each a polynomial that isn't
+negative. A comparison is decided if the facts decide it for all values, and is Undecided otherwise.
 
-`is_natural(x)` looks for x as a sum of facts times monomials and of monomials, after each variable was moved to begin
-at 0. Each "yes" is compared with the value at some points at which the facts hold."""
+`is_natural(x)` tries to write x as a sum of monomials and of facts times monomials, after shifting each variable to
+begin at 0. Each "yes" is compared with the value at some points where the facts hold."""
 import contextlib
 import random
 
@@ -24,8 +24,8 @@ facts, least = [], {}         # polynomials >= 0; variable -> its least value
 
 
 class Decided:
-    """What is known under a set of facts: points at which they hold, the facts in variables that begin at 0, and of
-    polynomials whether they are never negative."""
+    """The knowledge under a set of facts: points at which they hold, the facts in variables that begin at 0, and for
+    polynomials, whether they are never negative."""
 
     def __init__(self, points=()):
         self.points, self.zero_based, self.answers = points, None, {}
@@ -155,7 +155,7 @@ def is_same(a, b):
 
 @contextlib.contextmanager
 def given(*more):
-    """What holds inside of a `with`. A fact `v - c` says where the variable v begins."""
+    """The facts that hold inside a `with`. A fact `v - c` makes the variable v begin at c."""
     global under
     size, bounds, around = len(facts), dict(least), under
     try:
@@ -208,7 +208,7 @@ def points_for(x):
 
 
 def decided_under(around):
-    """What is known under these facts. Of facts that hold nowhere anything would follow: there have to be points at which
+    """The knowledge under these facts. Facts that hold nowhere would imply anything: there must be points at which
     these hold. Points at which the facts around them hold are tried first."""
     key = frozenset([*(fact.key() for fact in facts), *least.items()])
     if key not in decided:
@@ -287,7 +287,7 @@ def without(names, product):
 
 
 def is_sum_of_facts(x, zero_based, depth):
-    """Whether x is a sum of facts times monomials and of monomials: a negative part is taken away by a fact that has
+    """True if x is a sum of facts times monomials and of monomials: a negative part is removed by a fact that has
     it."""
     negative = [names for names, c in x.items() if c < 0]
     if not negative:
@@ -313,7 +313,7 @@ def taken_away(x, fact, part, scale, rest):
 
 
 def is_below(a, b):
-    """a < b: True, False, or None where the facts don't decide it."""
+    """a < b: True, False, or None if the facts don't decide it."""
     if is_natural(minus(minus(b, a), 1)):
         return True
     return False if is_natural(minus(a, b)) else None
@@ -335,7 +335,7 @@ def monus(a, b):
 
 
 def divided(a, b):
-    """Quotient and remainder: guessed, and then shown."""
+    """Quotient and remainder: guessed, then proved."""
     if is_same(b, 0):
         raise Undecided(f"{a} / {b}")
     for q in quotients(a, b):
@@ -382,7 +382,7 @@ def as_word(x, width):
 
 
 def lifted(x):
-    """A polynomial, which has to lie below 2 ^ 64, as a term. Any other value is itself."""
+    """A polynomial, which must lie below 2 ^ 64, as a term. Any other value is returned unchanged."""
     if not isinstance(x, Poly):
         return x
     if not (is_natural(x) and is_natural(at_most(x, (1 << WORD) - 1))):
@@ -391,7 +391,7 @@ def lifted(x):
 
 
 def agree(a, b):
-    """Whether two values, or tuples of some, are the same."""
+    """True if two values, or tuples of values, are the same."""
     if isinstance(a, tuple) and isinstance(b, tuple):
         return len(a) == len(b) and all(x is y or agree(x, y) for x, y in zip(a, b))
     return nodes.is_same(a, b) or is_same(a, b) or isinstance(a, str) and a == b

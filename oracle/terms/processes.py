@@ -1,5 +1,5 @@
-"""Rows of a check, each asked in a process of its own, so many at once, what is said of them, and the words that choose
-them."""
+"""Runs the rows of a check, each in its own process and several at once, prints their results, and selects rows by
+the arguments of the command line."""
 import argparse
 import concurrent.futures
 import multiprocessing
@@ -20,7 +20,7 @@ FORK, STARTING = multiprocessing.get_context("fork"), threading.Lock()
 
 
 class Row:
-    """A row: its title, and a function that gives (counts, failures) as lines."""
+    """A row: its title, and a function that returns (counts, failures) as lines."""
 
     def __init__(self, title, ask, is_deep=True):
         self.title, self.ask = title, ask
@@ -28,7 +28,7 @@ class Row:
 
 
 def options(usage, jobs=2):
-    """A parser of a check's words: --all, --only WORD and --jobs NUMBER."""
+    """A parser of a check's options: --all, --only WORD and --jobs NUMBER."""
     out = argparse.ArgumentParser(usage=usage)
     out.add_argument("--all", action="store_true")
     out.add_argument("--only", default="")
@@ -37,7 +37,7 @@ def options(usage, jobs=2):
 
 
 def run(rows, jobs):
-    """Runs the rows and says what became of each: the command's status."""
+    """Runs the rows and prints their results; returns the command's status."""
     began, passed = time.monotonic(), 0
     with concurrent.futures.ThreadPoolExecutor(jobs) as pool:
         for line, is_good in pool.map(in_process, rows):
@@ -54,7 +54,7 @@ def processor_time(of):
 
 
 def in_process(row):
-    """A row: what is said of it, and whether it passed. A process that is killed says nothing, and didn't."""
+    """Runs a row: its output, and whether it passed. A process that is killed prints nothing and fails."""
     with STARTING:     # so that no other process holds the pipe's end
         ours, theirs = FORK.Pipe(duplex=False)
         process = FORK.Process(target=answer, args=(row, theirs))

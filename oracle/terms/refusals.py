@@ -1,8 +1,8 @@
-"""What a comparison, a reader or a run is refused by. Each is an error of its own: a crash is no refusal."""
+"""The reasons for which a comparison, a reader or a run refuses. Each is its own exception: a crash is no refusal."""
 
 
 class Unsupported(Exception):
-    """Text or an operation that isn't known here, or one that a program mustn't do, as an access outside of an
+    """Text or an operation that isn't supported, or one that a program mustn't do, such as an access outside of an
     object."""
 
 
@@ -11,7 +11,7 @@ class Undecided(Exception):
 
 
 class NotShown(Exception):
-    """The two sides aren't shown to be the same."""
+    """The two sides aren't proved to be equal."""
 
 
 REFUSALS = NotShown, Undecided, Unsupported

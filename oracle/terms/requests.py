@@ -1,4 +1,4 @@
-"""A request of a hash, and what the definition says of it, as a term."""
+"""A request of a hash, and its value by the definition, as a term."""
 import os
 import random
 
@@ -16,8 +16,8 @@ def seed_symbol(hash_name):
 
 
 class Request:
-    """A hash, a kind of call (seed, default, secret, both), a length, for some kinds the secret's length; `seed` is a
-    number where it isn't a symbol, and `cuts` are the ends of a stream's chunks but the last."""
+    """A hash, a kind of call (seed, default, secret, both), a length, and for some kinds the secret's length. `seed`
+    is a number if it isn't a symbol, and `cuts` are the ends of a stream's chunks except the last."""
 
     def __init__(self, hash_name, kind, length, secret_length=None, seed=None, cuts=None):
         self.hash_name, self.kind, self.length, self.secret_length = hash_name, kind, length, secret_length
@@ -46,13 +46,13 @@ class Request:
                                 Bytes(self.message, 0, self.length))
 
     def definition_at(self, entries, point):
-        """What the definition says where the symbols are numbers."""
+        """The definition's value if the symbols are numbers."""
         seed = self.seed() if isinstance(self.seed(), int) else point[self.seed().parts[0]]
         return definition.value(entries, self.hash_name, self.kind, seed, memoryview(point["s"]),
                                 memoryview(point["m"]))
 
     def with_seed_0(self):
-        """The case that of_reference leaves out, if it leaves one out."""
+        """The case that of_reference leaves out, if any."""
         is_long = self.length > 240 or self.cuts is not None
         asks = self.hash_name.startswith("3-") and self.fixed_seed is None and is_long
         if not asks or not self.has_seed() or self.kind == "both" and self.cuts is None:
@@ -62,7 +62,7 @@ class Request:
         return [Request(self.hash_name, self.kind, self.length, self.secret_length, 0, self.cuts)]
 
     def points(self, count, draw):
-        """Values of the symbols: some at the ends of what they can be, then random ones."""
+        """Values of the symbols: some at the ends of their ranges, then random ones."""
         n, k = self.length, self.secret_length or 0
         for byte in (0, 255):
             for seed in (0, 2 ** 64 - 1, 2 ** 63):
@@ -73,7 +73,7 @@ class Request:
 
 
 def differing_point(request, a, b, count=20):
-    """(symbols, value of a, value of b) where the two terms differ, or None where no such point is found."""
+    """(symbols, value of a, value of b) where the two terms differ, or None if no such point is found."""
     for point in request.points(count, random.Random(7)):
         x, y = values_at([a, b], point)
         if x != y:
@@ -82,7 +82,7 @@ def differing_point(request, a, b, count=20):
 
 
 def differing_point_of_numbers(request, entries, b, count=3):
-    """The same where the definition comes to no term, and is evaluated on numbers."""
+    """The same if the definition has no term, and is evaluated on numbers."""
     for point in request.points(count, random.Random(11)):
         x, (y,) = request.definition_at(entries, point), values_at([b], point)
         if x != y:

@@ -1,4 +1,4 @@
-"""The rows of oracle/symbolic: what is asked, in processes of its own each, and what is said of it."""
+"""The rows of oracle/symbolic: the requests, each in its own process, and their results."""
 import collections
 import functools
 import os
@@ -20,7 +20,7 @@ GATE_SECRETS, STREAM_SECRETS = (136,), (136, 192)
 
 
 class Row(processes.Row):
-    """A row whose function is one of a module: the library's code for some vectors."""
+    """A row whose function runs on a module: the library's code for some vectors."""
 
     def __init__(self, title, ask, vector="scalar", is_deep=True):
         super().__init__(title + ("" if vector == "scalar" else f", {vector}"), ask, is_deep)
@@ -55,7 +55,7 @@ def lengths(is_all, vector):
 
 
 def vector_lengths(vectors):
-    """The code of other vectors, which differs from 241 bytes on."""
+    """The code for other vectors, which differs from 241 bytes on."""
     kinds = [kind for kind in comparison.kinds((136,)) if kind[0].startswith("3-")]
     return [compared(title_of(*kind), kind, [*range(241, 501), *comparison.edges(kind[2])], vector)
             for vector in vectors for kind in kinds]
@@ -158,7 +158,7 @@ def hand_changes(module):
 
 
 def header_is_the_one_named(headers, vector, _module):
-    """The text is of the header that is summed, also where another one lies in a folder that compilers look into."""
+    """Checks that the text is of the summed header, even if a folder that compilers search has another one."""
     with tempfile.TemporaryDirectory(prefix="symbolic-") as room:
         with open(f"{room}/xxhash.h", "w", encoding="utf-8") as file:
             file.write('#error "another header"\n')
@@ -183,7 +183,7 @@ def of_machinery(is_all, vector, headers):
 # ---- processes
 
 def run(rows, headers, jobs):
-    """Runs the rows, each with a module of its own: the command's status."""
+    """Runs the rows, each with its own module; returns the command's status."""
     texts = {vector: llvm_text(headers, vector) for vector in {row.vector for row in rows}}
     return processes.run([processes.Row(row.title, functools.partial(asked, row, texts[row.vector]), row.is_deep)
                           for row in rows], jobs)

@@ -29,7 +29,7 @@ def ones(n):
 
 
 def zeros_below(c):
-    """How many low bits of c are 0."""
+    """The number of trailing 0 bits of c."""
     return (c & -c).bit_length() - 1
 
 
@@ -42,7 +42,7 @@ def segments_of(x):
 
 
 def from_segments(segments):
-    """The value of segments. Neighbours that go on in each other are joined, and zeros at the top are dropped."""
+    """The value of segments. Neighbours that continue each other are joined, and zeros at the top are dropped."""
     out = []
     for segment in segments:
         joined = out and joined_with(out[-1], segment)
@@ -67,7 +67,7 @@ def from_segments(segments):
 
 
 def drop_zeros(segments):
-    """Takes the zeros at the top away."""
+    """Removes the zeros at the top."""
     while segments and not segments[-1][2]:
         length, constant, _ = segments.pop()
         if constant:

@@ -1,4 +1,4 @@
-"""Shows the term of a request, step by step, as each side comes to it."""
+"""Shows the term of a request step by step, as each side computes it."""
 from . import definition, nodes, sides
 from .nodes import BITS, NODES, PRODUCT, SUM, SYMBOL, Node
 from .requests import Request
@@ -7,7 +7,7 @@ NAMES = {"m": "message", "s": "secret", "seed32": "seed", "seed64": "seed"}
 
 
 def bits_shown(x, first, length, names):
-    """Some bits of a node, which isn't BITS."""
+    """Some bits of a node that isn't BITS."""
     if x.kind is SYMBOL:
         name = NAMES[x.parts[0]]
         if x.width <= 64:
@@ -51,7 +51,7 @@ def named(x, names):
 
 
 def steps(value):
-    """The lines of a value: each sum and product that it is made of has a name."""
+    """The lines of a value: each sum and product in it has a name."""
     lines, names = [], {}
 
     def visit(x):
@@ -70,7 +70,7 @@ def steps(value):
 
 
 def show(module, hash_name, length):
-    """The lines of both sides, each from an empty table; with a seed, or the secret that is given."""
+    """The lines of both sides, each from an empty table; with a seed, or the given secret."""
     out = []
     request = Request(hash_name, "seed", length)
     for side, ask in (("the definition", lambda: request.of_definition(definition.program().run())),

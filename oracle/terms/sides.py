@@ -1,4 +1,4 @@
-"""The reference's code as LLVM's text, and what it computes for a request."""
+"""The reference's code as LLVM's text, and its result for a request."""
 import hashlib
 import os
 import shutil
@@ -23,7 +23,7 @@ BESIDE = 512                      # bytes around a chunk in which a stream compa
 
 
 def install(headers, with_solver):
-    """Installs what is missing: clang, Debian's header if it is the one that is asked for, and z3."""
+    """Installs the missing packages: clang, Debian's header if it is the requested one, and z3."""
     is_there = {CLANG: shutil.which(CLANG),
                 "libxxhash-dev": headers != HEADERS or os.path.exists(f"{HEADERS}/xxhash.h"),
                 "python3-z3": not with_solver or os.path.exists(f"{DEBIAN_PYTHON}/z3")}
@@ -31,8 +31,8 @@ def install(headers, with_solver):
 
 
 def llvm_text(headers=HEADERS, vector="scalar"):
-    """LLVM's text of the header in a folder, as clang's front end writes it with no optimiser. The header is copied to a
-    room of its own: clang passes over `-I /usr/include`, and would take one of another folder."""
+    """LLVM's text of the header in a folder, as clang's front end writes it without an optimiser. The header is
+    copied to a separate folder: clang ignores `-I /usr/include`, and would use the header of another folder."""
     with tempfile.TemporaryDirectory(prefix="symbolic-") as room:
         out = f"{room}/reference.ll"
         shutil.copy(f"{headers}/xxhash.h", room)
@@ -57,7 +57,7 @@ def release_of(headers):
 
 
 def of_reference(request, module):
-    """What the library computes. It asks whether a seed is 0: here it isn't, and with_seed_0 is that case."""
+    """The library's result. The library tests whether a seed is 0: here it isn't, and with_seed_0 is that case."""
     seed, out = request.seed(), Memory("out", 16)
     arguments = [(request.message, 0), request.length]
     arguments += [(request.secret, 0), request.secret_length] if request.secret else []

@@ -6,9 +6,9 @@ in a block, f <= 256 the bytes in the buffer, f = 0 only where N = 0, and K is 0
 the definition's after K stripes, its counters j, f and N; its buffer begins with the f bytes behind the stripes, and
 where K > 0 the buffer's bytes from 192 on that aren't among these are those of the last stripe.
 
-The secret lies outside of the state, with any length, or inside, where a seed's is derived to. Which bytes it has
-doesn't matter to an update or a digest, so they are symbols: a secret that a seed derives, and the default one, are
-cases of these."""
+The secret lies outside of the state, with any length, or inside, where the one derived from a seed is stored. Its
+bytes don't matter to an update or a digest, so they are symbols: a secret derived from a seed and the default one
+are cases of these."""
 from . import definition, nodes
 from .definition import Bytes
 from .every_length import DEFAULT_STRIPES, SHORTEST_SECRET_STRIPES, Proof, cells_at, suppositions, xxh3_loop
@@ -32,7 +32,7 @@ PLACES = "outside", "inside"
 
 
 class Xxh3Streams(Proof):
-    """The streams whose secret lies in a place; `q` stripes a block, any number from 9 on where it lies outside."""
+    """The streams whose secret lies in a place; `q` stripes per block, any number from 9 on if it lies outside."""
 
     def __init__(self, module, place):
         super().__init__(module)
@@ -45,7 +45,7 @@ class Xxh3Streams(Proof):
         self.use_stripes(variable("q") if place == "outside" else DEFAULT_STRIPES)
 
     def use_stripes(self, q):
-        """From here on a block has q stripes."""
+        """From here on, a block has q stripes."""
         u = variable("u") if self.place == "outside" else 0
         self.q, self.secret_length = q, plus(STRIPE, times(8, q), u)
         self.secret_source = Input("s", self.secret_length)
@@ -88,7 +88,7 @@ class Xxh3Streams(Proof):
         return [(first, first + DEFAULT_SECRET, self.secret_source, -first)] if self.place == "inside" else []
 
     def ends(self, b, j, f):
-        """What the buffer has to hold, by cases of f that can be: (facts, runs)."""
+        """The required contents of the buffer, by the possible cases of f: (facts, runs)."""
         if not is_natural(minus(f, LAST_STRIPE + 1)):
             yield [at_most(f, LAST_STRIPE)], [*self.buffered(b, j, f), self.before(b, j, LAST_STRIPE)]
         if not is_natural(minus(LAST_STRIPE - 1, f)):
@@ -119,7 +119,7 @@ class Xxh3Streams(Proof):
     # ---- updates
 
     def one_update_for_both_widths(self):
-        """The update of 128 bits has the text of the one of 64, or calls it: what is shown of it is shown of both."""
+        """The update of 128 bits has the text of the one of 64, or calls it: a proof of one is a proof of both."""
         both = [self.module.functions[f"@XXH_INLINE_XXH3_{width}bits_update"] for width in WIDTHS]
         lines = [line for block in both[1].blocks.values() for line in block]
         called = [parts[0].value.name for _, operation, parts in lines if operation == "call"]
@@ -159,7 +159,7 @@ class Xxh3Streams(Proof):
             raise NotShown("fewer than four stripes are taken")
 
     def of_stripes(self, function, registers):
-        """The loop over stripes, where their number isn't a number. To a block's end its last turn goes with the
+        """The loop over stripes, if their number isn't a number. To a block's end, its last turn includes the
         scramble."""
         count = registers.get("%nbStripes")
         if not isinstance(count, Poly):
@@ -196,7 +196,7 @@ class Xxh3Streams(Proof):
             self.by_buffers_over_an_end()
 
     def small_pieces(self):
-        """Chunks that the buffer takes."""
+        """Chunks that fit in the buffer."""
         b, j, f, L = (variable(name) for name in "bjfL")
         after = plus(f, L)
         fits = at_most(after, BUFFER)
@@ -208,7 +208,7 @@ class Xxh3Streams(Proof):
             self.update(start, end, runs, self.ends(*end), [*there, of_f])
 
     def starts(self):
-        """Where an update begins that takes stripes: the state, the facts, and the block and stripe behind the
+        """The start of an update that takes stripes: the state, the facts, and the block and stripe after the
         buffer."""
         b, j, f = (variable(name) for name in "bjf")
         yield (0, 0, 0), [], 0, 0
@@ -218,7 +218,7 @@ class Xxh3Streams(Proof):
             yield (b, minus(self.q, i), f), there, plus(b, 1), 4 - i
 
     def rest_in_buffer(self, start, facts, b, j):
-        """The buffer's stripes are taken, and the rest of the chunk goes there."""
+        """The buffer's stripes are processed, and the rest of the chunk is stored there."""
         R = variable("R")
         if not is_same(start[2], 0):
             self.update(start, (b, j, R), self.buffered(*start), self.ends(b, j, R),
@@ -227,7 +227,7 @@ class Xxh3Streams(Proof):
     # ---- chunks after which more is left than the buffer takes: release 0.8.3
 
     def within_a_block(self, start, facts, b, j):
-        """S stripes behind the buffer, which end within the block, and 1 + h bytes."""
+        """S stripes after the buffer, which end within the block, and 1 + h bytes."""
         S, h = variable("S"), variable("h")
         end = b, plus(j, S), plus(1, h)
         more = [minus(S, 4), at_most(h, 63), minus(minus(self.q, 1), plus(j, S))]
@@ -247,7 +247,7 @@ class Xxh3Streams(Proof):
     # ---- the same: release 0.8.1
 
     def whole_blocks(self, start, facts, b, j):
-        """At least a block behind the buffer: to the block's end, D blocks, e stripes, and 1 + h bytes."""
+        """At least a block after the buffer: to the block's end, D blocks, e stripes, and 1 + h bytes."""
         h, e, D = (variable(name) for name in ("h", "e", "D"))
         S = plus(minus(self.q, j), times(self.q, D), e)
         end = plus(b, 1, D), e, plus(1, h)
@@ -347,8 +347,8 @@ class Xxh3Streams(Proof):
                     raise NotShown("a digest changes the state")
 
     def effective(self, way, width):
-        """The secret that takes effect. In release 0.8.1 a digest of 128 bits asks whether the seed is 0, and not
-        whether one was given: the one place where its streams say something else than its one-shots (docs/C.md)."""
+        """The effective secret. In release 0.8.1 a digest of 128 bits tests whether the seed is 0, and not whether
+        one was given: the one place where its streams differ from its one-shots (docs/C.md)."""
         if way == "secret" or way == "both 0" and width == "128" and self.is_0_8_1:
             return self.secret
         return self.texts["effective_secret"](self.secret, self.message)
@@ -404,7 +404,7 @@ class Xxh3Streams(Proof):
 
 
 def at_second_time(say):
-    """What there is to say of a loop when its head is come to again, in one call of its function."""
+    """How to prove a loop when its head is reached again, in one call of its function."""
     seen = []
 
     def again(function, registers):
@@ -416,7 +416,7 @@ def at_second_time(say):
 
 
 def show(module, place):
-    """Shows the streams of XXH3 whose secret lies in a place, or raises; gives the proof."""
+    """Proves the streams of XXH3 whose secret lies in a place, or raises; returns the proof."""
     streams = Xxh3Streams(module, place)
     streams.resets()
     streams.one_update_for_both_widths()

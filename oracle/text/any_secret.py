@@ -1,7 +1,7 @@
 """One-shots of XXH3 above 240 bytes with a secret of any length, by induction over the loops: 64 (q B + J) + t + 1
-bytes, q stripes in a block, B blocks, J below q, and t below 64; a secret of 64 + 8 q + u bytes, u below 8. The texts
-have ways of their own for q = 16 (every_length.py has these), from 31,744 bytes on, and where the stripes come to
-2 ^ 32."""
+bytes, q stripes in a block, B blocks, J below q, and t below 64; a secret of 64 + 8 q + u bytes, u below 8. The
+sources have separate paths for q = 16 (every_length.py has these), from 31,744 bytes on, and where the number of
+stripes reaches 2 ^ 32."""
 import collections
 import functools
 

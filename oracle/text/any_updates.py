@@ -1,5 +1,5 @@
-"""The streams of XXH32 and XXH64 of a text: reset, any number of updates of any lengths, digest, by induction over the
-updates, as terms/plain_streams.py does it for the reference.
+"""The streams of XXH32 and XXH64 of an assembly source: reset, any number of updates of any lengths, digest, by
+induction over the updates, like terms/plain_streams.py for the reference.
 
 A state represents the first N bytes of a message, N = stripe * a + r, when its total is N, its accumulators are the
 definition's after a stripes, its marked word is the mark and r, and its buffer begins with the r bytes behind the

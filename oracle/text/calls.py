@@ -1,5 +1,5 @@
-"""What of the exports is neither a one-shot nor a stream: canonical forms, comparisons, copies, made secrets, refusals.
-Each function asks a processor, gives how many cases it had, and raises where the text does anything else."""
+"""The exports that are neither a one-shot nor a stream: canonical forms, comparisons, copies, generated secrets,
+refusals. Each function runs a processor, returns its number of cases, and raises on anything else."""
 import itertools
 import random
 

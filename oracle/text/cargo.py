@@ -1,7 +1,7 @@
-"""The texts below the cargo crate, rust/asm, and how their exports are called, as rust/src/kernels/assembly.rs does it. The
-names of a text have the number of the interface and the instruction set in them: here they are without.
+"""The assembly sources of the cargo crate, rust/asm, and how their exports are called, as in
+rust/src/kernels/assembly.rs. The number of the interface and the instruction set are left out of the names here.
 
-A stream of XXH3 is given its secret by each call. It begins with the accumulators, as a state of the library for C does."""
+Each call of an XXH3 stream is given its secret. The stream begins with the accumulators, like a C state."""
 import os
 import re
 

@@ -1,5 +1,5 @@
-"""What of the exports below the cargo crate is neither a long input nor a chunk that is taken: refusals. As calls.py has it for
-the library for C."""
+"""The exports of the cargo crate's sources that neither hash a long input nor take a chunk: refusals. calls.py has
+those of the C library."""
 import re
 
 from terms.memory import Input

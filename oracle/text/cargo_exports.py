@@ -1,4 +1,4 @@
-"""The exports of the texts below the cargo crate, each with what shows it; and functions that are another text's."""
+"""The exports of the cargo crate's sources, each with the rows that prove it; and functions of another source."""
 import re
 
 from .cargo import export_name

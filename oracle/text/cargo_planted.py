@@ -1,4 +1,4 @@
-"""Wrong texts below the cargo crate that have to be refused, as planted.py has them for the library for C."""
+"""Wrong sources of the cargo crate that must be refused, like planted.py for the C library."""
 import os
 import re
 import subprocess

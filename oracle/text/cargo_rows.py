@@ -1,5 +1,5 @@
-"""The rows of oracle/machine-text on the texts below the cargo crate, rust/asm, for x86-64. Some functions of the text
-for x86-64-v3 are c/asm's, byte for byte, and have the rows that show these too."""
+"""The rows of oracle/machine-text on the cargo crate's sources, rust/asm, for x86-64. Some functions of the source
+for x86-64-v3 are c/asm's, byte for byte, and are proved by the same rows."""
 import functools
 
 from terms import comparison

@@ -1,5 +1,5 @@
-"""The chunks of streams of XXH3 of a text below the cargo crate, by induction over the updates, as xxh3_updates.py has them for
-the library for C. A stream has no mark, no seed and no secret: each call is given that."""
+"""The chunks of streams of XXH3 of a source of the cargo crate, by induction over the updates, like xxh3_updates.py
+for the C library. A stream has no mark, no seed and no secret: each call is given that."""
 from terms.polynomials import at_most, given, is_natural, minus, plus, variable
 from terms.polynomials import is_same as is_same_number
 from terms.requests import LONGEST_SECRET

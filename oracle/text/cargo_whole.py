@@ -1,5 +1,5 @@
-"""The rows on a text below the cargo crate that is no other text's in any part: each of its functions has rows of its
-own."""
+"""The rows on a source of the cargo crate that shares no part with another source: each of its functions has its own
+rows."""
 import functools
 
 from terms import comparison

@@ -1,10 +1,10 @@
-"""Changes of single instructions of a text, each of which must be detected: another register, operand, number,
-condition or shift, an instruction left out, or two neighbours in the other order.
+"""Changes of single instructions of an assembly source, each of which must be detected: another register, operand,
+number, condition or shift, an instruction left out, or two neighbours swapped.
 
-A change is tested by questions that run the instruction (questions.py). It is detected where the text comes to another term
-than the definition, or does what no call may do. Those that aren't are listed in equal_changes with their reasons, of
-each text in a file of its own; one of these that is detected after all fails as well, and with --all a reason that no
-change needs. A crash of this program isn't counted as detected."""
+A change is tested by requests that run the instruction (questions.py). It is detected if the source's term differs
+from the definition's, or if the source does what no call may do. Undetected changes are listed in equal_changes with
+their reasons, in one file per source. A listed change that is detected after all fails as well, and so does, with
+--all, a reason that no change needs. A crash of this program isn't counted as detected."""
 import collections
 import functools
 import hashlib

@@ -1,5 +1,5 @@
-"""That the cases of the streams of XXH3 are all of them: for each of many points, which are a state and a chunk as
-numbers, there is a case that has it. Of a case nothing is taken but the polynomials and the facts that its proof has."""
+"""Checks that the cases of the streams of XXH3 are complete: each of many points, a state and a chunk as numbers, is
+in some case. Only the polynomials and the facts that a case's proof uses are taken from it."""
 import random
 
 from terms.polynomials import names_of, plus, value_at

@@ -1,6 +1,6 @@
-"""Each instruction's bytes beside what was printed of them: a decoder that prints one instruction for the bytes of another
-would go unnoticed else. GNU as makes the bytes again of the text; of a jump they are worked out here, and what does nothing
-is listed."""
+"""Compares each instruction's bytes with the printed instruction: otherwise a decoder that prints one instruction
+for the bytes of another would go undetected. GNU as assembles the printed text again. Jumps are computed here, and
+instructions that do nothing are listed."""
 import os
 import re
 import struct

@@ -1,10 +1,10 @@
-"""The one-shots of a text of every length, by induction over its loops.
+"""The one-shots of an assembly source of every length, by induction over its loops.
 
-XXH32 and XXH64: stripe * (u b + c) + r bytes, where a text takes u stripes at once, b is any number from 1 on, c below
-u and r below a stripe. XXH3, above what is asked one by one: 64 (16 B + J) + t + 1 bytes, B blocks of 16 stripes, J
-below 16, and t below 64, with the default secret, with one that a seed derives, and with one of 192 to 199 bytes
-(any_secret.py has the others). The texts have ways of their own from 31,744 bytes on; `left_out` computes that the
-cases have all lengths but those that it gives."""
+XXH32 and XXH64: stripe * (u b + c) + r bytes, where a source processes u stripes at once, b is any number from 1 on,
+c below u and r below a stripe. XXH3, above the lengths that are asked one by one: 64 (16 B + J) + t + 1 bytes, B
+blocks of 16 stripes, J below 16, and t below 64, with the default secret, with one derived from a seed, and with one
+of 192 to 199 bytes (any_secret.py has the others). The sources have separate paths from 31,744 bytes on; `left_out`
+computes that the cases have all lengths except those that it returns."""
 import collections
 import functools
 import itertools

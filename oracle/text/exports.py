@@ -1,5 +1,5 @@
-"""The exports of the texts for C, each with what shows it: a beginning of a row's title. A text that has another name,
-or lacks one, fails."""
+"""The exports of the sources for C, each with the beginning of the title of the rows that prove it. A source with
+another name, or without one of these, fails."""
 from terms.refusals import NotShown
 
 from .one_shots import NAMES, WAYS, is_plain

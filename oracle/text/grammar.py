@@ -1,9 +1,9 @@
-"""The grammar of an assembly source: what each line may be, in which order. It is strict, so that all assemblers read the text
-alike and nothing in it is hidden from a reader: one instruction or one directive on a line, no macros, no conditions except
-the one guard, no symbols that are set, no other encodings, no comment but the first line.
+"""The grammar of an assembly source: which lines it may have, in which order. It is strict, so that all assemblers
+read the source alike and a reader sees everything: one instruction or directive per line, no macros, no conditions
+except the one guard, no symbols that are set, no other encodings, no comment except the first line.
 
-A text is a comment, the guard if it has one, functions and constants, the guard's end, the notes, and `.text`. A function
-is one section: its name, then instructions, labels and frames without a break."""
+A source is a comment, the guard if it has one, functions and constants, the guard's end, the notes, and `.text`. A
+function is one section: its name, then instructions, labels and frames without a gap."""
 import re
 
 from terms.refusals import Unsupported

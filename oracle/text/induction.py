@@ -1,9 +1,9 @@
-"""Loops of an assembly source, shown by induction (terms/induction.py).
+"""Loops of an assembly source, proved by induction (terms/induction.py).
 
-A cell is a register or its lower half, a lane of a vector, or a cell of the stack or of another object that may be
-written to. The words are those that the definition says of so many stripes. Which cells have them isn't said: they are those
-that hold the definition's words at the start, and those of some stripes more after a first turn. The last cell that has a
-word is never let go. The flags are unset at a head."""
+A cell is a register or its lower half, a lane of a vector, or a cell of the stack or of another writable object. The
+words are the definition's after so many stripes. The cells that have them aren't declared: they are those that hold
+the definition's words at the start, and those of some stripes more after a first iteration. The last cell that has a
+word is never dropped. The flags are unset at a head."""
 import contextlib
 import functools
 

@@ -1,9 +1,9 @@
-"""The table of instructions of x86-64: what each form does, and the instruction set that has it.
+"""The table of instructions of x86-64: the semantics of each form, and the instruction set that has it.
 
-A form is a mnemonic with a letter for each operand, as `add ml`: b, w, l, q a register of 8, 16, 32, 64 bits, h the
-second byte of one, x, y and z one of 128, 256 and 512, m memory, i a number. What isn't in the table is refused. scalar.py and
-lanes.py fill it: each entry is a function of the processor and the instruction, which gives the place of the next
-instruction where that isn't the one behind it."""
+A form is a mnemonic with a letter for each operand, as in `add ml`: b, w, l, q a register of 8, 16, 32, 64 bits, h
+the second byte of one, x, y and z one of 128, 256 and 512, m memory, i a number. An instruction that isn't in the
+table is refused. scalar.py and lanes.py fill it: each entry is a function of the processor and the instruction,
+which returns the place of the next instruction if that isn't the following one."""
 from terms.refusals import Unsupported
 
 from .objects import Immediate, Place, Register

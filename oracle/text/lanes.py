@@ -1,5 +1,5 @@
-"""What the instructions on vectors do. A register of 512 bits is eight lanes of 64, each a value. The older forms leave
-the upper lanes of a register as they are, and want their places in memory aligned; those with a `v` make them 0."""
+"""The semantics of instructions on vectors. A register of 512 bits is eight lanes of 64, each a value. The older
+forms keep the upper lanes of a register, and require aligned memory; those with a `v` set these lanes to 0."""
 from terms.refusals import Unsupported
 from terms.polynomials import plus
 

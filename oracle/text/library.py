@@ -1,4 +1,4 @@
-"""How the exports of the library for C are called. cargo.py has the same for those below the cargo crate."""
+"""How the exports of the C library are called. cargo.py has the same for the cargo crate."""
 from .one_shots import NAMES, name_of, value_of
 from .streams import OK, SIZES, expect_answer, reset, update
 from .values import address

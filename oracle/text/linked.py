@@ -1,10 +1,10 @@
-"""Runs instructions of a processor whose calls leave in a register where to return, over terms, from a function's first
-one to its return.
+"""Runs instructions of a processor whose calls leave the return address in a register, over terms, from a function's
+first instruction to its return.
 
-As processor.py does it for x86-64: branches, addresses and lengths are numbers, words are terms, and whatever isn't
-known at the beginning is a symbol of its own for each call. A place in memory outside of the objects that were passed
-over, a byte that was never stored, a store to what is read only, a branch on a symbol and an instruction that the table
-lacks are errors."""
+Like processor.py for x86-64: branches, addresses and lengths are numbers, words are terms, and whatever isn't known
+at the beginning is a separate symbol for each call. A place in memory outside of the objects that were passed, a
+byte that was never stored, a store to read-only memory, a branch on a symbol and an instruction that the table lacks
+are errors."""
 from terms.refusals import Undecided, Unsupported
 from terms.nodes import symbol
 from terms.polynomials import is_same

@@ -1,5 +1,5 @@
-"""What the object of a text may hold: sections by name, kind, flags and alignment, symbols by kind, binding and visibility,
-and the one note. A linker or a loader can make something else of whatever isn't listed here."""
+"""The allowed contents of a source's object: sections by name, kind, flags and alignment, symbols by kind, binding
+and visibility, and the one note. A linker or a loader may handle anything else in its own way."""
 import os
 import re
 import struct

@@ -1,5 +1,5 @@
-"""Secrets that are made of 2 ^ 32 bytes and more, by induction over the loops of their hash: of so many a text divides
-places by another instruction."""
+"""Secrets generated from 2 ^ 32 bytes and more, by induction over the loops of their hash: for so many bytes a
+source divides places by another instruction."""
 from terms import definition
 from terms.definition import Bytes, suppositions
 from terms.refusals import NotShown

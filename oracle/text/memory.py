@@ -1,7 +1,7 @@
-"""What a text reads and writes: terms/memory.py's objects, whose cells may hold addresses, and the stack.
+"""The memory of a source: terms/memory.py's objects, whose cells may hold addresses, and the stack.
 
-A call may write to the objects that it gets for that, and below its caller's frame. A function that is called from
-outside, as memcpy, may use all that lies below the stack pointer: there is no red zone over a call."""
+A call may write to the objects that it is given for that, and below its caller's frame. An external function, such
+as memcpy, may use everything below the stack pointer: there is no red zone across a call."""
 import collections
 import contextlib
 

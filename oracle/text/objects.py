@@ -1,8 +1,8 @@
-"""An assembled object as what runs: instructions by section and address, and constants.
+"""An assembled object in the form that the verifier runs: instructions by section and address, and constants.
 
-The instructions are those that objdump reads out of the object's bytes; nothing of the assembler's text is used. Each
-byte of a section belongs to one instruction. What the object holds is listed (listed.py), and a relocation leads to a place
-that no linker moves or takes from another library."""
+The instructions are those that objdump decodes from the object's bytes; the assembler's input isn't used. Each byte
+of a section belongs to one instruction. The contents of the object are listed (listed.py), and a relocation leads to
+a place that no linker moves or takes from another library."""
 import collections
 import functools
 import re

@@ -1,9 +1,9 @@
-"""The table of instructions beside the processor: what the table says of an instruction, and what this processor does,
-on inputs with edges. All registers, what lies in memory, and the flags that the table has are compared. Where this one
-isn't x86-64-v4, what came with that is left out.
+"""Compares the table of instructions with this processor, on inputs with edge cases: all registers, memory, and
+the flags that the table has. If the processor isn't x86-64-v4, the instructions that came with that level are left
+out.
 
-Each instruction is in a function of its own, which loads all registers, runs it, and stores them. The processor
-runs that function; of the same object, read as the texts are, the instruction is run over numbers."""
+Each instruction is in its own function, which loads all registers, runs it, and stores them. The processor runs that
+function; the same object is also read like the sources, and the instruction is run over numbers."""
 import ctypes
 import functools
 import os

@@ -1,4 +1,4 @@
-"""One-shots of a text: a request by the names of the C library, and what the text gives for it as a term."""
+"""One-shots of a source: a request by the names of the C library, and the source's result as a term."""
 from terms.nodes import Node
 
 from .values import address, joined, low

@@ -1,5 +1,5 @@
-"""Wrong texts that have to be refused: one for each way in which a check of this kind was seen to let one pass. Each is
-the committed text with lines that are put into a function; the refusal has to be for the reason that is named."""
+"""Wrong sources that must be refused: one for each way in which a check of this kind was seen to miss an error. Each
+is the committed source with lines inserted in a function, and must be refused for the named reason."""
 import collections
 import os
 import re

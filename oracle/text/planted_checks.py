@@ -1,4 +1,4 @@
-"""Wrong texts for checks that no other wrong text comes to: one for each, of x86-64 and of 64-bit ARM."""
+"""Wrong sources for checks that no other wrong source reaches: one for each, of x86-64 and of 64-bit ARM."""
 import os
 import re
 

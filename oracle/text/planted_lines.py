@@ -1,4 +1,4 @@
-"""Wrong texts that only their grammar refuses: each is a committed text with other lines, which GNU as assembles."""
+"""Wrong sources that only the grammar refuses: each is a committed source with other lines, which GNU as assembles."""
 import os
 import re
 import tempfile

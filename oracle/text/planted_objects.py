@@ -1,5 +1,5 @@
-"""Wrong texts that only the list of what an object may hold refuses (listed.py), or the rows of exports, twins and frames:
-each is a committed text with other lines, of which the instructions that are asked stay as they are."""
+"""Wrong sources that only the list of an object's contents (listed.py) refuses, or the rows of exports, twins and
+frames: each is a committed source with other lines, and the instructions that are run stay unchanged."""
 import os
 import re
 

@@ -1,9 +1,9 @@
 """Runs instructions of x86-64 over terms, from a function's first one to its return.
 
 Branches, addresses and lengths are numbers, or polynomials that the facts decide; words are terms. Whatever isn't
-known at the beginning is a symbol of its own for each call: the registers that hold no argument, the upper half of one
-that holds a number of 32 bits; the flags are unset. A place in memory outside of the objects that were passed, a
-byte that was never stored, a store to what is read only, a branch on a symbol and a form of an instruction that isn't
+known at the beginning is a separate symbol for each call: the registers that hold no argument, the upper half of one
+that holds a number of 32 bits. The flags are unset. A place in memory outside of the objects that were passed, a
+byte that was never stored, a store to read-only memory, a branch on a symbol and a form of an instruction that isn't
 in the table are errors."""
 import functools
 

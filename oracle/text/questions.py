@@ -1,9 +1,9 @@
-"""The questions for a changed text, and what they detect.
+"""The requests for a changed source, and whether they detect the change.
 
-A request is asked with numbers in place of symbols first, which is cheap: bytes, a secret and a seed that are drawn. One
-that gives another value than the definition is then asked over symbols, and the comparison must detect it there. The
-other calls compare by themselves. What no request detects is asked by induction too, with --all: some cases of updates
-of any lengths and of one-shots of every length."""
+A request is first made with random numbers in place of symbols, which is cheap: bytes, a secret and a seed. If its
+value differs from the definition's, it is made again over symbols, and the comparison must detect the change there.
+The other calls compare by themselves. With --all, a change that no request detects is also tested by induction: some
+cases of updates of any lengths and of one-shots of every length."""
 import collections
 import functools
 import random

@@ -1,4 +1,4 @@
-"""The rows of oracle/machine-text: what is asked of the texts, and the least number of cases that each has."""
+"""The rows of oracle/machine-text: the requests of the sources, and the least number of cases of each."""
 import functools
 import itertools
 import os

@@ -1,4 +1,4 @@
-"""A state of XXH3 in memory, of which parts are runs: bytes of a message or a secret, from a place or of a length that
+"""A state of XXH3 in memory, parts of which are runs: bytes of a message or a secret, at a place or of a length that
 isn't a number."""
 import contextlib
 

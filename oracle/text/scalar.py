@@ -1,4 +1,4 @@
-"""What the instructions on words do."""
+"""The semantics of instructions on words."""
 from terms import operations
 from terms.refusals import Unsupported
 from terms.words import BINARY

@@ -1,5 +1,5 @@
-"""The rows on the checker itself: wrong texts, checks that are switched off, changes of instructions, and the table beside the
-processor. They can only fail: nothing that is shown of a text rests on them."""
+"""The rows on the verifier itself: wrong sources, disabled checks, changes of instructions, and the table compared
+with the processor. They can only fail: no proof of a source depends on them."""
 import functools
 import tempfile
 

@@ -1,5 +1,5 @@
-"""The assembly sources as objects. A text is of the grammar; GNU as, which gcc calls, clang and rustc make one object of it, as
-users do, and GNU as' is the one that is read."""
+"""The assembly sources as objects. A source has the form of the grammar. GNU as (called by gcc), clang and rustc,
+with which users assemble it, make the same object of it; the one by GNU as is read."""
 import os
 import struct
 import subprocess

@@ -1,5 +1,5 @@
-"""Streams of a text: reset, updates that end at given cuts, digest. A state holds anything before its reset, each
-update gets only its chunk, as an object of its own, and no digest changes the state."""
+"""Streams of a source: reset, updates that end at given cuts, digest. A state holds anything before its reset, each
+update gets only its chunk, as its own object, and no digest changes the state."""
 import os
 import re
 

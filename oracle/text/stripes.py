@@ -1,9 +1,9 @@
-"""The loops of XXH3 over stripes that begin and end anywhere in a block, shown by induction, and the functions that take
-stripes, each shown once and then taken at its word.
+"""The loops of XXH3 over stripes that begin and end anywhere in a block, proved by induction, and the functions that
+process stripes, each proved once and then assumed where it is called.
 
-A place is (b, j): b blocks and j stripes of the next one. A loop goes on from a place by one, four or more stripes a
-turn; its counter of a block's stripes begins again where a block ends. Whether a cell goes on or begins again is
-guessed from a turn that ends a block, and then shown with all else."""
+A place is (b, j): b blocks and j stripes of the next one. A loop advances a place by one, four or more stripes per
+iteration. Its counter of a block's stripes restarts where a block ends. Whether a cell advances or restarts is
+guessed from an iteration that ends a block, and then proved with everything else."""
 import collections
 import functools
 

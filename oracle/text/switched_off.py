@@ -1,10 +1,10 @@
-"""Switches off one check of the checker after another, and requires that a wrong text detects it: that one which this check
-refuses is refused no longer, or for another reason.
+"""Disables the verifier's checks one after another, and requires that a wrong source detects it: the source that
+this check refuses is then accepted, or refused for another reason.
 
-A check is a statement that only raises under an `if`, a `want`, or a line that the grammar takes. Which check refuses a wrong
-text is seen when it does. A check that no wrong text detects needs a line in unplanted.txt with the reason. A line
-whose check a wrong text detects fails too. What a check would be without it is asked in a process of its own, where the
-module is compiled without that statement."""
+A check is a statement that only raises under an `if`, a `want`, or a line that the grammar accepts. Which check
+refuses a wrong source is recorded when it does. A check that no wrong source detects needs a line in unplanted.txt
+with the reason. A line whose check a wrong source detects fails too. The result without a check is computed in its
+own process, where the module is compiled without that statement."""
 import ast
 import concurrent.futures
 import importlib.abc

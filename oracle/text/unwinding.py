@@ -1,4 +1,4 @@
-"""The unwinding table of a text beside the frames that its instructions lead to, at each instruction that is reached."""
+"""Compares a source's unwinding table with the frames of its instructions, at each instruction that is reached."""
 import re
 import struct
 

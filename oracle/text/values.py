@@ -1,8 +1,8 @@
-"""What a register or a place in memory holds: an int, a term, a polynomial that lies below 2 ^ 64, or an Address.
+"""The value of a register or a place in memory: an int, a term, a polynomial below 2 ^ 64, or an Address.
 
-An Address is a sum of objects' unknown places and an offset, so that a difference of two places in one object is a
-number. Nothing is known of an object's place, but that it isn't 0 and what it is a multiple of. What is worked out
-here and not by operations.py is compared at the points as well."""
+An Address is a sum of objects' unknown places and an offset, so that the difference of two places in one object is a
+number. All that is known of an object's place is that it isn't 0 and what it is a multiple of. Values that are
+computed here and not by operations.py are compared at the points as well."""
 import contextlib
 
 from terms import nodes, operations

@@ -1,7 +1,7 @@
-"""Cases of any number of whole blocks, as two: with none and with some.
+"""Splits a case of any number of whole blocks in two: with none and with some.
 
-Loops over stripes that are left by a place in memory ask behind the first stripe whether there is another one. So they go
-another way where there is no whole block."""
+Loops over stripes that end at a place in memory test after the first stripe whether there is another one. So they
+take another path if there is no whole block."""
 import functools
 import itertools
 

@@ -1,5 +1,5 @@
-"""The streams of XXH3 of a text: reset, any number of updates of any lengths, digests of 64 and 128 bits, by induction
-over the updates, as terms/xxh3_streams.py does it for the reference.
+"""The streams of XXH3 of an assembly source: reset, any number of updates of any lengths, digests of 64 and 128
+bits, by induction over the updates, like terms/xxh3_streams.py for the reference.
 
 A state represents the first N = 64 K + f bytes of a message, K = q b + j stripes, j < q: q is the number of stripes in
 a block, f <= 512 the bytes in the buffer, f = 0 only where N = 0, and K is 0 or at least 4. Its accumulators are the
@@ -7,8 +7,8 @@ definition's after K stripes; it has j, K, f, N, the mark and the secret, of 64 
 the f bytes behind the stripes, and where K > 0 and f < 64 the last stripe lies in a place of its own. All else may be
 anything. The secret's bytes are symbols: the default one and those that a seed derives are cases of these.
 
-What is written with a place or length that isn't a number is a run (runs.py). The functions that take stripes out of
-line are shown by themselves, from any place in a block (stripes.py)."""
+What is written at a place or of a length that isn't a number is a run (runs.py). The functions that process stripes
+out of line are proved separately, from any place in a block (stripes.py)."""
 import collections
 import functools
 import itertools

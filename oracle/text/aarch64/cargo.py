@@ -1,4 +1,4 @@
-"""The text below the cargo crate for 64-bit ARM."""
+"""The assembly source of the cargo crate for 64-bit ARM."""
 import os
 
 from ..cargo import FOLDER, ForCargo, plain

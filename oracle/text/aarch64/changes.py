@@ -1,8 +1,8 @@
-"""Changes of single instructions of the text for 64-bit ARM, each of which must be detected, as ../changes.py says.
+"""Changes of single instructions of the source for 64-bit ARM, each of which must be detected (../changes.py).
 
-A change is one bit of an instruction's 32, whatever that bit means: a register, a number, a condition, a shift, a
-width, the operation. What the changed bytes are is objdump's word, as it is of the text itself. Bytes that are no
-instruction, or one that the table lacks, aren't a change: the table's refusal would say nothing of the questions."""
+A change is one of an instruction's 32 bits, whatever that bit means: a register, a number, a condition, a shift, a
+width, the operation. objdump decodes the changed bytes, like those of the source. Bytes that are no instruction, or
+one that the table lacks, aren't a change: the table's refusal would prove nothing."""
 import functools
 import os
 import tempfile

@@ -1,4 +1,4 @@
-"""An assembled object of 64-bit ARM as what runs, as ../objects.py has it for x86-64."""
+"""An assembled object for 64-bit ARM in the form that the verifier runs, like ../objects.py for x86-64."""
 import collections
 import re
 import struct

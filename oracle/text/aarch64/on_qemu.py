@@ -1,5 +1,5 @@
-"""The table of instructions beside qemu's processor: each form on numbers at the edges and random ones, in registers,
-vectors, flags and memory."""
+"""Compares the table of instructions with qemu's processor: each form on edge cases and random numbers, in
+registers, vectors, flags and memory."""
 import random
 import re
 import struct

@@ -1,4 +1,4 @@
-"""The rows of oracle/arm-text: what is asked of the text for C for 64-bit ARM, and of the one below the cargo crate."""
+"""The rows of oracle/arm-text, for the assembly sources for 64-bit ARM: the C library's and the cargo crate's."""
 import functools
 import os
 

@@ -1,4 +1,4 @@
-"""The table of instructions, filled."""
+"""Fills the table of instructions."""
 from . import vectors, words
 from .processor import TABLE, Processor
 

@@ -1,4 +1,4 @@
-"""What the instructions on vectors do. A vector is two lanes of 64 bits."""
+"""The semantics of instructions on vectors. A vector is two lanes of 64 bits."""
 from terms.refusals import Undecided, Unsupported
 
 from ..values import WORD, arithmetic, bits, joined, low

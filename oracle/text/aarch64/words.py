@@ -1,4 +1,4 @@
-"""What the instructions on words do, and those of control and memory."""
+"""The semantics of instructions on words, control and memory."""
 from terms.refusals import Unsupported
 from terms.words import rotated
 from terms.polynomials import lifted, plus

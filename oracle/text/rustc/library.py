@@ -1,6 +1,6 @@
 """How the exports of rustc's object are called: exports.rs.in has them.
 
-A stream of XXH3 is given its secret by each call: the default one, one of 192 bytes that a seed derived, or its own."""
+Each call of a stream of XXH3 is given its secret: the default one, one of 192 bytes derived from a seed, or its own."""
 from ..cargo import DONE, LONGEST_WITHOUT, SHORTEST, TOO_SHORT, call_into, expect_code, export_name
 from ..memory import OnlyRead, Words
 from ..one_shots import is_plain

@@ -1,4 +1,4 @@
-"""The rows of oracle/rust-object: one-shots and streams of rustc's object, beside the definition."""
+"""The rows of oracle/rust-object: one-shots and streams of rustc's object, compared with the definition."""
 import functools
 import os
 import shutil

@@ -1,6 +1,6 @@
-"""Writes small modules for the comparison with an engine: instructions as text, `i32.const 5; local.set 0`, by the
-codes of the table. Each module has the memory, the globals and the constants that the stack machine takes for
-granted."""
+"""Assembles small modules for the comparison with an engine: instructions as text, `i32.const 5; local.set 0`,
+by the codes of the table. Each module has the memory, the globals and the constants that the stack machine
+expects."""
 from .opcodes import BY_NAME, TYPES
 
 CODES = {f"{'v' if width == 128 else 'i'}{width}": code for code, width in TYPES.items()}

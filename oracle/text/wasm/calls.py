@@ -1,5 +1,5 @@
-"""The values of a module for a request, called as web/twox_hash.js calls it: one-shots, and streams whose record is saved
-and restored on the way. A call that succeeds must write its value, and one that is refused nothing."""
+"""The values of a module for a request, called as web/twox_hash.js calls it: one-shots, and streams whose record is
+saved and restored on the way. A call that succeeds must write its value, and one that is refused must write nothing."""
 from terms.refusals import Unsupported
 from terms.memory import Memory, Piece
 from terms.nodes import Node

@@ -1,11 +1,11 @@
-"""Changes in the bytes of a module, each of which must be detected: a comparison that no change fails would show
-nothing.
+"""Changes in the bytes of a module, each of which must be detected: a comparison that passes with every change would
+prove nothing.
 
-A change is one instruction in place of another of the same types, or one bit of an instruction. What the reader or the
-validator refuses is counted apart. The others are asked requests that run the instruction. A change is detected where a
-value differs at a point, or there is no value; where the terms differ and no such point is found it is refused. Those
-that change nothing that is promised are in equal_changes.txt, each with its reason. A crash of this program is
-neither."""
+A change is one instruction in place of another of the same types, or one bit of an instruction. Changes that the
+reader or the validator refuses are counted separately. The others are tested by requests that run the instruction. A
+change is detected if a value differs at a point, or there is no value. If the terms differ and no such point is
+found, it is refused. Changes that break no promise are in equal_changes.txt, each with its reason. A crash of this
+program counts as neither."""
 import collections
 import copy
 import itertools

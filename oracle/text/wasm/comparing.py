@@ -1,4 +1,4 @@
-"""The modules beside the definition: for each request both have to come to one term."""
+"""Compares the modules with the definition: for each request both must compute one term."""
 from terms import comparison, definition, nodes
 from terms.requests import Request
 

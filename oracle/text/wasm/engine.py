@@ -1,4 +1,4 @@
-"""The table of instructions beside an engine, Node's: each on numbers at the edges and on random ones, those of memory
+"""Compares the table of instructions with an engine, Node's: each on edge cases and random numbers, those of memory
 and control in small functions, and what the reader and the validator accept or refuse."""
 import json
 import os

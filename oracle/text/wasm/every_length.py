@@ -1,4 +1,4 @@
-"""The one-shots of every length that the module's memory has room for, by induction over its loops.
+"""The one-shots of every length that fits in the module's memory, by induction over its loops.
 
 A length is a polynomial: stripe * a + r of XXH32 and XXH64, r a number; above 240 bytes 64 q B + 64 J + t + 1 of XXH3,
 B blocks of q stripes, J < q more, and t < 64. Under the default secret, a derived one and one of 192 to 199 bytes q is 16

@@ -1,8 +1,8 @@
-"""The stack machine: runs the exports of a module over terms. A branch, the amount of a shift and a place in memory are
-numbers, or what facts decide; what is loaded of an input is a term.
+"""The stack machine: runs the exports of a module over terms. A branch, the amount of a shift and a place in memory
+are numbers, or what facts decide; what is loaded from an input is a term.
 
-Memory is objects: the stack, and the constants of the module, at places that are numbers, and what a call gets at
-places that aren't known (Address). Each access has to be shown to lie inside of one object."""
+Memory is objects: the stack and the constants of the module, at places that are numbers, and the arguments of a
+call, at unknown places (Address). Each access must be proved to lie inside one object."""
 from terms.refusals import Unsupported
 from terms.machine import copy
 from terms.memory import Memory, is_inside

@@ -1,5 +1,5 @@
-"""What the instructions do that only take values from the stack and leave one: PURE has a function of what
-follows the instruction and of these values."""
+"""The semantics of the instructions that only take values from the stack and leave one: PURE has a function of the
+instruction's immediates and of these values."""
 from terms.rules import ones
 
 from . import values

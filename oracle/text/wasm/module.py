@@ -1,4 +1,4 @@
-"""A reader of WebAssembly's binary format, for what the two modules use of it: anything else is refused."""
+"""Reads the parts of WebAssembly's binary format that the two modules use: anything else is refused."""
 import collections
 
 from .opcodes import BY_CODE, PREFIXES, TYPES

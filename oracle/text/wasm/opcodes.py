@@ -1,9 +1,9 @@
-"""The one table of WebAssembly's instructions: those that the two modules have, as the specification (release 2.0) has
-them. Any other is an error.
+"""The one table of WebAssembly's instructions: those that the two modules use, as in the specification (release
+2.0). Any other is an error.
 
-A line has an instruction's code, its name, what follows the code in the file, and the types that it takes from
-the stack and leaves there. Those of control and variables have no types here, since theirs depend on more:
-validator.py has them."""
+A line has an instruction's code, its name, its immediates in the file, and the types that it takes from the stack
+and leaves there. Those of control and variables have no types here, since theirs depend on more: validator.py has
+them."""
 import collections
 
 TABLE = """

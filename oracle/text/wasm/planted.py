@@ -1,4 +1,4 @@
-"""Wrong modules that are planted: instructions at the begin of an export, each of which has to be refused."""
+"""Planted wrong modules: instructions at the start of an export, each of which must be refused."""
 import functools
 
 from terms.refusals import REFUSALS

@@ -1,4 +1,4 @@
-"""Wrong modules that only the reader of sections refuses, or the row of exports: the code is that of the module."""
+"""Wrong modules that only the reader of sections refuses, or the row of exports: the code is unchanged."""
 from . import rows
 from .assembler import section, signed, vector
 from .machine import Machine

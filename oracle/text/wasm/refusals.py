@@ -1,5 +1,5 @@
-"""What the modules refuse, with nothing written: secrets of fewer than 136 bytes, and records that are no stream's. And
-that a counter which is 2^64 - 1 stays so."""
+"""The requests that the modules refuse without writing anything: secrets of fewer than 136 bytes, and records that
+are no stream's. Also that a counter of 2^64 - 1 stays so."""
 from terms.refusals import Unsupported
 from terms.requests import Request
 from terms.memory import Memory

@@ -1,4 +1,4 @@
-"""The rows of oracle/modules: what is asked of the two modules, and which row shows which of their exports."""
+"""The rows of oracle/modules: the requests of the two modules, and which row proves which of their exports."""
 import functools
 import hashlib
 import os

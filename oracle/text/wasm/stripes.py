@@ -1,7 +1,7 @@
-"""The loops of a module over stripes that begin and end anywhere in a block, as ../stripes.py shows those of a text,
-and the module's functions that take stripes, each of which is taken at its word where it is called.
+"""The loops of a module over stripes that begin and end anywhere in a block, like ../stripes.py for an assembly
+source, and the module's functions that process stripes, each of which is assumed where it is called.
 
-The functions have no names: they are found by who calls whom, and have those of a text."""
+The functions have no names: they are found by who calls whom, and get the names of an assembly source."""
 import functools
 
 from terms.refusals import NotShown

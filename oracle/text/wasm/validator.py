@@ -1,5 +1,5 @@
-"""Validates a module's functions, by the algorithm of the WebAssembly specification's appendix, and finds for each
-branch what the stack machine does: where it goes, how many values it keeps, and above which height."""
+"""Validates a module's functions, by the algorithm of the WebAssembly specification's appendix, and computes for
+each branch what the stack machine does: where it goes, how many values it keeps, and above which height."""
 import collections
 
 from .module import PAGE, Malformed

@@ -1,5 +1,5 @@
-"""What lies on the stack: numbers, polynomials and terms below 2 ^ width, addresses, and vectors as pairs of lanes of
-64 bits."""
+"""The values on the stack: numbers, polynomials and terms below 2 ^ width, addresses, and vectors as pairs of lanes
+of 64 bits."""
 import contextlib
 
 from terms import halves, operations

@@ -1,5 +1,5 @@
 """The streams of XXH3 of a module: a start, any number of updates of any lengths, digests of 64 and 128 bits, by
-induction over the updates, as ../xxh3_updates.py has them for a text.
+induction over the updates, like ../xxh3_updates.py for an assembly source.
 
 A record has how many seeds it was started with, none or one, the seed, and what a state has of the bytes, with no mark
 and no secret: each call is given that, which may be any that the memory has room for. A call looks whether the record's
