@@ -66,7 +66,7 @@ def no_stdin(place):
 # A file that opens, and whose reads all fail.
 FAILING = '/proc/self/mem'
 # The message if `-` would be left unread.
-BESIDE_NAMES = b"Error: '-' is standard input, which is read alone; a file of that name is './-'."
+BESIDE_NAMES = b"Error: '-' is standard input, which can't be read with files; for a file of that name use './-'."
 NOT_READ = b"Error: Could not read '/proc/self/mem': a failure occurred reading the input file. \n"
 
 

@@ -1,4 +1,4 @@
--- A line that says "NAME: OK" is said of a file that has the line's value alone.
+-- A line "NAME: OK" is printed only for a file that has the line's value.
 use Rattle.std.proofs.Common.{◌≡◌, ◌≢◌, ◌+◌, ℕ, Bool, true, false, List, [], ◌∷◌, ◌++◌, refl, sym, ap, ◌∙◌, subst, arith, codes, decimal, drop, length, if◌then◌else◌}
 use Rattle.xxhsum_program.specs.Prelude.{Found, SourceRules, StoreRules, concat}
 use Rattle.std.proofs.lemmas.List.{append_assoc, append_cancel_right, length_push, same_from_push}

@@ -1,8 +1,9 @@
 -- What is written to both streams, where one event more comes.
 use Rattle.std.proofs.Common.{◌≡◌, ℕ, Bool, false, List, [], ◌∷◌, ◌++◌, refl, sym, ap, ◌∙◌, subst, append_assoc, Ok, Err, Result}
 use Rattle.xxhsum_program.specs.Prelude.{Digested, EachHas, IsDirectory, Kind, OutOfMemory, Outcome, Refused, SinkRules, Stop, Style, TellsOn, Took, Unread, WriteFailed}
+use Rattle.xxhsum_line.specs.Printed.{styled_line}
 use Rattle.xxhsum_program.specs.Finish.{IsWritten}
-use Rattle.xxhsum_program.specs.HashNames.{EndsWith, event_of, events_of}
+use Rattle.xxhsum_program.specs.HashNames.{EndsWith, event_of, events_of, input_events}
 use Rattle.xxhsum_program.specs.Lines.{PrintsLine, told_line, written_line}
 use Rattle.xxhsum_program.specs.Order.{Emits, EmitsAll, EmitsTo, Event, Printed, Reported, StreamRules, Streams}
 use Rattle.xxhsum_program.specs.Outcomes.{is_digested}
@@ -47,3 +48,9 @@ stops-in-order rules comes kind style all names after outcomes name (Digested va
 )
 stops-in-order rules comes kind style all names after outcomes name IsDirectory old mid new WriteFailed parts each came emits prints = absurd (nothing-is-refused rules.writing mid.out new prints)
 stops-in-order rules comes kind style all names after outcomes name (Unread reason) old mid new WriteFailed parts each came emits prints = absurd (nothing-is-refused rules.writing mid.out new prints)
+
+-- the line of standard input could not be written
+pub input-stops : {W E : Type 0} (rules : StreamRules W E) (kind : Kind) (style : Style) (name : List ℕ) (value hash : ℕ) (old : Streams W E) (new : W) (stop : Stop) → PrintsLine {T = Unit {0}} rules.writing (styled_line kind style value name) old.out new (Err stop) → EmitsTo {T = Bool} rules (input_events kind style name value (Ok hash) (Err stop)) old (record { out = new; err = old.err }) (Err stop)
+input-stops rules kind style name value hash old new WriteFailed refused =
+    ([], styled_line kind style value name, old, refl, (refl, refl), refused, refl)
+input-stops rules kind style name value hash old new OutOfMemory same = (same, refl)

@@ -47,7 +47,7 @@ pub no_last_line : (others : List (List ℕ)) (last : List ℕ) → with_line_fe
 no_last_line [] last e is = let none : length last ≡ 0 = ap length (sym e) in omega (arith, none, is.1)
 no_last_line (other ∷ others) last e is = lacks_not 10 other (with_line_feeds others) (subst (Lacks 10) (sym e) is.0)
 
--- a line feed that stands within a front
+-- a line feed within a front
 feed_within : (line rest front more : List ℕ) → line ++ 10 ∷ rest ≡ front ++ more → length line < length front → Lacks 10 front → ⊥
 feed_within [] rest [] more e short lacks = omega arith
 feed_within [] rest (c ∷ front) more e short lacks = let here : c ≡ 10 = cc in lacks.0 here

@@ -38,7 +38,7 @@ tells-as telling a b old new same tells =
 pub silent-prints : (options : Options) (list : List ℕ) (number : ℕ) (name : List ℕ) (found : Found) → is_silent options found ≡ true → printed_finding options list number (Proper name found) ≡ []
 silent-prints options list number name found silent = rw silent refl
 
--- what was found of a file is said, as far as the answer says
+-- a file's result is printed, up to where the run stopped
 pub line-said : {W E : Type 0} (is_finding : Finding → Type 0) (writing : SinkRules W) (telling : SinkRules E) (options : Options) (list : List ℕ) (number : ℕ) (name shown : List ℕ) (found : Found) (r_old r_new : Report) (w_old w_new : W) (err : E) (result : Result (Unit {0}) Stop)
     → is_silent options found ≡ false → shown ≡ name → is_finding (Proper name found) → r_new ≡ count_proper options.ignores_missing r_old found → PrintsLine writing (found_text options.is_quiet list number shown found) w_old w_new result
     → ChecksLine is_finding writing telling options list number r_old r_new w_old w_new err err result

@@ -1,4 +1,4 @@
--- What was told, where more is told after it.
+-- Lemma: what was reported, if more is reported after it.
 use Rattle.std.proofs.Common.{◌≡◌, ◌↔◌, ℕ, Bool, true, false, List, [], ◌++◌, refl, sym, ap, subst, append-nil, append_assoc, is_err, Ok, Err, IfErr, Result}
 use Rattle.xxh_io.specs.declared.error.DigestError.{DigestError}
 use Rattle.xxh_io.specs.declared.error.DigestError.TheVariants.{ReadFailed, WriteFailed, TooLong}
@@ -25,7 +25,7 @@ Told-write telling a b old mid new result works (Ok x, done, only, is) writes fa
     (result, Writes-join telling a b old mid new result fails done writes, fails, failed-is result (telling.has_failed new) fails says)
 Told-write telling a b old mid new result works (Err e, done, only, is) writes fails says = cc
 
--- ---- what is told behind it
+-- ---- what is reported after it
 
 pub tells-nothing : {E : Type 0} (telling : SinkRules E) (old : E) → TellsOn telling [] old old
 tells-nothing telling old = λ initial before told.

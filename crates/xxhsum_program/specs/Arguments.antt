@@ -15,7 +15,7 @@ abbrev pub AreArguments : {A : Type 0} → (A → ℕ → List ℕ → Type 0) �
 AreArguments holds ends arguments all =
     ((index : ℕ) → index < length all → holds arguments index (get_or all index [])) × ends arguments (length all)
 
--- what stands behind the last slash of a path
+-- what follows the last slash of a path
 abbrev pub IsLastPart : List ℕ → List ℕ → Type 0
 IsLastPart path part =
     Lacks 47 part × ((part ≡ path) ⊎ ((front : List ℕ) × (path ≡ front ++ 47 ∷ part)))

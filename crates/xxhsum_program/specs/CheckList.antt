@@ -86,7 +86,7 @@ abbrev pub HasEnded : Option ListEnd → Type 0
 HasEnded None = ⊥
 HasEnded (Some end) = Unit {0}
 
--- An answer is that of the whole list. Only a write that failed or want of memory keeps the check from it.
+-- A result is that of the whole list. Only a failed write or a lack of memory prevents it.
 abbrev pub AnswersList : Options → List Finding → Option ListEnd → Result Bool Stop → Type 0
 AnswersList options findings end (Ok good) = HasEnded end × (good ≡ is_good_list options findings end)
 AnswersList options findings end (Err stop) = Unit {0}
@@ -110,7 +110,7 @@ IsListOutcome {S} {F} opening reading store is_little name (Checked findings end
     × FindsLines (IsFinding opening reading store is_little) reading file findings end
 IsListOutcome opening reading store is_little name (Unopened refusal) = opening.refuses store name refusal
 
--- what is printed and told of it
+-- what is printed and reported about it
 abbrev pub printed_outcome : Options → List ℕ → ListOutcome → List ℕ
 printed_outcome options list (Checked findings end) = printed_list options list findings end
 printed_outcome options list (Unopened refusal) = []
@@ -140,12 +140,12 @@ is_good_outcome options (Unopened refusal) = false
 abbrev pub are_good : Options → List ListOutcome → Bool
 are_good options outcomes = list_all (is_good_outcome options) outcomes
 
--- an answer is that of this list; without one its check has stopped
+-- a result is that of this list; without one its check has stopped
 abbrev pub AnswersOutcome : Options → ListOutcome → Result Bool Stop → Type 0
 AnswersOutcome options outcome (Ok good) = IsDone outcome × (good ≡ is_good_outcome options outcome)
 AnswersOutcome options outcome (Err stop) = Unit {0}
 
--- an answer is that of all lists; without one the run has stopped at the last of those that have an outcome
+-- a result is that of all lists; without one the run has stopped at the last list that has an outcome
 abbrev pub AnswersLists : Options → List (List ℕ) → List ListOutcome → Result Bool Stop → Type 0
 AnswersLists options rest outcomes (Ok all) =
     (rest ≡ []) × AreAllDone outcomes × (all ≡ are_good options outcomes)
@@ -160,7 +160,7 @@ ChecksLists opening reading store is_little options names done rest outcomes res
 
 -- ---- what is found, and what is said of it
 
--- the lines of a list have their findings, and both ends have just what is said of these
+-- the lines of a list have their findings, and both streams have exactly the texts of these
 abbrev pub SaysList : {S F R W E : Type 0} → StoreRules S F → SourceRules F → SourceRules R → SinkRules W → SinkRules E
     → S → Options → List ℕ → R → W → W → E → E → Result Bool Stop → Type 0
 SaysList opening reading list_reading writing telling store options name source w_old w_new e_old e_new result =
@@ -170,7 +170,7 @@ SaysList opening reading list_reading writing telling store options name source 
     × PrintsUnlessFailed writing (printed_list options name findings end) w_old w_new result
     × TellsOn telling (told_list options name findings end) e_old e_new
 
--- each of the lists has its outcome, and both ends have just what is said of these
+-- each list has its outcome, and both streams have exactly the texts of these
 abbrev pub SaysLists : {S F W E : Type 0} → StoreRules S F → SourceRules F → SinkRules W → SinkRules E → S → Options
     → List (List ℕ) → W → W → E → E → Result Bool Stop → Type 0
 SaysLists opening reading writing telling store options names w_old w_new e_old e_new result =

@@ -1,6 +1,6 @@
 -- A hashing run over names: one outcome a name, in their order.
 use Rattle.std.specs.Prelude.{◌≡◌, ℕ, Bool, List, [], ◌∷◌, ◌++◌, is_ok, IfOk, Result, Ok, Err}
-use Rattle.xxhsum_program.specs.Prelude.{Digested, EachHas, IsDirectory, Kind, Outcome, SinkRules, SourceRules, Stop, StoreRules, Style, TellsOn, Unread, concat}
+use Rattle.xxhsum_program.specs.Prelude.{Digested, EachHas, IsDirectory, Kind, OutOfMemory, Outcome, SinkRules, SourceRules, Stop, StoreRules, Style, TellsOn, Unread, WriteFailed, concat}
 use Rattle.xxh_io.specs.declared.error.DigestError.{DigestError}
 use Rattle.xxh_io.specs.Digest.{ReadsTo}
 use Rattle.xxh_program.specs.Kind.{value_of}
@@ -9,7 +9,7 @@ use Rattle.xxhsum_program.specs.Outcomes.{Comes, are_digested}
 use Rattle.xxhsum_program.specs.Order.{EmitsTo, Event, Printed, Reported, StreamRules, Streams}
 use Rattle.xxhsum_program.specs.Lines.{PrintsLine, PrintsLines, lines_of, printed_input, told_input, told_line, written_line}
 
--- Where the run came to its end, no name is left, and the answer is whether each has a value. Only a write that failed
+-- If the run reached its end, no name is left, and the result is whether each has a value. Only a write that failed
 -- or want of memory keeps it from there: no reason of a `Stop` is another.
 abbrev pub EndsWith : List (List ℕ) → List Outcome → Result Bool Stop → Type 0
 EndsWith rest outcomes (Ok all) = (rest ≡ []) × (all ≡ are_digested outcomes)
@@ -36,7 +36,7 @@ SaysNames opening reading writing telling store kind style names w_old w_new e_o
     × TellsOn telling (lines_of told_line done outcomes) e_old e_new
 
 -- A source was read to its end, or not. Standard output has the line of its value, or standard error why there is none;
--- the answer is whether there is one.
+-- the result is whether there is one.
 abbrev pub SaysInput : {R W E : Type 0} → SourceRules R → SinkRules W → SinkRules E → Kind → Style → List ℕ → R → R → W
     → W → E → E → Result Bool Stop → Type 0
 SaysInput reading writing telling kind style name r_old r_new w_old w_new e_old e_new result =
@@ -66,3 +66,20 @@ HashesInOrder opening reading rules store kind style names old new result =
     (outcomes : List Outcome) × (done rest : List (List ℕ))
     × HashesNames opening reading store kind names done rest outcomes result
     × EmitsTo rules (events_of kind style done outcomes) old new result
+
+-- standard input has its line, or its message; where there was no memory for its line, neither
+abbrev pub input_event : Kind → Style → List ℕ → ℕ → Result ℕ DigestError → Event
+input_event kind style name value (Ok hash) = Printed (printed_input kind style name value (Ok hash))
+input_event kind style name value (Err e) = Reported (told_input (Err e))
+
+abbrev pub input_events : Kind → Style → List ℕ → ℕ → Result ℕ DigestError → Result Bool Stop → List Event
+input_events kind style name value read (Ok all) = input_event kind style name value read ∷ []
+input_events kind style name value read (Err WriteFailed) = input_event kind style name value read ∷ []
+input_events kind style name value read (Err OutOfMemory) = []
+
+-- A source was read to its end, or not, and then its line or its message is written.
+abbrev pub HashesInputInOrder : {R W E : Type 0} → SourceRules R → StreamRules W E → Kind → Style → List ℕ → R → R
+    → Streams W E → Streams W E → Result Bool Stop → Type 0
+HashesInputInOrder reading rules kind style name r_old r_new old new result =
+    (pieces : List (List ℕ)) × (read : Result ℕ DigestError) × ReadsTo reading most_reads pieces r_old r_new read
+    × EmitsTo rules (input_events kind style name (value_of kind 0 (concat pieces)) read result) old new result

@@ -2,7 +2,7 @@
 use Rattle.std.specs.Prelude.{◌≡◌, ◌⊎◌, ℕ, ◌-◌, ◌<◌, ◌≤◌, ◌^◌, Bool, true, List, [], ◌∷◌, length, if◌then◌else◌}
 use Rattle.xxhsum_program.specs.Prelude.{Lacks, NoneEmpty, Pieces, SourceRules, concat}
 
--- what stands behind the last line feed of a list is a line where there is some
+-- what follows the last line feed of a list is a line, if there is anything
 abbrev pub IsLastLine : List ℕ → Type 0
 IsLastLine line = Lacks 10 line × (0 < length line)
 
@@ -14,7 +14,7 @@ IsTooLong line = 32767 < length line
 abbrev pub IsEndless : List ℕ → Type 0
 IsEndless bytes = Lacks 10 bytes × (2 ^ 64 - 2 ≤ length bytes)
 
--- the piece of a source's last read is empty
+-- the chunk of a source's last read is empty
 abbrev pub end_piece : Bool → List (List ℕ)
 end_piece has_ended = if has_ended then [] ∷ [] else []
 

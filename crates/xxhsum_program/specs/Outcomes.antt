@@ -29,7 +29,7 @@ HasNoValue opening reading store name (Why.Unopened refusal) = opening.refuses s
 HasNoValue opening reading store name Why.ReadFailed = FailsOn opening reading store name ReadFailed
 HasNoValue opening reading store name Why.TooLong = FailsOn opening reading store name TooLong
 
--- what became of a name: a directory is told exactly where the store says that it is one
+-- the outcome of a name: it is reported as a directory exactly if the store says that it is one
 abbrev pub Comes : {S F : Type 0} → StoreRules S F → SourceRules F → S → Kind → List ℕ → Outcome → Type 0
 Comes opening reading store kind name (Digested value) =
     opening.holds_directory store name false × IsValueOf opening reading store kind name value

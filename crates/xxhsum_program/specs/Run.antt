@@ -30,7 +30,7 @@ PerformsAs opening reading input_reading writing telling store options names sou
     false =
     SaysNames opening reading writing telling store options.kind (style_of options) names w_old w_new e_old e_new result
 
--- a text is told, or files are read as `performs` says
+-- a text is reported, or files are read as `performs` says
 abbrev pub DoesTask : {W E : Type 0} → (Options → List (List ℕ) → Type 0) → SinkRules E → Task → W → W → E → E
     → Result Bool Stop → Type 0
 DoesTask performs telling (Tells text good) w_old w_new e_old e_new result =

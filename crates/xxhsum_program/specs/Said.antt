@@ -1,5 +1,5 @@
--- What the check of a list says: the texts on both ends, by the options and by what was found. Each is one line, whatever
--- names stand in it, and lines are numbered from 1.
+-- The texts that the check of a list writes to both streams, by the options and the findings. Each is one line, whatever
+-- names it has, and lines are numbered from 1.
 use Rattle.std.specs.Prelude.{ℕ, ◌+◌, Bool, List, [], ◌∷◌, ◌++◌, Option, Some, None, ◌||◌, codes, decimal, length, nat_eq, if◌then◌else◌}
 use Rattle.xxhsum_program.specs.Prelude.{Found, Options, Refusal, Report, concat, one_line}
 use Rattle.xxhsum_files.specs.Refusal.{refusal_text}
@@ -48,7 +48,7 @@ printed_finding options list number (Proper name found) =
 abbrev pub too_long_text : List ℕ → ℕ → List ℕ
 too_long_text list number = told_of_line list number (codes "Line too long")
 
--- what is told of a line: that it is too long whatever is asked for
+-- what is reported about a line: that it is too long, with any options
 abbrev pub told_finding : Options → List ℕ → ℕ → Finding → List ℕ
 told_finding options list number Ignored = []
 told_finding options list number Improper =
@@ -98,7 +98,7 @@ told_summary list report =
     then one_line (concat (list ∷ codes ": no properly formatted xxHash checksum lines found" ∷ []))
     else []
 
--- Why the list breaks off at the line of this number. Where a read failed and no line was proper, that is told by the
+-- Why the list breaks off at the line of this number. If a read failed and no line was well-formed, that is reported by the
 -- summary.
 abbrev pub told_break : List ℕ → ℕ → Report → ListEnd → List ℕ
 told_break list number report Whole = []
@@ -123,7 +123,7 @@ abbrev pub told_end : Options → List ℕ → List Finding → Option ListEnd �
 told_end options list findings None = []
 told_end options list findings (Some end) = told_summary list (report_at options.ignores_missing end findings)
 
--- what is told before the summary
+-- what is reported before the summary
 abbrev pub told_lines : Options → List ℕ → List Finding → Option ListEnd → List ℕ
 told_lines options list findings end =
     numbered (told_finding options list) 1 findings ++ told_stop options list findings end

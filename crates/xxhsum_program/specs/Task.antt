@@ -11,7 +11,7 @@ use Rattle.xxhsum_words.specs.declared.table.TheConstants.{ROWS}
 use Rattle.xxhsum_words.specs.declared.options.Asked.{Asked}
 use Rattle.xxhsum_words.specs.declared.options.Asked.TheVariants.{Run, Benchmark, Version, Help, WrongOption, NulsInList, WalkBesideLists, WalkOfNothing, InputBesideNames, NumberTooLarge}
 
--- a text is told, and the answer is this; or files are read by the options and the words behind them
+-- a text is reported, with this result; or files are read, by the options and the arguments after them
 pub data Task : Type 0 where
   Tells : List ℕ → Bool → Task
   Reads : Options → List (List ℕ) → Task
@@ -39,7 +39,7 @@ shows_progress terminals options = terminals.errors && not options.is_quiet && n
 abbrev pub has_none : List (List ℕ) → Bool
 has_none names = nat_eq (length names) 0
 
--- a tree is asked for: an audit, the files below folders, or names that stand in lists of names
+-- a tree is requested: an audit, the files below folders, or names from lists of names
 abbrev pub is_tree : Options → Bool
 is_tree options = options.audits || options.walks || are_listed options.names_from
 
@@ -48,7 +48,7 @@ abbrev pub waits_for_terminal : Terminals → Options → List (List ℕ) → Bo
 waits_for_terminal terminals options names =
     has_none names && not (is_tree options) && not options.takes_terminal && terminals.input
 
--- what is told where no run is asked for, and whether all is well then
+-- what is reported if no run is requested, and whether that is a success
 abbrev pub answer_text : List ℕ → List (List ℕ) → Asked → List ℕ
 answer_text program words Version = one_line (concat (program ∷ TITLE.now ∷ []))
 answer_text program words Help = usage_text program
@@ -61,7 +61,7 @@ answer_text program words WalkBesideLists =
     wrong_text (codes "Wrong parameters: '-r' beside '-c' or lists of names") program
 answer_text program words WalkOfNothing = wrong_text (codes "Wrong parameters: '-r' without a FILE") program
 answer_text program words InputBesideNames =
-    codes "Error: '-' is standard input, which is read alone; a file of that name is './-'.\n"
+    codes "Error: '-' is standard input, which can't be read with files; for a file of that name use './-'.\n"
 answer_text program words (Run options place) = []
 answer_text program words NumberTooLarge = codes "Error: numeric value too large \n"
 

@@ -1,4 +1,4 @@
--- That what is told of a name, of a line or of a list is one line, whatever names stand in it.
+-- A message about a name, a line or a list is one line, whatever names it has.
 use Rattle.std.specs.Prelude.{◌≡◌, ◌⊎◌, ℕ, List, []}
 use Rattle.xxhsum_program.specs.Prelude.{Options, Outcome, Refusal, Report}
 use Rattle.xxhsum_line.specs.Laws.{IsOneLine}

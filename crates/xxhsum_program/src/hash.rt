@@ -1,8 +1,9 @@
 //! Digest lines of named files.
 
 ghost use Rattle.std.specs.Prelude.{◌≡◌, false, map, IfOk};
+ghost use Rattle.xxhsum_line.specs.Printed.{styled_line};
 ghost use Rattle.xxhsum_program.specs.Finish.{IsWritten};
-ghost use Rattle.xxhsum_program.specs.HashNames.{HashesInOrder, SaysInput, SaysNames};
+ghost use Rattle.xxhsum_program.specs.HashNames.{HashesInOrder, HashesInputInOrder, SaysInput, SaysNames};
 ghost use Rattle.xxhsum_program.specs.Lines.{PrintsLine, told_line, written_line};
 ghost use Rattle.xxhsum_program.specs.Order.{rules_of, streams};
 ghost use Rattle.xxhsum_program.specs.Outcomes.{is_digested};
@@ -83,13 +84,15 @@ pub fn hash_input<R: Source, T: Ticks, W: Output, E: Sink>(
 ) -> Result<bool, Stop>
     requires reader { R.has_failed (source_of input.old) ≡ false }
     requires writer { W.has_failed out.old ≡ false }
-    ensures { SaysInput R.Source W.Sink E.Sink options.kind (style_of options) name.now
+    ensures says { SaysInput R.Source W.Sink E.Sink options.kind (style_of options) name.now
         (source_of input.old) (source_of input.new) out.old out.new err.old err.new result }
+    ensures order { HashesInputInOrder R.Source (rules_of W.Sink W.held W.has_lost E.Sink)
+        options.kind (style_of options) name.now (source_of input.old) (source_of input.new)
+        (streams out.old err.old) (streams out.new err.new) result }
 {
     match input.value(options.kind, &mut [0; OFFERED]) {
         Ok(value) => {
-            let line = styled_line(alloc, options.kind, style_of(options), value, name)?;
-            print(&line, out)?;
+            print_value(alloc, options, name, value, out)?;
             Ok(true)
         }
         Err(error) => {
@@ -116,15 +119,29 @@ fn print_outcome<W: Output>(
     ensures works { IfOk result (λ _. W.has_failed out.new ≡ false) }
 {
     match outcome {
-        Outcome::Digested { value } => {
-            let line = styled_line(alloc, options.kind, style_of(options), *value, name)?;
-            print(&line, out)
-        }
+        Outcome::Digested { value } => print_value(alloc, options, name, *value, out),
         Outcome::IsDirectory | Outcome::Unread { .. } => {
             release(out);
             Ok(())
         }
     }
+}
+
+// Writes the digest line of this value under this name.
+fn print_value<W: Output>(
+    alloc: Global,
+    options: Options,
+    name: &[u8],
+    value: u128,
+    out: &mut W,
+) -> Result<(), Stop>
+    requires { W.has_failed out.old ≡ false }
+    ensures prints { PrintsLine W.Sink
+        (styled_line options.kind (style_of options) value name.now) out.old out.new result }
+    ensures works { IfOk result (λ _. W.has_failed out.new ≡ false) }
+{
+    let line = styled_line(alloc, options.kind, style_of(options), value, name)?;
+    print(&line, out)
 }
 
 // Returns the style of lines by the options.

@@ -4,7 +4,7 @@ use crate::watched::ProgressDisplay;
 use std::alloc::Global;
 use xxhsum_words::options::Options;
 
-/// What each task of a run works with: memory, the files, the options, and where progress is shown.
+/// The context of each task of a run: memory, the files, the options, and where progress is shown.
 #[derive(Clone, Copy)]
 pub struct Job<'a, S, T> {
     /// Where memory comes from.

@@ -26,7 +26,7 @@ const INPUT: &[u8] = b"stdin";
 
 // The message for `-` beside names or after `--`.
 const INPUT_BESIDE_NAMES: &[u8] =
-    b"Error: '-' is standard input, which is read alone; a file of that name is './-'.\n";
+    b"Error: '-' is standard input, which can't be read with files; for a file of that name use './-'.\n";
 
 /// True for each standard stream that is a terminal.
 #[derive(Clone, Copy, Debug, PartialEq, Eq)]
@@ -111,7 +111,7 @@ pub fn waits_for_terminal(terminals: Terminals, options: Options, names: &[Vec<u
     has_none(names) && !is_tree(options) && !options.takes_terminal && terminals.input
 }
 
-/// Answers arguments that ask for no run: writes help, version or an error, and returns whether all is well. Writes
+/// Handles arguments that ask for no run: writes help, version or an error, and returns whether all is well. Writes
 /// nothing for a run.
 pub fn tell_answer<E: Sink>(program: &[u8], words: &[Vec<u8>], asked: Asked, err: &mut E) -> bool
     ensures well { result ≡ is_well asked }

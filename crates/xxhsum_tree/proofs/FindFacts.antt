@@ -1,9 +1,9 @@
--- What is found, or told not to be there, and what comes of it.
+-- Lemmas: what is found, or reported missing, and what follows from it.
 use Rattle.std.proofs.Common.{◌≡◌, ℕ, List, Option, Some, None, Ok, Err, subst, Result}
 use Rattle.xxhsum_tree.specs.Prelude.{SinkRules, Stop, TellsOn}
 use Rattle.xxhsum_tree.specs.Finds.{Finds}
 
--- what is found is something else too, and so is what is told
+-- what is found has another property too, and so has what is reported
 pub finds-as : {T E : Type 0} (telling : SinkRules E) (is_found other : T → Type 0) (is_why other_why : List ℕ → Type 0) (old new : E) → ((x : T) → is_found x → other x) → ((text : List ℕ) → is_why text → other_why text)
     → (result : Result (Option T) Stop) → Finds result telling is_found is_why old new → Finds result telling other other_why old new
 finds-as telling is_found other is_why other_why old new more why (Ok (Some x)) finds = (more x finds.0, finds.1)
@@ -15,7 +15,7 @@ pub found-is : {T E : Type 0} (telling : SinkRules E) (is_found : T → Type 0) 
 found-is {T} telling is_found is_why old new found x is finds =
     subst (λ (o : Option T). Finds (Ok o) telling is_found is_why old new) is finds
 
--- it was told why nothing was
+-- the reason why nothing was found is reported
 pub lost-is : {T E : Type 0} (telling : SinkRules E) (is_found : T → Type 0) (is_why : List ℕ → Type 0) (old new : E) (found : Option T) → found ≡ None → Finds (Ok found) telling is_found is_why old new → (text : List ℕ) × is_why text × TellsOn telling text old new
 lost-is {T} telling is_found is_why old new found is finds =
     subst (λ (o : Option T). Finds (Ok o) telling is_found is_why old new) is finds

@@ -13,7 +13,7 @@ use Rattle.xxhsum_audit.specs.Order.{Rises, compare_lines, compare_paths}
 use Rattle.xxhsum_audit.specs.Side.{against, beside, by_path, compare_to_name, in_turn}
 use Rattle.xxhsum_tree.specs.Rows.{AreRows, Come, Gone, Met, Row, first_in, kept_in, seen_in}
 
--- ---- what stands first
+-- ---- what is first
 
 line-first : (l : Item) (ks ss : List Item) → ((s : Item) → IsAmong ss s → compare_lines l s ≡ Less)
     → compared (l ∷ ks) ss ≡ Missing l ∷ compared ks ss

@@ -1,4 +1,4 @@
--- A path stands once in a walk.
+-- Lemma: a path occurs once in a walk.
 use Rattle.std.proofs.Common.{◌≡◌, ◌≢◌, ◌⊎◌, ℕ, ◌<◌, ◌-◌, ◌&&◌, true, false, List, [], ◌∷◌, ◌++◌, append-nil, append_assoc, codes, drop, length, map, nat_eq, refl, sym, ap, subst, inl, inr, arith, ◌∙◌, IsPermutation}
 use Rattle.std.proofs.lemmas.Bool.{cond-false}
 use Rattle.std.proofs.lemmas.Bool.Decides.{nat_tests}

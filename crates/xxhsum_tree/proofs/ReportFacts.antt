@@ -10,7 +10,7 @@ use Rattle.xxhsum_tree.specs.Audits.{AnswersAudit}
 use Rattle.xxhsum_tree.specs.Rows.{Row}
 use Rattle.xxhsum_tree.specs.Report.{PrintsReport, counts_text, report_text, shown_lines, shown_text}
 
--- what one more line comes to stands behind
+-- the result of one more line comes after
 pub shown-push : (is_quiet : Bool) (found : List Found) (one : Found) → shown_lines is_quiet (found ++ one ∷ []) ≡ shown_lines is_quiet found ++ shown_text is_quiet one
 shown-push is_quiet found one =
     flat_map-append (shown_text is_quiet) found (one ∷ []) ∙ ap (λ x. shown_lines is_quiet found ++ x) (append-nil (shown_text is_quiet one))
@@ -48,7 +48,7 @@ ends-in-counts writing options all old mid new (Err WriteFailed) speaks took ref
 ends-in-counts writing options all old mid new (Err OutOfMemory) speaks took same =
     stops-in-counts (Unit {0}) writing options all old new (subst (λ w. Took writing (shown_lines options.is_quiet all) old w) (sym same) took)
 
--- no run answers where it stops
+-- a run that stops has no result
 pub report-stops : {W U : Type 0} (T : Type 0) (writing : SinkRules W) (options : Options) (all : List Found) (old new : W) (stop : Stop) (result : Result U Stop) → result ≡ Err stop → PrintsReport {T = T} writing options all old new (Err stop) → PrintsReport {T = U} writing options all old new result
 report-stops {W} {U} T writing options all old new WriteFailed result is prints = subst (λ (r : Result U Stop). PrintsReport writing options all old new r) (sym is) prints
 report-stops {W} {U} T writing options all old new OutOfMemory result is prints = subst (λ (r : Result U Stop). PrintsReport writing options all old new r) (sym is) prints

@@ -33,11 +33,11 @@ rows-more opening reading store kind (s ∷ sides) rows side row are is = (
   rows-more opening reading store kind sides are.1 side row are.4 is,
 )
 
--- what one more comes to stands behind
+-- the result of one more comes after
 pub flat-push : {X A : Type 0} (f : X → List A) (xs : List X) (x : X) → flat_map f (xs ++ x ∷ []) ≡ flat_map f xs ++ f x
 flat-push f xs x = flat_map-append f xs (x ∷ []) ∙ ap (λ more. flat_map f xs ++ more) (append-nil (f x))
 
--- what more rows come to stands behind
+-- the result of more rows comes after
 pub first-push : {A : Type 0} (of : Found → List A) (kind : Kind) (rows : List Row) (row : Row) → flat_map of (first_in kind (rows ++ row ∷ [])) ≡ flat_map of (first_in kind rows) ++ flat_map of (first_of kind row)
 first-push of kind rows row =
     ap (flat_map of) (flat-push (first_of kind) rows row) ∙ flat_map-append of (first_in kind rows) (first_of kind row)
@@ -49,7 +49,7 @@ not-digested kind name (Digested value) is = let no : ⊥ = cc in absurd no
 not-digested kind name IsDirectory is = refl
 not-digested kind name (Unread reason) is = refl
 
--- a line alone
+-- only a line
 pub grows-gone : (old new : Compared) (line : FileDigest) → new.gone.items ≡ old.gone.items ++ line ∷ [] → new.settled ≡ old.settled → new.come ≡ old.come → new.are_all ≡ old.are_all
     → Grows old new (Missing (item_of line) ∷ []) true
 grows-gone old new line more settled come all = (
@@ -59,7 +59,7 @@ grows-gone old new line more settled come all = (
   all ∙ sym (and-true old.are_all),
 )
 
--- a name alone
+-- only a name
 pub grows-come : (old new : Compared) (one : FileDigest) (item : Item) → item_of one ≡ item → new.come.items ≡ old.come.items ++ one ∷ [] → new.settled ≡ old.settled → new.gone ≡ old.gone → new.are_all ≡ old.are_all
     → Grows old new (New item ∷ []) true
 grows-come old new one item is more settled gone all = (

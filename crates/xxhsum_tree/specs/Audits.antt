@@ -15,7 +15,7 @@ use Rattle.xxhsum_tree.specs.Said.{ListSays, ListSaysNothing}
 abbrev pub twice_text : List ℕ → List ℕ → List ℕ
 twice_text among name = one_line (concat (among ∷ codes ": duplicate name '" ∷ name ∷ codes "'." ∷ []))
 
--- it is told which name leads where another does, where one does
+-- a name that leads to the same place as another is reported, if there is one
 abbrev pub TellsTwice : {E : Type 0} → SinkRules E → List ℕ → Option (List ℕ) → E → E → Bool → Type 0
 TellsTwice telling among None old new result = (result ≡ false) × (new ≡ old)
 TellsTwice telling among (Some name) old new result =
@@ -39,7 +39,7 @@ AuditsSides opening reading writing telling store options lines names w_old w_ne
     ⊎ ((rows : List Row) × TellsRows opening reading telling store kind sides rows e_old e_new
     × (w_new ≡ w_old) × (result ≡ Err OutOfMemory))
 
--- where two lines, or two names, lead to one place, only that is told
+-- if two lines, or two names, lead to one place, only that is reported
 abbrev pub AuditsUnlessTwice : {S F W E : Type 0} → StoreRules S F → SourceRules F → SinkRules W → SinkRules E → S → Options
     → List ℕ → List Item → List (List ℕ) → W → W → E → E → Result Bool Stop → Option (List ℕ) → Option (List ℕ) → Type 0
 AuditsUnlessTwice opening reading writing telling store options list lines names w_old w_new e_old e_new result (Some name) other =
@@ -58,7 +58,7 @@ AuditsItems opening reading writing telling store options list said names w_old 
     (clash_in (names_of lines)) (clash_in asked))
     ⊎ HasNoRoom w_old w_new e_old e_new result
 
--- The lines of the list are put beside the names; where the list has no text, or a line says nothing, only that is told.
+-- The lines of the list are compared with the names; if the list has no text, or a line has no entry, only that is reported.
 abbrev pub Audits : {S F W E : Type 0} → StoreRules S F → SourceRules F → SinkRules W → SinkRules E → S → Options
     → List ℕ → List (List ℕ) → W → W → E → E → Result Bool Stop → Type 0
 Audits opening reading writing telling store options list names w_old w_new e_old e_new result =

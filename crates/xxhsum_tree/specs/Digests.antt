@@ -12,7 +12,7 @@ use Rattle.xxhsum_program.specs.Lines.{told_line}
 use Rattle.xxhsum_program.specs.Outcomes.{Comes, is_digested}
 use Rattle.xxhsum_tree.specs.Rows.{AreRows, Row, TellsRows, are_read, first_in, first_of, is_read, told_in, told_of}
 
--- the name has this digest, and nothing is told; or it is told why it has none
+-- the name has this digest, and nothing is reported; or the reason why it has none is reported
 abbrev pub DigestsName : {S F E : Type 0} → StoreRules S F → SourceRules F → SinkRules E → S → Kind → List ℕ → E → E
     → Option FileDigest → Type 0
 DigestsName opening reading telling store kind name e_old e_new (Some found) =
@@ -22,14 +22,14 @@ DigestsName opening reading telling store kind name e_old e_new None =
     (outcome : Outcome) × (is_digested outcome ≡ false) × Comes opening reading store kind name outcome
     × TellsOn telling (told_line name outcome) e_old e_new
 
--- what these come to stands behind what is known
+-- the result of these comes after what is known
 abbrev pub Grows : Compared → Compared → List Found → Bool → Type 0
 Grows old new found is_read =
     (founds_of new.settled.items ≡ founds_of old.settled.items ++ settled_in found)
     × (items_of new.gone.items ≡ items_of old.gone.items ++ missing_in found)
     × (items_of new.come.items ≡ items_of old.come.items ++ new_in found) × (new.are_all ≡ (old.are_all && is_read))
 
--- a row stands behind those of before; where there was no memory, its name had a digest, so that nothing was told
+-- a row comes after the earlier ones; if there was no memory, its name had a digest, so that nothing was reported
 abbrev pub AddsRow : {E : Type 0} → SinkRules E → (Row → Type 0) → Kind → Compared → Compared → E → E
     → Result (Unit {0}) AllocError → Type 0
 AddsRow telling is_row kind old new e_old e_new (Ok _) =

@@ -1,4 +1,4 @@
--- The names that stand in lists of names.
+-- The names in lists of names.
 use Rattle.std.specs.Prelude.{◌≡◌, ℕ, List, ◌++◌}
 use Rattle.xxhsum_tree.specs.Prelude.{SourceRules, StoreRules}
 use Rattle.xxhsum_audit.specs.List.{GiveAll}
@@ -14,7 +14,7 @@ end_of Words = 10
 end_of Lines = 10
 end_of Nuls = 0
 
--- the names of a text stand behind these
+-- the names of a text come after these
 abbrev pub AddsNames : ℕ → List ℕ → List (List ℕ) → List (List ℕ) → Type 0
 AddsNames end text old new = (more : List (List ℕ)) × (new ≡ old ++ more) × ArePartsOf end text more
 
@@ -22,14 +22,14 @@ AddsNames end text old new = (more : List (List ℕ)) × (new ≡ old ++ more) �
 abbrev pub AreNamesIn : ℕ → List (List ℕ) → List (List ℕ) → Type 0
 AreNamesIn end texts names = GiveAll (ArePartsOf end) texts names
 
--- the names that stand in lists, or in the input where there is no list
+-- the names in lists, or in the input if there is no list
 abbrev pub ListNames : {S F R : Type 0} → StoreRules S F → SourceRules F → SourceRules R → S → R → ℕ → List (List ℕ)
     → List (List ℕ) → Type 0
 ListNames opening reading input_reading store input end lists names =
     (texts : List (List ℕ)) × GiveTexts opening reading input_reading store input lists texts (has_none lists)
     × AreNamesIn end texts names
 
--- one of the lists has no text: what is told of it
+-- one of the lists has no text: what is reported about it
 abbrev pub ListNone : {S F R : Type 0} → StoreRules S F → SourceRules F → SourceRules R → S → R → List (List ℕ) → List ℕ
     → Type 0
 ListNone opening reading input_reading store input lists told =

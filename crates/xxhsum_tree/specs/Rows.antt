@@ -87,7 +87,7 @@ told_in rows = flat_map told_of rows
 abbrev pub are_read : List Row → Bool
 are_read rows = list_all is_read rows
 
--- the first of the sides have their rows, of which it is told why a name has no digest
+-- the first of the sides have their rows, and the reasons why names have no digest are reported
 abbrev pub TellsRows : {S F E : Type 0} → StoreRules S F → SourceRules F → SinkRules E → S → Kind → List (Side Item (List ℕ)) → List Row
     → E → E → Type 0
 TellsRows opening reading telling store kind sides rows e_old e_new =

@@ -11,7 +11,7 @@ use Rattle.xxhsum_tree.specs.Names.{ListNames, ListNone, end_of}
 use Rattle.xxhsum_tree.specs.Walk.{WalksAll, WalksSome, tree_of}
 use Rattle.xxhsum_words.specs.Options.{are_listed}
 
--- Without an audit, the names that stand in lists are digested, or taken for lists and checked.
+-- Without an audit, the names in lists are hashed, or checked as lists.
 abbrev pub WalksNames : {S F R W E : Type 0} → StoreRules S F → SourceRules F → SourceRules R → SinkRules W → SinkRules E
     → S → R → W → W → E → E → Result Bool Stop → Options → List (List ℕ) → Type 0
 WalksNames opening reading input_reading writing telling store input w_old w_new e_old e_new result options lists =

@@ -22,7 +22,7 @@ abbrev pub SourceSays : {R : Type 0} → SourceRules R → Bool → R → List I
 SourceSays reading is_little source items =
     (lines : List (List ℕ)) × EndsWell reading source lines × HaveSaid is_little lines items
 
--- the line of this number is neither an entry nor a comment, or too long: what is told of it
+-- the line of this number is neither an entry nor a comment, or too long: what is reported about it
 abbrev pub IsFault : Bool → List ℕ → ℕ → List ℕ → List ℕ → Type 0
 IsFault is_little list number line told =
     (IsTooLong line × (told ≡ too_long_text list number))
@@ -42,7 +42,7 @@ abbrev pub ListSays : {S F : Type 0} → StoreRules S F → SourceRules F → S 
 ListSays {S} {F} opening reading store is_little list items =
     (file : F) × opening.opens store list file × SourceSays reading is_little file items
 
--- it can't be opened, or its lines say nothing: what is told of it
+-- it can't be opened, or its lines have no entry: what is reported about it
 abbrev pub ListSaysNothing : {S F : Type 0} → StoreRules S F → SourceRules F → S → Bool → List ℕ → List ℕ → Type 0
 ListSaysNothing {S} {F} opening reading store is_little list told =
     ((why : Refusal) × opening.refuses store list why × (told ≡ unopened_text list why))

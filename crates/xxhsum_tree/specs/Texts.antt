@@ -26,7 +26,7 @@ abbrev pub GivesText : {S F : Type 0} → StoreRules S F → SourceRules F → S
 GivesText {S} {F} opening reading store name text =
     (file : F) × opening.opens store name file × HasText reading file text
 
--- the name leads to no file, or to one of which a read fails: what is told of it
+-- the name leads to no file, or to one of which a read fails: what is reported about it
 abbrev pub HasNoText : {S F : Type 0} → StoreRules S F → SourceRules F → S → List ℕ → List ℕ → Type 0
 HasNoText {S} {F} opening reading store name told =
     ((why : Refusal) × opening.refuses store name why × (told ≡ unopened_text name why))
@@ -40,7 +40,7 @@ GiveTexts opening reading input_reading store input names texts true =
 GiveTexts opening reading input_reading store input names texts false =
     EachHas (GivesText opening reading store) names texts
 
--- the names before one have texts, and that one has none: what is told of it
+-- the names before one have texts, and that one has none: what is reported about it
 abbrev pub LacksOne : {S F : Type 0} → StoreRules S F → SourceRules F → S → List (List ℕ) → List ℕ → Type 0
 LacksOne opening reading store names told =
     (before behind texts : List (List ℕ)) × (name : List ℕ) × (names ≡ before ++ name ∷ behind)

@@ -1,4 +1,4 @@
--- That what is told and printed of an audit and of lists is one line, whatever names stand in it.
+-- Each message and each line of an audit and of lists is one line, whatever names it has.
 use Rattle.std.specs.Prelude.{ℕ, List}
 use Rattle.xxhsum_audit.specs.Found.{Found}
 use Rattle.xxhsum_audit.specs.Text.{text_of}
@@ -8,13 +8,13 @@ use Rattle.xxhsum_tree.specs.Audits.{twice_text}
 use Rattle.xxhsum_tree.specs.Said.{improper_text}
 use Rattle.xxhsum_tree.specs.Texts.{unopened_text, unread_text}
 
--- what is told of a list
+-- what is reported about a list
 abbrev pub ListsAreToldInLines : Type 0
 ListsAreToldInLines =
     (list : List ℕ) (number : ℕ) (why : Refusal)
     → IsOneLine (unopened_text list why) × IsOneLine (unread_text list) × IsOneLine (improper_text list number)
 
--- what is told of a name that stands twice
+-- what is reported about a name that occurs twice
 abbrev pub TwiceIsToldInLines : Type 0
 TwiceIsToldInLines = (among name : List ℕ) → IsOneLine (twice_text among name)
 

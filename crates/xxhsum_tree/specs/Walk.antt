@@ -31,7 +31,7 @@ pub data Seen : Type 0 where
   Closed : List ℕ → Refusal → Seen
   Lost : List ℕ → Refusal → Seen
 
--- what a walk is told of names: whether a name that was given is a folder's, the names in a folder, or why they can't be
+-- what a walk learns of names: whether a given name is a folder's, the names in a folder, or why they can't be
 -- read, and what a name in a folder leads to
 pub record Tree : Type 1 where
   pub is_folder : List ℕ → Bool → Type 0
@@ -155,7 +155,7 @@ place_of one = (one.name.items, one.is_given)
 abbrev pub waiting_in : List Waiting → List Place
 waiting_in waiting = reverse (map place_of waiting)
 
--- what is seen counts, and what lies below it waits; or there was no memory, and nothing is told
+-- what is seen counts, and what is below it waits; or there was no memory, and nothing is reported
 abbrev pub SeesOne : {E : Type 0} → (Seen → Type 0) → SinkRules E → List Place → List Place → Walked → Walked → E → E
     → Result (Unit {0}) Stop → Type 0
 SeesOne is_seen telling p_old p_new old new e_old e_new (Ok _) =

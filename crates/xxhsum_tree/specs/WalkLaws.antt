@@ -6,7 +6,7 @@ use Rattle.xxhsum_files.specs.declared.folders.PathKind.TheVariants.{File, Folde
 use Rattle.xxhsum_line.specs.Parts.{Lacks}
 use Rattle.xxhsum_tree.specs.Walk.{HasKind, Place, Seen, Tree, Visits, are_open, below, files_in, given, with_slash}
 
--- one thing is said of each name, and of each folder, but for the order of the names in it
+-- there is one result for each name, and for each folder, except for the order of the names in it
 pub record IsSteady (tree : Tree) : Type 0 where
   pub one_answer : (name : List ℕ) (a b : Bool) → tree.is_folder name a → tree.is_folder name b → a ≡ b
   pub one_kind : (name : List ℕ) (a b : PathKind) → tree.leads name a → tree.leads name b → a ≡ b
@@ -37,19 +37,19 @@ FindsNoOther tree =
     → Visits tree (map given names) trace left → IsAmong (files_in trace) file
     → (name : List ℕ) × (behind : List (List ℕ)) × IsAmong names name × LeadsTo tree (given name) behind file
 
--- each name in a folder stands there once, has a byte, and no slash
+-- each name in a folder occurs there once, has a byte, and no slash
 pub record HoldsNames (tree : Tree) : Type 0 where
   pub once : (folder : List ℕ) (names : List (List ℕ)) (name : List ℕ) (rest : List (List ℕ)) → tree.holds folder names
       → IsPermutation names (name ∷ name ∷ rest) → ⊥
   pub plain : (folder : List ℕ) (names : List (List ℕ)) (name : List ℕ) → tree.holds folder names → IsAmong names name
       → (0 < length name) × Lacks 47 name
 
--- each stands once
+-- each occurs once
 abbrev pub IsOnce : {X : Type 0} → List X → Type 0
 IsOnce [] = Unit {0}
 IsOnce (x ∷ xs) = (IsAmong xs x → ⊥) × IsOnce xs
 
--- no path stands twice among the files below a name
+-- no path occurs twice among the files below a name
 abbrev pub FindsOnce : Tree → Type 0
 FindsOnce tree =
     (name : List ℕ) (trace : List Seen) (left : List Place)

@@ -188,7 +188,7 @@ where
 }
 
 // Audits the files of the names and below their folders against `list`. If a folder can't be read, there is no audit,
-// since missing lines can't be told.
+// since missing lines can't be reported.
 fn audit_below<S: Store + Folders, T: Ticks, W: Output, E: Sink>(
     job: &Job<'_, S, T>,
     list: &[u8],

@@ -7,7 +7,7 @@ use Rattle.xxhsum_audit.specs.Order.{IsOrder, Rises, clash_in, compare_lines, co
 use Rattle.xxhsum_tree.specs.Audits.{TellsTwice, twice_text}
 use Rattle.xxhsum_tree.proofs.audit.audit_lines.Goals as goal
 
--- It is told which name stands twice, or none does.
+-- A name that occurs twice is reported, or none does.
 
 none-twice : {E : Type 0} (telling : SinkRules E) (among : List ℕ) (clash : Option (List ℕ)) (old new : E) (answer : Bool) → TellsTwice telling among clash old new answer → answer ≡ false → (clash ≡ None) × (new ≡ old)
 none-twice telling among None old new answer told is = (refl, told.1)

@@ -62,8 +62,7 @@ pub fn hash_input<R: Source, T: Ticks, W: Output, E: Sink>(
 ) -> Result<bool, Stop> {
     match input.value(options.kind, &mut [0; OFFERED]) {
         Ok(value) => {
-            let line = styled_line(alloc, options.kind, style_of(options), value, name)?;
-            print(&line, out)?;
+            print_value(alloc, options, name, value, out)?;
             Ok(true)
         }
         Err(error) => {
@@ -84,15 +83,24 @@ fn print_outcome<W: Output>(
     out: &mut W,
 ) -> Result<(), Stop> {
     match outcome {
-        Outcome::Digested { value } => {
-            let line = styled_line(alloc, options.kind, style_of(options), *value, name)?;
-            print(&line, out)
-        }
+        Outcome::Digested { value } => print_value(alloc, options, name, *value, out),
         Outcome::IsDirectory | Outcome::Unread { .. } => {
             release(out);
             Ok(())
         }
     }
+}
+
+// Writes the digest line of this value under this name.
+fn print_value<W: Output>(
+    alloc: Global,
+    options: Options,
+    name: &[u8],
+    value: u128,
+    out: &mut W,
+) -> Result<(), Stop> {
+    let line = styled_line(alloc, options.kind, style_of(options), value, name)?;
+    print(&line, out)
 }
 
 // Returns the style of lines by the options.

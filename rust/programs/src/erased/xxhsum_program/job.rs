@@ -7,7 +7,7 @@ use crate::programs::xxhsum_program::watched::ProgressDisplay;
 use crate::rattle::Global;
 use crate::programs::xxhsum_words::options::Options;
 
-/// What each task of a run works with: memory, the files, the options, and where progress is shown.
+/// The context of each task of a run: memory, the files, the options, and where progress is shown.
 #[derive(Clone, Copy)]
 pub struct Job<'a, S, T> {
     /// Where memory comes from.

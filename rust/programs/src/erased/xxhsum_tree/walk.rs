@@ -191,6 +191,6 @@ fn tell_closed<'a, E: Sink>(name: &'a [u8], refusal: Refusal, err: &mut E) {
 }
 
 /// Lemma: a walk finds exactly the files that the given names lead to through names in folders, if each folder could be
-/// read and the store gives one answer per name. Below one given name no path is found twice, if each name occurs once
+/// read and the store gives one result per name. Below one given name no path is found twice, if each name occurs once
 /// in its folder and has no slash. `hash_names` then has one outcome for each.
 pub fn laws_of_walks<S: Store + Folders>() {}
