@@ -47,7 +47,7 @@ PLANTED = [
 
 
 def with_inserted(module, function, text):
-    """The bytes of a module with instructions at the begin of a function."""
+    """The bytes of a module with instructions inserted at the start of a function."""
     whole, (first, end) = module.whole, module.place_of_functions
     begin, place = function.at + len(size_before(whole, function)), function.code[0].at
     body = whole[begin:place] + assembled(text) + whole[place:function.end]
@@ -80,7 +80,7 @@ def answers(vm):
 
 
 def refusal(vm):
-    """Why a module is refused, or None."""
+    """The reason why a module is refused, or None."""
     for ask in answers(vm):
         try:
             if not ask():
@@ -91,7 +91,7 @@ def refusal(vm):
 
 
 def tell(machines):
-    """Each module with each planted text: those that pass, and the true ones, where they don't."""
+    """Tests each module with each planted text: those that pass, and the correct ones, if they don't."""
     bad = []
     for name, vm in machines.items():
         bad += [f"{name} is refused: {why}" for why in [refusal(vm)] if why]
@@ -138,12 +138,12 @@ def taken(which):
 
 
 def ends_a_block(first, *others):
-    """Whether a part of one stripe ends a block before the others."""
+    """True if a part of one stripe ends a block before the others."""
     return bool(others) and is_same_number(first.turns, 1) and is_same_number(others[0].start[1], 0)
 
 
 def has_blocks(first, *others):
-    """Whether there are whole blocks behind the stripes to a block's end."""
+    """True if there are whole blocks after the stripes to a block's end."""
     return bool(others) and isinstance(first.turns, Poly)
 
 
