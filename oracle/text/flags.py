@@ -88,7 +88,7 @@ def is_equal(cpu, a, b):
 
 
 def is_not_zero(cpu, x):
-    """Whether a term is supposed not to be 0, or one whose bits it has."""
+    """True if a term is assumed not to be 0, or contains the bits of one that is."""
     if any(x is other for other in cpu.not_zero):
         return True
     is_either = isinstance(x, Node) and x.kind is OPAQUE and x.parts[0] == "or"
@@ -143,9 +143,9 @@ def is_below_as_places(cpu, a, b):
 
 
 def is_far(cpu, distance, n):
-    """Whether the distance mod 2 ^ 64 of two places is n or more, since their objects lie apart. Of an object at P
-    with p bytes and one at Q with q, either P - Q >= q or Q - P >= p, and both are below 2 ^ 62. Objects that are only
-    read may be the same bytes."""
+    """True if the distance mod 2 ^ 64 of two places is n or more, since their objects lie apart. For an object at P
+    with p bytes and one at Q with q, either P - Q >= q or Q - P >= p, and both are below 2 ^ 62. Objects that are
+    only read may be the same bytes."""
     if sorted(count for _, count in distance.bases) != [-1, 1]:
         return False
     (first, _), (second, _) = sorted(distance.bases, key=lambda base: -base[1])

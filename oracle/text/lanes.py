@@ -308,7 +308,7 @@ def bytes_moved(pair, count, is_left):
 
 @form(V3, "vptest", "xx yy")
 def test(cpu, x):
-    """Whether no bit is in both, which is the flag of 0."""
+    """Sets the flag of 0 if no bit is in both."""
     result = 0
     for p, q in zip(*(cpu.lanes(y, lanes_count(x)) for y in x.operands)):
         result = arithmetic("or", WORD, result, p if p is q else arithmetic("and", WORD, p, q))

@@ -100,8 +100,8 @@ def expect_symbol(object_, symbol, export, begun):
 
 
 class Loaded:
-    """What an object has that runs or is read: `heads`, name -> the head of a section of code or constants; `functions` and
-    `exports`, name -> (section, offset); `constants`, name -> (bytes, alignment)."""
+    """The parts of an object that run or are read: `heads`, name -> the head of a section of code or constants;
+    `functions` and `exports`, name -> (section, offset); `constants`, name -> (bytes, alignment)."""
 
     MACHINE = X86_64
     EXPORT = GLOBAL, DEFAULT      # binding and visibility

@@ -250,7 +250,7 @@ def lacks_a_case(room):
 
 
 def processor(room):
-    """That of the text as it is."""
+    """A processor of the unchanged source."""
     subprocess.run(["gcc", "-c", SOURCE, "-o", f"{room}/right.o"], check=True)
     return Processor(Program(f"{room}/right.o"), V2)
 

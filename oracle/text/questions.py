@@ -89,7 +89,7 @@ def in_numbers(request, is_extreme):
 # ---- questions
 
 def noticed_by(ask):
-    """What is detected, by name, or None. What is made of it is forgotten."""
+    """The name of what is detected, or None. Terms that it makes are forgotten."""
     known = nodes.mark()
     try:
         return ask()

@@ -98,7 +98,7 @@ class StripesProof(Proof):
         return True
 
     def is_run(self, part):
-        """Whether a number of turns is run: of one or none, and where it is known how far the block's end is."""
+        """True if this number of turns is run: 0 or 1, or if the distance to the block's end is known."""
         return part.turns in (0, 1) or isinstance(minus(self.family.q, part.start[1]), int)
 
     def holds(self, first):
@@ -191,9 +191,9 @@ class StripesProof(Proof):
 # ---- functions that take stripes
 
 class Summary:
-    """What a function does that takes the stripes of a part: it reads a record of accumulators, with the place in the
-    block where `has_place`, and stripes and secret; and it writes such a record, another one or the same. That is what
-    `taken` of xxh3_updates.py asks of the function itself; `put_into` makes it what a call of the function does."""
+    """The effect of a function that processes the stripes of a part: it reads a record of accumulators, with the
+    place in the block if `has_place`, stripes and secret, and writes such a record, another one or the same. `taken`
+    of xxh3_updates.py proves that of the function; `put_into` makes it the effect of its calls."""
 
     def __init__(self, name, has_place=True, least=0, has_length=True, is_in_place=False):
         self.name, self.size, self.has_place, self.least = name, TAKEN if has_place else WORDS, has_place, least

@@ -414,7 +414,7 @@ class Xxh3Updates:
             self.use(variable("q"))
 
     def taken(self, summary, parts, facts, summaries=()):
-        """That a function is what its summary says of what some parts are together."""
+        """Proves that a function does what its summary states that some parts do together."""
         place, turns, end = parts[0].start, plus(*(part.turns for part in parts)), parts[-1].end
         self.begin(plus(times(64, self.stripes(end)), variable("rest")))
         with given(*self.facts_of_any(), *facts, at_most(self.source.length, LONGEST)):

@@ -191,7 +191,7 @@ def with_change(vm, function, whole):
 # ---- what is detected
 
 def outcome(vm, texts, questions):
-    """What is detected of a changed module by some requests."""
+    """The result of some requests on a changed module."""
     found = UNNOTICED
     for request, answer in questions:
         texts.make_room()
@@ -249,7 +249,7 @@ def of_lengths(kind, lengths):
 
 
 def of_many_bytes(vm):
-    """What is detected of one-shots of XXH3 of many bytes and of other secrets, by induction."""
+    """Proves some one-shots of XXH3 of many bytes and with other secrets, by induction."""
     own = every_length.OWN_CASES
     try:
         for hash_name in ("3-64", "3-128"):

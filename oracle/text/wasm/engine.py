@@ -170,7 +170,7 @@ def compare_instructions(machines):
 
 
 def verdict(whole):
-    """What the reader and the validator say: valid, invalid, or another thing, that they don't know."""
+    """The result of the reader and the validator: true (valid), false (invalid), or None for anything else."""
     try:
         validate(Module(whole))
     except Invalid:

@@ -32,7 +32,7 @@ Case = collections.namedtuple("Case", "J least_blocks most_blocks least most")
 
 
 def cases():
-    """What is shown of XXH3: no block, some, and many. FAR bytes are 30 blocks, 15 stripes and t = 63."""
+    """The cases of XXH3: no block, some, and many. FAR bytes are 30 blocks, 15 stripes and t = 63."""
     some, last = FAR // BLOCK - 1, BLOCK // 64 - 1
     for J in range(BLOCK // 64):
         if 64 * J + 64 >= LONG:

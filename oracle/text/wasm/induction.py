@@ -14,9 +14,9 @@ TURNS_LEFT = 64, 4           # stripes that are left where the first turns are t
 
 
 class Family:
-    """What the definition says of a loop over stripes `first` .. `total` - 1: after(k)(j), word j of `count` words of a
-    width after k stripes. suppose(k, values) makes values these. With `block`, that many stripes are a block, of which
-    there are `blocks`."""
+    """The definition's words for a loop over stripes `first` .. `total` - 1: after(k)(j) is word j of `count` words
+    of a width after k stripes. suppose(k, values) makes values these. With `block`, that many stripes are a block,
+    of which there are `blocks`."""
 
     def __init__(self, name, total, count, width, after, suppose, first=0, block=None, blocks=None):
         self.name, self.total, self.count, self.width, self.first = name, total, count, width, first

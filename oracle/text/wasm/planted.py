@@ -130,7 +130,7 @@ def long_update(proof):
 
 
 def taken(which):
-    """What the function for many stripes does, in a case of its own."""
+    """Proves a case of the function for many stripes."""
     def ask(proof):
         return functools.partial(proof.taken_of, *next(
             (secret, case) for secret, case in proof.all_taken() if case[0] is TAKE_MANY and which(*case[1])))
@@ -178,7 +178,7 @@ def tell_of_streams(machines):
 
 
 def lacks_a_case(proof):
-    """Whether an update, a digest and stripes are missed that are left out."""
+    """True if it is detected that an update, a digest and stripes are left out."""
     updates, digests, takers = map(list, (proof.all_updates(), proof.digests(), proof.all_taken()))
     del updates[687], digests[310], takers[3]
     return all([covered.without_update(updates, proof, POINTS), covered.without_digest(digests, proof, POINTS),

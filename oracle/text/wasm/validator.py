@@ -90,7 +90,7 @@ class Validator:
     # ---- instructions
 
     def check_given(self, x):
-        """What follows an instruction that has its types in the table."""
+        """Checks the immediates of an instruction that has its types in the table."""
         behind = x.opcode.behind
         if behind.startswith("bytes"):
             want(self.module.pages is not None, "no memory")

@@ -19,7 +19,7 @@ LEAST_PLACE = 1024       # no object begins before
 
 
 class Trap(Unsupported):
-    """What ends a call with an error."""
+    """Raised if a call ends with an error."""
 
 
 def low(x, width):
@@ -106,8 +106,8 @@ def sum_of_addresses(width, a, b, sign):
 
 
 def is_far(x, least):
-    """Whether the difference of two objects' places, which lie apart, is `least` or more, or else negative: then it is
-    no less than that as a number of 64 bits. Objects that are only read may be the same bytes."""
+    """True if the difference of two objects' places, which lie apart, is `least` or more, or else negative: then it
+    is no less than that as a number of 64 bits. Objects that are only read may be the same bytes."""
     places = {count: memory for memory, count in x.bases}
     if len(x.bases) != 2 or set(places) != {1, -1} or not any(isinstance(memory, Memory) for memory in places.values()):
         return False
