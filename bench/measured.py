@@ -34,7 +34,7 @@ class Row:
 
 
 def read(file=FILE):
-    """What the first lines say, and the rows."""
+    """The texts of the first lines, and the rows."""
     said, rows = [], []
     with open(file) as lines:
         for line in lines:

@@ -141,7 +141,7 @@ def unreadable(room):
 
 
 def loading(room):
-    """What is loaded by dlopen can't be seen, nor what a script starts."""
+    """Checks the verdict `unknown`: what is loaded by dlopen, or started by a script, can't be seen."""
     program = Programs(room).compiled('loads', LOADS)
     script = os.path.join(room, 'a script')
     for first, runs in ((f'{shutil.which("env")} python3', shutil.which('python3')), ('/bin/sh', '/bin/sh')):

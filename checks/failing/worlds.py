@@ -20,7 +20,7 @@ NO_MEMORY = '\nError: Out of memory.\n'
 
 
 class Fault(NamedTuple):
-    """What the system refuses: `open` or `read` of a file, `folder` for its names, or `look-up` of a name; with the
+    """A call that the system refuses: `open` or `read` of a file, `folder` for its names, or `look-up` of a name; with the
     name, the reason, and how many bytes of the file the reads before returned."""
     step: str
     name: str

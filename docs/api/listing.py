@@ -39,7 +39,7 @@ def text_of(*names):
 
 
 def lines_of_c():
-    """What the headers declare, define and name."""
+    """The declarations, definitions and names of the headers."""
     for header in ('xxhash.h', 'xxh_x86dispatch.h'):
         text = re.sub(r'/\*.*?\*/', '', text_of('c', 'include', header), flags=re.S)
         calls = re.findall(r'^([A-Za-z][\w *]*?\bXXH\w*\([^;{]*\));', text, re.M)
@@ -51,7 +51,7 @@ def lines_of_c():
 
 
 def lines_of_javascript():
-    """What each file of types exports."""
+    """The exports of each file of types."""
     for name in sorted(os.listdir(os.path.join(TOP, 'web'))):
         if name.endswith('.d.ts'):
             kinds = 'function|class|const|interface|type'

@@ -41,7 +41,7 @@ class Slow(Exception):
 
 @contextlib.contextmanager
 def limits():
-    """What a changed text may use."""
+    """Limits the recursion and the memory for a changed text."""
     sys.setrecursionlimit(RECURSION)
     resource.setrlimit(resource.RLIMIT_AS, (MEMORY, MEMORY))
     yield
@@ -119,7 +119,7 @@ class Asked:
 
 
 class CountedLength:
-    """What `counted` says of a length that no request has."""
+    """Tests `counted` with a length that no request has."""
 
     def __init__(self, row):
         self.row, self.length, self.outcome = row, row.length, None

@@ -24,7 +24,7 @@ class AnySecret(Xxh3Updates):
         return plus(times(64, self.stripes((case.blocks, case.more))), case.rest, 1)
 
     def cases(self):
-        """For any q but DERIVED."""
+        """Any q except DERIVED."""
         q, B, J, t = (variable(name) for name in "qBJt")
         below, above = [minus(q, LEAST), at_most(q, DERIVED - 1)], [minus(q, DERIVED + 1)]
         of_t, of_J = at_most(t, 63), minus(minus(q, 1), J)

@@ -112,14 +112,14 @@ class AnyUpdates:
                 raise NotShown(f"{what}: the state at {at} is {found} and not {x}, of {self.stripe} * ({a}) + {r}")
 
     def call(self, what, state, *rest):
-        """A call of the library: what resets a state, updates it or asks it."""
+        """Calls of the library: those that reset, update or digest a state."""
         self.cpu.not_zero, self.cpu.live = [], [state]
         return what(self.cpu, *rest)
 
     # ---- the three parts
 
     def reset(self):
-        """From memory that holds anything."""
+        """Resets memory that holds anything."""
         self.begin(0)
         with given(at_most(self.source.length, LONGEST)):
             state = streams.new_state(self.cpu, self.hash_name)
@@ -127,7 +127,7 @@ class AnyUpdates:
             self.expect_state("a reset", state, 0, 0)
 
     def update(self, one):
-        """From stripe * a + r bytes, a any number, by one chunk."""
+        """Updates from stripe * a + r bytes, a any number, by one chunk."""
         a = variable("a")
         further = plus(one.further, times(UNROLLED[self.hash_name], variable("d")) if one.more else 0)
         b = plus(a, int(one.fills), further)
@@ -154,7 +154,7 @@ class AnyUpdates:
                       lambda k, values: suppositions.suppose(after(k), values))
 
     def digest(self, a, r):
-        """Of a state that represents the whole message."""
+        """Digests a state that represents the whole message."""
         n = plus(times(self.stripe, a), r)
         self.source = Input("m", n)
         self.message = Bytes(self.source, 0, n)

@@ -35,12 +35,12 @@ def expect(what, ours, theirs):
 # ---- canonical forms and comparisons
 
 def words_of(width, name):
-    """A hash as the registers that hand it over: one of 64 bits, or two."""
+    """A hash in the registers that pass it: one of 64 bits, or two."""
     return [(symbol(f"{name}{k} of {width}", min(width, 64)), min(width, 64)) for k in range(max(1, width // 64))]
 
 
 def canonical_forms(cpu):
-    """A hash's bytes, the highest first, and back. The bytes have no alignment."""
+    """Converts a hash to bytes, the highest first, and back. The bytes have no alignment."""
     for name, width in WIDTHS.items():
         words, size = words_of(width, "hash"), width // 8
         of_hash = Words("canonical", size, alignment=1)
@@ -57,7 +57,7 @@ def canonical_forms(cpu):
 
 
 def is_equal(cpu):
-    """Equal hashes; hashes that differ in the low word, in the high one, in both."""
+    """Tests equal hashes, and hashes that differ in the low word, in the high one, in both."""
     low_word, high_word = symbol("low", 64), symbol("high", 64)
     for differs in ((), (0,), (1,), (0, 1)):
         cpu.not_zero = [symbol(f"difference{k}", 64) for k in differs]
@@ -69,7 +69,7 @@ def is_equal(cpu):
 
 
 def compare(cpu):
-    """Each word of the first hash above, at or below that of the second."""
+    """Tests each word of the first hash above, at or below that of the second."""
     order = {1: 1, 0: 0, -1: LIMITS[32]}
     for high in order:
         for under in order:
@@ -86,7 +86,7 @@ def compare(cpu):
 
 
 def compare_in_one_place(cpu):
-    """Two hashes at one place, and two that have a word in common: the order of three words, by two steps."""
+    """Tests two hashes at one place, and two with a common word: the order of three words, by two steps."""
     order, count = {1: 1, 0: 0, -1: LIMITS[32]}, 0
     for above, below in itertools.product(order, order):
         a, d, e = (variable(name) for name in ("a", "d", "e"))
@@ -111,7 +111,7 @@ def version(cpu):
 # ---- states
 
 def copies(cpu):
-    """A copy has all bytes of its original, which stays."""
+    """Tests that a copy has all bytes of its original, which stays unchanged."""
     for hash_name in ("32", "64", "3-64"):
         original, other = new_state(cpu, hash_name), new_state(cpu, hash_name)
         other.name, before = "copy", contents(original)
@@ -122,7 +122,7 @@ def copies(cpu):
 
 
 def marked(cpu, hash_name):
-    """A state that `forget` has taken the mark from: the state, the places of what was taken, and what was there."""
+    """A state whose mark `forget` has removed: the state, the places of the removed words, and their values."""
     state = new_state(cpu, hash_name)
     expect_answer(reset(cpu, Request(hash_name, "seed" if one_shots.is_plain(hash_name) else "default", 0), state), OK)
     before = contents(state, 4)
@@ -134,7 +134,7 @@ def marked(cpu, hash_name):
 
 
 def forgotten(cpu):
-    """What was freed is no state: it is refused, and `forget` changes nothing but the mark."""
+    """Tests that a freed state is refused, and that `forget` changes only the mark."""
     for hash_name in ("32", "64", "3-64", "3-128"):
         state, places, _ = marked(cpu, hash_name)
         if len(places) > 2 or len(places) == 2 and (places[1] - places[0] != 4 or places[0] % 8):
@@ -144,7 +144,7 @@ def forgotten(cpu):
 
 
 def refused(cpu, hash_name, state):
-    """An update and a digest of memory that is no state: an error, 0, and nothing changed."""
+    """Tests an update and a digest of memory that is no state: an error, 0, and nothing changed."""
     before = contents(state)
     for piece in (Input("m", 5), Input("m", 700), None):
         expect_answer(update(cpu, hash_name, state, piece), ERROR)
@@ -153,8 +153,8 @@ def refused(cpu, hash_name, state):
 
 
 def without_mark(cpu):
-    """Memory that holds anything, and in the mark's place any word that isn't one: all below the first mark, and all
-    above the last."""
+    """Memory that holds anything, and in the mark's place any word that isn't a mark: all below the first mark, and
+    all above the last."""
     count = 0
     for hash_name, marks in (("32", 16), ("64", 32), ("3-64", 1), ("3-128", 1)):
         _, places, values = marked(cpu, hash_name)
@@ -187,7 +187,7 @@ def out_of_range(cpu):
 
 
 def counters_stay(cpu):
-    """A counter of bytes or of stripes that is 2 ^ 64 - 1 stays so."""
+    """Tests that a counter of bytes or of stripes that is 2 ^ 64 - 1 stays so."""
     count, most = 0, LIMITS[64]
     for hash_name, places in (("32", [0x14]), ("64", [0x18]), ("3-64", [TOTAL, COUNTED]), ("3-128", [TOTAL, COUNTED])):
         for n in (5, 40, 200, 600, 3000):
@@ -205,7 +205,7 @@ def counters_stay(cpu):
 
 
 def refused_resets(cpu):
-    """Secrets that a state doesn't keep: an error, and the state stays; null too, where the length is 0."""
+    """Tests secrets that a state doesn't accept: an error, and an unchanged state; null too, if the length is 0."""
     count = 0
     for hash_name in ("3-64", "3-128"):
         for kind in ("secret", "both"):
@@ -239,7 +239,7 @@ def short_secrets(cpu, hash_name, lengths):
 
 
 def null_pointers(cpu):
-    """An input of no bytes and a secret of none may be null."""
+    """Tests that an input and a secret of no bytes may be null."""
     entries, count = definition.program().run(), 0
     for hash_name, kind in (("32", "seed"), ("64", "seed"), *((name, kind) for name in ("3-64", "3-128")
                                                                 for kind in one_shots.WAYS)):
@@ -274,7 +274,7 @@ def in_one_place(cpu):
 
 
 def updates_of_nothing(cpu):
-    """A null chunk of no bytes, before, between and after others, leaves a state's value unchanged."""
+    """Tests that a null chunk of no bytes, before, between and after others, leaves a state's value unchanged."""
     entries, count = definition.program().run(), 0
     for hash_name, kind in (("32", "seed"), ("64", "seed"), ("3-64", "default"), ("3-128", "default")):
         for n in (0, 5, 33, 300, 700):
@@ -289,7 +289,7 @@ def updates_of_nothing(cpu):
 
 
 def derived_secret(cpu):
-    """The 192 bytes of the secret that a seed derives."""
+    """The 192 bytes of the secret derived from a seed."""
     entries = definition.program().run()
     for seed in (symbol("seed64", 64), 0):
         cpu.not_zero = []

@@ -24,7 +24,7 @@ LONGEST_WITHOUT = 240             # bytes of a message that needs no secret wher
 
 
 class CargoProgram(Program):
-    """The text of a set, which was made of a file of that name."""
+    """The assembly source of an instruction set, from the file of that name."""
 
     EXPORT = WEAK, HIDDEN         # versions of the crate that have one interface share the code of one of them
 
@@ -33,7 +33,7 @@ class CargoProgram(Program):
         super().__init__(path)
 
     def all_names(self):
-        """The names as they are in the source."""
+        """The names in the source."""
         return {symbol.name for symbol in self.object.symbols}
 
     def names(self):
@@ -42,7 +42,7 @@ class CargoProgram(Program):
 
     @staticmethod
     def named(functions):
-        """The functions by their names here."""
+        """The functions by the names used here."""
         return {plain(name): place for name, place in functions.items()}
 
     @staticmethod
@@ -67,7 +67,7 @@ class CargoProcessor(Processor):
 
 
 class Value(Words):
-    """Where a call writes a value of 128 bits, which holds anything before."""
+    """The place where a call writes a value of 128 bits, which holds anything before."""
 
     def __init__(self, cpu):
         self.before = [cpu.fresh("a value") for _ in range(2)]
@@ -107,12 +107,12 @@ class ForCargo:
 
     @staticmethod
     def has(request):
-        """True if the text has a call for a request: it hashes long inputs under a secret."""
+        """True if the source has a call for a request: it hashes long inputs with a secret."""
         return request.kind == "secret" and request.cuts is None and request.length > LONGEST_WITHOUT
 
     @staticmethod
     def one_shot(cpu, hash_name, kind, *arguments):
-        """The hash; or 0, where a secret has to be refused, and is."""
+        """The hash; or 0, if a secret must be refused, and is."""
         if kind != "secret":
             raise Unsupported(f"no export hashes with {kind}")
         secret_length = arguments[3]

@@ -26,7 +26,7 @@ def interface(cpu):
 # ---- long inputs that are refused
 
 def long_input(cpu, hash_name, n, size, code):
-    """A call with n bytes and a secret of so many: a code, and no value."""
+    """A call with n bytes and a secret of that length: it returns a code, and no value."""
     message, secret = (address(Input(name, length)) if length else 0 for name, length in (("m", n), ("s", size)))
     name = f"{export_name(hash_name)}_long"
     told, value = call_into(cpu, hash_name, name, message, n, secret, size)
@@ -35,7 +35,7 @@ def long_input(cpu, hash_name, n, size, code):
 
 
 def few_bytes(cpu):
-    """Inputs of 0 to 240 bytes, with secrets that are long enough and with others."""
+    """Tests inputs of 0 to 240 bytes, with secrets that are long enough and with others."""
     for hash_name in HASHES:
         for n in range(LONGEST_WITHOUT + 1):
             for size in (0, SHORTEST):
@@ -44,7 +44,7 @@ def few_bytes(cpu):
 
 
 def secrets_of_long_inputs(cpu):
-    """Secrets of fewer than 136 bytes."""
+    """Tests secrets of fewer than 136 bytes."""
     for hash_name in HASHES:
         for size in range(SHORTEST):
             long_input(cpu, hash_name, LONGEST_WITHOUT + 1, size, TOO_SHORT)
@@ -54,7 +54,7 @@ def secrets_of_long_inputs(cpu):
 # ---- chunks that are refused
 
 def refused(cpu, hash_name, state, code, secret=()):
-    """A write: a code, with nothing written."""
+    """A write that returns a code, with nothing written."""
     name, before = write_of(hash_name), contents(state)
     for piece in (Input("m", 5), Input("m", 700), None):
         length = piece.length if piece else 0
@@ -101,7 +101,7 @@ def out_of_range(cpu):
 
 
 def secrets_of_streams(cpu):
-    """Secrets of fewer than 136 bytes, for streams that hold anything."""
+    """Tests secrets of fewer than 136 bytes, for streams that hold anything."""
     for size in range(SHORTEST):
         secret = (address(Input("s", size)) if size else 0, size)
         refused(cpu, "3-64", new_state(cpu, "3-64"), TOO_SHORT, secret)

@@ -8,7 +8,7 @@ WIDEST = 64                       # how many bytes an instruction reads at most
 
 
 def shown_by():
-    """Export -> the beginning of a row's title."""
+    """A dictionary: export -> the beginning of a row's title."""
     out = {"interface": "the number of the interface", "xxh32_write": "pieces of XXH32", "xxh3_write": "pieces of XXH3",
            **{f"{export_name(name)}_long": f"XXH{name}, secret" for name in ("3-64", "3-128")}}
     return {name: BEGIN + title for name, title in out.items()}
@@ -26,7 +26,7 @@ def exports_left_out(texts, titles):
 # ---- functions that are another text's
 
 def shape(program, section):
-    """A section's bytes, and where its instructions lead out of it."""
+    """A section's bytes, and the targets of its instructions outside of it."""
     code = program.sections[section]
     led = [(at, led_to(program, x)) for at, x in sorted(code.items()) if x.target and x.target[0] != section]
     return program.object.body(program.heads[section]), led
@@ -42,12 +42,12 @@ def led_to(program, instruction):
 
 
 def bare(section):
-    """The name of a section without the number of the interface."""
+    """The name of a section without the interface's number."""
     return re.sub(r"\.i\d+(_v[34])?$", "", section)
 
 
 def shared(program, other):
-    """The functions that have another text's bytes, with all that they lead to."""
+    """The functions that equal another source's byte for byte, with everything that they reach."""
     found = {name: place for name, place in program.functions.items() if other.functions.get(name, (0, 1))[1] == 0}
     shapes = {name: shape(program, place[0]) for name, place in found.items()}
     equal = {name for name in found if shapes[name] == shape(other, other.functions[name][0])}

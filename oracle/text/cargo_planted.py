@@ -18,14 +18,14 @@ TAKER, LEADS = "twox_core.xxhash3.stripes.take_stripes", "twox_core.width_64.one
 
 
 def export(name, *lines):
-    """An export that begins with further lines, whatever the number of the interface is."""
+    """An export with lines inserted at its start, whatever the number of the interface is."""
     def change(text):
         return begun(re.search(rf"^twox_rust_\d+_{name}(?=:$)", text, re.M)[0], *lines)(text)
     return change
 
 
 def local(name, *lines):
-    """The same of a function that is no export."""
+    """The same for a function that is no export."""
     return lambda text: begun(re.search(rf"^{re.escape(name)}\.i\d+(?=:$)", text, re.M)[0], *lines)(text)
 
 
@@ -36,7 +36,7 @@ def not_hidden(text):
 # ---- what is asked
 
 def any_update(cpu):
-    """An update that the buffer has room for."""
+    """An update that fits in the buffer."""
     proof = CargoUpdates(cpu)
     proof.update(*list(proof.small_pieces())[-1])
 
@@ -53,7 +53,7 @@ def exported(cpu):
 
 
 def same_code(cpu):
-    """That a function, and one that leads to it, are those of the text as it is."""
+    """Checks that a function, and one that leads to it, are those of the unchanged source."""
     with tempfile.TemporaryDirectory(prefix="machine-text-") as room:
         subprocess.run(["gcc", "-c", SOURCE, "-o", f"{room}/right.o"], check=True)
         right = CargoProgram(V1, f"{room}/right.o")

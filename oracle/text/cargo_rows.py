@@ -31,7 +31,7 @@ def programs():
 # ---- the rows
 
 def choose(texts, like, is_all):
-    """The rows; `like` has c/asm's texts."""
+    """The rows; `like` has c/asm's sources."""
     made = rows.makers(texts)
     out = [*with_begin(long_input_rows(texts, is_all)), *with_begin(piece_rows(rows.before_v4(made), is_all, SOME_UPDATES)),
            *with_begin(xxh3_rows(made, is_all)), *with_begin(every_length_rows(made, is_all)), *call_rows(texts, like, is_all)]
@@ -47,7 +47,7 @@ def with_begin(found):
 
 
 def long_input_rows(texts, is_all):
-    """Of one length after the other. With a secret of 136 bytes x86-64-v4 runs what x86-64-v3 does."""
+    """Rows of one length after another. With a secret of 136 bytes x86-64-v4 runs the code of x86-64-v3."""
     for hash_name in cargo_calls.HASHES:
         for size in SECRETS:
             kind = hash_name, "secret", size
@@ -57,7 +57,7 @@ def long_input_rows(texts, is_all):
 
 
 def piece_rows(made, is_all, some=rows.SOME_UPDATES):
-    """Chunks of XXH32 of any lengths: all cases, in parts, or some."""
+    """Rows of chunks of XXH32 of any lengths: all cases, in parts, or some."""
     count = len(list(any_updates.updates("32")))
     yield rows.counted("each update of XXH32 and XXH64 has its row", 2, rows.updates_left_out)
     for name, make in made.items():
@@ -83,7 +83,7 @@ def xxh3_rows(made, is_all, kind=cargo_streams.CargoUpdates, like=LIKE):
 
 
 def every_length_rows(made, is_all):
-    """Long inputs of every length, with any secret: all cases, or some."""
+    """Rows of long inputs of every length, with any secret: all cases, or some."""
     yield rows.counted("every length with any secret has its row", rows.COVERED[is_all],
                        functools.partial(rows.secrets_left_out, made, is_all))
     for hash_name in cargo_calls.HASHES if is_all else cargo_calls.HASHES[:1]:
@@ -112,7 +112,7 @@ def expect_code_of_v3(program, other):
 
 
 def refusal_rows(of):
-    """What is refused: `of` makes a row of a title, a number of cases and what has them."""
+    """Rows of refusals: `of` makes a row of a title, a number of cases and a function."""
     yield of("the number of the interface", 1, cargo_calls.interface)
     yield of("a message and a secret in one place", 6, calls.in_one_place)
     yield of("inputs of up to 240 bytes", 900, cargo_calls.few_bytes)

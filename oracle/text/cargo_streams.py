@@ -23,10 +23,10 @@ class CargoUpdates(Xxh3Updates):
         return []
 
     def one_update(self):
-        """Both widths have one export."""
+        """One export serves both widths."""
 
     def all_updates(self):
-        """Where the length of a chunk may be on both sides of what has a way of its own, these are two cases."""
+        """If the length of a chunk may be on both sides of a separate path, these are two cases."""
         for (place, f), (to, left), length, facts, *rest in super().all_updates():
             few, more = at_most(length, FEW), minus(length, FEW + 1)
             with given(*self.facts, *facts):
@@ -40,7 +40,7 @@ class CargoUpdates(Xxh3Updates):
                 yield (place, f), (to, left), length, facts, *rest
 
     def small_pieces(self):
-        """A chunk of no bytes, where the buffer is full, is a case of its own."""
+        """A chunk of no bytes, with a full buffer, is a separate case."""
         for (place, f), end, length, facts in super().small_pieces():
             if is_same_number(length, 0) and not is_same_number(f, 0):
                 yield (place, ROOM), (place, ROOM), length, facts

@@ -10,7 +10,7 @@ from .cargo_streams import CargoUpdates
 
 
 def choose(name, make, is_all, updates=CargoUpdates):
-    """The rows on a text of a name: `make` makes a processor of it, and `updates` shows its streams of XXH3."""
+    """The rows on a source of a name: `make` makes a processor of it, and `updates` proves its streams of XXH3."""
     made = {name: make}
     out = [*long_input_rows(name, make, is_all), *cargo_rows.piece_rows(made, is_all),
            *cargo_rows.xxh3_rows(made, is_all, updates, ()), *cargo_rows.every_length_rows(made, is_all),

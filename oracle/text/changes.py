@@ -70,7 +70,7 @@ def with_operand(x, k, operand):
 
 
 def of_operand(x, k, draw):
-    """Other operands in the place of one: (what, instruction)."""
+    """Replacements of one operand: (description, instruction)."""
     operand = x.operands[k]
     if isinstance(operand, Register):
         yield "register", with_operand(x, k, Register(other_register(operand.name, draw)))
@@ -91,7 +91,7 @@ def of_operand(x, k, draw):
 
 
 def of_instruction(x, draw):
-    """All ways to change one instruction: (what, instructions)."""
+    """All changes of one instruction: (description, instructions)."""
     yield "left out", [x._replace(mnemonic="nop", operands=(), target=None)]
     for pair in ALIKE:
         for name, other in (pair, pair[::-1]):
@@ -103,7 +103,7 @@ def of_instruction(x, draw):
 
 
 def swapped(x, y):
-    """Two neighbours in the other order, where the second takes what the first makes."""
+    """Swaps two neighbours, if the second uses the result of the first."""
     is_plain = all(z.target is None and z.operands and z.mnemonic not in ("push", "pop") for z in (x, y))
     made = x.operands[-1] if is_plain else None
     if isinstance(made, Register) and made in y.operands[:-1] and made != y.operands[-1]:
@@ -137,7 +137,7 @@ def keys(cpu, places, salt):
 
 
 def changed_at(cpu, place, draw):
-    """A change at a place, or none. What computes nothing isn't changed."""
+    """A change at a place, or None. Instructions that compute nothing aren't changed."""
     section, at = place
     x = cpu.program.sections[section][at]
     if x.mnemonic in IDLE:
@@ -153,7 +153,7 @@ def changed_at(cpu, place, draw):
 
 
 def written(x):
-    """An instruction as objdump says it, without its place."""
+    """An instruction as objdump prints it, without its place."""
     parts = []
     for y in x.operands:
         if isinstance(y, Place):

@@ -33,7 +33,7 @@ def states(count, proof):
 
 
 def variables(q, u, b, j, f, L=0):
-    """What the cases' variables are at a point."""
+    """The values of the cases' variables at a point."""
     r = -f % 64
     g, left = (f + r) // 64, L - r
     n = max(0, left - 64) // 64
@@ -44,14 +44,14 @@ def variables(q, u, b, j, f, L=0):
 
 
 def has(point, facts, said):
-    """Whether a case has a point: its facts hold there, and its polynomials are what is said."""
+    """True if a case has a point: its facts hold there, and its polynomials have the given values."""
     names = names_of(*facts, *(x for x, _ in said))
     return all(point.get(name, -1) >= 0 for name in names) and all(value_at(x, point) == n for x, n in said) and \
         all(value_at(fact, point) >= 0 for fact in facts)
 
 
 def without_update(cases, proof, count):
-    """Points that no update has."""
+    """Points that are in no update."""
     cases, out = list(cases), []
     for q, u, b, j, f, L in points(count, proof):
         point = variables(q, u, b, j, f, L)
@@ -77,7 +77,7 @@ def without_digest(cases, proof, count):
 
 
 def of_stripes(b, j, n):
-    """The same of stripes that are taken: for any block, and for blocks of 16 by fours and by blocks."""
+    """The same for processed stripes: for any block, and for blocks of 16 by fours and by blocks."""
     for front, unit in (-j % 4, 4), (-j % 16, 16):
         at = (j + front) % 16
         D, e = divmod((n - front) // unit * unit - (16 - at), 16)
@@ -85,7 +85,7 @@ def of_stripes(b, j, n):
 
 
 def without_taken(cases, proof, names, count):
-    """Stripes that no case has: of any number, and of many."""
+    """Stripes that are in no case: of any number, and of many."""
     cases, out = list(cases), []
     for q, u, b, j, f, L in points(count, proof):
         for name, least in names:
@@ -104,7 +104,7 @@ def without_taken(cases, proof, names, count):
 
 
 def without_one_shot(cases, facts, count):
-    """Lengths and secrets that no case has, of blocks of any number of stripes but 16."""
+    """Lengths and secrets that are in no case, for blocks of any number of stripes except 16."""
     cases, out, draw = list(cases), [], random.Random(6)
     while count:
         q = draw.choice((*STRIPES, draw.randrange(9, 600), draw.randrange(9, 1 << 33)))
@@ -125,7 +125,7 @@ def sum_of(parts):
 
 
 def left_out(proof, count):
-    """Of so many points of each sort: updates, digests, and functions that take stripes."""
+    """Tests that many points of each sort: updates, digests, and functions that process stripes."""
     taken = [(xxh3_updates.TAKE.name, 0), (xxh3_updates.TAKE_MANY.name, xxh3_updates.MANY)]
     taken += [(xxh3_updates.TAKE_WIDENED.name, xxh3_updates.BLOCK)] * proof.is_widened()
     return [*without_update(proof.all_updates(), proof, count), *without_digest(proof.digests(), proof, count),

@@ -30,7 +30,7 @@ def rows_of(program):
 
 
 def expect_bytes(program):
-    """Refuses an instruction of other bytes than what was printed of it has."""
+    """Refuses an instruction whose bytes differ from those of its printed text."""
     rows = list(rows_of(program))
     kind, led = ("x86-64", led_on_x86) if program.object.machine == X86_64 else ("aarch64", led_on_arm)
     alone, bad = [], []
@@ -48,7 +48,7 @@ def expect_bytes(program):
 
 
 def assembled_alone(texts, kind):
-    """The bytes of instructions, each behind the other in a slot."""
+    """The bytes of instructions, one after another in a slot."""
     with tempfile.TemporaryDirectory(prefix="machine-text-") as room:
         source, made = os.path.join(room, "alone.s"), os.path.join(room, "alone.o")
         with open(source, "w", encoding="utf-8") as file:
@@ -64,7 +64,7 @@ def assembled_alone(texts, kind):
 # ---- jumps, and what does nothing
 
 def led_on_x86(at, raw, text, is_relocated):
-    """The bytes that an instruction has to have, or None where the assembler says them."""
+    """The required bytes of an instruction, or None if the assembler computes them."""
     mnemonic, *rest = text.split()
     if "nop" in text:
         return raw if raw in NOPS else b""
@@ -84,7 +84,7 @@ def led_on_x86(at, raw, text, is_relocated):
 
 
 def led_on_arm(at, raw, text, is_relocated):
-    """The same of 64-bit ARM. Where a linker puts the distance in, the bits of it are 0."""
+    """The same for 64-bit ARM. If a linker inserts the distance, its bits are 0."""
     mnemonic, *operands = re.split(r"[ ,]+", re.sub(r" <[^>]*>", "", text))
     if not re.fullmatch(r"bl?|b\.\w\w|cbn?z|tbn?z|adrp", mnemonic):
         return None

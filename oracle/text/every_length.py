@@ -134,7 +134,7 @@ def left_out(found, first, period):
 # ---- a case
 
 class EveryLength:
-    """A kind of call of a text, its cases one by one: 32, 64, or of XXH3 as 3-64:seed."""
+    """A kind of call of a source, its cases one by one: 32, 64, or of XXH3 as in 3-64:seed."""
 
     def __init__(self, cpu, kind):
         self.cpu, self.guesses, self.kind = cpu, {}, kind
@@ -151,7 +151,7 @@ class EveryLength:
         self.texts = definition.program().run(traced=suppositions)
 
     def show(self, case, seed=None):
-        """A case, with a seed that isn't 0, or the one that is said."""
+        """A case, with a seed that isn't 0, or the given one."""
         with given(*case.facts, at_most(case.length, LONGEST)):
             source = Input("m", case.length)
             ask = self.xxh3 if self.way else self.plain
@@ -200,7 +200,7 @@ class EveryLength:
         return self.with_loops(ask, case, stripe, count, after)
 
     def with_loops(self, ask, case, stripe, count, after):
-        """A call of the text, where the loops of a case's length are shown."""
+        """Calls the source, with the loops of a case's length proved."""
         name, limit = f"XXH{self.kind} of {case.length} bytes", self.cpu.limit
         family = Family(name, stripe, case.stripes, count, after,
                         lambda k, values: suppositions.suppose(after(k), values),

@@ -9,7 +9,7 @@ STREAMS, FORGET = "streams", "freed states"
 
 
 def shown_by():
-    """Name -> the words of a row's title."""
+    """A dictionary: name -> the words of a row's title."""
     out = {"XXH_versionNumber": "the version", "XXH128_isEqual": "equal hashes", "XXH128_cmp": "the order of hashes",
            "proved_XXH3_generateSecret": "made secrets", "XXH3_generateSecret_fromSeed": "the derived secret"}
     for name in ("XXH32", "XXH64", "XXH128"):
@@ -37,7 +37,7 @@ def twins():
 
 
 def expect_all(program, titles):
-    """That each export is in the table, each name of it is exported, and each has its row."""
+    """Checks that each export is in the table, each name of it is exported, and each has its row."""
     known = shown_by()
     for name in sorted({*known, *program.exports}):
         if name not in known:
@@ -50,7 +50,7 @@ def expect_all(program, titles):
 
 
 def expect_twins(program):
-    """That each of those names has instructions that are the other's, one by one."""
+    """Checks that each of those names has the same instructions as the other, one by one."""
     for name, other in twins().items():
         if code_of(program, name) != code_of(program, other):
             raise NotShown(f"{name} has other code than {other}")
@@ -60,7 +60,7 @@ def expect_twins(program):
 # ---- the exports of x86-64-v4 that have the code of x86-64-v3
 
 def is_of_v3(name):
-    """All of XXH32 and XXH64, and the calls that take no message."""
+    """All exports of XXH32 and XXH64, and the calls without a message."""
     row = {**shown_by(), **dict.fromkeys(twins(), STREAMS)}[name]
     return name.startswith(("XXH32_", "XXH64_")) or row.startswith(("XXH32,", "XXH64,", *OTHERS))
 
@@ -70,7 +70,7 @@ OTHERS = ("the version", "equal hashes", "the order of hashes", "canonical forms
 
 
 def expect_code_of_v3(program, other):
-    """That these exports, with all that they lead to, have the other text's instructions and constants."""
+    """Checks that these exports, with all that they reach, have the other source's instructions and constants."""
     found = [name for name in program.exports if is_of_v3(name)]
     for name in found:
         left, known = [program.exports[name]], set()
@@ -93,7 +93,7 @@ def led(program, section):
 
 
 def code_of(program, name):
-    """The instructions of a function's section, by their distance from its beginning."""
+    """The instructions of a function's section, by their offset."""
     if name not in program.exports:
         raise NotShown(f"{name} isn't exported")
     section, _ = program.exports[name]

@@ -22,7 +22,7 @@ SIGNED = {"l": operator.lt, "ge": operator.ge, "g": operator.gt, "le": operator.
 
 
 def condition(cpu, name):
-    """Whether a condition holds that a mnemonic ends with."""
+    """The value of the condition with which a mnemonic ends."""
     if name in ("b", "ae"):
         return carry(cpu) == (name == "b")
     if name in ("e", "ne"):
@@ -38,7 +38,7 @@ def condition(cpu, name):
 
 
 def signed_operands(cpu):
-    """What was compared last, as signed numbers."""
+    """The operands of the last comparison, as signed numbers."""
     now = cpu.flags
     if not now or now.kind not in ("sub", "logic"):
         raise Unsupported("a signed comparison of another result")
@@ -50,7 +50,7 @@ def signed_operands(cpu):
 
 
 def carry(cpu):
-    """True if there was a carry or a borrow, which is only known of numbers."""
+    """True if there was a carry or a borrow, which is known only for numbers."""
     now = cpu.carry
     if now is None or now.kind == "shift":
         raise Unsupported("a carry that isn't set")
@@ -88,7 +88,7 @@ def is_equal(cpu, a, b):
 
 
 def is_not_zero(cpu, x):
-    """Whether a term is supposed not to be 0, or one whose bits it has."""
+    """True if a term is assumed not to be 0, or contains the bits of one that is."""
     if any(x is other for other in cpu.not_zero):
         return True
     is_either = isinstance(x, Node) and x.kind is OPAQUE and x.parts[0] == "or"
@@ -113,7 +113,7 @@ def is_below(cpu, a, b):
 # ---- addresses
 
 def is_within(x):
-    """Whether an address is one of a byte of its object, or of its end."""
+    """True if an address is that of a byte of its object, or of its end."""
     memory, at = x.place()
     return is_natural(at) and is_natural(minus(memory.length, at))
 
@@ -129,12 +129,12 @@ def are_one_place(a, b):
 
 
 def is_near(offset):
-    """Whether two such offsets are equal only where the addresses are, which count mod 2 ^ 64."""
+    """True if two such offsets are equal only if the addresses are, which count mod 2 ^ 64."""
     return is_natural(minus(FAR, offset)) and is_natural(plus(offset, FAR))
 
 
 def is_below_as_places(cpu, a, b):
-    """Of two places in one object, and of a distance between two objects and a number."""
+    """Compares two places in one object, and a distance between two objects with a number."""
     if isinstance(a, Address) and isinstance(b, Address) and a.bases == b.bases and is_within(a) and is_within(b):
         return TESTS["lt"](a.offset, b.offset)
     if isinstance(a, Address) and is_number(b) and is_far(cpu, a, b):
@@ -143,9 +143,9 @@ def is_below_as_places(cpu, a, b):
 
 
 def is_far(cpu, distance, n):
-    """Whether the distance mod 2 ^ 64 of two places is n or more, since their objects lie apart. Of an object at P
-    with p bytes and one at Q with q, either P - Q >= q or Q - P >= p, and both are below 2 ^ 62. Objects that are only
-    read may be the same bytes."""
+    """True if the distance mod 2 ^ 64 of two places is n or more, since their objects lie apart. For an object at P
+    with p bytes and one at Q with q, either P - Q >= q or Q - P >= p, and both are below 2 ^ 62. Objects that are
+    only read may be the same bytes."""
     if sorted(count for _, count in distance.bases) != [-1, 1]:
         return False
     (first, _), (second, _) = sorted(distance.bases, key=lambda base: -base[1])

@@ -47,7 +47,7 @@ KINDS = {"x86-64": (X86, SHADOW_STACK), "aarch64": (ARM, ())}     # the instruct
 # ---- a text
 
 class Lines:
-    """The lines of a text, taken one after another. `number` is that of the line that is next."""
+    """The lines of a source, read one after another. `number` is that of the next line."""
 
     def __init__(self, path):
         with open(path, "rb") as file:
@@ -65,7 +65,7 @@ class Lines:
                           f"{self.next_one()[:80]!r}")
 
     def has(self, pattern):
-        """The match of the next line, which is taken, or None."""
+        """Reads the next line if it matches: the match, or None."""
         found = re.fullmatch(pattern, self.next_one(), re.ASCII)
         self.number += bool(found)
         return found
@@ -79,7 +79,7 @@ class Lines:
 
 
 def expect_grammar(path, kind):
-    """Refuses a text that isn't of the grammar, with the number of the first line that isn't."""
+    """Refuses a source that doesn't follow the grammar, with the number of the first wrong line."""
     lines, sections, (instructions, notes) = Lines(path), set(), KINDS[kind]
     lines.take(COMMENT, "a comment of one line")
     guard = lines.has(rf"\t\.ifndef ({NAME})")
@@ -133,7 +133,7 @@ def take_constants(lines):
 
 
 def expect_bytes(lines):
-    """That the numbers of a line of bytes that was taken are bytes."""
+    """Checks that the numbers of a line of bytes are bytes."""
     line = lines.lines[lines.number - 2]
     if line.startswith("\t.byte ") and any(int(x) >= BYTE for x in line[7:].split(",")):
         lines.number -= 1

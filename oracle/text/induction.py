@@ -23,16 +23,16 @@ HALF = "lower half"               # of a register, where a number of 32 bits lie
 
 
 class Family:
-    """What the definition says: after(k)(j), word j of `count` after k stripes, of so many bytes each and of which
-    there are `total`. suppose(k, values) makes these values the words for k. `together` is how many words of 32 bits
-    lie in a cell."""
+    """The definition's words: after(k)(j) is word j of `count` after k stripes of so many bytes each, of which there
+    are `total`. suppose(k, values) makes these values the words for k. `together` is the number of 32-bit words in a
+    cell."""
 
     def __init__(self, name, stripe, total, count, after, suppose, together=1):
         self.name, self.stripe, self.total, self.count, self.after = name, stripe, total, count, after
         self.put, self.known, self.together = suppose, {}, together
 
     def word(self, k, j):
-        """What cell j holds after k stripes: a word, or some."""
+        """The contents of cell j after k stripes: a word, or some."""
         key = repr(k), j
         if key not in self.known:
             n = self.together
@@ -53,7 +53,7 @@ class Family:
         self.put(k, values)
 
     def seem(self, k, is_there):
-        """Whether all words for k are there; asked one by one, since each may be expensive."""
+        """True if all words for k are there; tested one by one, since each may be expensive."""
         return all(is_there(self.word(k, j)) for j in range(self.cell_count()))
 
 
@@ -259,13 +259,13 @@ class Proof(Induction):
         super().compare(k, j)
 
     def may_hold_anything(self, cell):
-        """Whether another cell has the same word, if it has one."""
+        """True if another cell has the same word, or this one has none."""
         return list(self.words.values()).count(self.words.get(cell)) != 1
 
     # ---- a guess
 
     def known(self):
-        """What was shown of the loop, by cells as they have their names in another call."""
+        """The proved facts of the loop, by the names that its cells have in another call."""
         steps = {named(cell): step for cell, (_, step) in self.places.items()}
         return self.step, {named(cell): j for cell, j in self.words.items()}, steps, {*map(named, self.unset)}
 

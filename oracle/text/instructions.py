@@ -16,7 +16,7 @@ LETTERS = {8: "b", 16: "w", 32: "l", 64: "q"}
 
 
 def parts_of_registers():
-    """Name of a register -> (the whole one, its first bit in it, its width)."""
+    """A dictionary: name of a register -> (the whole one, its first bit in it, its width)."""
     out = {}
     for name in WIDE:
         out[name] = name, 0, 64
@@ -35,7 +35,7 @@ OLDER = 16                                 # vectors that a processor has before
 
 
 def form(kind, mnemonics, letters):
-    """Puts a function into the table for all forms of some mnemonics with some letters, those of a set."""
+    """Adds a function to the table for all forms of some mnemonics and letters, with their instruction set."""
     def put(function):
         for mnemonic in mnemonics.split():
             for one in letters.split() or [""]:
@@ -63,12 +63,12 @@ def letters(instruction):
 
 
 def needs_v4(instruction):
-    """Whether it has a vector that came with x86-64-v4, of whichever width."""
+    """True if it has a vector that came with x86-64-v4, of any width."""
     return any(VECTORS.get(x.name, 0) >= OLDER for x in instruction.operands if isinstance(x, Register))
 
 
 def known(instruction, processor):
-    """What an instruction does, by a processor of a name."""
+    """A processor's function for an instruction."""
     key = instruction.mnemonic, letters(instruction)
     kind, function = TABLE.get(key, (None, None))
     if kind not in SETS[processor] or needs_v4(instruction) and V4 not in SETS[processor]:

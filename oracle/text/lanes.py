@@ -16,7 +16,7 @@ def is_vector(operand):
 
 
 def lanes_count(x):
-    """2, 4 or 8, by the widest register."""
+    """The number of lanes: 2, 4 or 8, by the widest register."""
     return max((WIDTHS[y.name[0]] for y in x.operands if is_vector(y)), default=2)
 
 
@@ -308,7 +308,7 @@ def bytes_moved(pair, count, is_left):
 
 @form(V3, "vptest", "xx yy")
 def test(cpu, x):
-    """Whether no bit is in both, which is the flag of 0."""
+    """Sets the flag of 0 if no bit is in both."""
     result = 0
     for p, q in zip(*(cpu.lanes(y, lanes_count(x)) for y in x.operands)):
         result = arithmetic("or", WORD, result, p if p is q else arithmetic("and", WORD, p, q))

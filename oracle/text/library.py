@@ -13,7 +13,7 @@ class ForC:
 
     @staticmethod
     def one_shot(cpu, hash_name, kind, *arguments):
-        """The hash of a message, which is an address and a length, with a secret in the same way, and a seed."""
+        """The hash of a message (an address and a length), with a secret in the same form, and a seed."""
         return value_of(hash_name, cpu.call(name_of(hash_name, kind), *arguments))
 
     @staticmethod
@@ -26,5 +26,5 @@ class ForC:
 
     @staticmethod
     def digest(cpu, hash_name, state):
-        """The hash of what a state was given."""
+        """The hash of what was written to a state."""
         return value_of(hash_name, cpu.call(f"{NAMES[hash_name]}_digest", address(state)))

@@ -18,7 +18,7 @@ RETURN = "return"                             # where the first function returns
 
 
 class ReturnTo:
-    """Where a function returns to."""
+    """The return address of a function."""
 
     def __init__(self, section, at):
         self.place = section, at
@@ -39,7 +39,7 @@ class Page:
 
 
 def filler(table):
-    """What puts a function into a table for some mnemonics, each with some forms, which commas divide."""
+    """Adds a function to a table for some mnemonics, each with some forms, separated by commas."""
     def form(mnemonics, forms):
         def put(function):
             for mnemonic in mnemonics.split():
@@ -71,7 +71,7 @@ class Processor:
         self.constants = {name: Constants(name, *x) for name, x in program.constants.items()}
 
     def change(self, instruction):
-        """Puts an instruction in the place of the one there."""
+        """Replaces the instruction at a place."""
         self.changed[instruction.section, instruction.at] = instruction
 
     def new_name(self, prefix):
@@ -90,8 +90,8 @@ class Processor:
     # ---- calls
 
     def call(self, name, *arguments, into=None):
-        """Calls a function as C does, and gives what the first two registers of arguments hold. An argument is a number,
-        a term or an address; or (value, width): of 32 bits the kind says what the upper half is."""
+        """Calls a function like C does, and returns the values of the first two registers of arguments. An argument
+        is a number, a term or an address; or (value, width): for 32 bits the kind defines the upper half."""
         self.prepare()
         for register, x in zip(into or self.ARGUMENTS, arguments):
             value, width = x if isinstance(x, tuple) else (x, WORD)
@@ -111,7 +111,7 @@ class Processor:
         return joined((x, 32), (self.fresh(register, 32), 32))
 
     def prepare(self):
-        """Makes the state one of which nothing is known."""
+        """Resets the state to one of which nothing is known."""
         self.registers = {name: self.fresh(name) for name in self.REGISTERS}
         self.vectors = [[self.fresh(f"v{k}"), self.fresh(f"v{k}")] for k in range(self.VECTORS)]
         self.flags, self.stack = None, Stack()
@@ -163,7 +163,7 @@ class Processor:
         return place
 
     def give_back(self):
-        """What lies below the stack pointer, once an instruction has moved it, may be anything: a signal may write there."""
+        """All below the stack pointer may be anything after an instruction moved it: a signal may write there."""
         memory, at = self.registers["sp"].place()
         memory.forget_below(at)
         self.has_moved = False
@@ -186,12 +186,12 @@ class Processor:
         return self.return_place()
 
     def return_place(self):
-        """Where the link leads to, or None behind the first function."""
+        """The target of the link, or None after the first function."""
         link = self.registers[self.LINK]
         return link.place if isinstance(link, ReturnTo) else None
 
     def argument(self, where):
-        """What a function is given in a register, at its first instruction."""
+        """The value of a register at the first instruction of a function."""
         return self.registers[where]
 
     # ---- registers

@@ -42,7 +42,7 @@ def want(holds, why):
 
 
 def expect_listed(object_, export):
-    """Refuses an object that holds what isn't listed. `export` is an export's binding and visibility."""
+    """Refuses an object with contents that aren't listed. `export` is an export's binding and visibility."""
     want((tuple(object_.data[6:9]), object_.flags) == (HEAD, 0), "an object for another system")
     names = [head.name for head in object_.heads]
     want(len({*names}) == len(names), f"two sections are named {max(names, key=names.count)}")
@@ -100,8 +100,8 @@ def expect_symbol(object_, symbol, export, begun):
 
 
 class Loaded:
-    """What an object has that runs or is read: `heads`, name -> the head of a section of code or constants; `functions` and
-    `exports`, name -> (section, offset); `constants`, name -> (bytes, alignment)."""
+    """The parts of an object that run or are read: `heads`, name -> the head of a section of code or constants;
+    `functions` and `exports`, name -> (section, offset); `constants`, name -> (bytes, alignment)."""
 
     MACHINE = X86_64
     EXPORT = GLOBAL, DEFAULT      # binding and visibility
@@ -122,7 +122,7 @@ class Loaded:
                 if head.kind == PROGBITS and head.flags & LOADED and head.size and head.name != FRAMES}
 
     def read_constants(self):
-        """Each entry of a mergeable section is an object of its own: a linker may move it separately."""
+        """Each entry of a mergeable section is a separate object: a linker may move it separately."""
         for name, head in self.heads.items():
             data = self.object.body(head)
             if head.flags == CONSTANTS:
@@ -138,7 +138,7 @@ class Loaded:
                 for of_exports in (False, True))
 
     def function(self, name):
-        """Where a function begins."""
+        """The start of a function."""
         want(name in self.functions, f"the text has no {name}")
         return self.functions[name]
 
@@ -146,8 +146,8 @@ class Loaded:
         return self.object.heads[symbol.section].name, symbol.value
 
     def target_of(self, symbol, addend):
-        """What a relocation leads to: (section, constant or outer name, offset). A linker moves a constant of a mergeable
-        section before it adds to its place, so such a place is the constant's first byte."""
+        """The target of a relocation: (section, constant or outer name, offset). A linker moves a constant of a
+        mergeable section before it adds to its place, so such a place is the constant's first byte."""
         if is_global(symbol):
             want(not symbol.section and symbol.name in OUTER and not addend,
                  f"a way to {symbol.name}{addend:+#x}, which another library may have")

@@ -26,7 +26,7 @@ ReturnTo = collections.namedtuple("ReturnTo", "section at")
 
 
 class Words(Memory):
-    """An object whose cells hold what registers hold. Of an address or of where to return there are no parts."""
+    """An object whose cells hold values of registers. Addresses and return addresses have no parts."""
 
     def allow(self, at, n):
         """Refuses a store that a call mustn't do."""
@@ -58,7 +58,7 @@ class Words(Memory):
         return divided(divided(value, 1 << 8 * (at - near[0]))[0], 1 << 8 * n)[1]
 
     def keeps_runs(self, at, n):
-        """Whether what is copied there is a run of an input."""
+        """True if what is copied there is a run of an input."""
         return not (isinstance(at, int) and isinstance(n, int))
 
     def take(self, at, n, source, first):
@@ -81,7 +81,7 @@ class Words(Memory):
 
 
 class OnlyRead(Words):
-    """What a call may only read. Another such object may be the same bytes, or some of them."""
+    """Objects that a call may only read. Another such object may be the same bytes, or some of them."""
 
     def allow(self, at, n):
         raise Unsupported(f"a store to {self.name}")
@@ -93,12 +93,12 @@ class Constants(OnlyRead):
 
 
 def lie_apart(first, second):
-    """Whether two objects have no byte in common: one of them is written to."""
+    """True if two objects have no byte in common: one of them is written to."""
     return any(isinstance(memory, Words) and not isinstance(memory, OnlyRead) for memory in (first, second))
 
 
 class Stack(Words):
-    """Below the caller's frame. `lowest` is the lowest byte that was stored."""
+    """The stack below the caller's frame. `lowest` is the lowest byte that was stored."""
 
     def __init__(self):
         super().__init__("stack", STACK, alignment=16)
@@ -111,7 +111,7 @@ class Stack(Words):
             raise Unsupported(f"a store to the caller's frame, at {at}")
 
     def forget_below(self, at):
-        """What lies below the stack pointer may be anything."""
+        """Everything below the stack pointer may be anything."""
         for first in [first for first in self.cells if first < at]:
             del self.cells[first]
 
@@ -130,7 +130,7 @@ class Numbers(Input):
 
 
 def spell(x, width=WORD):
-    """A number as its lowest bits, which are known to be it where it has no others."""
+    """A number as its lowest bits, which are known to equal it if it has no others."""
     found = lifted(x)
     if isinstance(x, Poly) and isinstance(found, Node):
         lowest = {n: bits(found, 0, n) for n in range(8, WORD + 1, 8)}

@@ -30,7 +30,7 @@ TARGET = re.compile(r"([0-9a-f]+)(?: <.*>)?")
 
 
 class Program(Loaded):
-    """What is loaded, with the sections of instructions, name -> address -> Instruction."""
+    """The loaded sections of instructions: name -> address -> Instruction."""
 
     def __init__(self, path):
         super().__init__(path)
@@ -57,7 +57,7 @@ class Program(Loaded):
         return any(first <= place < end for place in self.relocations[section])
 
     def relocations_of(self, section):
-        """Place -> (symbol, addend)."""
+        """A dictionary: place -> (symbol, addend)."""
         found = {}
         for head in self.object.heads:
             if head.kind != RELA or self.object.heads[head.info] is not section:
@@ -71,7 +71,7 @@ class Program(Loaded):
     # ---- instructions
 
     def read(self, section, lines):
-        """The instructions of a section, which have all of its bytes and of its relocations."""
+        """The instructions of a section, which cover all of its bytes and relocations."""
         found, at, body, used = {}, 0, self.object.body(self.heads[section]), set()
         for address, raw, text in lines:
             end = at + len(raw)
@@ -109,7 +109,7 @@ class Program(Loaded):
 
 
 def listing(path):
-    """Section -> (address, bytes, text) of each instruction, as objdump says them."""
+    """A dictionary: section -> (address, bytes, text) of each instruction, as objdump prints them."""
     out = subprocess.run(["objdump", "-d", "-z", "-w", path], check=True, capture_output=True, text=True).stdout
     found, lines = {}, None
     for line in out.splitlines():
@@ -121,7 +121,7 @@ def listing(path):
 
 
 def split(text):
-    """The mnemonic and the operands, without objdump's remarks, and without the prefixes of a `nop`."""
+    """The mnemonic and the operands, without objdump's comments, and without the prefixes of a `nop`."""
     words = text.split("#")[0].split(None, 1)
     while words[0] in PREFIXES and len(words) > 1 and re.match(r"(\w+ )*nop", words[1]):
         words = words[1].split(None, 1)

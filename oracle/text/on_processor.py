@@ -185,7 +185,7 @@ def inputs(mnemonic, lines, draw):
 
 
 def with_edges(data, draw):
-    """The bytes, of which most are edges instead."""
+    """The bytes, most of which are edge cases instead."""
     old, edges, mask = (int.from_bytes(x, "little") for x in (
         data, draw.randbytes(SIZE).translate(EDGES), draw.randbytes(SIZE).translate(MOSTLY)))
     return bytearray((old & ~mask | edges & mask).to_bytes(SIZE, "little"))
@@ -196,7 +196,7 @@ def word(data, at):
 
 
 def by_table(cpu, number, lines, data):
-    """What the memory has to hold afterwards, by the table."""
+    """The expected contents of the memory afterwards, by the table."""
     room = Words("state", SIZE, [(at, 8, word(data, at)) for at in range(ROOM, AFTER, 8)], alignment=64)
     cpu.registers = {name: word(data, REGISTERS + 8 * k) for k, name in enumerate(LOADED)}
     bases = bases_of(lines)

@@ -23,13 +23,13 @@ def of_seed(request):
 
 
 def suppose_seed(cpu, request):
-    """A seed that isn't a number is supposed not to be 0 if the request has a twin with 0, and only then."""
+    """A seed that isn't a number is assumed not to be 0 if the request has a twin with 0, and only then."""
     seed = request.seed()
     cpu.not_zero = [seed] if isinstance(seed, Node) and request.with_seed_0() else []
 
 
 def value_of(hash_name, answer):
-    """The hash that a call gives in rax and rdx."""
+    """The hash that a call returns in rax and rdx."""
     rax, rdx = answer
     if hash_name == "3-128":
         return joined((rax, 64), (rdx, 64))

@@ -28,12 +28,12 @@ Wrong = collections.namedtuple("Wrong", "what change ask words")
 # ---- how a text is changed
 
 def begun(name, *lines):
-    """A function that begins with further lines."""
+    """A function with lines inserted at its start."""
     return lambda text: with_lines(text, rf"^{re.escape(name)}:\n\t.cfi_startproc\n", "", lines)
 
 
 def with_lines(text, place, before, lines):
-    """A text with lines behind the one place that a pattern finds, and other text before it."""
+    """A source with lines after the one place that matches a pattern, and with other text before it."""
     found = list(re.finditer(place, text, re.M))
     if len(found) != 1:
         raise NotShown(f"{len(found)} places like {place}")
@@ -53,7 +53,7 @@ def in_loop(text):
 
 
 def hidden_register(text):
-    """XXH64's streams, where reset and digest take what the caller left in a register."""
+    """XXH64's streams, where reset and digest read what the caller left in a register."""
     text = begun("XXH64_reset", "xor %r11,%rsi")(text)
     function = text.index("\nXXH64_digest:")
     old = "\tmov 0x8(%rdi),%r8\n"
@@ -61,7 +61,7 @@ def hidden_register(text):
 
 
 def other_constant(text):
-    """The place behind a constant, in the place of one."""
+    """The place after a constant, instead of the constant."""
     return re.sub(r"(\.L\w+)\(%rip\)", r"\1+16(%rip)", text, count=1)
 
 
@@ -78,7 +78,7 @@ def function(name, *more):
 # ---- what is asked
 
 def request(*words, **more):
-    """A request and its twin, beside the definition."""
+    """A request and its twin, compared with the definition."""
     def ask(cpu):
         entries, one = definition.program().run(), Request(*words, **more)
         for each in [one, *one.with_seed_0()]:
@@ -107,13 +107,13 @@ def far_case(cpu):
 
 
 def any_update(cpu):
-    """An update of a stream of XXH3 that the buffer has room for."""
+    """An update of an XXH3 stream that fits in the buffer."""
     proof = xxh3_updates.Xxh3Updates(cpu)
     proof.update(*list(proof.small_pieces())[-1])
 
 
 def adds_where(word, register):
-    """Lines that add 1 to a register where a word that lies in rax is one of 2 ^ 64."""
+    """Lines that add 1 to a register if a word in rax is one of 2 ^ 64."""
     return (f"movabs ${word:#x},%r10", "xor %r10,%rax", "mov %rax,%r10", "neg %r10", "or %r10,%rax", "shr $0x3f,%rax",
             "xor $0x1,%eax", f"add %rax,{register}")
 
@@ -203,7 +203,7 @@ TEXTS = [
 
 
 class Asked:
-    """A wrong text that is made of another one, and isn't asked for its grammar; `read` makes a processor of an object."""
+    """A wrong source made of another one, whose grammar isn't checked; `read` makes a processor of an object."""
 
     def __init__(self, wrong, source, read, kind=V1):
         self.title, self.words, self.wrong, self.source, self.read, self.kind = wrong.what, wrong.words, wrong, source, read, kind
@@ -219,7 +219,7 @@ class Asked:
 
 
 def complaints(asked):
-    """What there is to say of wrong texts that aren't refused, or for other reasons than they should be."""
+    """The messages on wrong sources that aren't refused, or not for the expected reason."""
     for one in asked:
         try:
             one.ask()
@@ -230,7 +230,7 @@ def complaints(asked):
 
 
 def refused(asked):
-    """(how many were refused, what there is to say of the others)."""
+    """(number of refusals, the messages on the others)."""
     bad = list(complaints(asked))
     return len(asked) - len(bad), bad
 
@@ -250,13 +250,13 @@ def lacks_a_case(room):
 
 
 def processor(room):
-    """That of the text as it is."""
+    """A processor of the unchanged source."""
     subprocess.run(["gcc", "-c", SOURCE, "-o", f"{room}/right.o"], check=True)
     return Processor(Program(f"{room}/right.o"), V2)
 
 
 def has_a_wrong_sum(_):
-    """A polynomial as a word that is one more."""
+    """A polynomial as a word that is greater by one."""
     def one_more(x, width):
         return operations.add_at(width, (1, word(x, width)), (1, 1))
     word = values.as_word
@@ -265,14 +265,14 @@ def has_a_wrong_sum(_):
 
 
 def has_a_wrong_join(_):
-    """Bits side by side in the other order."""
+    """Adjacent bits in the other order."""
     parts = operations.from_segments
     with unittest.mock.patch.object(operations, "from_segments", lambda segments: parts(segments[::-1])):
         return raises(WrongRule, lambda: values.joined((nodes.symbol("a", 32), 32), (nodes.symbol("b", 32), 32)))
 
 
 def has_a_wrong_table(room):
-    """A form of the table that does what another does."""
+    """A form of the table with another form's function."""
     form = "shr", "iq"
     with unittest.mock.patch.dict(TABLE, {form: TABLE["shl", "iq"]}):
         return len(on_processor.compare({on_processor.sampled(*form): form}, room)[1]) == 1

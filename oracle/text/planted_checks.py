@@ -76,7 +76,7 @@ def two_widths(cpu):
 
 
 def many_stripes(cpu):
-    """What a function that takes many stripes does, in a case."""
+    """Proves one case of a function that processes many stripes."""
     proof = xxh3_updates.Xxh3Updates(cpu)
     proof.taken_of(*next(x for x in proof.all_taken() if x[1][0].name == xxh3_updates.TAKE_MANY.name))
 

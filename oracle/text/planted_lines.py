@@ -16,7 +16,7 @@ GUARD = r"\t\.ifndef .*\n"
 
 
 def put(*lines, place=BODY, behind="\t"):
-    """Inserts lines at the first place that a pattern finds."""
+    """Inserts lines at the first place that matches a pattern."""
     return lambda text: re.sub(place, lambda _: "".join(f"{behind}{line}\n" for line in lines), text, count=1)
 
 
@@ -98,7 +98,7 @@ NOT_ASSEMBLED = {"an instruction behind a sign of another system", "a way by the
 
 
 class AskedLines:
-    """A wrong text that its grammar has to refuse, or by `is_alike` the comparison of objects."""
+    """A wrong source that its grammar must refuse, or with `is_alike` the comparison of objects."""
 
     def __init__(self, source, kind, what, change, is_alike=False):
         self.title, self.source, self.kind, self.change, self.is_alike = what, source, kind, change, is_alike

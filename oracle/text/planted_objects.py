@@ -37,7 +37,7 @@ def local(name):
 
 
 def with_property(length, *words):
-    """The note with other properties, of so many bytes."""
+    """The note with other properties, of that many bytes."""
     return lambda text: exchanged(PROPERTY[1], "".join(f"\t.long {word}\n" for word in words))(
         exchanged(PROPERTY[0], f"\t.long 4,{length},5\n")(text))
 
@@ -50,7 +50,7 @@ def with_frame(pattern, new):
 # ---- what is asked
 
 def of_object(cpu):
-    """What any row asks first: that the object is read."""
+    """The first step of every row: the object is read."""
     calls.version(cpu)
 
 

@@ -52,7 +52,7 @@ class Processor:
         self.used, self.made, self.limit, self.count = set(), 0, NO_LIMIT, 0
 
     def change(self, instruction):
-        """Puts an instruction in the place of the one there."""
+        """Replaces the instruction at a place."""
         self.code[instruction.section][instruction.at] = self.known(instruction, self.name), instruction
 
     def new_name(self, prefix):
@@ -66,8 +66,8 @@ class Processor:
     # ---- calls
 
     def call(self, name, *arguments, into=ARGUMENTS):
-        """Calls a function as C does, and gives what rax and rdx hold. An argument is a number, a term or an address;
-        or (value, 32), where the upper half of its register may be anything."""
+        """Calls a function like C does, and returns the values of rax and rdx. An argument is a number, a term or an
+        address; or (value, 32), if the upper half of its register may be anything."""
         self.registers = {name: self.fresh(name) for name in WIDE}
         self.forget_vectors()
         self.flags = self.carry = None
@@ -85,13 +85,13 @@ class Processor:
         return self.registers["rax"], self.registers["rdx"]
 
     def expect_kept(self, kept):
-        """A return finds its address at only one place of the stack, so the stack pointer is the caller's."""
+        """A return finds its address only at one place of the stack, so the stack pointer is the caller's."""
         for register, x in kept.items():
             if self.registers[register] is not x:
                 raise Unsupported(f"{register} isn't the caller's at the end")
 
     def argument(self, where):
-        """What a function is given in a register, at its first instruction."""
+        """The value of a register at the first instruction of a function."""
         return self.registers[where]
 
     @staticmethod
@@ -103,7 +103,7 @@ class Processor:
         self.vectors = [[None] * LANES for _ in range(VECTORS_COUNT)]
 
     def run(self, place):
-        """From a place to the return out of the first call."""
+        """Runs from a place to the return out of the first call."""
         while place is not None:
             if self.loops:
                 place = self.loops.pass_by(self, place)
@@ -177,7 +177,7 @@ class Processor:
     # ---- places in memory
 
     def effective(self, place, instruction):
-        """The address that an operand says."""
+        """The address of an operand."""
         if place.base == "rip":
             name, at = instruction.target
             if name not in self.constants:
@@ -193,7 +193,7 @@ class Processor:
         return out
 
     def place(self, operand, instruction, alignment=1):
-        """The object and the offset that an operand says."""
+        """The object and the offset of an operand."""
         memory, at = place_of(self.effective(operand, instruction))
         if memory is self.stack and not (isinstance(at, int) and at >= self.registers["rsp"].place()[1] - RED):
             raise Unsupported("a place below the stack")
@@ -209,7 +209,7 @@ class Processor:
         return x
 
     def expect_writable(self, memory):
-        """What is written while loops are shown has to be among what is looked at for that."""
+        """Checks that what is written while loops are proved is among the cells that are watched."""
         is_known = not self.loops or memory is self.stack or any(memory is other for other in self.live)
         if not isinstance(memory, Words) or not is_known:
             raise Unsupported(f"a store to {memory.name}")
@@ -221,7 +221,7 @@ class Processor:
     # ---- operands
 
     def width(self, instruction):
-        """The width of the operands: that of the last register among them, or what the mnemonic says."""
+        """The width of the operands: that of the last register among them, or that of the mnemonic."""
         for operand in reversed(instruction.operands):
             if isinstance(operand, Register) and operand.name in PARTS:
                 return PARTS[operand.name][2]
@@ -247,7 +247,7 @@ class Processor:
             self.store(*self.place(operand, instruction), width // 8, x)
 
     def put_register(self, name, first, width, x):
-        """A part of 32 bits makes the upper half 0, and a narrower one leaves all above it."""
+        """Writing 32 bits clears the upper half, and a narrower part keeps everything above it."""
         old = self.registers[name]
         if first:
             raise Unsupported("a store to a second byte")
@@ -260,7 +260,7 @@ class Processor:
         self.registers[name] = x
 
     def lanes(self, operand, count=1, first=0):
-        """Some lanes of a vector, which have to be there."""
+        """Some lanes of a vector, which must be set."""
         found = self.vectors[VECTORS[operand.name]][first:first + count]
         if any(x is None for x in found):
             raise Unsupported(f"%{operand.name}, which isn't set")
@@ -279,7 +279,7 @@ class Processor:
 
 
 def call_of_outer(name, cpu, _):
-    """memcpy, memmove or memset, which are another's."""
+    """Calls of memcpy, memmove or memset, which are external."""
     to, source, n = (cpu.registers[name] for name in ARGUMENTS[:3])
     memory, at = cpu.registers["rsp"].place()
     if (at + 8) % 16:

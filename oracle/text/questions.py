@@ -73,7 +73,7 @@ def with_twins(request):
 
 
 def in_numbers(request, is_extreme):
-    """The same request with numbers; where they are extreme ones, most bytes are 0 or 255."""
+    """The same request with numbers; for extreme ones, most bytes are 0 or 255."""
     draw = random.Random(request.length)
     message, secret, own = (draw.randbytes(n) for n in (request.length, request.secret_length or 0, 8))
     if is_extreme:
@@ -89,7 +89,7 @@ def in_numbers(request, is_extreme):
 # ---- questions
 
 def noticed_by(ask):
-    """What is detected, by name, or None. What is made of it is forgotten."""
+    """The name of what is detected, or None. Terms that it makes are forgotten."""
     known = nodes.mark()
     try:
         return ask()
@@ -102,7 +102,7 @@ def noticed_by(ask):
 
 
 class Call:
-    """A call that compares by itself."""
+    """A call that compares its result itself."""
     request = None
 
     def __init__(self, call):
@@ -116,7 +116,7 @@ class Call:
 
 
 class OfRequest:
-    """A request, with the definition's value of it, and its term from when it is wanted."""
+    """A request, with the definition's value of it, and its term as soon as it is needed."""
 
     def __init__(self, request, entries, is_extreme=False):
         self.title, self.request, self.entries, self.term = repr(request), request, entries, None
@@ -137,7 +137,7 @@ class OfRequest:
         return noticed_by(lambda: None if is_same(self.term, self.answer(cpu, self.request)) else ANOTHER_TERM)
 
     def twice(self, cpu):
-        """With numbers, and if that detects something over symbols, which must detect another value."""
+        """Runs with numbers, and if that detects something over symbols, which must detect another value."""
         found = self.with_numbers(cpu)
         told = self.over_symbols(cpu) if found else None
         if found == ANOTHER_VALUE and not told:
@@ -146,14 +146,14 @@ class OfRequest:
 
 
 def questions(entries, is_all, others, library):
-    """The requests that a library has a call for, the shortest first, and the other calls."""
+    """The requests for which a library has a call, the shortest first, and the other calls."""
     asked = [twin for request in requests(is_all) if library.has(request) for twin in with_twins(request)]
     asked.sort(key=lambda request: request.length)
     return [*(OfRequest(request, entries) for request in asked), *map(Call, others)]
 
 
 def are_long(asked):
-    """Whether some requests take longer than an induction."""
+    """True if some requests take longer than an induction."""
     return all(question.request.length >= LONG for question in asked)
 
 
@@ -230,7 +230,7 @@ def by_induction(program, asked, section, updates):
 
 
 def takes_stripes(program, section):
-    """True if a section is a function that takes many stripes."""
+    """True if a section is a function that processes many stripes."""
     return any(program.functions.get(summary.name, (None,))[0] == section for summary in TAKING)
 
 

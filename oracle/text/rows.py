@@ -46,7 +46,7 @@ def programs():
 
 
 def makers(texts):
-    """Name -> what makes a processor of that text."""
+    """A dictionary: name -> a function that makes a processor of that source."""
     return {name: functools.partial(CargoProcessor, program) if isinstance(program, CargoProgram) else
             functools.partial(Processor, program, name) for name, program in texts.items()}
 
@@ -56,7 +56,7 @@ def processors(texts):
 
 
 def counted(title, least, ask):
-    """A row that has at least so many cases: `ask` gives their number, and what there is to say of others."""
+    """A row that has at least so many cases: `ask` returns their number, and the messages on others."""
     def outcome():
         count, bad = ask()
         few = [f"{count} cases, and {least} at least are wanted"] if count < least and not bad else []
@@ -94,7 +94,7 @@ def title_of(hash_name, kind, secret):
 
 
 def compared(texts, title, requests, side=one_shots):
-    """A row of requests, each of all texts: the definition's term is made once."""
+    """A row of requests, each for all sources: the definition's term is computed once."""
     requests = list(requests)
     texts = texts_of(texts, requests[0].hash_name)
     lengths = [request.length for request in requests]
@@ -110,7 +110,7 @@ def one_by_one(texts, kind, lengths, more=""):
 
 
 def one_shot_rows(texts, is_all):
-    """Secrets of other lengths have rows of every length. With one of 136 bytes x86-64-v4 runs what x86-64-v3 does."""
+    """Secrets of other lengths have rows of every length. With one of 136 bytes x86-64-v4 runs x86-64-v3's code."""
     out = [one_by_one(texts if is_all or kind[2] is None else before_v4(texts), kind, ONE_BY_ONE)
            for kind in comparison.kinds(SECRETS)]
     for kind in [("3-64", "default", None), ("3-128", "seed", None), ("3-64", "secret", 192)]:
@@ -123,7 +123,7 @@ def one_shot_rows(texts, is_all):
 
 
 def secret_rows(texts, is_all):
-    """Secrets that are too short, and others by their lengths."""
+    """Rows of secrets that are too short, and of others by their lengths."""
     out, lengths = [], SMALL if is_all else [0, 17, 241]
     for hash_name in ("3-64", "3-128"):
         out.append(of_each(texts, f"XXH{hash_name}, secrets that are too short", 2 * calls.SHORTEST * len(lengths),
@@ -142,7 +142,7 @@ def stream_rows(texts, is_all):
 
 
 def plain_stream_rows(made, is_all, some=SOME_UPDATES):
-    """Streams of XXH32 and XXH64 of any updates: all cases, in parts, or some."""
+    """Rows of streams of XXH32 and XXH64 with any updates: all cases, in parts, or some."""
     out = [counted("each update of XXH32 and XXH64 has its row", 2, updates_left_out)]
     for hash_name in any_updates.LAYOUTS:
         count = len(list(any_updates.updates(hash_name)))
@@ -170,7 +170,7 @@ def xxh3_rows(made, is_all, kind=xxh3_updates.Xxh3Updates):
 
 
 def points_left_out(made, is_all, kind):
-    """(points that are looked at, those that no case has)."""
+    """(number of points, those that are in no case)."""
     count = COVERED[is_all] // 3
     bad = [f"{name}: no case has {point}" for name, make in made.items()
            for point in covered.left_out(kind(make()), count)]
@@ -206,7 +206,7 @@ def any_streams(make, hash_name, part, some):
 
 
 def count_shown(proof, asked):
-    """(how many of the cases are shown, what there is to say of the others)."""
+    """(number of proved cases, the messages on the others)."""
     bad = []
     for ask in asked:
         if len(nodes.NODES) > MOST_NODES:
@@ -310,7 +310,7 @@ def up_to_240(make, kind):
 # ---- the other calls
 
 def of_each(texts, title, least, call):
-    """A row of a function of a processor, which gives the number of its cases, or raises."""
+    """A row of a function of a processor, which returns the number of its cases, or raises."""
     return counted(title, least * len(texts), lambda: (sum(call(cpu) for cpu in processors(texts).values()), []))
 
 
@@ -332,7 +332,7 @@ def twin_row(texts):
 
 
 def frames_row(texts, least=FEWEST_FRAMED):
-    """The unwinding tables: of each text at least so many instructions."""
+    """The unwinding tables: at least so many instructions of each source."""
     return counted("the frame at each instruction", least * len(texts),
                    lambda: (sum(map(expect_frames, texts.values())), []))
 
@@ -342,5 +342,5 @@ def made_secrets(cpu, asked):
 
 
 def assembler_row(sources):
-    """Objects of each text by three assemblers."""
+    """Objects of each source by three assemblers."""
     return counted("one object by GNU as, clang and rustc", 2 * len(sources), lambda: (expect_alike(sources), []))

@@ -18,7 +18,7 @@ def planted_row(title, asked):
 
 
 def choose(texts, others, is_all):
-    """Those of c/asm's texts and of cargo's, which are `others`."""
+    """The rows on c/asm's sources and on cargo's, which are `others`."""
     forms = sum(kind in SETS[on_processor.processor_here()] for kind, _ in TABLE.values())
     without = "" if on_processor.is_v4() else ", without what it lacks of x86-64-v4"
     return [counted(f"the table of instructions beside the processor{without}", forms - 40,
@@ -60,7 +60,7 @@ def is_widened(section):
 
 
 def change_row(where, counts, is_all, *asked, **more):
-    """So many changes of one draw, or with --all of each draw."""
+    """That many changes of one draw, or with --all of each draw."""
     count, draws = counts[is_all], changes.DRAWS if is_all else 1
     return counted(f"changes of one instruction, {where}", count * draws,
                    functools.partial(changes.noticed, *asked, count, is_all, **more))

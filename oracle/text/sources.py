@@ -27,7 +27,7 @@ ASSEMBLERS = "GNU as", "clang", "rustc"
 
 
 def assembled(source, kind, read):
-    """What `read` makes of the object's path."""
+    """The result of `read` for the object's path."""
     expect_grammar(source, kind)
     with tempfile.TemporaryDirectory(prefix="machine-text-") as room:
         return read(by_gnu(source, kind, room))

@@ -18,7 +18,7 @@ ALIGNMENT = {"32": 4}             # of a state, as the header says; of all other
 
 
 def sizes():
-    """The states' sizes, which the library's C files allocate."""
+    """The sizes of the states, which the library's C files allocate."""
     with open(os.path.join(TOP, "c", "asm", "state_sizes.h"), encoding="utf-8") as file:
         return {name: int(size) for name, size in re.findall(r"#define XXH(\d+)_STATE_BYTES (\d+)", file.read())}
 
@@ -31,7 +31,7 @@ def state_name(hash_name):
 
 
 def new_state(cpu, hash_name):
-    """Memory of a state's size, which holds anything."""
+    """Memory of a state's size, with any contents."""
     size = cpu.library.SIZES[state_name(hash_name)]
     cells = [(at, 8, cpu.fresh("a state's word")) for at in range(0, size, 8)]
     return Words("state", size, cells, alignment=ALIGNMENT.get(hash_name, 8))
@@ -42,7 +42,7 @@ def contents(memory, size=8):
 
 
 def expect_same(what, before, memory, size=8):
-    """That the memory holds what it held."""
+    """Checks that the memory is unchanged."""
     if not all(is_same(x, y) or is_same_number(x, y) for x, y in zip(before, contents(memory, size), strict=True)):
         raise Unsupported(f"{what} changes the state")
 
@@ -70,7 +70,7 @@ def update(cpu, hash_name, state, piece):
 
 
 def digest(cpu, hash_name, state):
-    """The hash of what a state was given; the state stays."""
+    """The hash of what was written to a state, which stays unchanged."""
     before = contents(state)
     value = cpu.library.digest(cpu, hash_name, state)
     expect_same("a digest", before, state)

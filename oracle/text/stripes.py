@@ -39,7 +39,7 @@ class Stripes(Family):
         return plus(times(self.q, place[0]), place[1])
 
     def supposed(self):
-        """What the words are supposed to be, to be restored."""
+        """The assumed values of the words, to be restored."""
         return dict(suppositions.values)
 
     def restore(self, known):
@@ -48,7 +48,7 @@ class Stripes(Family):
         self.known.clear()
 
     def before(self, place, n):
-        """n stripes before a place."""
+        """The place n stripes before another."""
         b, j = place
         return (minus(b, 1), minus(self.q, n)) if is_same_number(j, 0) else (b, minus(j, n))
 
@@ -58,7 +58,7 @@ class Stripes(Family):
 
 
 class StripesProof(Proof):
-    """A loop over stripes. Its head may come before the first stripe or behind it."""
+    """A loop over stripes. Its head may be before the first stripe or after it."""
 
     HAS_INNER = True
 
@@ -98,11 +98,11 @@ class StripesProof(Proof):
         return True
 
     def is_run(self, part):
-        """Whether a number of turns is run: of one or none, and where it is known how far the block's end is."""
+        """True if this number of turns is run: 0 or 1, or if the distance to the block's end is known."""
         return part.turns in (0, 1) or isinstance(minus(self.family.q, part.start[1]), int)
 
     def holds(self, first):
-        """Whether the words after so many stripes are there."""
+        """True if the words after so many stripes are there."""
         numbers = {x for x in self.start.values() if isinstance(x, int)}
         terms = {x.number for x in self.start.values() if isinstance(x, Node)}
         try:
@@ -191,9 +191,9 @@ class StripesProof(Proof):
 # ---- functions that take stripes
 
 class Summary:
-    """What a function does that takes the stripes of a part: it reads a record of accumulators, with the place in the
-    block where `has_place`, and stripes and secret; and it writes such a record, another one or the same. That is what
-    `taken` of xxh3_updates.py asks of the function itself; `put_into` makes it what a call of the function does."""
+    """The effect of a function that processes the stripes of a part: it reads a record of accumulators, with the
+    place in the block if `has_place`, stripes and secret, and writes such a record, another one or the same. `taken`
+    of xxh3_updates.py proves that of the function; `put_into` makes it the effect of its calls."""
 
     def __init__(self, name, has_place=True, least=0, has_length=True, is_in_place=False):
         self.name, self.size, self.has_place, self.least = name, TAKEN if has_place else WORDS, has_place, least
@@ -201,7 +201,7 @@ class Summary:
         self.is_in_place = is_in_place   # whether it writes the record that it reads
 
     def registers(self, cpu):
-        """Where its arguments lie."""
+        """The places of its arguments."""
         return cpu.TAKES_STRIPES[:5] if self.is_in_place else cpu.TAKES_STRIPES
 
     def put_into(self, cpu, family, source, secret):
@@ -254,7 +254,7 @@ class Summary:
 
 
 def is_at(place, source, at, n):
-    """Whether the n bytes at an address are those of an input at a place."""
+    """True if the n bytes at an address are those of an input at a place."""
     memory, offset = place.place()
     if isinstance(memory, Input):
         found, first = memory.origin(offset)

@@ -75,7 +75,7 @@ def called(call):
 
 
 def without(tree, line):
-    """The module's tree, where the check that begins at a line does nothing."""
+    """The module's tree without the check that begins at a line."""
     class Off(ast.NodeTransformer):
         def generic_visit(self, node):
             super().generic_visit(node)
@@ -110,7 +110,7 @@ class Loader(importlib.abc.MetaPathFinder, importlib.abc.SourceLoader):
 # ---- the wrong texts
 
 def every_text():
-    """All wrong texts, in one order."""
+    """All wrong sources, in one order."""
     from text import cargo_planted, planted, planted_checks, planted_lines, planted_objects, rows
     assert rows
     return [*planted_lines.X86_ASKED, *planted_lines.ARM_ASKED, *planted_lines.X86_ALIKE, *planted_objects.X86_ASKED,
@@ -118,7 +118,7 @@ def every_text():
 
 
 def refusal(one):
-    """What refuses a wrong text, or None."""
+    """The refusal of a wrong source, or None."""
     from terms.refusals import REFUSALS
     try:
         one.ask()
@@ -128,7 +128,7 @@ def refusal(one):
 
 
 def place_of(error, known):
-    """The check, of those that are known, through which a refusal came: the innermost, or none."""
+    """The known check that raised a refusal: the innermost, or None."""
     for frame in reversed(traceback.extract_tb((error.__cause__ or error).__traceback__)):
         for key, (path, first, last) in known.items():
             if path == frame.filename and first <= frame.lineno <= last:
@@ -137,7 +137,7 @@ def place_of(error, known):
 
 
 def told_without(module, line, number):
-    """What a process of its own says of a wrong text, where the check at a line is switched off, if there is one."""
+    """Runs a wrong source in a separate process, with the check at a line disabled, if there is one: its output."""
     words = [sys.executable, "-B", os.path.abspath(__file__), module, str(line), str(number)]
     done = subprocess.run(words, capture_output=True, text=True)
     return "no end" if done.returncode == -signal.SIGXCPU else done.stdout
@@ -159,13 +159,13 @@ def plain(text):
 # ---- the row
 
 def unplanted():
-    """Check -> why no wrong text is refused by it."""
+    """A dictionary: check -> why no wrong source is refused by it."""
     with open(UNPLANTED, encoding="utf-8") as file:
         return dict(line.rstrip("\n").split(" | ") for line in file if line.strip() and not line.startswith("#"))
 
 
 def tell(is_all, jobs=1):
-    """(checks that were switched off and detected, the messages on others): all, or those of a few texts."""
+    """(checks that were disabled and detected, the messages on others): all, or those of a few sources."""
     where = {module: checks_of(module) for module in MODULES}
     known = {key: (path_of(module), *lines) for module, found in where.items() for key, lines in found.items()}
     refused, listed, bad = {}, unplanted(), []

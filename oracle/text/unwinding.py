@@ -11,7 +11,7 @@ REMARK = re.compile(r"\s*(#(?!\w|-)|//).*")
 
 
 def expect_frames(program):
-    """The number of instructions, of each of which the table says the right frame, if it is reached."""
+    """The number of instructions for which the table has the right frame, if they are reached."""
     processor, count = frames.BY_MACHINE[program.object.machine], 0
     code = {name for name, head in program.heads.items() if head.flags == CODE}
     try:

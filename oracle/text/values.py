@@ -26,7 +26,7 @@ class Address:
         return " + ".join(f"{count}*{base.name}" for base, count in self.bases) + f" + {self.offset}"
 
     def place(self):
-        """(object, offset), where it is a place in one."""
+        """(object, offset), if it is a place in an object."""
         if len(self.bases) != 1 or self.bases[0][1] != 1:
             raise Undecided(f"{self} as an address")
         return self.bases[0][0], self.offset
@@ -75,7 +75,7 @@ def place_of(x):
 # ---- sums and differences of addresses
 
 def combined(a, b, sign):
-    """a + sign * b, where one is an address."""
+    """a + sign * b, if one is an address."""
     if isinstance(b, int):
         return Address(a.bases, near_zero(plus(a.offset, sign * b)))
     bases, offset = sum_of(a, b, sign)
@@ -135,14 +135,14 @@ def arithmetic(word, width, a, b):
 
 
 def with_half(x, half, width=WORD // 2):
-    """A term, of which it is known what its lowest bits are."""
+    """A term whose lowest bits are known."""
     if isinstance(x, Node):
         halves[x.number] = half, width
     return x
 
 
 def half_of(x):
-    """The lower 32 bits of a value, where they were worked out by themselves, or None."""
+    """The lower 32 bits of a value, if they were computed separately, or None."""
     half, width = halves.get(x.number, (None, 0)) if isinstance(x, Node) else (None, 0)
     return half if width == WORD // 2 else None
 
@@ -242,7 +242,7 @@ def joined(*parts):
 
 
 def only(parts):
-    """The value of the one part that there is."""
+    """The value of the only part."""
     (x, width), *others = parts
     if others:
         raise Undecided(f"{x} beside other bits")

@@ -39,7 +39,7 @@ def names_in(x):
 
 
 def may_hold(facts):
-    """Whether none of some facts is known not to hold where all do."""
+    """True if none of some facts is known to be false where all hold."""
     known = list(map(parts_of, facts))
     return not any(is_sum_of_facts(parts_of(minus(-1, fact)), known, TRIED) for fact in facts)
 

@@ -116,7 +116,7 @@ class Xxh3Updates:
         self.read()
 
     def facts_of_any(self):
-        """The same, of a secret that no state has to keep."""
+        """The same, with a secret that no state has to store."""
         return [*self.facts[:2], at_most(self.secret_length, LONGEST_SECRET)]
 
     def forget(self):
@@ -131,7 +131,7 @@ class Xxh3Updates:
         self.secret = Bytes(self.secret_source, 0, self.secret_length)
 
     def questions(self, what):
-        """All that is to be shown, by the words of a row."""
+        """All rows to be proved, by the words of a row."""
         if what == UPDATES:
             return [functools.partial(self.update, *case) for case in self.all_updates()]
         if what == DIGESTS:
@@ -175,13 +175,13 @@ class Xxh3Updates:
     # ---- states
 
     def numbers(self, place, f):
-        """What a state holds besides accumulators, last stripe and buffer: (offset, value), of eight bytes each."""
+        """The contents of a state except accumulators, last stripe and buffer: (offset, value), of eight bytes each."""
         k = self.stripes(place)
         core = (PLACE, place[1]), (COUNT, k), (WAITING, f), (TOTAL, plus(times(64, k), f))
         return [*((self.CORE + at, x) for at, x in core), *self.own()]
 
     def own(self):
-        """What only a state of the library for C has."""
+        """The fields that only a state of the library for C has."""
         return [(MARKED, MARK), (SECRET_LENGTH, self.secret_length)]
 
     def seeds(self):
@@ -194,11 +194,11 @@ class Xxh3Updates:
                                                  minus(times(64, self.stripes(place)), at))]
 
     def secret_runs(self):
-        """The secret, where a state keeps it."""
+        """The secret, if a state stores it."""
         return [(SECRET, plus(SECRET, self.secret_length), self.secret_source, -SECRET)]
 
     def words(self, at, values):
-        """Cells of eight bytes each, one behind the other: (offset, value)."""
+        """Cells of eight bytes each, one after another: (offset, value)."""
         return [(self.CORE + at + 8 * k, x) for k, x in enumerate(values)]
 
     def last_stripe(self, place):
@@ -260,7 +260,7 @@ class Xxh3Updates:
             cpu.loops, cpu.limit, cpu.replaced = None, limit, {}
 
     def small_pieces(self):
-        """Chunks that the buffer can hold: as arguments of `update`."""
+        """Chunks that fit in the buffer: as arguments of `update`."""
         b, j, f, more = (variable(name) for name in ("b", "j", "f", "more"))
         sizes = [*((n, []) for n in range(33)), *((plus(33, more), facts) for facts in self.ways_from_33(more))]
         for place, of_place, buffered in (((0, 0), [], 0), ((b, j), [minus(minus(self.q, 1), j), minus(f, 1)], f)):
@@ -292,11 +292,11 @@ class Xxh3Updates:
             yield self.within_block(place)
 
     def has_long_blocks(self):
-        """Whether many stripes may lie within a block."""
+        """True if many stripes may lie within a block."""
         return self.longest_secret >= 64 + 8 * (MANY + 1)
 
     def within_block(self, place):
-        """Many stripes, from a place on: (turns, place behind them, facts)."""
+        """Many stripes, from a place on: (turns, place after them, facts)."""
         n, (b, j) = variable("n"), place
         return n, (b, plus(j, n)), [minus(n, MANY), minus(minus(self.q, 1), plus(j, n))]
 
@@ -340,8 +340,8 @@ class Xxh3Updates:
                 yield from ((f"{name}_withSeed", False, seed), (f"{name}_withSecretandSeed", True, seed))
 
     def reset(self, name, is_own, seed):
-        """From memory that holds anything: an empty state, with the secret that is given, or one of the default
-        secret's length that the seed derives. Where one is derived, the texts ask whether the seed is 0."""
+        """Resets memory that holds anything: an empty state, with the given secret, or one of the default secret's
+        length, derived from the seed. If one is derived, the sources test whether the seed is 0."""
         seed = nodes.symbol("seed64", 64) if seed == "seed" else seed
         arguments = [address(self.secret_source), self.secret_length] if is_own else []
         arguments += [seed] if "Seed" in name else []
@@ -385,7 +385,7 @@ class Xxh3Updates:
                        [Part(start.place, start.g, start.behind)])
 
     def digest(self, place, f, facts, parts, has_seed, width):
-        """Of a state, of a stream that was made with a seed or without one; the state stays."""
+        """Digests a state of a stream that was made with a seed or without one; the state stays unchanged."""
         n = plus(times(64, self.stripes(place)), f)
         self.begin(n)
         seed = nodes.symbol("seed64", 64)
@@ -414,7 +414,7 @@ class Xxh3Updates:
             self.use(variable("q"))
 
     def taken(self, summary, parts, facts, summaries=()):
-        """That a function is what its summary says of what some parts are together."""
+        """Proves that a function does what its summary states that some parts do together."""
         place, turns, end = parts[0].start, plus(*(part.turns for part in parts)), parts[-1].end
         self.begin(plus(times(64, self.stripes(end)), variable("rest")))
         with given(*self.facts_of_any(), *facts, at_most(self.source.length, LONGEST)):
@@ -436,11 +436,11 @@ class Xxh3Updates:
             self.expect_stack(summary)
 
     def taker(self, summary):
-        """What calls a function that takes stripes."""
+        """Calls a function that processes stripes."""
         return functools.partial(self.cpu.call, summary.name, into=summary.registers(self.cpu))
 
     def expect_stack(self, summary):
-        """That a function has used no more of the stack than its summary says."""
+        """Checks that a function has used no more of the stack than its summary claims."""
         if self.cpu.stack.lowest < ENTRY - DEEP:
             raise NotShown(f"{summary.name}: more than {DEEP} bytes of stack")
 

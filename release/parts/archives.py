@@ -28,7 +28,7 @@ def new_files(folder, step):
 
 
 def documents(commit, made):
-    """What each archive has besides its files."""
+    """The documents that each archive has besides its files."""
     return {'LICENSE': commit.path('LICENSE'), 'PROVENANCE': os.path.join(made, 'PROVENANCE')}
 
 

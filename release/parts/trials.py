@@ -1,5 +1,5 @@
-"""What each user does with a release, or with a clone of the repository, on a machine of their own, by the commands
-of the pages as they are printed."""
+"""Acts as each user of a release, or of a clone of the repository, on a separate machine, by the commands of the pages
+as they are printed."""
 import functools
 import os
 import re

@@ -30,7 +30,7 @@ def packages():
 
 
 def sum_of(room, target, flags=''):
-    """What the program for a target prints."""
+    """The output of the program for a target."""
     flags += '' if TARGETS[target] else ' -C linker=wasm-ld'
     environment = {**room.environment(), 'RUSTFLAGS': flags, 'RUSTC_BOOTSTRAP': '1', 'RUSTC': '/usr/bin/rustc'}
     folder = os.path.join(room.rust, 'checks', 'sums')

@@ -12,7 +12,7 @@ SOURCE = os.path.join(FOLDER, f"{NAME}.s")
 
 
 def program():
-    """The text as an object."""
+    """The assembly source as an object."""
     return assembled(SOURCE, NAME, CargoProgram)
 
 
@@ -25,7 +25,7 @@ class CargoProgram(objects.Program):
         return ({plain(name): place for name, place in found.items()} for found in super().names())
 
     def all_names(self):
-        """The names as they are in the source."""
+        """The names in the source."""
         return {symbol.name for symbol in self.object.symbols}
 
 

@@ -20,7 +20,7 @@ BITS = 8 * SIZE
 
 
 class Changed:
-    """A program's object as a file, of which one instruction at a time has one other bit."""
+    """A program's object as a file in which one instruction at a time has another bit."""
 
     def __init__(self, program, path):
         self.program, self.path, self.relocations = program, path, {}
@@ -28,7 +28,7 @@ class Changed:
             file.write(program.object.data)
 
     def instruction(self, place, bit):
-        """The instruction at a place with this bit inverted, or None if that is none."""
+        """The instruction at a place with this bit inverted, or None if that is no instruction."""
         section, at = place
         head = self.program.heads[section]
         offset, one = head.offset + at + bit // 8, 1 << bit % 8
@@ -60,8 +60,8 @@ class Changed:
 
 
 def drawn(changed, places, draw):
-    """(place, text, instructions) of random changes, without end. What computes nothing isn't changed, and a shift by no
-    place is no change."""
+    """Yields random changes without end: (place, text, instructions). Instructions that compute nothing aren't
+    changed, and a shift by 0 is no change."""
     while True:
         section, at = place = draw.choice(places)
         x, bit = changed.program.sections[section][at], draw.randrange(BITS)
@@ -71,7 +71,7 @@ def drawn(changed, places, draw):
 
 
 def written(x):
-    """An instruction, with its operands as the table has them."""
+    """An instruction, with its operands in the form of the table."""
     target = [f"{x.target[1]:#x}" if x.target[0] == x.section else x.target[0]] if x.target else []
     return " ".join([x.mnemonic, x.form, *map(str, map(plain, x.operands)), *target])
 
@@ -81,7 +81,7 @@ def plain(operand):
 
 
 def noticed(program, part):
-    """(changes that were tried, those that aren't detected and have no reason): of all a part, or few of them."""
+    """(number of changes, those that are undetected without a reason): one part of all, or a few of them."""
     is_all = part is not None
     with tempfile.TemporaryDirectory(prefix="arm-text-") as room:
         changed = Changed(program, os.path.join(room, "text.o"))

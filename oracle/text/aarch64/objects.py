@@ -27,7 +27,7 @@ JUMPS = re.compile(r"b|bl|b\.\w\w|t?cbn?z|tbn?z")
 
 
 class Program(Loaded):
-    """What is loaded, with the sections of instructions, name -> address -> Instruction."""
+    """The loaded sections of instructions: name -> address -> Instruction."""
 
     MACHINE = AARCH64
 
@@ -45,7 +45,7 @@ class Program(Loaded):
         return any(first <= place < end for place in self.relocated[section])
 
     def relocations_of(self, section):
-        """Place -> (kind, target)."""
+        """A dictionary: place -> (kind, target)."""
         found = {}
         for head in self.object.heads:
             if head.kind == RELA and self.object.heads[head.info] is section:
@@ -59,7 +59,7 @@ class Program(Loaded):
     # ---- instructions
 
     def read(self, section, lines):
-        """The instructions of a section, which have all of its bytes and of its relocations."""
+        """The instructions of a section, which cover all of its bytes and relocations."""
         head, at = self.heads[section], 0
         body, relocations = self.object.body(head), self.relocations_of(head)
         self.relocated[section] = set(relocations)
@@ -99,7 +99,7 @@ class Program(Loaded):
 
 
 def without_offset(found):
-    """The operands of an instruction whose offset the linker puts in: it is 0 here."""
+    """The operands of an instruction whose offset the linker inserts: it is 0 here."""
     last = found[-1]
     if last == Place(last.base, None, 0, "offset") if isinstance(last, Place) else last == Immediate(0):
         return found if isinstance(last, Place) else found[:-1]
@@ -107,7 +107,7 @@ def without_offset(found):
 
 
 def listing(path, objdump, *words):
-    """Section -> (address, bytes, text) of each instruction, as objdump says them; of all, or of what words choose."""
+    """Section -> (address, bytes, text) of each instruction, as objdump prints them; of all, or of the chosen ones."""
     out = subprocess.run([objdump, "-d", "-z", "-w", *words, path], check=True, capture_output=True, text=True).stdout
     found, lines = {}, None
     for line in out.splitlines():

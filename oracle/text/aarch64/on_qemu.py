@@ -101,7 +101,7 @@ def immediates(mnemonic, word):
 
 
 def operand(word, number, mnemonic):
-    """An operand's text; the first is where the result goes."""
+    """An operand's text; the first is the destination."""
     if word in ("x", "w"):
         return f"{word}{3 + number}"
     if word in ("q", "d", "s"):
@@ -236,7 +236,7 @@ def run(program, place, end, numbers, lanes, memory):
 
 
 def same_flags(cpu, nzcv):
-    """Where the flags are set, that the conditions hold as they do there."""
+    """If the flags are set, checks that the conditions hold as they do on qemu."""
     if cpu.flags is None:
         return True
     names = ["eq", "cs"] if cpu.flags[0] in ("add", "borrow") else list(NZCV)
@@ -246,7 +246,7 @@ def same_flags(cpu, nzcv):
 
 
 def tell():
-    """Each form of the table, by it and by qemu."""
+    """Compares each form of the table with qemu."""
     tests, sets = all_tests(), list(inputs(random.Random(5)))
     with tempfile.TemporaryDirectory(prefix="on-qemu-") as room:
         told = zip(by_qemu(tests, sets, room), by_table(tests, sets, room), strict=True)

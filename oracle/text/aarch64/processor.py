@@ -50,7 +50,7 @@ class Processor(linked.Processor):
     # ---- flags
 
     def test(self, name):
-        """Whether a condition holds, by the last comparison's (kind, width, a, b, result). With a borrow b is one
+        """The value of a condition, by the last comparison's (kind, width, a, b, result). With a borrow, b is one
         more."""
         if self.flags is None:
             raise Unsupported("flags that aren't set")
@@ -72,7 +72,7 @@ class Processor(linked.Processor):
         return is_below(self, a, plus(b, 1) if is_number(b) else b) == (name == "ls")
 
     def signed_operands(self):
-        """What was compared last, as numbers with a sign."""
+        """The operands of the last comparison, as signed numbers."""
         kind, width, a, b, answer = self.flags
         if kind not in ("sub", "and"):
             raise Unsupported("a signed comparison of another result")

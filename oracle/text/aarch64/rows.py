@@ -54,13 +54,13 @@ def choose(given, found):
 
 
 def cargo_text_rows(is_all):
-    """The rows of the text below the cargo crate."""
+    """The rows of the cargo crate's source."""
     made = functools.partial(cargo.CargoProcessor, cargo.program())
     return cargo_whole.named(f"cargo's {cargo.NAME}", cargo_whole.choose(cargo.NAME, made, is_all))
 
 
 def every_length_rows(made, is_all):
-    """All hashes of every length, and streams of any updates, by induction; some cases, or all."""
+    """Rows of all hashes of every length, and streams of any updates, by induction; some cases, or all."""
     out = [row for kind in every_length.UNROLLED for row in
            shared.of_every_length(made, kind, f"XXH{kind}: every length to 2^64 - 1", every_length.cases(kind))]
     return [*out, *shared.long_rows(made, is_all), *shared.plain_stream_rows(made, is_all),
@@ -77,7 +77,7 @@ def compared(title, found, kind, lengths, is_stream=False):
 
 
 def in_table(programs):
-    """(instructions that the table has, those that it lacks)."""
+    """(instructions in the table, missing ones)."""
     code = [x for program in programs for section in program.sections.values() for x in section.values()]
     bad = [f"{x.section} {x.at:#x}: {x.mnemonic} {x.form}" for x in code if (x.mnemonic, x.form) not in TABLE]
     return len(code) - len(bad), bad[:5]

@@ -76,7 +76,7 @@ def shift_and_narrow(cpu, x):
 
 @form("shll", "2d 2s i")
 def shift_and_widen(cpu, x):
-    """By the width of a word, the only shift that it has."""
+    """Shifts by the width of a word, the only possible shift."""
     to, a, _ = x.operands
     write(cpu, to, [joined((0, HALF), (word, HALF)) for word in read(cpu, a, "2s")])
 
@@ -98,7 +98,7 @@ def shift_and_add(cpu, x):
 
 @form("ushl", "2d 2d 2d, 4s 4s 4s")
 def shift_by_lanes(cpu, x):
-    """By the lowest byte of each lane, as a number with its sign."""
+    """Shifts by the lowest byte of each lane, as a signed number."""
     to, a, b = x.operands
     write(cpu, to, [shift_by(width_of(to), part, k) for part, k in zip(read(cpu, a, to.arrangement),
                                                                        read(cpu, b, to.arrangement))])
@@ -180,7 +180,7 @@ def get_low(cpu, x):
 
 @form("fmov", "d x")
 def set_low(cpu, x):
-    """The upper lane is 0 then."""
+    """Sets the upper lane to 0."""
     to, a = x.operands
     cpu.vectors[to.number] = [cpu.get(a), 0]
 

@@ -28,7 +28,7 @@ def shifted(x, width, shift):
 
 
 def rotation(x, width, k):
-    """A rotation to the right."""
+    """Rotates to the right."""
     k = -k % width
     if isinstance(x, int):
         return (x << k | x >> width - k) & ones(width)

@@ -15,7 +15,7 @@ class ForRust:
 
     @staticmethod
     def one_shot(cpu, hash_name, kind, *arguments):
-        """The hash; or 0, where a secret has to be refused, and is."""
+        """The hash; or 0, if a secret must be refused, and is."""
         name = export_name(hash_name) + ("" if is_plain(hash_name) else WAYS[kind])
         if kind not in ("secret", "both"):
             rax, rdx = cpu.call(name, *arguments)
@@ -31,8 +31,8 @@ class ForRust:
 
     @staticmethod
     def reset(cpu, request, state):
-        """A stream of no bytes yet. `state.secret` has its secret, and `state.is_of_192` whether that is one of 192
-        bytes for which there is a call of its own."""
+        """A stream of no bytes yet. `state.secret` has its secret, and `state.is_of_192` is True if that is one of
+        192 bytes, for which there is a separate call."""
         name, seed = export_name(request.hash_name), request.seed()
         if is_plain(request.hash_name):
             cpu.call(f"{name}_start", address(state), (seed, int(request.hash_name)))
@@ -53,7 +53,7 @@ class ForRust:
 
     @staticmethod
     def digest(cpu, hash_name, state):
-        """The hash of what a stream was given."""
+        """The hash of what was written to a stream."""
         name = f"{export_name(hash_name)}_finish"
         secret = () if is_plain(hash_name) else (address(state.secret), state.secret.length)
         code, value = call_into(cpu, hash_name, name, address(state), *secret)
@@ -62,7 +62,7 @@ class ForRust:
 
 
 def derived(cpu, seed):
-    """The secret that a seed derives, as a call writes it. Other calls only read it."""
+    """The secret derived from a seed, as a call writes it. Other calls only read it."""
     secret = Words("secret", DERIVED, [(k, 8, cpu.fresh("a word")) for k in range(0, DERIVED, 8)], alignment=1)
     cpu.call("derive_secret", address(secret), seed)
     return OnlyRead("secret", DERIVED, [(at, n, x) for at, (n, x) in secret.cells.items()], alignment=1)

@@ -22,7 +22,7 @@ class Compiler(collections.namedtuple("Compiler", "name words program processor"
     """A rustc with the options for its target, the reader of its object, and the processor that runs it."""
 
     def program_of(self, source=SOURCE):
-        """The object of a copy of the source with the exports in it."""
+        """The object of a copy of the source, with the exports in it."""
         with tempfile.TemporaryDirectory(prefix="rust-object-") as room:
             folder, made = os.path.join(room, "src"), os.path.join(room, "made.o")
             shutil.copytree(source, folder)

@@ -23,7 +23,7 @@ NOWHERE = "nowhere", 0
 
 
 class OfRustc:
-    """What the reader of an object of either processor does otherwise."""
+    """What differs from the reader of an object, for either processor."""
 
     def expect_listed(self):
         pass
@@ -88,8 +88,8 @@ class RustProgram(OfRustc, Program):
 
 
 def known_where_reached(instruction, name):
-    """The function of an instruction. One that the table lacks is refused where a run comes to it: rustc's object has
-    functions that no call reaches."""
+    """The function of an instruction. One that isn't in the table is refused when a run reaches it: rustc's object
+    has functions that no call reaches."""
     try:
         return known(instruction, name)
     except Unsupported as refusal:

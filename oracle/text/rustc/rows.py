@@ -41,7 +41,7 @@ def one_shot_rows(name, cpu, is_all):
 
 
 def stream_rows(name, cpu, is_all):
-    """A stream of XXH3 has a seed, and a secret of its own or one that the seed derives."""
+    """A stream of XXH3 has a seed, and its own secret or one derived from the seed."""
     for kind in comparison.kinds(SECRETS):
         if kind[1] != "secret":
             yield compared(f"{name}: {title_of(*kind)}, streams", cpu, kind, comparison.STREAMED if is_all else STREAMED, True)
@@ -59,7 +59,7 @@ def compared(title, of, kind, lengths, is_stream=False):
 
 
 def is_noticed(compiler, file, old, new, kind, lengths):
-    """A wrong source, compiled, comes to another term."""
+    """A wrong source, compiled, has another term."""
     with tempfile.TemporaryDirectory(prefix="rust-object-") as room:
         source = os.path.join(room, "src")
         shutil.copytree(SOURCE, source)

@@ -40,7 +40,7 @@ def with_sign(n, width):
 
 
 def given(behind, words):
-    """What follows an instruction."""
+    """The immediates of an instruction."""
     numbers = [int(word, 0) for word in words if word not in CODES]
     if behind == "block":
         return bytes([CODES[words[0]] if words else 0x40])
@@ -78,7 +78,7 @@ def function(text, locals_=LOCALS):
 
 
 def module(texts):
-    """A module with the functions f0, f1, .., which take and give nothing, behind the one that they call, 0."""
+    """A module with the functions f0, f1, .., without parameters and results, after the one that they call, 0."""
     word = bytes([CODES["i64"]])
     types = [b"\x60" + vector([word, word]) + vector([word]), b"\x60\0\0"]
     globals_ = [word + b"\1\x42" + signed(STACK_END) + END, bytes([CODES["i32"]]) + b"\1\x41\0" + END]

@@ -31,7 +31,7 @@ def name_of_one_shot(request):
 
 
 def begin(vm, request):
-    """The seed of a request. Where it isn't a number, the machine says whether it was asked for 0."""
+    """The seed of a request. If it isn't a number, the machine records whether the module tested it for 0."""
     seed = request.seed()
     vm.seed, vm.has_asked = seed if isinstance(seed, Node) else None, False
     return seed
@@ -56,7 +56,7 @@ def call_one_shot(vm, request, out):
 
 
 def one_shot(vm, request):
-    """The value of a one-shot. With a secret, and where it has 128 bits, it is written."""
+    """The value of a one-shot. With a secret, and for 128 bits, it is written to memory."""
     size = BYTES[request.hash_name]
     out = Memory("the value", size) if request.secret or size == 16 else None
     results = call_one_shot(vm, request, out)
@@ -80,7 +80,7 @@ def refused_start(vm, request):
 
 
 def expect_kept(what, memory, cells):
-    """That a call has written nothing there."""
+    """Checks that a call has written nothing there."""
     if memory.cells != cells:
         raise Unsupported(f"{what} isn't as it was")
 
@@ -88,12 +88,12 @@ def expect_kept(what, memory, cells):
 # ---- streams
 
 def anything(vm, name, size):
-    """A memory that holds anything."""
+    """Memory that holds anything."""
     return Memory(name, size, [(at, 8, vm.fresh(name)) for at in range(0, size, 8)])
 
 
 class Stream:
-    """A record in the module's memory, with the secret that each call gets."""
+    """A record in the module's memory, with the secret that is passed to each call."""
 
     def __init__(self, vm, request):
         self.vm, self.request, self.family = vm, request, family(request.hash_name)
@@ -143,7 +143,7 @@ class Stream:
 
 
 def stream(vm, request):
-    """The value of a stream. After its first update it is saved and restored. A digest changes nothing but its value."""
+    """The value of a stream. After its first update it is saved and restored. A digest changes only its value."""
     it, at = Stream(vm, request), 0
     it.start()
     for end in [*request.cuts, request.length]:

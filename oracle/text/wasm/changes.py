@@ -69,7 +69,7 @@ class Taken:
 
 
 def take(vm, request):
-    """Shows a case, or raises."""
+    """Proves a case, or raises."""
     ModuleUpdates(vm).taken_of(*request.case)
 
 
@@ -79,7 +79,7 @@ REFUSING = (calls.refused_one_shot, calls.refused_start, refusals.refuse_short_s
 
 
 def long_pieces(vm, is_all):
-    """What covers the functions that take long chunks of streams."""
+    """The requests that cover the functions for long chunks of streams."""
     for n, *cuts in LONG_STREAMS if is_all else LONG_STREAMS[:2]:
         yield Request("3-64", "seed", n, cuts=cuts), calls.stream
         yield Request("3-128", "both", n, SECRETS[0], cuts=cuts), calls.stream
@@ -91,7 +91,7 @@ def long_pieces(vm, is_all):
 
 
 def asked(is_all=True):
-    """What covers the modules: (request, its machine)."""
+    """The requests that cover the modules: (request, its machine)."""
     for kind in comparison.kinds(SECRETS if is_all else SECRETS[:1]):
         for n in LENGTHS[::1 if is_all else 3]:
             yield Request(*kind[:2], n, kind[2]), calls.one_shot
@@ -118,7 +118,7 @@ def kind_of(question):
 
 
 class Covered:
-    """Which requests run an instruction, by (function, place in its code): KEPT of each kind of call, drawn evenly."""
+    """The requests that run an instruction, by (function, place in its code): KEPT per kind of call, drawn evenly."""
 
     def __init__(self, vm, is_all):
         by_kind, seen, draw = collections.defaultdict(dict), collections.Counter(), random.Random(5)
@@ -144,7 +144,7 @@ class Covered:
 # ---- changes
 
 def same_types(opcode):
-    """Those that may replace an instruction, in as many bytes."""
+    """The instructions that may replace one, with the same number of bytes."""
     return [x for x in OPCODES if x is not opcode and x.takes is not None and x[3:] == opcode[3:]
             and x.prefix == opcode.prefix and (x.code < 128) == (opcode.code < 128)]
 
@@ -172,7 +172,7 @@ def places_of(x):
 
 
 def with_change(vm, function, whole):
-    """The machine of a module in which the bytes of one function are others, and maybe more, or an error."""
+    """The machine of a module in which the bytes of one function are replaced, maybe by more, or an error."""
     module = copy.copy(vm.module)
     module.whole, module.functions = whole, list(module.functions)
     other = module.read_function(Reader(whole, function.at), function.index)
@@ -191,7 +191,7 @@ def with_change(vm, function, whole):
 # ---- what is detected
 
 def outcome(vm, texts, questions):
-    """What is detected of a changed module by some requests."""
+    """The result of some requests on a changed module."""
     found = UNNOTICED
     for request, answer in questions:
         texts.make_room()
@@ -249,7 +249,7 @@ def of_lengths(kind, lengths):
 
 
 def of_many_bytes(vm):
-    """What is detected of one-shots of XXH3 of many bytes and of other secrets, by induction."""
+    """Proves some one-shots of XXH3 of many bytes and with other secrets, by induction."""
     own = every_length.OWN_CASES
     try:
         for hash_name in ("3-64", "3-128"):
@@ -289,7 +289,7 @@ def drawn(vm, covered, count, seed):
 
 
 def is_same_amount(function, other, pc):
-    """Whether a number became another one by which the next instruction shifts or rotates as far."""
+    """True if a number became another one by which the next instruction shifts or rotates as far."""
     x, y, then = function.code[pc], other.code[pc], function.code[pc + 1:pc + 2]
     word, _, name = then[0].opcode.name.partition(".") if then else ("", "", "")
     if x.opcode is not y.opcode or x.opcode.name not in ("i32.const", "i64.const"):

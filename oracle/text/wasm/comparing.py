@@ -6,7 +6,7 @@ MOST_NODES = 300_000
 
 
 class Texts:
-    """What the definition says of requests, each value once, from a table that is forgotten where it grows."""
+    """The definition's value of requests, each computed once, from a table that is cleared when it grows."""
 
     def __init__(self):
         self.forget()
@@ -39,8 +39,8 @@ def with_seed_0(request):
 
 
 def compare(machines, asked, answer):
-    """Compares the values of each machine: how many were one term with the definition's, and what there is to
-    say of the others. Where a module asked whether the seed is 0, that is a request of its own."""
+    """Compares the values of each machine: how many have the definition's term, and the messages on the others. If a
+    module tested whether the seed is 0, that is a separate request."""
     texts, equal, complaints = Texts(), 0, []
     for request in asked:
         texts.make_room()

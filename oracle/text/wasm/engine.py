@@ -37,7 +37,7 @@ def pushed(width, draw):
 
 
 def behind(opcode, draw):
-    """What may follow an instruction that takes values and leaves one."""
+    """The possible immediates of an instruction that takes values and leaves one."""
     if opcode.behind == "lanes":
         first = draw.randrange(32)
         in_order = [str((first + k) % 32) for k in range(16)]
@@ -46,7 +46,7 @@ def behind(opcode, draw):
 
 
 def of_values(opcode, draw):
-    """Functions that run an instruction on numbers: words at all edges, and random ones."""
+    """Functions that run an instruction on numbers: words with all edge cases, and random ones."""
     widths = opcode.takes
     drawn = [[pushed(width, draw) for width in widths] for _ in range(RANDOM * (3 if 128 in widths else 1))]
     if 128 not in widths:
@@ -61,7 +61,7 @@ def pattern(draw):
 
 
 def of_memory(opcode, draw):
-    """Functions that load from, or store to, a pattern in the memory, at any alignment; and over the memory's end."""
+    """Functions that load from, or store to, a pattern in the memory, at any alignment; and past the memory's end."""
     size, is_load = int(opcode.behind[len("bytes"):]), opcode.leaves
     for _ in range(RANDOM):
         at, offset = draw.randrange(16), draw.choice((0, 0, 1, 7, 300))
@@ -144,7 +144,7 @@ def by_machine(whole, calls):
 
 
 def by_engine(asked):
-    """What the engine says of (module, number of calls): the words of its line each."""
+    """The engine's output for (module, number of calls): the words of its line for each."""
     lines = "\n".join(json.dumps({"module": whole.hex(), "calls": calls, "place": RESULT}) for whole, calls in asked)
     done = subprocess.run([shutil.which("node"), os.path.join(HERE, "engine.mjs")], input=lines, text=True, check=True,
                           stdout=subprocess.PIPE)
@@ -155,7 +155,7 @@ def by_engine(asked):
 
 
 def compare_instructions(machines):
-    """Each instruction of the table, by the machine and by the engine."""
+    """Compares each instruction of the table on the machine and on the engine."""
     draw, asked = random.Random(3), []
     for opcode in BY_NAME.values():
         asked.append((opcode.name, functions(opcode, draw)))
@@ -170,7 +170,7 @@ def compare_instructions(machines):
 
 
 def verdict(whole):
-    """What the reader and the validator say: valid, invalid, or another thing, that they don't know."""
+    """The result of the reader and the validator: true (valid), false (invalid), or None for anything else."""
     try:
         validate(Module(whole))
     except Invalid:
@@ -181,8 +181,8 @@ def verdict(whole):
 
 
 def compare_validity(machines, count):
-    """So many changed modules of each: what is accepted here the engine accepts, and what is refused as invalid it
-    refuses."""
+    """That many changed modules of each: the engine accepts those that are accepted here, and refuses those that are
+    refused as invalid here."""
     draw, asked = random.Random(4), []
     for vm in machines.values():
         for _ in range(count):

@@ -32,7 +32,7 @@ Case = collections.namedtuple("Case", "J least_blocks most_blocks least most")
 
 
 def cases():
-    """What is shown of XXH3: no block, some, and many. FAR bytes are 30 blocks, 15 stripes and t = 63."""
+    """The cases of XXH3: no block, some, and many. FAR bytes are 30 blocks, 15 stripes and t = 63."""
     some, last = FAR // BLOCK - 1, BLOCK // 64 - 1
     for J in range(BLOCK // 64):
         if 64 * J + 64 >= LONG:
@@ -44,7 +44,7 @@ def cases():
 
 
 def missing(found):
-    """The lengths that no case has, or two: of so many blocks that all others are as those."""
+    """The lengths that are in no case, or in two: of so many blocks that all others are like those."""
     count = collections.Counter(
         BLOCK * B + 64 * case.J + t + 1 for case in found for t in range(case.least, case.most + 1)
         for B in range(case.least_blocks, (FAR // BLOCK + 1 if case.most_blocks is None else case.most_blocks) + 1))
@@ -69,7 +69,7 @@ OWN_CASES = list(own_cases())
 
 
 def missing_own(found):
-    """The (q, length) that no case has, or two: up to some blocks, and around FAR bytes."""
+    """The (q, length) that are in no case, or in two: up to some blocks, and around FAR bytes."""
     out = []
     for q in [*range(LEAST_STRIPES, 20), 494, 495, 496, 497]:
         for n in [*range(LONG, 64 * 20 * 2), *range(FAR - 70, FAR + 70)]:
@@ -93,7 +93,7 @@ def facts_of(case, q, B, J):
 
 
 class Proof:
-    """A run of the induction over a machine: its report on the loops, and the number of its cases."""
+    """Runs the induction over a machine: its report on the loops, and the number of its cases."""
 
     def __init__(self, vm):
         nodes.forget()
@@ -102,7 +102,7 @@ class Proof:
         self.texts = definition.program().run(traced=suppositions)
 
     def call(self, families, hash_name, way, seed, message, secret=None):
-        """What a one-shot gives, with the loops of these families by induction."""
+        """The result of a one-shot, with the loops of these families by induction."""
         vm, plain = self.vm, is_plain(hash_name)
         vm.seed, vm.has_asked = seed if isinstance(seed, Node) else None, False
         size = BYTES[hash_name]
@@ -117,7 +117,7 @@ class Proof:
         return out.load(0, size) if out else results[0]
 
     def with_loops(self, name, arguments, families, live):
-        """What an export gives, with the loops of these families by induction; `live` is what it may write to."""
+        """The result of an export, with the loops of these families by induction; it may write to `live`."""
         loops = self.vm.loops = Loops(families, live)
         try:
             results = self.vm.call(name, arguments)
@@ -219,7 +219,7 @@ class Proof:
 
 
 def shortest(hash_name, way):
-    """The shortest length of what is shown here; those below are compared one by one."""
+    """The shortest length that is proved here; those below are compared one by one."""
     return int(hash_name) // 2 if is_plain(hash_name) else 0 if way in OWN_SECRET else LONG
 
 

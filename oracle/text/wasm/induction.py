@@ -14,9 +14,9 @@ TURNS_LEFT = 64, 4           # stripes that are left where the first turns are t
 
 
 class Family:
-    """What the definition says of a loop over stripes `first` .. `total` - 1: after(k)(j), word j of `count` words of a
-    width after k stripes. suppose(k, values) makes values these. With `block`, that many stripes are a block, of which
-    there are `blocks`."""
+    """The definition's words for a loop over stripes `first` .. `total` - 1: after(k)(j) is word j of `count` words
+    of a width after k stripes. suppose(k, values) makes values these. With `block`, that many stripes are a block,
+    of which there are `blocks`."""
 
     def __init__(self, name, total, count, width, after, suppose, first=0, block=None, blocks=None):
         self.name, self.total, self.count, self.width, self.first = name, total, count, width, first
@@ -26,7 +26,7 @@ class Family:
         return [self.after(k)(j) for j in range(self.count)]
 
     def supposed(self, k, fresh):
-        """Words that are the definition's after k stripes: new symbols, where k isn't a number."""
+        """The definition's words after k stripes: new symbols, if k isn't a number."""
         if isinstance(k, int):
             return self.words(k)
         values = [fresh("word", self.width) for _ in range(self.count)]
@@ -63,7 +63,7 @@ class NotOfFamily(Exception):
 
 
 class Head:
-    """The head of a loop that a call has come to, with what there is, and the ways on from it."""
+    """The head of a loop that a call has reached, with the state there, and the paths from it."""
 
     def __init__(self, vm, frame):
         self.vm, self.frame, self.code = vm, frame, vm.prepared(frame.function)
@@ -72,7 +72,7 @@ class Head:
         self.memories = [vm.stack, *vm.loops.live]
 
     def state(self):
-        """What there is, as cells."""
+        """The state, as cells."""
         out = {}
         for k, x in enumerate(self.frame.variables):
             out.update({("lane", k, lane): part for lane, part in enumerate(x)} if isinstance(x, tuple)
@@ -84,7 +84,7 @@ class Head:
         return out
 
     def put(self, state):
-        """Makes the state that of the head."""
+        """Restores the state of the head."""
         variables, stack = self.frame.variables, []
         for memory in self.memories:
             memory.cells = {}
@@ -108,7 +108,7 @@ class Head:
         return self.vm.fresh("anything", self.widths[cell[1]] if cell[0] == "variable" else WORD)
 
     def turn(self):
-        """From the head to the head."""
+        """Runs from the head to the head."""
         while True:
             self.vm.step(self.frame, self.code)
             if self.frame.pc == self.head:
@@ -117,7 +117,7 @@ class Head:
                 raise NotShown("a turn leaves the loop")
 
     def leave(self):
-        """From the head out of the loop."""
+        """Runs from the head out of the loop."""
         while self.head < self.frame.pc <= self.end:
             self.vm.step(self.frame, self.code)
         if self.frame.pc == self.head:
@@ -144,14 +144,14 @@ class Proof(Induction, Head):
         return self.family.supposed(self.stripes_after(k), self.vm.fresh)
 
     def may_hold_anything(self, cell):
-        """Whether a cell is the function's own, and neither has a word nor goes on."""
+        """True if a cell is the function's own, and neither has a word nor advances."""
         is_own = cell[0] in ("variable", "lane") or cell[0] == "memory" and cell[1] is self.vm.stack and cell[2] != RUNS
         return is_own and not any(cell in cells for cells in (self.words, self.places, self.counts))
 
     # ---- the proof
 
     def behind(self):
-        """Shows the loop and runs out of it; returns a line that reports it."""
+        """Proves the loop and runs out of it; returns a line that reports it."""
         family = self.family
         self.guess()
         turns, _ = divided(minus(family.total, family.first), self.step)
@@ -239,7 +239,7 @@ class ProofByBlocks(Proof):
         self.compare(self.stripes(*then), then[1])
 
     def find_counts(self):
-        """Which places are as at the start behind the first block."""
+        """The places that are unchanged after the first block."""
         q = self.family.block
         with given(minus(self.family.blocks, 2)):
             self.enter_at(0, minus(q, 1))

@@ -21,11 +21,11 @@ MOST_STEPS = 1_000_000   # instructions of a call
 
 
 class TooLong(Unsupported):
-    """A call of too many instructions."""
+    """Raised by a call of too many instructions."""
 
 
 class Constants:
-    """Bytes of the module that are only read."""
+    """Read-only bytes of the module."""
 
     def __init__(self, content):
         self.name, self.content, self.length = "the constants", content, len(content)
@@ -67,7 +67,7 @@ class Machine:
         self.most_steps, self.steps, self.stack, self.globals, self.objects = MOST_STEPS, 0, None, [], []
 
     def new_name(self, prefix):
-        """A name that no symbol has."""
+        """A name that no other symbol has."""
         self.made += 1
         return f"{prefix}#{self.made}"
 
@@ -78,7 +78,7 @@ class Machine:
     # ---- calls
 
     def call(self, name, arguments):
-        """Calls an export, and gives its results."""
+        """Calls an export, and returns its results."""
         return self.call_function(self.module.exported(name), arguments, [x.value for x in self.module.globals])
 
     def call_function(self, function, arguments, globals_):
@@ -113,7 +113,7 @@ class Machine:
         does(self, frame, given)
 
     def prepared(self, function):
-        """What each instruction of a function does, and with what."""
+        """The function and the immediates of each instruction of a function."""
         if function.index not in self.code:
             branches = self.branches[function.index]
             self.code[function.index] = [
@@ -124,7 +124,7 @@ class Machine:
     # ---- tests
 
     def test(self, name, given, operands):
-        """A test, where a seed that isn't a number is supposed not to be 0."""
+        """A test, in which a seed that isn't a number is assumed not to be 0."""
         if name == "i64.eqz":
             name, operands = "i64.eq", [*operands, 0]
         a, b = operands
@@ -136,7 +136,7 @@ class Machine:
     # ---- memory
 
     def place(self, at, offset, n):
-        """The object that n bytes lie in, and where in it."""
+        """The object that contains n bytes, and their place in it."""
         if at.__class__ is Address:
             memory, at = at.near().place()
             return memory, plus(at, offset)
@@ -162,7 +162,7 @@ def does(*names):
 
 
 def of_stack(meaning, count):
-    """Takes so many values from the stack, and leaves one."""
+    """Pops that many values from the stack, and pushes one."""
     def run(vm, frame, given):
         stack = frame.stack
         first = len(stack) - count

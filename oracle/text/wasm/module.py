@@ -14,11 +14,11 @@ Instruction = collections.namedtuple("Instruction", "opcode given at end")
 
 
 class Malformed(Exception):
-    """What is no module, or has what the two modules don't."""
+    """Raised if it is no module, or uses what the two modules don't."""
 
 
 class Reader:
-    """The bytes of a part of the file, one after the other."""
+    """The bytes of a part of the file, read one after the other."""
 
     def __init__(self, whole, at=0, end=None):
         self.whole, self.at, self.end = whole, at, len(whole) if end is None else end
@@ -51,7 +51,7 @@ class Reader:
         return value
 
     def signed(self, width):
-        """A signed number."""
+        """Reads a signed number."""
         value, size = self.groups(width)
         value -= value >> size - 1 << size
         if not -1 << width - 1 <= value < 1 << width - 1:
@@ -68,7 +68,7 @@ class Reader:
             raise Malformed(f"a name: {error}") from None
 
     def one_of(self, known, what):
-        """What the next byte represents."""
+        """Reads a byte, and returns what it represents."""
         b = self.byte()
         if b not in known:
             raise Malformed(f"{what} {b:#x}")
@@ -86,7 +86,7 @@ class Reader:
 
 
 class Module:
-    """Types, functions, globals, exports, the size of the memory and what lies in it at first."""
+    """Types, functions, globals, exports, the size of the memory and its initial contents."""
 
     def __init__(self, whole):
         self.whole = whole
@@ -161,7 +161,7 @@ class Module:
         self.count_of_segments = part.unsigned()
 
     def read_segments(self, part):
-        """What lies in the memory at first: (place, bytes)."""
+        """The initial contents of the memory: (place, bytes)."""
         def one():
             part.one_of({0: None}, "a segment of the kind")
             width, place = part.constant()
@@ -202,7 +202,7 @@ class Module:
             yield Instruction(opcode, given, at, body.at)
 
     def instruction(self, body):
-        """An instruction, and what follows it."""
+        """An instruction, and its immediates."""
         prefix, code = None, body.byte()
         if code in PREFIXES:
             prefix, code = code, body.unsigned()
@@ -232,7 +232,7 @@ class Module:
         return self.type(body.signed(33))
 
     def exported(self, name):
-        """The function that is exported under a name."""
+        """The function that is exported by a name."""
         kind, index = self.exports[name]
         if kind != FUNCTION:
             raise Malformed(f"{name} is no function")

@@ -47,7 +47,7 @@ PLANTED = [
 
 
 def with_inserted(module, function, text):
-    """The bytes of a module with instructions at the begin of a function."""
+    """The bytes of a module with instructions inserted at the start of a function."""
     whole, (first, end) = module.whole, module.place_of_functions
     begin, place = function.at + len(size_before(whole, function)), function.code[0].at
     body = whole[begin:place] + assembled(text) + whole[place:function.end]
@@ -80,7 +80,7 @@ def answers(vm):
 
 
 def refusal(vm):
-    """Why a module is refused, or None."""
+    """The reason why a module is refused, or None."""
     for ask in answers(vm):
         try:
             if not ask():
@@ -91,7 +91,7 @@ def refusal(vm):
 
 
 def tell(machines):
-    """Each module with each planted text: those that pass, and the true ones, where they don't."""
+    """Tests each module with each planted text: those that pass, and the correct ones, if they don't."""
     bad = []
     for name, vm in machines.items():
         bad += [f"{name} is refused: {why}" for why in [refusal(vm)] if why]
@@ -130,7 +130,7 @@ def long_update(proof):
 
 
 def taken(which):
-    """What the function for many stripes does, in a case of its own."""
+    """Proves a case of the function for many stripes."""
     def ask(proof):
         return functools.partial(proof.taken_of, *next(
             (secret, case) for secret, case in proof.all_taken() if case[0] is TAKE_MANY and which(*case[1])))
@@ -138,12 +138,12 @@ def taken(which):
 
 
 def ends_a_block(first, *others):
-    """Whether a part of one stripe ends a block before the others."""
+    """True if a part of one stripe ends a block before the others."""
     return bool(others) and is_same_number(first.turns, 1) and is_same_number(others[0].start[1], 0)
 
 
 def has_blocks(first, *others):
-    """Whether there are whole blocks behind the stripes to a block's end."""
+    """True if there are whole blocks after the stripes to a block's end."""
     return bool(others) and isinstance(first.turns, Poly)
 
 
@@ -178,7 +178,7 @@ def tell_of_streams(machines):
 
 
 def lacks_a_case(proof):
-    """Whether an update, a digest and stripes are missed that are left out."""
+    """True if it is detected that an update, a digest and stripes are left out."""
     updates, digests, takers = map(list, (proof.all_updates(), proof.digests(), proof.all_taken()))
     del updates[687], digests[310], takers[3]
     return all([covered.without_update(updates, proof, POINTS), covered.without_digest(digests, proof, POINTS),

@@ -33,7 +33,7 @@ def with_segments(make):
 
 
 def put(kind, content, behind):
-    """Another section behind that of a kind."""
+    """The module with another section after that of a kind."""
     return lambda module, sections: [x for one in sections for x in ([one, (kind, content)] if one[0] == behind else [one])]
 
 
@@ -64,7 +64,7 @@ WRONG = [
 
 
 def refusal(whole):
-    """Why a module is refused by its reader or by the row of exports, or None."""
+    """The reason why its reader or the row of exports refuses a module, or None."""
     try:
         machine = Machine(Module(whole))
     except Malformed as error:
@@ -73,7 +73,7 @@ def refusal(whole):
 
 
 def tell(machines):
-    """Each module with each of these: those that pass, and the true ones, where they don't."""
+    """Tests each module with each of these: those that pass, and the correct ones, if they don't."""
     bad = []
     for name, vm in machines.items():
         whole = vm.module.whole

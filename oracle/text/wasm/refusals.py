@@ -82,7 +82,7 @@ def refuse_short_secret(vm, request):
 
 
 def expect_not_asked(vm):
-    """That the call didn't depend on whether the seed is 0, which would be another case."""
+    """Checks that the call didn't depend on whether the seed is 0, which would be another case."""
     if vm.has_asked:
         raise Unsupported("whether the seed is 0 was asked")
 
@@ -100,7 +100,7 @@ def names_of(it):
 
 
 def expect_refused(it, code):
-    """That an update and a digest are refused, by either hash of the family."""
+    """Checks that an update and a digest are refused, for both hashes of the family."""
     before = dict(it.record.cells)
     answered(it.update(0, it.request.length), code)
     for name in names_of(it):
@@ -111,7 +111,7 @@ def expect_refused(it, code):
 
 
 class WrongRecord(Request):
-    """A stream of which some fields are others then."""
+    """A stream of which some fields are then changed."""
 
     def __init__(self, hash_name, taken, what, *fields):
         super().__init__(hash_name, "seed", taken, seed=7)
@@ -139,7 +139,7 @@ def of_counters():
 
 
 def keep_counters(vm, request):
-    """An update of a stream whose counters are 2^64 - 1, which they stay; and it still has a digest."""
+    """An update of a stream whose counters are 2^64 - 1, which stay so; and it still has a digest."""
     it, places = started(vm, request, PIECES[0]), COUNTERS[request.hash_name]
     for at in places:
         it.record.store(at, 8, MOST)

@@ -55,7 +55,7 @@ def checksums():
 
 
 def choose(given, machines):
-    """The rows. The machines are made once, and each row has copies of its own, since it has a process."""
+    """The rows. The machines are made once, and each row has its own copies, since it is a process."""
     out = lengths(given.all) + of_refusals() + induction(given.all) + streams_by_induction(given.all)
     out += xxh3_streams_by_induction(given.all) + of_engine(given.all) + of_changes(given.all)
     titles = [title for title, _ in out]
@@ -66,8 +66,8 @@ def choose(given, machines):
 # ---- the exports
 
 def exports(machines, titles):
-    """That each module exports what the table has, and nothing else, and that the rows are there; and where memory
-    begins that is the caller's."""
+    """Checks that each module has exactly the exports of the table, and that the rows are there; and where the
+    caller's memory begins."""
     bad = [f"no row shows {name}" for name, words in EXPORTS.items()
            if words != ["the exports"] and not any(all(word in title for word in words) for title in titles)]
     for module, vm in machines.items():
@@ -168,7 +168,7 @@ def xxh3_streams_by_induction(is_all):
 
 
 def xxh3_cases_are_all(machines, count):
-    """Of so many points of each sort. The cases are those of both modules."""
+    """Tests that many points of each sort. The cases are those of both modules."""
     proof = xxh3_streams.ModuleUpdates(machines[NAMES[0]])
     found = covered.left_out(proof, count)
     bad = [f"no case has {point}" for point in found[:5]]
@@ -176,7 +176,7 @@ def xxh3_cases_are_all(machines, count):
 
 
 def xxh3_streams_shown(machines, module, what, first, some):
-    """The cases of a part, or so many that are a sample."""
+    """The cases of a part, or that many as a sample."""
     proof = xxh3_streams.ModuleUpdates(machines[module])
     asked = proof.questions(what)
     each = len(asked) // some if some else XXH3_CASES[what][1]

@@ -80,13 +80,13 @@ def called(function):
 
 
 def room_of(function):
-    """Bytes of the stack that a function takes at its beginning."""
+    """The bytes of the stack that a function reserves at its start."""
     first = function.code[:len(FRAME)]
     return first[1].given if tuple(x.opcode.name for x in first) == FRAME else 0
 
 
 class Takers:
-    """The functions that an update calls to take stripes: name -> (function, the stack's end where they are called)."""
+    """The functions by which an update processes stripes: name -> (function, the stack's end at the call)."""
 
     def __init__(self, vm):
         functions, self.vm = vm.module.functions, vm
@@ -99,17 +99,17 @@ class Takers:
                       TAKE_BLOCKS.name: (blocks, end)}
 
     def place_of_end(self, name):
-        """Where in the stack its end lies, when such a function is called."""
+        """The place of the stack's end in the stack, when such a function is called."""
         return self.found[name][1] - (self.vm.end_of_stack - STACK)
 
     def call(self, name, *arguments):
-        """Calls such a function where all globals but the stack's end may be anything."""
+        """Calls such a function; all globals except the stack's end may be anything."""
         function, end = self.found[name]
         others = [self.vm.fresh("a global", x.width) for x in self.vm.module.globals[STACK_POINTER + 1:]]
         self.vm.call_function(function, list(map(of_module, arguments)), [end, *others])
 
     def expect_stack(self, name):
-        """That it has used some bytes below the stack's end, and none above it."""
+        """Checks that it has used some bytes below the stack's end, and none above it."""
         end, cells = self.place_of_end(name), self.vm.stack.cells
         if not all(at != RUNS and end - DEEP <= at and at + n <= end for at, (n, _) in cells.items()):
             raise NotShown(f"{name}: a place outside of {DEEP} bytes of stack")

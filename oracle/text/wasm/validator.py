@@ -11,7 +11,7 @@ Branch = collections.namedtuple("Branch", "target keeps height")
 
 
 class Invalid(Malformed):
-    """A module that the specification refuses."""
+    """Raised for a module that the specification refuses."""
 
 
 def want(holds, why):
@@ -69,7 +69,7 @@ class Validator:
         return self.blocks.pop()
 
     def cut_off(self):
-        """What follows in the block is never run."""
+        """Marks the rest of the block as never run."""
         del self.types[self.blocks[-1].height:]
         self.is_unreachable[-1] = True
 
@@ -78,7 +78,7 @@ class Validator:
         return self.blocks[-1 - label]
 
     def taken_to(self, label):
-        """The types of the values that a branch takes along."""
+        """The types of the values that a branch keeps."""
         block = self.block(label)
         return block.takes if block.opcode == "loop" else block.leaves
 
@@ -90,7 +90,7 @@ class Validator:
     # ---- instructions
 
     def check_given(self, x):
-        """What follows an instruction that has its types in the table."""
+        """Checks the immediates of an instruction that has its types in the table."""
         behind = x.opcode.behind
         if behind.startswith("bytes"):
             want(self.module.pages is not None, "no memory")
@@ -179,7 +179,7 @@ class Validator:
 
 
 def ends_of(code):
-    """A block's place in the code -> its end's; the function's own is -1."""
+    """A dictionary: a block's place in the code -> its end's; the function's own is -1."""
     open_ones, ends = [-1], {-1: len(code) - 1}
     for pc, x in enumerate(code):
         if x.opcode.behind == "block":
@@ -192,7 +192,7 @@ def ends_of(code):
 
 
 def validate(module):
-    """Checks a module, and gives the branches of each function."""
+    """Checks a module, and returns the branches of each function."""
     for place, content in module.segments:
         want(place + len(content) <= (module.pages or 0) * PAGE, "a segment outside of the memory")
     return [Validator(module, function).check() for function in module.functions]

@@ -19,7 +19,7 @@ LEAST_PLACE = 1024       # no object begins before
 
 
 class Trap(Unsupported):
-    """What ends a call with an error."""
+    """Raised if a call ends with an error."""
 
 
 def low(x, width):
@@ -47,7 +47,7 @@ def nearest(x, width):
 
 
 def high(x, width):
-    """What is left of a word behind so many bits."""
+    """The rest of a word after so many bits."""
     return BINARY["lshr"](WORD, x, width)
 
 
@@ -62,14 +62,14 @@ def side_by_side(parts):
 
 
 def decided(x, what):
-    """A number that a length, an amount or a place depends on."""
+    """A number on which a length, an amount or a place depends."""
     if not isinstance(x, int):
         raise Undecided(f"{what} that depends on {x}")
     return x
 
 
 def condition(x, what):
-    """Whether a number isn't 0, which a branch depends on."""
+    """True if a number isn't 0, on which a branch depends."""
     return compare("ne", 32, x, 0) if isinstance(x, (Poly, Address)) else decided(x, what)
 
 
@@ -81,7 +81,7 @@ class Address(of_text.Address):
     __slots__ = ()
 
     def __getattr__(self, name):
-        """What terms have an address hasn't: its bits are unknown."""
+        """Refuses the attributes of terms that an address lacks: its bits are unknown."""
         raise Undecided(f"{self} as a term")
 
     def near(self):
@@ -98,7 +98,7 @@ def address(memory, at=0):
 
 
 def sum_of_addresses(width, a, b, sign):
-    """a + b or a - b, where one is an address."""
+    """a + b or a - b, if one is an address."""
     bases, offset = of_text.sum_of(a, b, sign)
     if bases:
         return Address(bases, offset)
@@ -106,8 +106,8 @@ def sum_of_addresses(width, a, b, sign):
 
 
 def is_far(x, least):
-    """Whether the difference of two objects' places, which lie apart, is `least` or more, or else negative: then it is
-    no less than that as a number of 64 bits. Objects that are only read may be the same bytes."""
+    """True if the difference of two objects' places, which lie apart, is `least` or more, or else negative: then it
+    is no less than that as a number of 64 bits. Objects that are only read may be the same bytes."""
     places = {count: memory for memory, count in x.bases}
     if len(x.bases) != 2 or set(places) != {1, -1} or not any(isinstance(memory, Memory) for memory in places.values()):
         return False
@@ -171,7 +171,7 @@ def rotation(name, width, a, k):
 
 
 def compare(test, width, a, b):
-    """Whether a test holds, where the values or the facts decide it."""
+    """The value of a test, if the values or the facts decide it."""
     if a.__class__ is Address:
         return compare_addresses(test, width, a, b)
     if is_number(a) and is_number(b):

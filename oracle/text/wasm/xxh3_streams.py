@@ -75,7 +75,7 @@ class ModuleUpdates(CargoUpdates):
         yield from (("seed", seed), ("seed", 0), ("both", seed), ("both", 0), ("secret", None))
 
     def reset(self, way, seed):
-        """From memory that holds anything."""
+        """Starts in memory that holds anything."""
         self.begin(0)
         with given(*self.facts):
             length = None if way == "seed" else self.secret_length
@@ -103,7 +103,7 @@ class ModuleUpdates(CargoUpdates):
 
     @staticmethod
     def with_room(case):
-        """An update by a chunk that the memory can hold."""
+        """Updates by a chunk that fits in the memory."""
         start, end, length, facts, *rest = case
         return start, end, length, [*facts, at_most(length, LONGEST)], *rest
 
