@@ -1,6 +1,6 @@
 -- What is written to both streams, where one event more comes.
-use Rattle.std.proofs.Common.{◌≡◌, ℕ, Bool, false, List, [], ◌∷◌, ◌++◌, refl, sym, ap, ◌∙◌, subst, append_assoc, Ok, Err, Result}
-use Rattle.xxhsum_program.specs.Prelude.{Digested, EachHas, IsDirectory, Kind, OutOfMemory, Outcome, Refused, SinkRules, Stop, Style, TellsOn, Took, Unread, WriteFailed}
+use Rattle.std.proofs.Common.{◌≡◌, ℕ, Bool, false, List, [], ◌∷◌, ◌++◌, refl, sym, ap, ◌∙◌, subst, append_assoc, Ok, Err}
+use Rattle.xxhsum_program.specs.Prelude.{Digested, EachHas, IsDirectory, Kind, OutOfMemory, Outcome, Stop, Style, TellsOn, Took, Unread, WriteFailed}
 use Rattle.xxhsum_line.specs.Printed.{styled_line}
 use Rattle.xxhsum_program.specs.Finish.{IsWritten}
 use Rattle.xxhsum_program.specs.HashNames.{EndsWith, event_of, events_of, input_events}

@@ -1,4 +1,4 @@
-use Rattle.std.proofs.Common.{[], Ok, Err, refl, subst}
+use Rattle.std.proofs.Common.{Ok, Err, refl, subst}
 use Rattle.xxhsum_line.specs.Printed.{styled_line}
 use Rattle.xxhsum_program.specs.Lines.{PrintsLine}
 use Rattle.xxhsum_program.specs.Order.{rules_of, streams}
