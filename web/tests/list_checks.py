@@ -43,7 +43,7 @@ def no_digest(page):
         page.set_field("expected", words)
         want("8, 16 or 32" in page.error_of("expected")[0] and page.error_of("expected")[1] == "true", page.error_of("expected"))
     page.set_field("expected", "XXH64: " + SOME_BYTES["xxh32"])
-    want(page.error_of("expected")[0].startswith("XXH64 has another number of digits"), page.error_of("expected"))
+    want(page.error_of("expected")[0].startswith("A digest of XXH64 doesn't have 8 digits."), page.error_of("expected"))
     page.set_field("expected", "")
     want(page.error_of("expected") == ["", "false"] and page.text_of("#verdict") == "", page.error_of("expected"))
 

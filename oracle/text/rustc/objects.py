@@ -1,10 +1,12 @@
 """The object that rustc makes of the erased source. It has what the reader of the assembly source refuses:
 
-- on x86-64 a call by the global offset table leads where its relocation says;
+- on x86-64 a call by the global offset table, directly or through a register, leads where its relocation says;
 - a function of `core` that panics, a `ud2` and a `brk` end a run with a refusal, so a run that comes to an end reaches none;
 - a section that only panics read, of strings and of addresses, is left out: a read of it is refused;
 - a constant of a mergeable section is named by the section and a distance, which is the constant's first byte and a place
   in it."""
+import collections
+import re
 import struct
 
 from terms.refusals import Unsupported
@@ -12,7 +14,8 @@ from terms.refusals import Unsupported
 from .. import lanes, scalar
 from ..instructions import known
 from ..listed import CODE, CONSTANTS, FRAMES, FUNCTION, LOADED, MERGEABLE, NOTE, RELA, is_global
-from ..objects import PC32, PLT32, Instruction, Program, split
+from ..memory import ReturnTo
+from ..objects import PC32, PLT32, Instruction, Program, Register, split
 from ..processor import Processor
 from .library import ForRust
 
@@ -20,6 +23,9 @@ TABLES = lanes, scalar            # they fill the table of instructions
 BY_TABLE = 9, 41, 42              # relocations by the global offset table
 STRINGS = 0x20                    # a section's flag
 NOWHERE = "nowhere", 0
+Function = collections.namedtuple("Function", "place")      # the value of a register that the global offset table filled
+LOAD, CALL = "load of a function", "call by a register"     # instructions that only this reader has
+LOADED_FUNCTION, BY_REGISTER = re.compile(r"mov +0x0\(%rip\),%(r\w+)"), re.compile(r"\*%(r\w+)")
 
 
 class OfRustc:
@@ -79,17 +85,37 @@ class RustProgram(OfRustc, Program):
 
     def instruction(self, section, at, end, text, places):
         mnemonic, rest = split(text)
-        if mnemonic in ("call", "jmp") and rest.startswith("*0x0(%rip)") and places == [end - 4]:
+        loaded, called = LOADED_FUNCTION.fullmatch(text.split("#")[0].strip()), BY_REGISTER.fullmatch(rest)
+        if places == [end - 4]:
             symbol, addend = self.relocations[section][places[0]]
-            return Instruction(section, at, end, mnemonic, (), self.target_of(symbol, addend + end - places[0]))
+            if mnemonic in ("call", "jmp") and rest.startswith("*0x0(%rip)"):
+                return Instruction(section, at, end, mnemonic, (), self.target_of(symbol, addend + end - places[0]))
+            if loaded and not symbol.section:
+                return Instruction(section, at, end, LOAD, (Register(loaded[1]),), self.target_of(symbol, addend))
+        if mnemonic == "call" and called:
+            return Instruction(section, at, end, CALL, (Register(called[1]),), None)
         if mnemonic == "ud2" or mnemonic in ("call", "jmp") and rest.startswith("*"):
             return Instruction(section, at, end, "jmp", (), NOWHERE)
         return super().instruction(section, at, end, text, places)
 
 
+def load_function(cpu, x):
+    cpu.registers[x.operands[0].name] = Function(x.target)
+
+
+def call_function(cpu, x):
+    found = cpu.registers[x.operands[0].name]
+    if not isinstance(found, Function):
+        raise Unsupported("a call of no known function")
+    cpu.push(ReturnTo(x.section, x.end))
+    return found.place
+
+
 def known_where_reached(instruction, name):
     """The function of an instruction. One that isn't in the table is refused when a run reaches it: rustc's object
     has functions that no call reaches."""
+    if instruction.mnemonic in (LOAD, CALL):
+        return load_function if instruction.mnemonic == LOAD else call_function
     try:
         return known(instruction, name)
     except Unsupported as refusal:
