@@ -474,7 +474,7 @@ def lines_with_nuls():
     def raw(digits, *names):
         return b''.join(digits + b'  ' + name.encode() + b'\0' for name in names)
 
-    refused_words = fails([b"Wrong parameters: '-z' beside '-c' or '--audit'"])
+    refused_words = fails([b"Wrong parameters: '-z' with '-c' or '--audit'"])
     return [
         beside('lines that NULs end, as sha256sum has them', '-z', 's/^[0-9a-f]*//', b'  %s\0'),
         beside('tagged lines that NULs end, as sha256sum has them', '-z --tag', 's/^[A-Z0-9]* //; s/[0-9a-f]*$//',
@@ -634,7 +634,7 @@ def folders():
     found = b''.join(digits + b'  t/' + name + b'\n' for digits, name in rows)
     same = b''.join(b't/' + name + b': same\n' for name in sorted(name for _, name in rows))
     closed = b"Error: Could not open 't/b': Permission denied. "
-    beside = fails([b"Wrong parameters: '-r' beside '-c' or lists of names"])
+    beside = fails([b"Wrong parameters: '-r' with '-c' or lists of names"])
     alone = fails([b"Wrong parameters: '-r' without a FILE"])
 
     def well(text):

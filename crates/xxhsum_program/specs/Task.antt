@@ -56,9 +56,9 @@ answer_text program words Benchmark = one_line (concat (program ∷ NO_BENCHMARK
 answer_text program words (WrongOption at) =
     wrong_text (concat (codes "Wrong parameters: '" ∷ get_or words at [] ∷ codes "'" ∷ [])) program
 answer_text program words NulsInList =
-    wrong_text (codes "Wrong parameters: '-z' beside '-c' or '--audit'") program
+    wrong_text (codes "Wrong parameters: '-z' with '-c' or '--audit'") program
 answer_text program words WalkBesideLists =
-    wrong_text (codes "Wrong parameters: '-r' beside '-c' or lists of names") program
+    wrong_text (codes "Wrong parameters: '-r' with '-c' or lists of names") program
 answer_text program words WalkOfNothing = wrong_text (codes "Wrong parameters: '-r' without a FILE") program
 answer_text program words InputBesideNames =
     codes "Error: '-' is standard input, which can't be read with files; for a file of that name use './-'.\n"

@@ -141,7 +141,7 @@ pub fn tell_answer<E: Sink>(program: &[u8], words: &[Vec<u8>], asked: Asked, err
         }
         Asked::NulsInList => {
             tell_wrong(
-                &[b"Wrong parameters: '-z' beside '-c' or '--audit'"],
+                &[b"Wrong parameters: '-z' with '-c' or '--audit'"],
                 program,
                 err,
             );
@@ -149,7 +149,7 @@ pub fn tell_answer<E: Sink>(program: &[u8], words: &[Vec<u8>], asked: Asked, err
         }
         Asked::WalkBesideLists => {
             tell_wrong(
-                &[b"Wrong parameters: '-r' beside '-c' or lists of names"],
+                &[b"Wrong parameters: '-r' with '-c' or lists of names"],
                 program,
                 err,
             );

@@ -13,7 +13,7 @@ pub(crate) const TITLE: &[u8] =
     b" 0.1.0 of twox_hash, with the messages of xxhsum 0.8.1 and the options and lines of 0.8.3";
 
 pub(crate) const ABOUT: &[u8] =
-    b"Prints or checks the digests of files by xxHash: XXH32, XXH64, XXH3.\n\n";
+    b"Print or check xxHash checksums of files: XXH32, XXH64 or XXH3.\n\n";
 
 // The help before and after the table of options.
 pub(crate) const BEFORE: &[u8] = b"
@@ -23,9 +23,9 @@ With no FILE, or when FILE is -, read standard input.
 ";
 
 pub(crate) const BEHIND: &[u8] = b"
-When standard error is a terminal, the progress of long files is shown there.
+If standard error is a terminal, the progress of long files is shown there.
 
-The exit status is 0 if every file was read and matches its checksum, if there is one, and else 1.
+The exit status is 0 if every file was read and matches its checksum, if it has one; otherwise 1.
 ";
 
 pub(crate) const NO_BENCHMARK: &[u8] = b": this xxhsum has no benchmark";
