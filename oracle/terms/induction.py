@@ -16,7 +16,7 @@ from .refusals import NotShown
 def same(a, b):
     if isinstance(a, tuple) and isinstance(b, tuple):
         return len(a) == len(b) and all(map(same, a, b))
-    if hasattr(a, "bases") and hasattr(b, "bases"):
+    if hasattr(type(a), "bases") and hasattr(type(b), "bases"):
         return a.bases == b.bases and is_same_number(a.offset, b.offset)
     return a is b or agree(a, b)
 
@@ -26,7 +26,7 @@ def step_between(old, now):
     if isinstance(old, tuple) and isinstance(now, tuple):
         goes_on = len(old) == len(now) == 2 and (old[0] is now[0] or old[0] == now[0])
         return step_between(old[1], now[1]) if goes_on else None
-    if hasattr(old, "bases") and hasattr(now, "bases") and old.bases == now.bases:
+    if hasattr(type(old), "bases") and hasattr(type(now), "bases") and old.bases == now.bases:
         return minus(now.offset, old.offset)
     return minus(now, old) if is_number(old) and is_number(now) else None
 
@@ -35,7 +35,7 @@ def moved(x, step, k):
     """A value after it advanced by k steps."""
     if isinstance(x, tuple):
         return *x[:-1], moved(x[-1], step, k)
-    if hasattr(x, "bases"):
+    if hasattr(type(x), "bases"):
         return type(x)(x.bases, plus(x.offset, times(step, k)))
     return plus(x, times(step, k))
 
