@@ -180,7 +180,7 @@ A ratio is a peer's time divided by ours: above 1, this library is faster. A cel
 ## The lowest ratios
 
 #LOWEST
-Causes that were found, for one-shots of XXH3 with 64 bits at x86-64-v2: 64-bit immediates (32 and 64 bytes), constants and the stores of the derived secret (256 bytes), and the length of a caller's secret (4 to 16 bytes).
+Causes found for XXH3-64 one-shots at x86-64-v2: 64-bit immediates (32 and 64 bytes), constants and stores of the derived secret (256 bytes), and the length of a caller's secret (4 to 16 bytes).
 
 #TWOX_HASH
 ## The library for C
