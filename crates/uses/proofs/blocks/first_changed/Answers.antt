@@ -49,7 +49,7 @@ loop-i-preserved g c =
       ];
     }
 
--- Lemma: every block was compared if the loop compared at least length blocks of them.
+-- Lemma: each block has an index below n if n is at least the number of blocks, so every block was compared.
 compared : (blocks : List (List ℕ)) (i n : ℕ) (block : List ℕ) → length blocks ≤ n → slice_get blocks i ≡ Some block → i < n
 compared blocks i n block all at = let within = slice_get_within blocks i block at in omega arith
 
