@@ -1,4 +1,4 @@
--- The rules of oracle/symbolic, from std's lemmas on naturals.
+-- Lemmas that prove the rules of oracle/symbolic from std's lemmas on naturals.
 use Rattle.std.proofs.Common.{◌≡◌, ℕ, ◌+◌, ◌-◌, ◌*◌, ◌/◌, ◌%◌, ◌^◌, ◌<◌, ◌≤◌, bit_and, bit_or, bit_xor, min, sym, ap, ◌∙◌, arith}
 use Rattle.std.proofs.lemmas.Nat.{and_comm, and-not, field_of, le_or_r, mul-mod, or_disjoint, or_lt, pow_pos, pow-add, shr_split, xor_comm}
 use Rattle.std.proofs.lemmas.Nat.Bits.{bit_at_and, bit_at_or, bit_at_xor, bit_at-lt, bit_at-zero, same_from_bits}
@@ -6,7 +6,7 @@ use Rattle.std.proofs.Math.Nat.{mul_assoc, mul_comm, mul-mul-mul_comm, mul-add, 
 use Rattle.std.specs.Int.{bit_at}
 use Rattle.std.specs.Int.Bits.{xor_assoc, xor_self, xor_zero_r}
 
--- c * (q * J + r) by its parts, J a power whose multiple by P is one of W
+-- Lemma: c * P * (q * J + r) is the sum of its parts. The rules take powers J with P * J a multiple of W.
 pub times_parts : (c P q J r : ℕ) → c * P * (q * J + r) ≡ c * P * r + c * q * (P * J)
 times_parts c P q J r = mul-add (c * P) (q * J) r ∙ omega (arith, mul-mul-mul_comm c P q J)
 

@@ -1,4 +1,4 @@
--- Steps of the loops that write a secret.
+-- Lemmas on the steps of the loops that write a secret.
 use Rattle.std.proofs.Common.{◌≡◌, ℕ, zero, suc, ◌+◌, ◌*◌, ◌%◌, ◌<◌, nat_lt, if◌then◌else◌, List, [], ◌∷◌, ◌++◌, length, drop, slice_index, slice_index_or, slice_set, refl, sym, ap, ◌∙◌, append_assoc, length-append, add-one}
 use Rattle.std.proofs.lemmas.List.{drop_more, set_at}
 use Rattle.twox_core.specs.Secret.{default_secret}
@@ -15,7 +15,7 @@ repeated-next : (c : List ℕ) (k : ℕ) → repeated c (k + 1) ≡ repeated c k
 unfolding repeated
 repeated-next c k = ap (repeated c) (add-one k)
 
--- one byte more, written over the old one
+-- Lemma: writing byte k of the repeated bytes over the old one gives k + 1 repeated bytes.
 pub byte_written : (c m : List ℕ) (k : ℕ) → k < length m
     → slice_set (repeated c k ++ drop k m) k (slice_index c (k % length c)) ≡ repeated c (k + 1) ++ drop (k + 1) m
 byte_written c m k within =
@@ -31,7 +31,7 @@ pub groups_xored-next : (b m : List ℕ) (k : ℕ)
 unfolding groups_xored
 groups_xored-next b m k = ap (groups_xored b m) (add-one k)
 
--- 16 bytes are hashed with the default secret, whatever the seed derives
+-- Lemma: 16 bytes are hashed with the default secret, whatever secret the seed derives.
 pub effective_secret-of_16 : (own b : List ℕ) → length b ≡ 16 → effective_secret own b ≡ default_secret
 unfolding effective_secret
 effective_secret-of_16 own b e = ap (λ (n : ℕ). if nat_lt n 241 then default_secret else own) e

@@ -1,4 +1,4 @@
--- The kernel's two calls on eight accumulators, and one stripe more of each accumulator.
+-- Lemmas on the kernel's two calls on eight accumulators, and on one more stripe of each accumulator.
 use Rattle.std.proofs.Common.{◌≡◌, ℕ, zero, suc, ◌+◌, ◌-◌, ◌*◌, ◌%◌, ◌<◌, ◌≤◌, ◌==◌, if◌then◌else◌, true, false, List, ◌++◌, length, slice_index, bit_xor, refl, sym, ap, ◌∙◌, arith, lit<, zero-add, add-one}
 use Rattle.std.proofs.lemmas.Nat.{xor_lt}
 use Rattle.std.specs.Int.{w64}
@@ -8,7 +8,7 @@ use Rattle.twox_core.specs.Parts.{stripe_at}
 use Rattle.twox_core.specs.Long.{accumulate_one, scramble_one, accumulator_after, stripes_of}
 use Rattle.twox_core.specs.Kernel.{eight, accumulate, round_scramble}
 
--- the same eight values
+-- Lemma: functions that agree below 8 give the same eight accumulators.
 pub same_accumulators : (f g : ℕ → ℕ) → ((i : ℕ) → i < 8 → f i ≡ g i) → eight f ≡ eight g
 same_accumulators f g same =
     rw (same 0 (lit< tt), same 1 (lit< tt), same 2 (lit< tt), same 3 (lit< tt), same 4 (lit< tt), same 5 (lit< tt), same 6 (lit< tt), same 7 (lit< tt)) refl
@@ -27,7 +27,7 @@ accumulator_of f (suc (suc (suc (suc (suc (suc (suc (suc n)))))))) h = absurd (o
 neighbour_below : (i : ℕ) → i < 8 → bit_xor i 1 < 8
 neighbour_below i h = xor_lt 3 i 1 h (lit< tt)
 
--- ---- one accumulator under 64 bytes that were cut out, or with bytes after its stripe
+-- ---- one accumulator with a stripe as a separate list, or with bytes after its stripe
 
 word-stripe : (m : List ℕ) (p i : ℕ) → i < 8 → word64 (stripe_at m p) (0 + 8 * i) ≡ word64 m (p + 8 * i)
 word-stripe m p i h = ap (word64 (stripe_at m p)) (zero-add (8 * i)) ∙ word_at-part w64 64 m (stripe_at m p) p (8 * i) refl (omega arith)
@@ -61,7 +61,7 @@ scrambles f s a u j accumulators key =
     rw (accumulators, key) (same_accumulators (λ i. scramble_one i (slice_index (eight f) i) (stripe_at s j) 0) (λ i. scramble_one i (f i) s j)
     (λ i h. ap (λ x. scramble_one i x (stripe_at s j) 0) (accumulator_of f i h) ∙ scramble_one-stripe i (f i) s j h))
 
--- ---- one stripe more
+-- ---- one more stripe
 
 abbrev pub stripe_done : List ℕ → List ℕ → ℕ → ℕ → ℕ
 stripe_done s m k i = accumulate_one i (accumulator_after s m i k) m (64 * k) s (8 * (k % stripes_of s))

@@ -1,4 +1,4 @@
--- Whole blocks under a secret, each of which ends with a scramble.
+-- Lemmas on whole blocks under a secret, each of which ends with a scramble.
 use Rattle.std.proofs.Common.{◌≡◌, ℕ, zero, suc, ◌+◌, ◌-◌, ◌*◌, ◌%◌, ◌<◌, ◌≤◌, ◌==◌, Bool, true, false, List, take, drop, length, refl, sym, ap, ◌∙◌, arith, add-zero}
 use Rattle.std.proofs.lemmas.Bool.Decides.{nat_tests}
 use Rattle.twox_core.specs.Parts.{stripe_at}
@@ -10,7 +10,7 @@ use Rattle.twox_core.specs.declared.xxhash3.stripes.StripeAccumulator.{StripeAcc
 use Rattle.twox_core.proofs.PartFacts.{stripe_at-drop}
 use Rattle.twox_core.proofs.StripeFacts.{after_stripes-take, after_stripes-more}
 
--- ---- stripes up to a place in the secret, and to its last one
+-- ---- stripes up to a position in the secret, and to its last one
 
 before_end : (s a t : List ℕ) (k : ℕ) → k + 1 < stripes_of s
     → after_stripe s (record { accumulator = a; current_stripe = k }) t ≡ record { accumulator = accumulate a t (stripe_at s (8 * k)); current_stripe = k + 1 }
@@ -51,13 +51,13 @@ pub stripes_to_block_end : (s xs : List ℕ) (a : StripeAccumulator) (k : ℕ) �
 stripes_to_block_end s xs a zero all low h = absurd (omega arith)
 stripes_to_block_end s xs a (suc k) all low h = stripes_to_end s xs a k (h ∙ sym all)
 
--- ---- the place in the secret
+-- ---- the position in the secret
 
 place_within : (s xs : List ℕ) (a : StripeAccumulator) (k : ℕ) → a.current_stripe + k < stripes_of s
     → (after_stripes s a xs k).current_stripe ≡ a.current_stripe + k
 place_within s xs a k h = ap current_stripe_of (stripes_within s xs a k h)
 
--- stripes to the end of a block
+-- Lemma: the position is 0 after the stripes to the end of a block.
 place_at_end : (s xs : List ℕ) (a : StripeAccumulator) (k : ℕ) → 0 < k → a.current_stripe + k ≡ stripes_of s → (after_stripes s a xs k).current_stripe ≡ 0
 place_at_end s xs a zero some h = absurd (omega arith)
 place_at_end s xs a (suc k) some h = ap current_stripe_of (stripes_to_end s xs a k h)
@@ -75,14 +75,14 @@ pub place_after : (s xs : List ℕ) (a : StripeAccumulator) (k : ℕ) → stripe
     → (after_stripes s a xs k).current_stripe ≡ (a.current_stripe + k) % 16
 place_after s xs a k all some fits = place_in (a.current_stripe + k == 16) s xs a k refl all some fits
 
--- and none where a block begins
+-- Lemma: the position is 0 after the stripes to the next block, or none if a block begins there.
 pub place_at_block : (s xs : List ℕ) (a : StripeAccumulator) (k : ℕ) → stripes_of s ≡ 16 → a.current_stripe < 16
     → k ≡ (16 - a.current_stripe) % 16 → (after_stripes s a xs k).current_stripe ≡ 0
 unfolding after_stripes
 place_at_block s xs a zero all low e = omega (arith, e)
 place_at_block s xs a (suc k) all low e = place_at_end s xs a (suc k) (omega arith) (omega (arith, e, all))
 
--- stripes to a place that four divides
+-- Lemma: the position is a multiple of four after the stripes to the next multiple of four.
 pub place_at_fourth : (s xs : List ℕ) (a : StripeAccumulator) (k : ℕ) → stripes_of s ≡ 16 → a.current_stripe < 16
     → k ≡ (16 - a.current_stripe) % 4 → (after_stripes s a xs k).current_stripe % 4 ≡ 0
 unfolding after_stripes
@@ -94,7 +94,7 @@ at_start-same a e = rw (sym e) refl
 
 -- ---- blocks of 16 stripes
 
--- one block more of m
+-- Lemma: block i, with its scramble, gives the accumulators after 16 * (i + 1) stripes of m.
 pub next_block : (s a t b m : List ℕ) (i : ℕ) → stripes_of s ≡ 16 → at_start t ≡ after_stripes s (at_start a) m (16 * i)
     → b ≡ take 1024 (drop (i * 1024) m)
     → at_start (round_scramble (accumulate_block s t b 16) (stripe_at s (length s - 64))) ≡ after_stripes s (at_start a) m (16 * (i + 1))

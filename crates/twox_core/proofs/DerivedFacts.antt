@@ -1,4 +1,4 @@
--- A derived secret, written over the bytes that it is derived from one pair of words after another.
+-- Lemmas on deriving a secret in place: the derived pairs of words overwrite the pairs that they are derived from.
 use Rattle.std.proofs.Common.{◌≡◌, ℕ, zero, suc, ◌+◌, ◌*◌, ◌%◌, ◌^◌, ◌<◌, ◌≤◌, List, ◌++◌, length, take, drop, get_or, Fits, w8, length-take-le, length-drop, sym, ap, ap₂, refl, ◌∙◌, arith, append_assoc, length-append, add-zero, add-one}
 use lib.Lanes.{number_l, digits_l, put_chunk}
 use Rattle.std.proofs.lemmas.List.{drop-drop, take_at, drop_at, take-take}
@@ -11,21 +11,21 @@ use Rattle.twox_core.specs.Secret.{derived_pairs}
 use Rattle.twox_core.proofs.VectorBytes.{low_bytes, four_words_bytes}
 use Rattle.twox_core.proofs.VectorWords.{word_of_vector}
 
--- a write of all of f between what is done and the rest
+-- Lemma: writing f after the a elements of `done` replaces the first k elements of the rest.
 pub put_next : (a k : ℕ) (done rest f : List ℕ) → length done ≡ a → put_mid a k (done ++ rest) f ≡ (done ++ f) ++ drop k rest
 put_next a k done rest f len =
     ap₂ (λ (x y : List ℕ). x ++ (f ++ drop k y)) (take_at done rest a len) (drop_at done rest a len) ∙ sym (append_assoc done f (drop k rest))
 
--- the word at byte j of what follows the `a` bytes that are done
+-- Lemma: replacing the first a bytes of m doesn't change the word at offset a + j.
 pub word_after : (done m : List ℕ) (a j : ℕ) → length done ≡ a → word64 (done ++ drop a m) (a + j) ≡ word64 m (a + j)
 word_after done m a j len =
     ap (λ (i : ℕ). word64 (done ++ drop a m) (i + j)) (sym len) ∙ word_at-append_right w64 done (drop a m) j ∙ word_at-drop w64 a m j
 
--- the pair of words at byte i of l, of which the first gains the seed and the second loses it
+-- The pair of words at offset i of l, with the seed added to the first and subtracted from the second.
 abbrev pub changed_pair : ℕ → List ℕ → ℕ → List ℕ
 changed_pair seed l i = to_le_bytes w64 (add64 (word64 l i) seed) ++ to_le_bytes w64 (sub64 (word64 l (i + 8)) seed)
 
--- the pair at byte j of what follows the `a` bytes that are done
+-- Lemma: replacing the first a bytes of m doesn't change the changed pair at offset a + j.
 changed_pair_after : (seed : ℕ) (done m : List ℕ) (a j : ℕ) → length done ≡ a → changed_pair seed (done ++ drop a m) (a + j) ≡ changed_pair seed m (a + j)
 changed_pair_after seed done m a j len =
     let place : a + j + 8 ≡ a + (j + 8) = omega arith in
@@ -50,7 +50,7 @@ derived_pairs-length seed s (suc k) =
     let gl : length g ≡ 8 = refl in
     omega (arith, length-append (derived_pairs seed s k ++ f) g, length-append (derived_pairs seed s k) f)
 
--- two pairs more
+-- Lemma: the first 2 * (k + 1) derived pairs are the first 2 * k pairs and the two at offset 32 * k.
 derived_pairs-next_two : (seed : ℕ) (s : List ℕ) (k : ℕ) → derived_pairs seed s (2 * (k + 1))
     ≡ derived_pairs seed s (2 * k) ++ (changed_pair seed s (32 * k) ++ changed_pair seed s (32 * k + 16))
 derived_pairs-next_two seed s k =
@@ -63,7 +63,7 @@ derived_pairs-next_two seed s k =
     ∙ ap (λ (i : ℕ). (derived_pairs seed s (2 * k) ++ changed_pair seed s i) ++ changed_pair seed s (32 * k + 16)) first
     ∙ append_assoc (derived_pairs seed s (2 * k)) (changed_pair seed s (32 * k)) (changed_pair seed s (32 * k + 16))
 
--- two pairs of words written over the old ones
+-- Lemma: writing the next two derived pairs over the old ones gives 2 * (k + 1) derived pairs.
 two_pairs_written : (seed : ℕ) (s cur : List ℕ) (k n : ℕ) (f : List ℕ) → n ≡ 32 → cur ≡ derived_pairs seed s (2 * k) ++ drop (32 * k) s
     → f ≡ changed_pair seed cur (32 * k) ++ changed_pair seed cur (32 * k + 16)
     → put_mid (32 * k) n cur f ≡ derived_pairs seed s (2 * (k + 1)) ++ drop (32 * (k + 1)) s
@@ -82,7 +82,7 @@ two_pairs_written seed s cur k n f en ecur ef =
     (ap (λ (x : List ℕ). done ++ x) (ef ∙ ap₂ (λ (x y : List ℕ). x ++ y) first second) ∙ sym (derived_pairs-next_two seed s k))
     (drop-drop 32 (32 * k) s ∙ ap (λ (a : ℕ). drop a s) place)
 
--- the 32 bytes l as four words, of which the first and the third gain the seed and the others gain `loss`
+-- The 32 bytes l as four words, with the seed added to the first and the third, and `loss` to the others.
 abbrev changed_bytes : ℕ → ℕ → List ℕ → List ℕ
 changed_bytes seed loss l =
     let word : ℕ → ℕ = λ j. get_or (digits_l (2 ^ 64) 4 (number_l 256 l)) j 0 in
@@ -95,7 +95,7 @@ changed_pair_of seed loss cur i a b small small-loss none ea eb =
     ap (λ (y : ℕ). to_le_bytes w64 (add64 a seed) ++ to_le_bytes w64 y) minus
     ∙ ap₂ (λ (x y : ℕ). to_le_bytes w64 (add64 x seed) ++ to_le_bytes w64 (sub64 y seed)) ea eb
 
--- two pairs read as one vector, changed, and written over the old ones
+-- Lemma: two pairs read as one vector, changed, and written over the old ones are the next derived pairs.
 pub two_pairs_changed : (seed loss : ℕ) (s cur : List ℕ) (k n : ℕ) → n ≡ 32 → ((i : ℕ) → Fits w8 (get_or cur i 0)) → 32 * k + 32 ≤ length cur
     → seed < 2 ^ 64 → loss < 2 ^ 64 → (loss + seed) % 2 ^ 64 ≡ 0 → cur ≡ derived_pairs seed s (2 * k) ++ drop (32 * k) s
     → put_mid (32 * k) n cur (put_chunk 0 (take n (drop (32 * k) cur)) (changed_bytes seed loss (take 32 (take n (drop (32 * k) cur)))))

@@ -1,4 +1,4 @@
--- The last block, the last 64 bytes and the merge give the long values of the definition.
+-- Lemmas on finalization: the last block, the last 64 bytes and the merge give low_above_240 and high_above_240.
 use Rattle.std.proofs.Common.{◌≡◌, ℕ, zero, suc, ◌+◌, ◌-◌, ◌*◌, ◌/◌, ◌%◌, ◌^◌, ◌<◌, ◌≤◌, ◌==◌, false, List, length, take, drop, slice_index, refl, sym, ap, ap₂, ◌∙◌, arith, lit<, add-zero, zero-add, add-one, length-drop}
 use Rattle.std.proofs.Math.Nat.{div-add-mod, div-div-eq-div-mul}
 use Rattle.std.proofs.lemmas.Bool.Decides.{nat_tests}
@@ -22,7 +22,7 @@ pub accumulate_block-next : (s a b t u : List ℕ) (k : ℕ) → t ≡ stripe_at
 unfolding accumulate_block
 accumulate_block-next s a b t u k e f = rw (e, f, add-one k) refl
 
--- n stripes read no more of the secret, and of the block
+-- Lemma: n stripes read only 8 * n + 56 bytes of the secret and 64 * n bytes of the block.
 accumulate_block-key : (s a b : List ℕ) (w n : ℕ) → 8 * n + 56 ≤ w → accumulate_block (take w s) a b n ≡ accumulate_block s a b n
 unfolding accumulate_block
 accumulate_block-key s a b w zero fits = refl
@@ -35,7 +35,7 @@ accumulate_block-take s a b w zero fits = refl
 accumulate_block-take s a b w (suc n) fits =
     ap₂ (λ (x t : List ℕ). accumulate x t (stripe_at s (8 * n))) (accumulate_block-take s a b w n (omega arith)) (stripe_at-take b w (64 * n) (omega arith))
 
--- k stripes, and then n of what follows them
+-- Lemma: k stripes and then the next n stripes are k + n stripes.
 accumulate_block-more : (s a b : List ℕ) (k n : ℕ) → accumulate_block (drop (8 * k) s) (accumulate_block s a b k) (drop (64 * k) b) n ≡ accumulate_block s a b (k + n)
 unfolding accumulate_block
 accumulate_block-more s a b k zero = rw (add-zero k) refl
@@ -45,11 +45,11 @@ accumulate_block-more s a b k (suc n) =
     let key : stripe_at (drop (8 * k) s) (8 * n) ≡ stripe_at s (8 * (k + n)) = stripe_at-drop s (8 * k) (8 * n) (8 * (k + n)) (omega arith) in
     rw (next, here, key) (ap (λ (x : List ℕ). accumulate x (stripe_at b (64 * (k + n))) (stripe_at s (8 * (k + n)))) (accumulate_block-more s a b k n))
 
--- four stripes under the 88 bytes of the secret for them
+-- Lemma: four stripes read only the first 88 bytes of the secret.
 pub four_under_key : (s a b u : List ℕ) → u ≡ take 88 s → accumulate_block u a b 4 ≡ accumulate_block s a b 4
 four_under_key s a b u e = rw e (accumulate_block-key s a b 88 4 (omega arith))
 
--- four stripes more of a block
+-- Lemma: the next four stripes after 4 * i stripes of a block give 4 * (i + 1) stripes.
 pub accumulate_block-four : (s a b x t u : List ℕ) (i : ℕ) → x ≡ accumulate_block s a b (4 * i) → t ≡ take 256 (drop (256 * i) b) → u ≡ take 88 (drop (8 * (4 * i)) s)
     → accumulate_block u x t 4 ≡ accumulate_block s a b (4 * (i + 1))
 accumulate_block-four s a b x t u i before here key =
@@ -59,7 +59,7 @@ accumulate_block-four s a b x t u i before here key =
     ∙ rw (before, here, place)
     (accumulate_block-take (drop (8 * (4 * i)) s) (accumulate_block s a b (4 * i)) (drop (64 * (4 * i)) b) 256 4 (omega arith) ∙ accumulate_block-more s a b (4 * i) 4 ∙ ap (accumulate_block s a b) next)
 
--- ---- the accumulators of m after a block that begins where a scramble went by
+-- ---- the accumulators of m after the first r stripes of block j
 
 no_scramble : (j q r : ℕ) → r + 1 < q → ((q * j + r + 1) % q == 0) ≡ false
 no_scramble j q r h =
@@ -85,7 +85,7 @@ block_more s m j (suc r) h =
     ∙ same_accumulators (stripe_done s m k) (λ i. accumulator_after s m i (k + 1)) (λ i _. next_without s m k (no_scramble j q r (omega arith)) i)
     ∙ ap (λ (n : ℕ). eight (λ i. accumulator_after s m i n)) next
 
--- how many stripes of the last block come before the last stripe
+-- Lemma: the stripes before the last block, plus those in it before the last stripe, are (length m - 1) / 64.
 last_places : (s m : List ℕ) → stripes_before s m + (length m - 1) / 64 % stripes_of s ≡ (length m - 1) / 64
 last_places s m =
     let q = stripes_of s in
@@ -110,7 +110,7 @@ block_ended s m some long =
     let count : (length (drop (64 * k) m) - 1) / 64 ≡ r = omega (arith, length-drop (64 * k) m) in
     accumulators_ended s m _ _ long (rw count (block_more s m ((length m - 1) / (64 * q)) r (mod_below ((length m - 1) / 64) q some)) ∙ ap (accumulators_after s m) all)
 
--- where a block b has no stripe but its last
+-- Lemma: finalization adds only the last 64 bytes of m if the block b has at most one stripe.
 none_left : (s m b : List ℕ) → 64 ≤ length m → (length b - 1) / 64 ≡ 0 → final_accumulators (stream_accumulators s m) b (last_stripe m) s ≡ eight (last_accumulator s m)
 unfolding stream_accumulators accumulate_block
 none_left s m b long count = accumulators_ended s m _ b long (rw count refl)
@@ -129,7 +129,7 @@ merge_accumulators-eight : (init : ℕ) (s a : List ℕ) (j : ℕ) (f : ℕ → 
 unfolding merge_accumulators sum_below pair_fold
 merge_accumulators-eight init s a j f e = rw e refl
 
--- 64 bytes that were cut out of the secret
+-- Lemma: pair_fold reads only the 64 bytes of the secret at offset j.
 pair_fold-stripe : (f : ℕ → ℕ) (s : List ℕ) (j i : ℕ) → i < 4 → pair_fold f (stripe_at s j) 0 i ≡ pair_fold f s j i
 unfolding pair_fold
 pair_fold-stripe f s j i h =
@@ -154,7 +154,7 @@ high_of : (s m a b : List ℕ) (n : ℕ) → final_accumulators a b (last_stripe
 unfolding finalize_high high_above_240
 high_of s m a b n accumulators count = rw count (merge_accumulators-eight _ s _ (length s - 75) (last_accumulator s m) accumulators)
 
--- of the whole list at once
+-- Lemma: finalization from the accumulators before the last block gives low_above_240.
 pub block_low : (s m : List ℕ) → 0 < stripes_of s → 64 ≤ length m → length m < 2 ^ 64
     → finalize_64 (block_accumulators s m) (last_block s m) (last_stripe m) s (length m) ≡ low_above_240 s m
 block_low s m some long low = low_of s m _ _ (length m) (block_ended s m some long) (omega arith)
@@ -165,7 +165,7 @@ unfolding finalize_128
 block_both s m some long low =
     ap₂ (λ (x y : ℕ). x * 2 ^ 64 + y) (high_of s m _ _ (length m) (block_ended s m some long) (omega arith)) (block_low s m some long low)
 
--- of a stream, which has taken all stripes but the last
+-- Lemma: finalization of a stream, which has taken all stripes except the last, gives low_above_240.
 pub stream_low : (s m : List ℕ) → 64 ≤ length m
     → finalize_64 (stream_accumulators s m) (stream_block m) (last_stripe m) s (counted (length m)) ≡ low_above_240 s m
 stream_low s m long = low_of s m _ _ (counted (length m)) (stripe_ended s m long) refl
@@ -176,7 +176,7 @@ unfolding finalize_128
 stream_both s m long =
     ap₂ (λ (x y : ℕ). x * 2 ^ 64 + y) (high_of s m _ _ (counted (length m)) (stripe_ended s m long) refl) (stream_low s m long)
 
--- of a one-shot that has taken all stripes but the last
+-- Lemma: finalization of a one-shot that has taken all stripes except the last gives low_above_240.
 pub taken_low : (s m : List ℕ) → 64 ≤ length m → length m < 2 ^ 64
     → finalize_64 (stream_accumulators s m) (last_stripe m) (last_stripe m) s (length m) ≡ low_above_240 s m
 taken_low s m long low = low_of s m _ _ (length m) (taken_ended s m long) (omega arith)

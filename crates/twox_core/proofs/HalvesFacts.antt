@@ -1,4 +1,4 @@
--- Vectors of words as vectors of their halves, and back.
+-- Lemmas on vectors of 64-bit words read as vectors of their 32-bit halves, and back.
 use Rattle.std.proofs.Common.{◌≡◌, ℕ, zero, suc, ◌+◌, ◌*◌, ◌/◌, ◌%◌, ◌^◌, ◌<◌, [], ◌∷◌, ap, ◌∙◌, arith, div-add-mod', div-lt_iff_lt-mul, pow-suc}
 use lib.Lanes.{number_l, digits_l}
 
@@ -24,7 +24,7 @@ join_one n a b x A B =
     let on : (a + 2 ^ 32 * (b + 2 ^ 32 * x)) / 2 ^ 64 ≡ x = omega arith in
     λ i. low i ∷ digits_l (2 ^ 64) n (on i)
 
--- two words as four halves
+-- Lemma: two words read as four 32-bit lanes are the low and the high half of each word.
 pub split_two : (a b : ℕ) → a < 2 ^ 64 → b < 2 ^ 64
     → digits_l (2 ^ 32) 4 (number_l 256 (digits_l 256 16 (number_l (2 ^ 64) (a ∷ b ∷ []))))
     ≡ a % 2 ^ 32 ∷ a / 2 ^ 32 ∷ b % 2 ^ 32 ∷ b / 2 ^ 32 ∷ []
@@ -33,7 +33,7 @@ split_two a b A B =
     ∙ split_one 2 a _ A
     ∙ ap (λ l. a % 2 ^ 32 ∷ a / 2 ^ 32 ∷ l) (split_one 0 b 0 B)
 
--- four words as eight halves
+-- Lemma: four words read as eight 32-bit lanes are the low and the high half of each word.
 pub split_four : (a b c d : ℕ) → a < 2 ^ 64 → b < 2 ^ 64 → c < 2 ^ 64 → d < 2 ^ 64
     → digits_l (2 ^ 32) 8 (number_l 256 (digits_l 256 32 (number_l (2 ^ 64) (a ∷ b ∷ c ∷ d ∷ []))))
     ≡ a % 2 ^ 32 ∷ a / 2 ^ 32 ∷ b % 2 ^ 32 ∷ b / 2 ^ 32 ∷ c % 2 ^ 32 ∷ c / 2 ^ 32 ∷ d % 2 ^ 32 ∷ d / 2 ^ 32 ∷ []
@@ -44,7 +44,7 @@ split_four a b c d A B C D =
     ∙ ap (λ l. b % 2 ^ 32 ∷ b / 2 ^ 32 ∷ l) (split_one 2 c _ C
     ∙ ap (λ l. c % 2 ^ 32 ∷ c / 2 ^ 32 ∷ l) (split_one 0 d 0 D)))
 
--- eight halves as four words
+-- Lemma: eight 32-bit lanes read as four words are each pair of lanes joined into a word.
 pub join_eight : (a b c d e f g h : ℕ)
     → a < 2 ^ 32 → b < 2 ^ 32 → c < 2 ^ 32 → d < 2 ^ 32 → e < 2 ^ 32 → f < 2 ^ 32 → g < 2 ^ 32 → h < 2 ^ 32
     → digits_l (2 ^ 64) 4 (number_l 256 (digits_l 256 32 (number_l (2 ^ 32) (a ∷ b ∷ c ∷ d ∷ e ∷ f ∷ g ∷ h ∷ []))))

@@ -1,5 +1,5 @@
--- What kernels compute otherwise than the definition: a product of a word of 64 bits from two of 32 bits by 32 bits, and
--- the sums of four stripes.
+-- Lemmas on kernel computations that differ from the definition: a product of a 64-bit word from the products of its
+-- 32-bit halves, and the sums of four stripes.
 use Rattle.std.proofs.Common.{◌≡◌, ℕ, ◌+◌, ◌-◌, ◌*◌, ◌/◌, ◌%◌, ◌^◌, bit_and, arith, ap, ◌∙◌}
 use Rattle.std.proofs.lemmas.Nat.{and_mask}
 
@@ -14,7 +14,7 @@ split_product x f =
     ap (λ (z : ℕ). (z * f % 2 ^ 64 + x / 2 ^ 32 * f % 2 ^ 64 * 2 ^ 32 % 2 ^ 64) % 2 ^ 64) (and_mask x 32)
     ∙ parts (x % 2 ^ 32 * f) (x / 2 ^ 32 * f) ∙ ap (λ (z : ℕ). z % 2 ^ 64) out
 
--- ---- one accumulator a and four stripes, of which it gains the words w, x, y, z and the products p, q, r, s
+-- ---- one accumulator a and four stripes, with the words w, x, y, z and the products p, q, r, s
 
 pub four_sums : (a w x y z p q r s : ℕ)
     → (((((a + p % 2 ^ 64) % 2 ^ 64 + q % 2 ^ 64) % 2 ^ 64 + r % 2 ^ 64) % 2 ^ 64 + s % 2 ^ 64) % 2 ^ 64 + (((w + x) % 2 ^ 64 + y) % 2 ^ 64 + z) % 2 ^ 64) % 2 ^ 64

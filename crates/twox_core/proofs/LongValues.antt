@@ -1,4 +1,4 @@
--- What any kernel makes of more than 240 bytes is the value, under every seed.
+-- Lemmas on inputs above 240 bytes: finalization gives the value under every seed.
 use Rattle.std.proofs.Common.{◌≡◌, ℕ, ◌<◌, ◌^◌, List, length, sym, ◌∙◌, arith}
 use Rattle.twox_core.specs.Long.{stripes_of}
 use Rattle.twox_core.specs.Ending.{block_accumulators, last_block, last_stripe, finalize_64, finalize_128}

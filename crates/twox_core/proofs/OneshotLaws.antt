@@ -1,4 +1,4 @@
--- Which inputs the one-shots distinguish follows from their values.
+-- Lemmas on one-shots. Every seeded call uses the default secret up to 240 bytes.
 use Rattle.std.proofs.Common.{◌≡◌, ℕ, ◌<◌, ◌≤◌, ◌^◌, ◌%◌, List, length, ap, ◌∙◌, arith, inl, inr}
 use Rattle.twox_words.specs.Word.{IsBytes}
 use Rattle.twox_core.specs.OtherBytes.{IsOtherShort64}
@@ -12,7 +12,7 @@ short_64 m n other = elim other.range [
   | inr more ↦ omega (arith, more)
 ]
 
--- the value is needed only up to 240 bytes, where every call that takes a seed has the default secret
+-- Lemma: a result distinguishes other bytes and seeds if it is the value of m whenever m has up to 240 bytes.
 pub tells_others_64 : (seed result : ℕ) (s m : List ℕ) → IsBytes s → IsBytes m → seed < 2 ^ 64
     → (length m ≤ 240 → result ≡ xxh3_64 seed s m) → TellsOthers64 seed s m result
 tells_others_64 seed result s m secret bytes small value = record {

@@ -1,4 +1,4 @@
--- The values of up to 16 bytes determine the bytes and the seed.
+-- Lemmas on short inputs: a value determines the bytes, given the seed, and the seed, given the bytes.
 use Rattle.std.proofs.Common.{◌≡◌, ℕ, zero, suc, ◌+◌, ◌-◌, ◌*◌, ◌/◌, ◌%◌, ◌^◌, ◌<◌, ◌≤◌, Bool, true, false, if◌then◌else◌, nat_lt, List, [], ◌∷◌, length, slice_index, bit_xor, sym, ap, refl, subst, inl, inr, ◌∙◌, arith, lit<, mod-lt, pow_pos}
 use Rattle.std.specs.Int.{w32, w64, swap_bytes}
 use Rattle.std.proofs.lemmas.Nat.{xor_lt}
@@ -58,7 +58,7 @@ combined_bytes-lt m bytes high =
     let b = bytes 0 in
     let c = bytes (length m / 2) in omega arith
 
--- a place below 3 is the first, the middle or the last
+-- Lemma: lists that agree at offsets 0, len / 2 and len - 1 agree at each offset below len, for len up to 3.
 each_of : (m n : List ℕ) (len k : ℕ) → len ≤ 3 → k < len → slice_index m 0 ≡ slice_index n 0
     → slice_index m (len / 2) ≡ slice_index n (len / 2) → slice_index m (len - 1) ≡ slice_index n (len - 1) → slice_index m k ≡ slice_index n k
 each_of m n zero k high h a b c = absurd (omega arith)
@@ -73,7 +73,7 @@ each_of m n (suc (suc (suc zero))) (suc (suc zero)) high h a b c = c
 each_of m n (suc (suc (suc zero))) (suc (suc (suc k))) high h a b c = absurd (omega arith)
 each_of m n (suc (suc (suc (suc len)))) k high h a b c = absurd (omega arith)
 
--- the number determines the length and each byte
+-- Lemma: combined_bytes determines the length and each byte of up to 3 bytes.
 combined_one_to_one : (m n : List ℕ) → IsBytes m → IsBytes n → length m ≤ 3 → length n ≤ 3 → combined_bytes m ≡ combined_bytes n → m ≡ n
 unfolding combined_bytes
 combined_one_to_one m n p q hm hn e =
@@ -91,7 +91,7 @@ combined_one_to_one m n p q hm hn e =
     let same_last : slice_index m (length m - 1) ≡ slice_index n (length m - 1) = last ∙ ap (λ (k : ℕ). slice_index n (k - 1)) (sym len) in
     same_number_lists m n len (λ k h. each_of m n (length m) k hm h first same_middle same_last)
 
--- the seed x and the number c in, one of them fixed
+-- Lemma: low_1_to_3 determines the xor of c and the sum of the seed and the secret's pair32.
 tiny_inside : (s : List ℕ) (x y c d : ℕ) → c < 2 ^ 32 → d < 2 ^ 32 → low_1_to_3 x s c ≡ low_1_to_3 y s d
     → bit_xor ((pair32 s 0 + x) % 2 ^ 64) c ≡ bit_xor ((pair32 s 0 + y) % 2 ^ 64) d
 unfolding low_1_to_3
@@ -109,7 +109,7 @@ tiny_in_seed s m x y p hm bx by e =
     let sums = xor_cancel_right (combined_bytes m) _ _ (tiny_inside s x y (combined_bytes m) (combined_bytes m) small small e) in
     omega (arith, sums)
 
--- ---- lists of one length from w to 2w that agree on the first w and on the last w bytes
+-- ---- lists of the same length, from w to 2 * w, that agree on their first w and last w bytes
 
 same_ends : (w : ℕ) (m n : List ℕ) → length m ≡ length n → w ≤ length m → length m ≤ w + w
     → ((k : ℕ) → k < w → slice_index m (0 + k) ≡ slice_index n (0 + k))
@@ -125,7 +125,7 @@ same_ends w m n len low high front back =
 
 -- ---- 4 to 8 bytes
 
--- the two words as one number, in both orders
+-- Lemma: two 32-bit words joined into one number are below 2 ^ 64.
 four_words-lt : (m : List ℕ) (i j : ℕ) → IsBytes m → word_at w32 m i + word_at w32 m j * 2 ^ 32 < 2 ^ 64
 four_words-lt m i j p =
     let a = word_at-lt_32 m i p in
@@ -134,7 +134,7 @@ four_words-lt m i j p =
 same_halves : (a b c d : ℕ) → a < 2 ^ 32 → c < 2 ^ 32 → a + b * 2 ^ 32 ≡ c + d * 2 ^ 32 → (a ≡ c) × (b ≡ d)
 same_halves a b c d small small' e = (omega arith, omega arith)
 
--- the words determine the bytes
+-- Lemma: the first and the last 32-bit word determine 4 to 8 bytes of a known length.
 four_bytes : (m n : List ℕ) → IsBytes m → IsBytes n → length m ≡ length n → 4 ≤ length m → length m ≤ 8 → first32 m ≡ first32 n → last32 m ≡ last32 n → m ≡ n
 four_bytes m n p q len low high first last =
     same_ends 4 m n len low high (told_by_word_32 m n 0 0 p q (omega arith) (omega arith) first)
@@ -159,7 +159,7 @@ four64_in_seed s m x y p high bx by e =
     mixed_seed_one_to_one x y bx by (difference_one_to_one (pair64 s 8) (mixed_seed x) (mixed_seed y) (mixed_seed-lt x bx) (mixed_seed-lt y by)
     (xor_cancel_right (last32 m + first32 m * 2 ^ 32) _ _ inside))
 
--- the factor of the length is odd at each of the five lengths
+-- The factor for length n, which is odd at each length from 4 to 8.
 four_factor : ℕ → ℕ
 four_factor n = (prime64_1 + n * 4) % 2 ^ 64
 
@@ -176,7 +176,7 @@ factor_back (suc zero) a b = absurd (omega arith)
 factor_back (suc (suc zero)) a b = absurd (omega arith)
 factor_back (suc (suc (suc zero))) a b = absurd (omega arith)
 
--- the number that is multiplied
+-- The number that is multiplied by the factor.
 four_inside : ℕ → List ℕ → List ℕ → ℕ
 four_inside seed s m = bit_xor ((pair64 s 16 + mixed_seed seed) % 2 ^ 64) (first32 m + last32 m * 2 ^ 32)
 
@@ -216,7 +216,7 @@ four128_in_seed s m x y p low high bx by e f =
 swap-lt : (x : ℕ) → swap_bytes w64 x < 2 ^ 64
 swap-lt x = omega arith
 
--- the two halves of the number whose multiple is taken
+-- Lemma: h * 2 ^ 64 + l determines h and l if l is below 2 ^ 64.
 same_halves_64 : (h l k r : ℕ) → l < 2 ^ 64 → r < 2 ^ 64 → h * 2 ^ 64 + l ≡ k * 2 ^ 64 + r → (h ≡ k) × (l ≡ r)
 same_halves_64 h l k r a b e = (omega arith, omega arith)
 
@@ -238,7 +238,7 @@ low_word_9_to_16-lt : (c n : ℕ) → low_word_9_to_16 c n < 2 ^ 64
 unfolding low_word_9_to_16
 low_word_9_to_16-lt c n = mod-lt _ (pow_pos 64)
 
--- from the number to the two words that went in
+-- Lemma: both_words_9_to_16 determines both of its input words.
 both_words : (x y v w n : ℕ) → x < 2 ^ 64 → y < 2 ^ 64 → v < 2 ^ 64 → w < 2 ^ 64
     → both_words_9_to_16 (x * prime64_1) v n ≡ both_words_9_to_16 (y * prime64_1) w n → (x ≡ y) × (v ≡ w)
 unfolding both_words_9_to_16 low_word_9_to_16
@@ -272,7 +272,7 @@ both_words_9_to_16-lt p v n =
     let l = xor_lt 64 (low_word_9_to_16 p n) (swap_bytes w64 (high_word_9_to_16 p v)) (low_word_9_to_16-lt p n) (swap-lt (high_word_9_to_16 p v)) in
     omega arith
 
--- both halves of the value give the product
+-- Lemma: the avalanches of both halves determine the 128-bit product.
 product_back : (z y : ℕ) → z < 2 ^ 128 → y < 2 ^ 128 → avalanche (z % 2 ^ 64) ≡ avalanche (y % 2 ^ 64) → avalanche (z / 2 ^ 64) ≡ avalanche (y / 2 ^ 64) → z ≡ y
 product_back z y a b low high =
     let lows : z % 2 ^ 64 ≡ y % 2 ^ 64 = avalanche_one_to_one _ _ (mod-lt z (pow_pos 64)) (mod-lt y (pow_pos 64)) low in

@@ -1,4 +1,4 @@
--- The steps that XXH3 mixes short inputs with are one to one.
+-- Lemmas on the mixing steps of XXH3 for short inputs: each is one-to-one.
 use Rattle.std.proofs.Common.{◌≡◌, ℕ, ◌+◌, ◌-◌, ◌*◌, ◌/◌, ◌%◌, ◌^◌, ◌<◌, ◌≤◌, bit_xor, sym, ap, ap₂, refl, ◌∙◌, arith, lit≤, lit<, mod-lt, pow_pos}
 use Rattle.std.specs.Int.{w32, w64, swap_bytes}
 use Rattle.std.proofs.lemmas.Nat.{xor_shr, xor_mod, xor_lt}
@@ -14,7 +14,7 @@ use Rattle.twox_core.specs.Short.{xor_rotated, strong, mixed_seed, sum_4_to_8, x
 product-lt : (x p : ℕ) → x * p % 2 ^ 64 < 2 ^ 64
 product-lt x p = mod-lt (x * p) (pow_pos 64)
 
--- ---- the last mixing
+-- ---- both avalanches
 
 pub avalanche_one_to_one : IsOneToOne (2 ^ 64) avalanche
 unfolding avalanche
@@ -28,9 +28,9 @@ pub avalanche_xxh64_one_to_one : IsOneToOne (2 ^ 64) avalanche_xxh64
 unfolding avalanche_xxh64
 avalanche_xxh64_one_to_one = avalanche_told 64 33 29 32 prime64_2 0xba79078168d4baf prime64_3 0xe9e9f4c41d6df849 (lit≤ tt) (lit≤ tt) (lit≤ tt) refl refl
 
--- ---- x xor two rotations of x: squared three times it is one rotation
+-- ---- x xor two rotations of x: applied eight times, it is one rotation
 
--- rotations by j and k, over the end of the word
+-- Lemma: rotations by j and k bits with j + k ≥ 64 are a rotation by j + k - 64 bits.
 past_end : (j k x : ℕ) → j ≤ 64 → k ≤ 64 → 64 ≤ j + k → x < 2 ^ 64 → rotated 64 (rotated 64 x j) k ≡ rotated 64 x (j + k - 64)
 past_end j k x a b over below =
     let r : ℕ = j + k - 64 in
@@ -52,7 +52,7 @@ rotated_turns a b k x le h =
     rotated-xor 64 (bit_xor x (rotated 64 x a)) (rotated 64 x b) k le (xor_lt 64 _ _ h (rotated-lt 64 x a h)) (rotated-lt 64 x b h)
     ∙ ap (λ (z : ℕ). bit_xor z (rotated 64 (rotated 64 x b) k)) (rotated-xor 64 x (rotated 64 x a) k le h (rotated-lt 64 x a h))
 
--- twice is once with rotations twice as far
+-- Lemma: two_turns a b applied twice is two_turns c d, with c and d the double rotations.
 turns_twice : (a b c d x : ℕ) → a ≤ 64 → b ≤ 64 → x < 2 ^ 64
     → rotated 64 (rotated 64 x a) a ≡ rotated 64 x c → rotated 64 (rotated 64 x b) b ≡ rotated 64 x d
     → rotated 64 (rotated 64 x b) a ≡ rotated 64 (rotated 64 x a) b
@@ -96,7 +96,7 @@ xor_rotated_one_to_one x y p q e =
 xor_rotated-lt : (x : ℕ) → x < 2 ^ 64 → xor_rotated x < 2 ^ 64
 xor_rotated-lt x h = xor_lt 64 _ _ (xor_lt 64 _ _ h (left-lt w64 49 x (lit< tt) (lit< tt) h)) (left-lt w64 24 x (lit< tt) (lit< tt) h)
 
--- ---- the stronger mixing, for a length up to 8
+-- ---- the strong mixing, for lengths up to 8
 
 length_step_told : (n : ℕ) → n ≤ 8 → IsOneToOne (2 ^ 64) (λ x. bit_xor x (x / 2 ^ 35 + n))
 length_step_told n le x y p q e =
@@ -127,7 +127,7 @@ strong_one_to_one n le x y p q e =
     let e0 = multiple_one_to_one prime_mx2 0x2ab9c720d1024ad (2 ^ 64) refl (xor_rotated x) (xor_rotated y) (xor_rotated-lt x p) (xor_rotated-lt y q) e1 in
     xor_rotated_one_to_one x y p q e0
 
--- ---- the seed that goes in at 4 to 8 bytes: its low half stays, and so the high half is determined
+-- ---- the mixed seed of 4 to 8 bytes: its low half is the seed's, so the high half is determined
 
 pub mixed_seed_one_to_one : IsOneToOne (2 ^ 64) mixed_seed
 unfolding mixed_seed
@@ -166,11 +166,11 @@ four128_one_to_one p q odd x y bx by low high =
 
 -- ---- 9 to 16 bytes at 128 bits
 
--- the product modulo 2 ^ 128
+-- Lemma: multiplying by prime64_2 modulo 2 ^ 128 is one-to-one.
 pub wide_one_to_one : IsOneToOne (2 ^ 128) (λ x. x * prime64_2 % 2 ^ 128)
 wide_one_to_one = multiple_one_to_one prime64_2 0xd5c9f24e5c2d4370ba79078168d4baf (2 ^ 128) refl
 
--- the second word: its high half, and its low half times an odd number
+-- Lemma: the high half of the second word plus its low half times an odd number is one-to-one.
 pub second_word_one_to_one : IsOneToOne (2 ^ 64) (λ x. (x / 2 ^ 32 * 2 ^ 32 + x % 2 ^ 32 * prime32_2) % 2 ^ 64)
 second_word_one_to_one x y a b e =
     let low_x : x % 2 ^ 32 < 2 ^ 32 = mod-lt x (pow_pos 32) in

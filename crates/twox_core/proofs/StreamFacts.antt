@@ -1,4 +1,4 @@
--- A stream follows the list of its chunks, joined.
+-- Lemmas on streams: a stream represents the concatenation of its chunks.
 use Rattle.std.proofs.Common.{◌≡◌, ℕ, Option, zero, suc, ◌+◌, ◌-◌, ◌*◌, ◌/◌, ◌%◌, ◌^◌, ◌<◌, ◌≤◌, min, nat_le, nat_lt, if◌then◌else◌, Bool, true, false, List, [], ◌++◌, length, take, drop, refl, sym, ap, ◌∙◌, arith, length-append, length-drop}
 use Rattle.std.proofs.Math.Seq.{take-append-add}
 use Rattle.std.proofs.lemmas.Bool.Decides.{nat_tests}
@@ -44,7 +44,7 @@ holds_emptied s m b k u t some held fits whole =
       bytes = sym (drop_all (64 * (k + u / 64)) m (omega arith));
     }
 
--- ---- bytes that find the buffer empty
+-- ---- bytes written to an empty buffer
 
 holds_rest : (s m r b : List ℕ) (k n : ℕ) (t : TakenStripes) → 0 < stripes_of s → Holds s m k t b 0 → n ≡ stripes_in_place (length r)
     → Holds s (m ++ r) (k + n) (after_taking s t r n) (drop (64 * n) r ++ drop (length r - 64 * n) b) (length r - 64 * n)
@@ -109,7 +109,7 @@ written_follows : (s m d : List ℕ) (c : CoreState) → 0 < stripes_of s → le
     → Follows s c m → Follows s (state_after_write s c d) (m ++ d)
 written_follows s m d c some size within held = written_in (nat_le (length d) (512 - c.buffer_usage)) s m d c refl some size within held
 
--- ---- the end
+-- ---- the end of a stream
 
 no_stripes : (k n : ℕ) → (0 < k → 512 < n) → n ≤ 240 → k ≡ 0
 no_stripes zero n late short = refl
@@ -182,9 +182,9 @@ end_stripe_follows : (s m : List ℕ) (c : CoreState) → Follows s c m → 240 
 unfolding Follows
 end_stripe_follows s m c held long = last_in (nat_lt c.buffer_usage 64) s m c.buffer held.0 c.buffer_usage c.taken refl held.3 (omega arith)
 
--- ---- what the core's clauses say
+-- ---- the clauses of the core's contracts
 
--- a stream of no bytes, with any bytes in its buffer
+-- Lemma: a core with an empty state and any bytes in its buffer represents the empty list.
 pub stands_cleared : {S : Type 0} (bytes : S → List ℕ) (h : StreamKey S) (buffer : List ℕ)
     → StandsFor bytes (record { key = h; state = record empty_state { buffer = buffer } }) h.seed (bytes h.secret) []
 unfolding StandsFor Follows
@@ -199,7 +199,7 @@ stands_cleared bytes h buffer = (
   ),
 )
 
--- and new
+-- Lemma: a new core represents the empty list.
 pub stands_fresh : {S : Type 0} (bytes : S → List ℕ) (h : StreamKey S) → StandsFor bytes (record { key = h; state = empty_state }) h.seed (bytes h.secret) []
 stands_fresh bytes h = stands_cleared bytes h empty_state.buffer
 
@@ -254,7 +254,7 @@ stands_finished_long small large bytes h seed s m some size within held long =
     finished_in false small large h.key.seed (bytes h.key.secret) h.state test
     ∙ rw (held.1, end_accumulators_follow s m h.state (rw held.1 at some) size within held.2 long, end_block_follows s m h.state held.2 long, end_stripe_follows s m h.state held.2 long, follows_count s m h.state held.2) refl
 
--- a copy
+-- Lemma: a core with the seed, the secret's bytes and the state of another is a copy of it.
 pub stands_copied : {S : Type 0} (bytes : S → List ℕ) (a b : CoreView S) → b.key.seed ≡ a.key.seed → bytes b.key.secret ≡ bytes a.key.secret → b.state ≡ a.state
     → IsCopy bytes a b
 unfolding StandsFor

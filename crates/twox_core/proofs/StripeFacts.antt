@@ -1,4 +1,4 @@
--- Stripes taken one by one are the accumulators of the definition.
+-- Lemmas on taking stripes one by one: they give the accumulators of the definition.
 use Rattle.std.proofs.Common.{◌≡◌, ℕ, zero, suc, ◌+◌, ◌-◌, ◌*◌, ◌/◌, ◌%◌, ◌<◌, ◌≤◌, ◌==◌, Bool, true, false, List, [], ◌++◌, length, take, drop, refl, sym, ap, ap₂, ◌∙◌, arith, add-zero, add-one, length-drop}
 use Rattle.std.proofs.Math.Nat.{zero-mod}
 use Rattle.std.proofs.lemmas.Bool.Decides.{nat_tests}
@@ -14,20 +14,20 @@ use Rattle.twox_core.proofs.AccumulatorFacts.{accumulates, scrambles, same_accum
 
 -- ---- stripes of a list of bytes
 
--- one stripe more
+-- Lemma: one more stripe after k stripes of xs gives k + 1 stripes.
 pub after_stripes-next : (s : List ℕ) (a : StripeAccumulator) (xs t : List ℕ) (k : ℕ) → t ≡ stripe_at xs (64 * k)
     → after_stripe s (after_stripes s a xs k) t ≡ after_stripes s a xs (k + 1)
 unfolding after_stripes
 after_stripes-next s a xs t k e = rw (e, add-one k) refl
 
--- the stripes of the first w bytes
+-- Lemma: n stripes depend only on the first 64 * n bytes.
 pub after_stripes-take : (s : List ℕ) (a : StripeAccumulator) (xs : List ℕ) (w n : ℕ) → 64 * n ≤ w → after_stripes s a (take w xs) n ≡ after_stripes s a xs n
 unfolding after_stripes
 after_stripes-take s a xs w zero fits = refl
 after_stripes-take s a xs w (suc n) fits =
     ap₂ (after_stripe s) (after_stripes-take s a xs w n (omega arith)) (stripe_at-take xs w (64 * n) (omega arith))
 
--- n stripes, and then k of what follows them
+-- Lemma: n stripes and then the next k stripes are n + k stripes.
 pub after_stripes-more : (s : List ℕ) (a : StripeAccumulator) (xs : List ℕ) (n k : ℕ) → after_stripes s (after_stripes s a xs n) (drop (64 * n) xs) k ≡ after_stripes s a xs (n + k)
 unfolding after_stripes
 after_stripes-more s a xs n zero = rw (add-zero n) refl
@@ -35,7 +35,7 @@ after_stripes-more s a xs n (suc k) =
     let next : n + suc k ≡ suc (n + k) = omega arith in
     rw next (ap₂ (after_stripe s) (after_stripes-more s a xs n k) (stripe_at-drop xs (64 * n) (64 * k) (64 * (n + k)) (omega arith)))
 
--- four stripes more of xs
+-- Lemma: the next four stripes after 4 * i stripes of xs give 4 * (i + 1) stripes.
 pub next_four : (s : List ℕ) (a t : StripeAccumulator) (f xs : List ℕ) (i : ℕ) → t ≡ after_stripes s a xs (4 * i) → f ≡ take 256 (drop (i * 256) xs)
     → after_stripes s t f 4 ≡ after_stripes s a xs (4 * (i + 1))
 next_four s a t f xs i before here =
@@ -44,14 +44,14 @@ next_four s a t f xs i before here =
     rw here (after_stripes-take s t (drop (i * 256) xs) 256 4 (omega arith))
     ∙ rw (sym before, sym place, next) at (after_stripes-more s a xs (4 * i) 4)
 
--- k stripes of xs, n of what follows them, and j of what follows those
+-- Lemma: k stripes of xs, then the next n, and then the next j, are k + (n + j) stripes.
 pub three_parts : (s xs : List ℕ) (a b t : StripeAccumulator) (k n j w : ℕ) → w ≡ 64 * n
     → b ≡ after_stripes s a xs k → t ≡ after_stripes s b (drop (64 * k) xs) n
     → after_stripes s t (drop w (drop (64 * k) xs)) j ≡ after_stripes s a xs (k + (n + j))
 three_parts s xs a b t k n j w whole front next =
     rw (whole, next, front) (after_stripes-more s (after_stripes s a xs k) (drop (64 * k) xs) n j ∙ after_stripes-more s a xs k (n + j))
 
--- ---- one stripe more of m
+-- ---- one more stripe of m
 
 place_on : (k q : ℕ) → k % q + 1 < q → (k + 1) % q ≡ k % q + 1
 place_on k q h =
@@ -96,7 +96,7 @@ next_in false s m t k a e some held here =
 folded_next : (s m t : List ℕ) (k : ℕ) (a : StripeAccumulator) → 0 < stripes_of s → HasTaken s m k a → t ≡ stripe_at m (64 * k) → HasTaken s m (k + 1) (after_stripe s a t)
 folded_next s m t k a some held here = next_in (a.current_stripe + 1 == stripes_of s) s m t k a refl some held here
 
--- ---- n stripes more
+-- ---- n more stripes
 
 folded_some : (s m xs : List ℕ) (k n : ℕ) (a : StripeAccumulator) → 0 < stripes_of s → HasTaken s m k a
     → ((j : ℕ) → j < n → stripe_at xs (64 * j) ≡ stripe_at m (64 * (k + j))) → HasTaken s m (k + n) (after_stripes s a xs n)
@@ -106,7 +106,7 @@ folded_some s m xs k (suc n) a some held here =
     let next : k + n + 1 ≡ k + suc n = omega arith in
     rw next at (folded_next s m (stripe_at xs (64 * n)) (k + n) (after_stripes s a xs n) some (folded_some s m xs k n a some held (λ j low. here j (omega arith))) (here n (omega arith)))
 
--- where xs and then ys follow the first k stripes of m
+-- Lemma: n stripes of xs, which follows the first k stripes of m, make k + n stripes taken.
 pub folded_more : (s m xs ys : List ℕ) (k n : ℕ) (a : StripeAccumulator) → 0 < stripes_of s → HasTaken s m k a
     → drop (64 * k) m ≡ xs ++ ys → 64 * n ≤ length xs → HasTaken s m (k + n) (after_stripes s a xs n)
 folded_more s m xs ys k n a some held split fits =
@@ -122,13 +122,13 @@ pub folded_none : (s m : List ℕ) → HasTaken s m 0 no_stripe
 unfolding accumulator_after
 folded_none s m = record { accumulators = refl; place = sym (zero-mod (stripes_of s)) }
 
--- the first n stripes of m
+-- Lemma: the first n stripes of m, taken from the start, are n stripes taken.
 pub folded_first : (s m : List ℕ) (n : ℕ) → 0 < stripes_of s → 64 * n ≤ length m → HasTaken s m n (after_stripes s no_stripe m n)
 folded_first s m n some fits =
     let all : 0 + n ≡ n = omega arith in
     rw all at (folded_more s m m [] 0 n no_stripe some (folded_none s m) (sym (append-nil m)) fits)
 
--- bytes that follow change nothing
+-- Lemma: bytes appended to m don't change the stripes taken.
 pub folded_longer : (s m d : List ℕ) (k : ℕ) (a : StripeAccumulator) → HasTaken s m k a → 64 * k ≤ length m → HasTaken s (m ++ d) k a
 folded_longer s m d k a held fits = record {
   accumulators = held.accumulators ∙ same_accumulators (λ i. accumulator_after s m i k) (λ i. accumulator_after s (m ++ d) i k) (λ i h. sym (accumulator_after-append s m d i k h fits));

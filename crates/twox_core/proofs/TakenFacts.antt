@@ -1,4 +1,4 @@
--- The stripes that a stream has taken, and the last of them.
+-- Lemmas on the stripes that a stream has taken, and on the last of them.
 use Rattle.std.proofs.Common.{◌≡◌, ℕ, zero, suc, ◌+◌, ◌-◌, ◌*◌, ◌<◌, ◌≤◌, List, ◌++◌, length, take, drop, refl, sym, ap, ◌∙◌, arith, add-zero, length-drop}
 use Rattle.std.proofs.lemmas.List.{drop-append-le, take-append-le, drop-drop}
 use Rattle.twox_core.specs.Parts.{stripe_at}
@@ -22,7 +22,7 @@ pub newest_stripe-none : (old xs : List ℕ) (n : ℕ) → n ≡ 0 → old ≡ n
 unfolding newest_stripe
 newest_stripe-none old xs n e = rw e refl
 
--- of the first w bytes
+-- Lemma: the newest of n stripes depends only on the first 64 * n bytes.
 newest_stripe-take : (old xs : List ℕ) (w n : ℕ) → 64 * n ≤ w → newest_stripe old (take w xs) n ≡ newest_stripe old xs n
 unfolding newest_stripe
 newest_stripe-take old xs w zero fits = refl
@@ -32,7 +32,7 @@ pub after_taking-take : (s : List ℕ) (t : TakenStripes) (xs : List ℕ) (w n :
 unfolding after_taking
 after_taking-take s t xs w n fits = rw (after_stripes-take s t.stripes xs w n fits, newest_stripe-take t.last xs w n fits) refl
 
--- where xs and then ys follow the first k stripes of m
+-- Lemma: the newest stripe after n stripes of xs, which follows the first k stripes of m, is stripe k + n - 1 of m.
 newest_stripe-more : (m xs ys old : List ℕ) (k n : ℕ) → (0 < k → old ≡ stripe_at m (64 * k - 64)) → drop (64 * k) m ≡ xs ++ ys → 64 * n ≤ length xs
     → 0 < k + n → newest_stripe old xs n ≡ stripe_at m (64 * (k + n) - 64)
 unfolding newest_stripe
@@ -48,7 +48,7 @@ newest_stripe-more m xs ys old k (suc n) before split fits some =
 pub took_none : (s m : List ℕ) → TookStripes s m 0 none_taken
 took_none s m = record { stripes = folded_none s m; last = λ some. absurd (omega (arith, some)); count = refl }
 
--- bytes that follow change nothing
+-- Lemma: bytes appended to m don't change the stripes taken.
 pub took_longer : (s m d : List ℕ) (k : ℕ) (t : TakenStripes) → TookStripes s m k t → 64 * k ≤ length m → TookStripes s (m ++ d) k t
 took_longer s m d k t took fits = record {
   stripes = folded_longer s m d k t.stripes took.stripes fits;
@@ -56,7 +56,7 @@ took_longer s m d k t took fits = record {
   count = took.count;
 }
 
--- where xs and then ys follow the first k stripes of m
+-- Lemma: n stripes of xs, which follows the first k stripes of m, make k + n stripes taken.
 pub took_more : (s m xs ys : List ℕ) (k n : ℕ) (t : TakenStripes) → 0 < stripes_of s → TookStripes s m k t
     → drop (64 * k) m ≡ xs ++ ys → 64 * n ≤ length xs → TookStripes s m (k + n) (after_taking s t xs n)
 unfolding after_taking

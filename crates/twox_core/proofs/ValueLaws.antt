@@ -1,4 +1,4 @@
--- The laws of the values: other bytes and another seed, and the low half.
+-- Laws of the values: other bytes, another seed, and the low half of the 128-bit value.
 use Rattle.std.proofs.Common.{◌≡◌, ◌≢◌, ℕ, ◌+◌, ◌*◌, ◌/◌, ◌%◌, ◌^◌, ◌<◌, ◌≤◌, ◌⊎◌, List, length, nat_lt, true, false, inl, inr, refl, sym, ap, ◌∙◌, arith, mod-lt, pow_pos}
 use Rattle.std.proofs.lemmas.Bool.{cases_lt}
 use Rattle.std.proofs.lemmas.Bool.Decides.{nat_tests}
@@ -88,7 +88,7 @@ pub long_64 : (seed : ℕ) (s m : List ℕ) → 240 < length m → xxh3_64 seed 
 unfolding xxh3_64 value64_in
 long_64 seed s m low = rw (range_above_240 (length m) low) refl
 
--- other bytes have another value
+-- Lemma: other bytes have another 64-bit value, at the lengths of IsOtherShort64.
 pub changed_bytes_64 : (seed : ℕ) (s m n : List ℕ) → IsBytes m → IsOtherShort64 m n → xxh3_64 seed s n ≢ xxh3_64 seed s m
 changed_bytes_64 seed s m n p apart e = elim apart.range [
   | inl tiny ↦
@@ -99,7 +99,7 @@ changed_bytes_64 seed s m n p apart e = elim apart.range [
       (sym (four_64 seed s n (omega (arith, four.0, four.1)) (omega (arith, four.0, four.2))) ∙ e ∙ four_64 seed s m four.1 (omega (arith, four.2))))
 ]
 
--- another seed has another value
+-- Lemma: another seed has another 64-bit value for up to 8 bytes.
 pub changed_seed_64 : (s m : List ℕ) (seed other : ℕ) → IsBytes s → IsBytes m → seed < 2 ^ 64 → other < 2 ^ 64 → length m ≤ 8 → other ≢ seed
     → xxh3_64 other s m ≢ xxh3_64 seed s m
 changed_seed_64 s m seed other p q small small' short differs e = elim (cases_lt (length m) 1) [
@@ -171,7 +171,7 @@ pub long_128 : (seed : ℕ) (s m : List ℕ) → 240 < length m → xxh3_128 see
 unfolding xxh3_128 low_in high_in
 long_128 seed s m low = rw (range_above_240 (length m) low) refl
 
--- equal values have equal halves
+-- Lemma: h * 2 ^ 64 + l determines h and l if l is below 2 ^ 64.
 same_halves : (h l k r : ℕ) → l < 2 ^ 64 → r < 2 ^ 64 → h * 2 ^ 64 + l ≡ k * 2 ^ 64 + r → (l ≡ r) × (h ≡ k)
 same_halves h l k r a b e = (omega arith, omega arith)
 
@@ -181,7 +181,7 @@ low_of h l small = omega arith
 same_empty : (m n : List ℕ) → length n ≡ length m → length m < 1 → n ≡ m
 same_empty m n len none = same_number_lists n m len (λ k h. absurd (omega arith))
 
--- other bytes have another value
+-- Lemma: other bytes of the same length have another 128-bit value for up to 16 bytes.
 pub changed_bytes_128 : (seed : ℕ) (s m n : List ℕ) → IsBytes m → IsOtherShort128 m n → xxh3_128 seed s n ≢ xxh3_128 seed s m
 changed_bytes_128 seed s m n p apart e =
     let len = apart.lengths in
@@ -207,7 +207,7 @@ changed_bytes_128 seed s m n p apart e =
       ]
     ]
 
--- another seed has another value
+-- Lemma: another seed has another 128-bit value for up to 16 bytes.
 pub changed_seed_128 : (s m : List ℕ) (seed other : ℕ) → IsBytes s → IsBytes m → seed < 2 ^ 64 → other < 2 ^ 64 → length m ≤ 16 → other ≢ seed
     → xxh3_128 other s m ≢ xxh3_128 seed s m
 changed_seed_128 s m seed other p q small small' short differs e = elim (cases_lt (length m) 1) [
@@ -231,7 +231,7 @@ changed_seed_128 s m seed other p q small small' short differs e = elim (cases_l
   ]
 ]
 
--- the low half is the value of 64 bits, of 1 to 3 bytes and above 240
+-- Lemma: the low half of the 128-bit value is the 64-bit value for 1 to 3 bytes and for more than 240 bytes.
 pub low_half : (seed : ℕ) (s m : List ℕ) → ((1 ≤ length m) × (length m ≤ 3)) ⊎ (240 < length m) → xxh3_128 seed s m % 2 ^ 64 ≡ xxh3_64 seed s m
 low_half seed s m range = elim range [
   | inl tiny ↦
@@ -240,7 +240,7 @@ low_half seed s m range = elim range [
   | inr long ↦ ap (λ (x : ℕ). x % 2 ^ 64) (long_128 seed s m long) ∙ low_of _ _ (low_above_240-lt s m) ∙ sym (long_64 seed s m long)
 ]
 
--- ---- the secret that takes effect
+-- ---- the effective secret
 
 pub effective_short : (own m : List ℕ) → length m ≤ 240 → effective_secret own m ≡ default_secret
 unfolding effective_secret

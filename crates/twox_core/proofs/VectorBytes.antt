@@ -1,28 +1,28 @@
--- The bytes of four words in one number, as a vector of the words has them.
+-- Lemmas on the bytes of a vector: the bytes of a vector of four words are the bytes of the words in order.
 use Rattle.std.proofs.Common.{◌≡◌, ℕ, zero, suc, ◌+◌, ◌*◌, ◌/◌, ◌%◌, ◌^◌, ◌<◌, List, [], ◌∷◌, ◌++◌, refl, arith, ap, ◌∙◌}
 use Rattle.std.specs.Int.{w64, to_le_bytes}
 
--- the k lowest bytes of n
+-- The k lowest bytes of n.
 abbrev pub low_bytes : ℕ → ℕ → List ℕ
 low_bytes zero n = []
 low_bytes (suc k) n = n % 256 ∷ low_bytes k (n / 256)
 
--- n without its k lowest bytes
+-- n without its k lowest bytes.
 abbrev without : ℕ → ℕ → ℕ
 without zero n = n
 without (suc k) n = without k (n / 256)
 
--- eight bytes and what follows, one by one
+-- Lemma: lists are equal if their first eight elements and their rests are equal.
 eight : (a b c d e f g h a' b' c' d' e' f' g' h' : ℕ) (rest rest' : List ℕ)
     → a ≡ a' → b ≡ b' → c ≡ c' → d ≡ d' → e ≡ e' → f ≡ f' → g ≡ g' → h ≡ h' → rest ≡ rest'
     → a ∷ b ∷ c ∷ d ∷ e ∷ f ∷ g ∷ h ∷ rest ≡ a' ∷ b' ∷ c' ∷ d' ∷ e' ∷ f' ∷ g' ∷ h' ∷ rest'
 eight a b c d e f g h a' b' c' d' e' f' g' h' rest rest' p q r s t u v w z = rw (p, q, r, s, t, u, v, w, z) refl
 
--- one word more
+-- Lemma: a + 2 ^ 64 * r without its eight lowest bytes is r if a is below 2 ^ 64.
 past_word : (a r : ℕ) → a < 2 ^ 64 → without 8 (a + 2 ^ 64 * r) ≡ r
 past_word a r small = omega arith
 
--- the word below r, and then r
+-- Lemma: the low bytes of a + 2 ^ 64 * r are the bytes of the word a, then the low bytes of r.
 word_first : (k a r : ℕ) (rest : List ℕ) → a < 2 ^ 64 → low_bytes k r ≡ rest → low_bytes (suc (suc (suc (suc (suc (suc (suc (suc k)))))))) (a + 2 ^ 64 * r) ≡ to_le_bytes w64 a ++ rest
 word_first k a r rest small e =
     eight _ _ _ _ _ _ _ _ _ _ _ _ _ _ _ _ _ _ (omega arith) (omega arith) (omega arith) (omega arith) (omega arith) (omega arith) (omega arith) (omega arith) (ap (low_bytes k) (past_word a r small) ∙ e)

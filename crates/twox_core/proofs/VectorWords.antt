@@ -1,4 +1,4 @@
--- The words of bytes, as a vector of any width that is loaded at once gives them.
+-- Lemmas on the words of a vector of any width that is loaded from bytes.
 use Rattle.std.proofs.Common.{◌≡◌, ℕ, ◌+◌, ◌*◌, ◌^◌, ◌<◌, ◌≤◌, List, [], ◌∷◌, take, drop, get_or, Fits, w8, refl, ◌∙◌, arith, add-zero, length, length-drop, length-take-le}
 use lib.Lanes.{number_l, digits_l}
 use Rattle.std.proofs.lemmas.Simd.{get_or_wider, chunk-fits, below_from_Fits}
@@ -16,7 +16,7 @@ number_of_word m i fits =
     let bytes : take 8 (drop (i + 0) m) ≡ listed m i 0 8 = take_listed m i 0 8 (omega arith) in
     rw (rw (add-zero i) at bytes) (number_of_eight _ _ _ _ _ _ _ _)
 
--- word j of the n words of m from byte `base` on
+-- Lemma: lane j of a vector of n words loaded from offset `base` is the word at offset base + 8 * j.
 pub word_of_vector : (n : ℕ) (m : List ℕ) (base j : ℕ) → ((k : ℕ) → Fits w8 (get_or m k 0)) → base + 8 * n ≤ length m → j < n
     → get_or (digits_l (2 ^ 64) n (number_l 256 (take (8 * n) (drop base m)))) j 0 ≡ word64 m (base + 8 * j)
 word_of_vector n m base j bytes fits low =

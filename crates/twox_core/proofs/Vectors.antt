@@ -1,4 +1,4 @@
--- Outside vectors, checked by computing: the values that the tests of the Rust crate `twox-hash` expect.
+-- Test vectors, checked by computing: the values that the tests of the Rust crate `twox-hash` expect.
 use Rattle.std.specs.Prelude.{◌≡◌, ℕ, zero, suc, ◌+◌, ◌%◌, List, [], ◌∷◌, map}
 use Rattle.std.proofs.Common.{refl}
 use Rattle.twox_words.specs.Word.{word_at}
@@ -9,7 +9,7 @@ use Rattle.twox_core.specs.Middle.{both_ends, value64_17_to_128, early, later, v
 use Rattle.twox_core.specs.Long.{accumulate_one, scramble_one, accumulator_after, last_accumulator, pair_fold, merge_accumulators, low_above_240, high_above_240}
 use Rattle.twox_core.specs.Value.{range_of, value64_in, low_in, high_in, xxh3_64, xxh3_128, effective_secret}
 
--- the n bytes i mod 251 for i from 0 on
+-- The n bytes x mod 251 for x from i on.
 unfoldable pub gen_from : ℕ → ℕ → List ℕ
 gen_from i zero = []
 gen_from i (suc n) = i % 251 ∷ gen_from (i + 1) n
@@ -17,14 +17,14 @@ gen_from i (suc n) = i % 251 ∷ gen_from (i + 1) n
 abbrev pub gen : ℕ → List ℕ
 gen n = gen_from 0 n
 
--- the values of these many bytes under the seed 0 and the default secret
+-- The values of inputs of these lengths under seed 0 and the default secret.
 abbrev pub values64 : List ℕ → List ℕ
 values64 ns = map (λ n. xxh3_64 0 default_secret (gen n)) ns
 
 abbrev pub values128 : List ℕ → List ℕ
 values128 ns = map (λ n. xxh3_128 0 default_secret (gen n)) ns
 
--- and under a seed, with the secret that it derives
+-- The values of inputs of these lengths under a seed, whose derived secret applies above 240 bytes.
 abbrev pub seeded64 : ℕ → List ℕ → List ℕ
 seeded64 seed ns = map (λ n. xxh3_64 seed (effective_secret (derived_secret seed) (gen n)) (gen n)) ns
 
@@ -104,7 +104,7 @@ pub seeded64_values : seeded64 0xdeadcafe (0 ∷ 1 ∷ 4 ∷ 9 ∷ 17 ∷ 129 �
 unfolding word_at gen_from avalanche avalanche_xxh64 fold mix sum_below value64_0 low_0 high_0 combined_bytes low_1_to_3 high_1_to_3 mixed_seed strong value64_4_to_8 product_4_to_8 low_4_to_8 high_4_to_8 value64_9_to_16 first_9_to_16 second_9_to_16 high_word_9_to_16 low_word_9_to_16 both_words_9_to_16 product_9_to_16 both_ends value64_17_to_128 early later value64_129_to_240 accumulator_step first_17_to_128 second_17_to_128 pairs_first pairs_second first_129_to_240 second_129_to_240 merge_low merge_high accumulate_one scramble_one accumulator_after last_accumulator pair_fold merge_accumulators low_above_240 high_above_240 range_of value64_in low_in high_in xxh3_64 xxh3_128 effective_secret default_secret derived_pairs derived_secret
 seeded64_values = refl
 
--- the seed 0 derives the default secret
+-- Lemma: the secret derived from seed 0 is the default secret.
 pub derived_secret_none : derived_secret 0 ≡ default_secret
 unfolding word_at default_secret derived_pairs derived_secret
 derived_secret_none = refl

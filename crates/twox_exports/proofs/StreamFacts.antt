@@ -1,4 +1,4 @@
--- What a state that follows a list of bytes is, over the secret that lies beside it.
+-- Lemmas on a state that follows a list of bytes, with the secret that is stored beside the state.
 use Rattle.std.proofs.Common.{◌≡◌, ℕ, Option, None, ◌+◌, ◌-◌, ◌*◌, ◌^◌, ◌<◌, ◌≤◌, min, List, [], ◌++◌, length, refl, sym, ap, ◌∙◌, arith, length-drop, zero, suc}
 use Rattle.std.proofs.lemmas.List.{length-take}
 use Rattle.twox_core.specs.CoreView.{CoreView}
@@ -15,19 +15,19 @@ use Rattle.twox_core.specs.InRange.{IsInRange}
 abbrev own : List ℕ → List ℕ
 own bytes = bytes
 
--- a state that begins
+-- Lemma: an empty state follows the empty list.
 pub follows_fresh : (s : List ℕ) (c : CoreState) → c ≡ empty_state → Follows s c []
 unfolding StandsFor
 follows_fresh s c fresh =
     let begun = stands_fresh own (record { seed = None; secret = s }) in
     rw fresh begun.2
 
--- a byte is left where some were taken
+-- Lemma: at least one byte is buffered if any byte was counted.
 byte_left : (k u n total : ℕ) → total ≡ min n (2 ^ 64 - 1) → 64 * k + u ≡ n → (0 < k → 0 < u) → min total 1 ≤ u
 byte_left zero u n total count all left = omega arith
 byte_left (suc k) u n total count all left = omega (arith, left (omega arith))
 
--- what follows a list isn't refused
+-- Lemma: a state that follows a list is in range, so it isn't refused.
 pub follows_in_range : (s m : List ℕ) (c : CoreState) → 136 ≤ length s → length c.buffer ≡ 512 → Follows s c m → IsInRange s c
 unfolding Follows
 follows_in_range s m c enough size held =
@@ -41,7 +41,7 @@ follows_in_range s m c enough size held =
       left = byte_left k c.buffer_usage (length m) c.total_bytes held.1 holds.all held.2.left;
     }
 
--- the state with a seed, or none, and the secret, as the library's laws see one
+-- The core that the library's laws are about: the state, the secret, and the seed, if any.
 abbrev view_of : CoreState → Option ℕ → List ℕ → CoreView (List ℕ)
 view_of c seed s = record { key = record { seed = seed; secret = s }; state = c }
 
@@ -49,7 +49,7 @@ stands : (s m : List ℕ) (c : CoreState) (seed : Option ℕ) → Follows s c m 
 unfolding StandsFor
 stands s m c seed held = (refl, refl, held)
 
--- a chunk
+-- Lemma: a state that follows m follows m ++ d after a write of d.
 pub follows_written : (s m d : List ℕ) (c : CoreState) → 136 ≤ length s → length c.buffer ≡ 512 → Follows s c m
     → Follows s (state_after_write s c d) (m ++ d)
 unfolding StandsFor core_after_write
@@ -57,7 +57,7 @@ follows_written s m d c enough size held =
     let within = (follows_in_range s m c enough size held).within in
     (stands_written own (view_of c None s) None s m d (omega arith) size within (stands s m c None held)).2
 
--- the values
+-- Lemma: the value of a state that follows m is the value of a stream of m.
 pub finished_64 : (s m : List ℕ) (c : CoreState) (seed : Option ℕ) (r : ℕ) → 136 ≤ length s → length c.buffer ≡ 512 → Follows s c m
     → r ≡ state_value_64 seed s c → r ≡ stream_64 seed s m
 unfolding core_finish

@@ -1,4 +1,4 @@
--- XXH3's text of the step that it shares with XXH64 says the same as XXH64's own.
+-- XXH64's avalanche, as the definition of XXH3 has it, equals the avalanche in the definition of XXH64.
 use Rattle.std.proofs.Common.{◌≡◌, ℕ, refl}
 use Rattle.twox_plain.specs.Xxh64.{avalanche}
 use Rattle.twox_core.specs.Steps.{avalanche_xxh64}

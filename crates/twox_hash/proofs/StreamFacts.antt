@@ -1,4 +1,4 @@
--- The value of a stream is that of the list that it represents.
+-- Lemmas on streams: the value of a stream is the value of the list that it represents.
 use Rattle.std.proofs.Common.{◌≡◌, ℕ, Option, Some, None, if◌then◌else◌, ◌<◌, ◌≤◌, nat_lt, Bool, true, false, List, length, refl, sym, ◌∙◌, arith}
 use Rattle.std.proofs.lemmas.Bool.Decides.{nat_tests}
 use Rattle.twox_words.specs.Word.{counted}

@@ -1,4 +1,4 @@
--- The state keeps following a message that comes in chunks: for any block length and any accumulators.
+-- Lemmas on a state that follows a message in chunks, for any block length and any accumulators.
 use Rattle.std.proofs.Common.{◌≡◌, ℕ, ◌+◌, ◌-◌, ◌*◌, ◌/◌, ◌%◌, ◌^◌, ◌<◌, ◌≤◌, min, List, [], ◌++◌, length, take, drop, nat_lt, true, false, inl, inr, refl, sym, ap, ap₂, subst, ◌∙◌, arith, length-append, length-drop}
 use Rattle.std.proofs.lemmas.Bool.{cases_lt}
 use Rattle.std.proofs.lemmas.Bool.Decides.{nat_tests}
@@ -10,14 +10,14 @@ use Rattle.std.proofs.Math.Seq.{take-append-add, drop-append-add}
 use Rattle.twox_words.specs.Word.{counted}
 use Rattle.twox_plain.specs.BlockState.{BlockState, Follows, AgreeInUse, buffer_with, after_blocks, after_piece}
 
--- the counted length of a longer message
+-- Lemma: the count of m plus the length of d, at most 2 ^ 64 - 1, is the count of m ++ d.
 pub counted_more : (t : ℕ) (m d : List ℕ) → t ≡ counted (length m) → min (t + length d) (2 ^ 64 - 1) ≡ counted (length (m ++ d))
 counted_more t m d count = omega (arith, length-append m d)
 
--- ---- the three ways in which a chunk is hashed
+-- ---- the three cases of a chunk
 
 module _ {X : Type 0} (block : ℕ) (from : X → List ℕ → ℕ → X) where
-  -- it leaves the buffer short of a block
+  -- Lemma: a chunk that leaves the buffer short of a block is appended to the bytes in use.
   pub after_piece_short : (h : BlockState X) (d : List ℕ) → 0 < h.usage → length d < block - h.usage
       → after_piece block from h d ≡ record { accumulators = h.accumulators; buffer = buffer_with h d; usage = h.usage + length d }
   unfolding after_piece
@@ -26,7 +26,7 @@ module _ {X : Type 0} (block : ℕ) (from : X → List ℕ → ℕ → X) where
       let test2 : nat_lt (length d) (block - h.usage) ≡ true = grind (arith, nat_tests) in
       rw (test1, test2) refl
 
-  -- it fills the buffer, which the accumulators then take
+  -- Lemma: a chunk that fills the buffer makes it a block for the accumulators, and then its rest is hashed.
   pub after_piece_full : (h : BlockState X) (d : List ℕ) → 0 < h.usage → block - h.usage ≤ length d
       → let room = block - h.usage in
       let block_of = buffer_with h (take room d) in
@@ -37,14 +37,14 @@ module _ {X : Type 0} (block : ℕ) (from : X → List ℕ → ℕ → X) where
       let test2 : nat_lt (length d) (block - h.usage) ≡ false = grind (arith, nat_tests) in
       rw (test1, test2) refl
 
-  -- it finds the buffer empty
+  -- Lemma: a chunk is hashed directly, without the buffer, if the buffer is empty.
   pub after_piece_empty : (h : BlockState X) (d : List ℕ) → h.usage ≤ 0 → after_piece block from h d ≡ after_blocks block from h.accumulators h.buffer d
   unfolding after_piece
   after_piece_empty h d unused =
       let test : nat_lt 0 h.usage ≡ false = grind (arith, nat_tests) in
       rw test refl
 
-  -- it leaves less than a block, whether the buffer was empty or not
+  -- Lemma: a chunk that leaves less than a block is appended, whether the buffer is empty or not.
   pub after_piece_kept : (h : BlockState X) (d : List ℕ) → from h.accumulators d 0 ≡ h.accumulators → length d < block - h.usage
       → after_piece block from h d ≡ record { accumulators = h.accumulators; buffer = buffer_with h d; usage = h.usage + length d }
   after_piece_kept h d none short = elim (cases_lt 0 h.usage) [
@@ -57,17 +57,17 @@ module _ {X : Type 0} (block : ℕ) (from : X → List ℕ → ℕ → X) where
         rw (after_piece_empty h d unused, whole, zero_used, no_blocks, all_used, none) refl
   ]
 
--- ---- what follows m, follows m ++ d after the chunk d
+-- ---- a state that follows m follows m ++ d after the chunk d
 
 module _ {X : Type 0} (block : ℕ) (after : List ℕ → ℕ → X) where
-  -- any number of blocks that leaves less than one is the quotient
+  -- Lemma: a state follows m if it has taken q blocks of m and its bytes in use, less than a block, are the rest.
   pub follows_from : (m : List ℕ) (h : BlockState X) (q : ℕ) → length m ≡ q * block + h.usage → h.usage < block → h.accumulators ≡ after m q → take h.usage h.buffer ≡ drop (q * block) m → Follows block after m h
   follows_from m h q len short accumulators bytes =
       let whole : length m / block ≡ q = ap (λ (n : ℕ). n / block) len ∙ div-mul-add q block h.usage short in
       let left : length m % block ≡ h.usage = ap (λ (n : ℕ). n % block) len ∙ mod-mul-add q block h.usage short in
       record { whole = rw whole accumulators; left = sym left; bytes = rw whole bytes }
 
-  -- the blocks that were taken and the bytes in use are all of m
+  -- Lemma: the blocks taken and the bytes in use have the length of m.
   parts : (m : List ℕ) (h : BlockState X) → Follows block after m h → length m / block * block + h.usage ≡ length m
   parts m h follows = ap (λ (n : ℕ). length m / block * block + n) follows.left ∙ div-add-mod' (length m) block
 
@@ -75,7 +75,7 @@ module _ {X : Type 0} (block : ℕ) (after : List ℕ → ℕ → X) (from : X �
     (longer : (m d : List ℕ) (k : ℕ) → k * block ≤ length m → after (m ++ d) k ≡ after m k)
     (one : (m d : List ℕ) (k : ℕ) → d ≡ take block (drop (k * block) m) → from (after m k) d 1 ≡ after m (k + 1))
     (more : (m d : List ℕ) (k n : ℕ) → d ≡ drop (k * block) m → from (after m k) d n ≡ after m (k + n)) where
-  -- the accumulators have taken q blocks of m, and d is what is left of it
+  -- Lemma: after_blocks follows m if the accumulators have taken q blocks of m and d is the rest.
   follows_after_blocks : (m d buffer : List ℕ) (x : X) (q : ℕ) → q * block ≤ length m → x ≡ after m q → d ≡ drop (q * block) m → Follows block after m (after_blocks block from x buffer d)
   follows_after_blocks m d buffer x q within accumulators bytes =
       let k = length d / block in
@@ -89,7 +89,7 @@ module _ {X : Type 0} (block : ℕ) (after : List ℕ → ℕ → X) (from : X �
       let taken : from x d k ≡ after m (q + k) = rw accumulators (more m d q k bytes) in
       follows_from block after m (after_blocks block from x buffer d) (q + k) (omega arith) (omega arith) taken (take_at tail (drop (length tail) buffer) (length tail) refl ∙ there)
 
-  -- the buffer that the first bytes of d fill is the next block
+  -- Lemma: the buffer filled with the first bytes of d is the next block of m ++ d.
   next_block : (m d : List ℕ) (h : BlockState X) → Follows block after m h → length h.buffer ≡ block → h.usage < block → block - h.usage ≤ length d
       → buffer_with h (take (block - h.usage) d) ≡ take block (drop (length m / block * block) (m ++ d))
   next_block m d h follows size short enough =
@@ -134,7 +134,7 @@ module _ {X : Type 0} (block : ℕ) (after : List ℕ → ℕ → X) (from : X �
       (follows.whole ∙ sym (longer m d q (omega arith)))
       (sym (drop_at m d (q * block) (omega arith)))
 
-  -- the law of a chunk
+  -- Lemma: a state that follows m follows m ++ d after the chunk d.
   pub after_piece_follows : (m d : List ℕ) (h : BlockState X) → Follows block after m h → length h.buffer ≡ block → Follows block after (m ++ d) (after_piece block from h d)
   after_piece_follows m d h follows size =
       let short : h.usage < block = rw follows.left (mod_below (length m) block some) in
@@ -147,10 +147,10 @@ module _ {X : Type 0} (block : ℕ) (after : List ℕ → ℕ → X) (from : X �
         ]
       ]
 
--- ---- bytes of the buffer that are not in use play no part
+-- ---- bytes of the buffer that are not in use have no effect
 
 module _ {X : Type 0} (block : ℕ) (from : X → List ℕ → ℕ → X) where
-  -- whole blocks leave nothing of the buffer in use
+  -- Lemma: after_blocks gives states that agree in use from any two buffers of the same length.
   after_blocks_agree : (x y : X) (b c d : List ℕ) → y ≡ x → length c ≡ length b → AgreeInUse (after_blocks block from x b d) (after_blocks block from y c d)
   after_blocks_agree x y b c d same size =
       let tail = drop (length d / block * block) d in
@@ -163,23 +163,23 @@ module _ {X : Type 0} (block : ℕ) (from : X → List ℕ → ℕ → X) where
             ∙ sym (length-append tail (drop (length tail) b));
       }
 
-  -- a chunk that fits leaves the buffer's length
+  -- Lemma: writing a chunk that fits doesn't change the buffer's length.
   length-buffer_with : (h : BlockState X) (d : List ℕ) → length h.buffer ≡ block → h.usage + length d ≤ block → length (buffer_with h d) ≡ block
   length-buffer_with h d size fits =
       length-append (take h.usage h.buffer) (d ++ drop (length d) (drop h.usage h.buffer))
       ∙ omega (arith, length-take-le h.usage h.buffer (omega arith), length-append d (drop (length d) (drop h.usage h.buffer)), length-drop (length d) (drop h.usage h.buffer), length-drop h.usage h.buffer)
 
-  -- the bytes in use and a chunk after them
+  -- Lemma: the bytes in use after a chunk are the bytes in use before it and then the chunk.
   in_use_and_piece : (h : BlockState X) (d : List ℕ) → length h.buffer ≡ block → h.usage + length d ≤ block → take (h.usage + length d) (buffer_with h d) ≡ take h.usage h.buffer ++ d
   in_use_and_piece h d size fits = take-put_mid h.usage (length d) h.buffer d (h.usage + length d) refl (omega arith)
 
-  -- a buffer that a chunk fills
+  -- Lemma: a buffer that a chunk fills is the bytes in use and then the chunk.
   full_buffer : (h : BlockState X) (d : List ℕ) → length h.buffer ≡ block → h.usage + length d ≡ block → buffer_with h d ≡ take h.usage h.buffer ++ d
   full_buffer h d size full =
       let none : drop (length d) (drop h.usage h.buffer) ≡ [] = drop_all (length d) (drop h.usage h.buffer) (omega (arith, length-drop h.usage h.buffer)) in
       rw (none, append-nil) refl
 
-  -- states that agree in use still do after the same chunk
+  -- Lemma: states that agree in use agree in use after the same chunk.
   pub after_piece_agree : (g h : BlockState X) (d : List ℕ) → length g.buffer ≡ block → g.usage < block → AgreeInUse g h
       → AgreeInUse (after_piece block from g d) (after_piece block from h d)
   after_piece_agree g h d size short agree =

@@ -1,4 +1,4 @@
--- An array of a JSON value that is read byte by byte.
+-- Lemmas on a JSON array that is read byte by byte.
 use Rattle.std.proofs.Common.{◌≡◌, ◌<◌, ◌≤◌, ◌+◌, ◌++◌, ◌∙◌, ℕ, List, [], ◌∷◌, Option, None, Some, option_map, length, append_assoc, take, drop, set, get_or, refl, ap, sym, arith}
 use Rattle.std.proofs.lemmas.Bool.{eq-eqb, ne_eqb}
 use Rattle.std.proofs.lemmas.List.{take_more_set, drop_more, append-nil, take_all, drop_all}
@@ -8,12 +8,12 @@ use Rattle.serde_json.specs.View.{items_view, view}
 use Rattle.serde_json.specs.declared.value.Value.{Value}
 use Rattle.twox_plain.specs.SavedText.{item_count, item_bytes, bytes_of_data, whole_number}
 
--- an array has as many items as the list that it views
+-- Lemma: an array has as many elements as the list that it views.
 item_count-items_view : (vs : List Value) → item_count (items_view vs) ≡ length vs
 item_count-items_view [] = refl
 item_count-items_view (v ∷ vs) = rw (item_count-items_view vs)
 
--- another number of items
+-- Lemma: an array doesn't read as n bytes if it has another number of elements.
 pub bytes_of_other_length : (n : ℕ) (vs : List Value) (d : Data) → Some (items_view vs) ≡ as_array d → (length vs ≡ n → ⊥) → None ≡ bytes_of_data n d
 bytes_of_other_length n vs d is other = rw (← is, item_count-items_view vs, ne_eqb (length vs) n other) refl
 
@@ -24,14 +24,14 @@ append_more : (o : Option (List ℕ)) (xs : List ℕ) (b : ℕ) → option_map (
 append_more None xs b = refl
 append_more (Some r) xs b = ap Some (sym (append_assoc xs (b ∷ []) r))
 
--- one more byte is read
+-- Lemma: reading element i as the byte b extends the bytes read from i to i + 1.
 pub one_more : (vs : List Value) (bs : List ℕ) (i b : ℕ) (v : Value) → i < length vs → i < length bs → whole_number 256 (view (get_or vs i v)) ≡ Some b
     → item_bytes (items_view vs) ≡ option_map (λ rest. take i bs ++ rest) (item_bytes (items_view (drop i vs)))
     → item_bytes (items_view vs) ≡ option_map (λ rest. take (i + 1) (set bs i b) ++ rest) (item_bytes (items_view (drop (i + 1) vs)))
 one_more vs bs i b v within room is was =
     rw (was, drop_more vs i v within, is, take_more_set bs i b room) (append_more (item_bytes (items_view (drop (i + 1) vs))) (take i bs) b)
 
--- all are read
+-- Lemma: the array reads as the bytes once all n elements are read.
 pub all_read : (n : ℕ) (vs : List Value) (bs : List ℕ) (i : ℕ) (d : Data) → Some (items_view vs) ≡ as_array d → length vs ≡ n → length bs ≡ n → i ≤ n → n ≤ i
     → item_bytes (items_view vs) ≡ option_map (λ rest. take i bs ++ rest) (item_bytes (items_view (drop i vs)))
     → Some bs ≡ bytes_of_data n d

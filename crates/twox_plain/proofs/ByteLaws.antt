@@ -1,5 +1,5 @@
--- A value that takes the bytes of a list one after another determines its start, and detects a changed byte, if
--- each step does.
+-- Lemmas on values that take the bytes of a list one after another: one-to-one steps determine the start and detect a
+-- changed byte.
 use Rattle.std.proofs.Common.{◌≡◌, ◌≢◌, ℕ, ◌+◌, ◌-◌, ◌^◌, ◌<◌, ◌≤◌, List, slice_index, inl, inr, sym, ap, subst, ◌∙◌, arith}
 use Rattle.std.proofs.lemmas.Bool.{cases_lt}
 use Rattle.twox_words.specs.Word.{IsBytes}
@@ -10,18 +10,18 @@ use Rattle.twox_plain.proofs.UnitLaws.{IsTelling, start_told, unit_told}
 use Rattle.twox_plain.proofs.ChangedUnitFacts.{differ}
 
 module _ (states : ℕ) (take_byte : ℕ → ℕ → ℕ) (tells : IsTelling states (2 ^ 8) take_byte) where
-  -- the value after the k bytes of m from byte i on
+  -- The value after the k bytes of m from offset i.
   abbrev pub after_bytes : List ℕ → ℕ → ℕ → ℕ → ℕ
   after_bytes m i x k = after_units take_byte (λ u. slice_index m (i + u)) x k
 
-  -- the start, where the bytes are the same
+  -- Lemma: equal values after the same bytes have the same start.
   pub bytes_told : (m n : List ℕ) (i x y k : ℕ) → IsBytes m → x < states → y < states → ((u : ℕ) → u < k → slice_index n (i + u) ≡ slice_index m (i + u))
       → after_bytes m i x k ≡ after_bytes n i y k → x ≡ y
   bytes_told m n i x y k p bx by same e =
       start_told states (2 ^ 8) take_byte tells (λ u. slice_index m (i + u)) x y k (λ u low. p (i + u)) bx by
       (e ∙ after_units_same take_byte _ _ y k same)
 
-  -- the one byte that differs, where the starts are the same
+  -- Lemma: values from the same start differ if one of their bytes differs.
   pub byte_noticed : (m n : List ℕ) (i x y k from : ℕ) → IsBytes m → IsBytes n → x < states → x ≡ y → i ≤ from → from < i + k → DiffersWithin from 1 m n
       → after_bytes m i x k ≢ after_bytes n i y k
   byte_noticed m n i x y k from p q bx start low high differs e =

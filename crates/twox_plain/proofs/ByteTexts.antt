@@ -1,4 +1,4 @@
--- The texts and values of arrays of bytes, and that they read back.
+-- Lemmas on the texts and values of arrays of bytes, and on reading them back.
 use Rattle.std.proofs.Common.{◌≡◌, ◌∷◌, ℕ, suc, false, true, nat_lt, List, [], Some, length, refl, ap, arith}
 use Rattle.std.proofs.lemmas.Bool.{eq-eqb}
 use Rattle.std.proofs.lemmas.Bool.Decides.{nat_tests}

@@ -1,4 +1,4 @@
--- Lists that differ within one unit.
+-- Lemmas on lists that differ within one unit.
 use Rattle.std.proofs.Common.{◌≡◌, ℕ, ◌+◌, ◌-◌, ◌<◌, ◌≤◌, ◌⊎◌, List, length, take, drop, slice_index, inl, inr, sym, ap, subst, ◌∙◌, arith}
 use Rattle.std.proofs.lemmas.Bool.{cases_lt}
 use Rattle.std.proofs.lemmas.Grind.{same_number_lists}
@@ -7,7 +7,7 @@ use Rattle.twox_words.specs.Word.{word_at}
 use Rattle.twox_words.proofs.WordLaws.{at_part, length-part}
 use Rattle.twox_plain.specs.ChangedUnit.{DiffersWithin}
 
--- they differ in a byte of the unit
+-- Lemma: lists that differ within a unit differ in a byte of the unit.
 pub differ : (m n : List ℕ) (from size : ℕ) → DiffersWithin from size m n → ((k : ℕ) → k < size → slice_index m (from + k) ≡ slice_index n (from + k)) → ⊥
 differ m n from size apart same =
     apart.other (same_number_lists n m apart.lengths (λ k h. elim (cases_lt k from) [
@@ -20,7 +20,7 @@ differ m n from size apart same =
       ]
     ]))
 
--- a word that lies outside is the same
+-- Lemma: a word outside of the unit is the same in both lists.
 pub word_outside : (w : Width) (m n : List ℕ) (from size i : ℕ) → DiffersWithin from size m n → i + byte_len w ≤ length m → (i + byte_len w ≤ from) ⊎ (from + size ≤ i) → word_at w m i ≡ word_at w n i
 unfolding word_at
 word_outside w m n from size i apart fits away =

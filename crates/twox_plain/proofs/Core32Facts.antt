@@ -1,4 +1,4 @@
--- The accumulators of XXH32 follow the message stripe by stripe.
+-- Lemmas on the accumulators of XXH32, which follow the message stripe by stripe.
 use Rattle.std.proofs.Common.{◌≡◌, ℕ, ◌+◌, ◌*◌, ◌≤◌, List, ◌++◌, take, drop, length, slice_index}
 use Rattle.std.specs.Int.{w32}
 use Rattle.twox_plain.specs.Xxh32.{initial_accumulators, round, accumulator}
@@ -12,32 +12,32 @@ core_of a b c d = record { v1 = a; v2 = b; v3 = c; v4 = d }
 abbrev initial : ℕ → ℕ → ℕ
 initial seed j = slice_index (initial_accumulators seed) j
 
--- one stripe more of d
+-- Lemma: one more stripe after k stripes of d gives k + 1 stripes.
 pub core_after_stripes_next : (c : Core) (d stripe : List ℕ) (k : ℕ) → stripe ≡ take 16 (drop (k * 16) d) → core_after_stripes (core_after_stripes c d k) stripe 1 ≡ core_after_stripes c d (k + 1)
 unfolding core_after_stripes
 core_after_stripes_next c d = λ stripe k. after_stripes_one w32 round core_of c.v1 c.v2 c.v3 c.v4 d k stripe
 
--- n stripes more of d, read in a part that holds them
+-- Lemma: n stripes, read from a part of d that has only these, give k + n stripes.
 pub core_after_stripes_part : (c : Core) (d part : List ℕ) (k n : ℕ) → part ≡ take (n * 16) (drop (k * 16) d) → n * 16 ≤ length part → core_after_stripes (core_after_stripes c d k) part n ≡ core_after_stripes c d (k + n)
 unfolding core_after_stripes
 core_after_stripes_part c d = λ part k n. after_stripes_part w32 round core_of c.v1 c.v2 c.v3 c.v4 d part k n
 
--- n stripes more of d, read in what follows the first k
+-- Lemma: n stripes of the bytes of d after the first k stripes give k + n stripes.
 pub core_after_stripes_more : (c : Core) (d rest : List ℕ) (k n : ℕ) → rest ≡ drop (k * 16) d → core_after_stripes (core_after_stripes c d k) rest n ≡ core_after_stripes c d (k + n)
 unfolding core_after_stripes
 core_after_stripes_more c d = λ rest k n. after_stripes_more w32 round core_of c.v1 c.v2 c.v3 c.v4 d k rest n
 
--- one stripe more of m
+-- Lemma: one more stripe after k stripes of m gives k + 1 stripes.
 pub core_of_stripes_one : (seed : ℕ) (m stripe : List ℕ) (k : ℕ) → stripe ≡ take 16 (drop (k * 16) m) → core_after_stripes (core_of_stripes seed m k) stripe 1 ≡ core_of_stripes seed m (k + 1)
 unfolding core_after_stripes core_of_stripes accumulator
 core_of_stripes_one seed m = λ stripe k. after_stripes_one w32 round core_of (initial seed 0) (initial seed 1) (initial seed 2) (initial seed 3) m k stripe
 
--- n stripes more of m, read in what follows the first k
+-- Lemma: n stripes of the bytes of m after the first k stripes give k + n stripes.
 pub core_of_stripes_more : (seed : ℕ) (m rest : List ℕ) (k n : ℕ) → rest ≡ drop (k * 16) m → core_after_stripes (core_of_stripes seed m k) rest n ≡ core_of_stripes seed m (k + n)
 unfolding core_after_stripes core_of_stripes accumulator
 core_of_stripes_more seed m = λ rest k n. after_stripes_more w32 round core_of (initial seed 0) (initial seed 1) (initial seed 2) (initial seed 3) m k rest n
 
--- the stripes that were taken read nothing past them
+-- Lemma: bytes appended to m don't change the accumulators after k stripes of m.
 pub core_of_stripes_longer : (seed : ℕ) (m d : List ℕ) (k : ℕ) → k * 16 ≤ length m → core_of_stripes seed (m ++ d) k ≡ core_of_stripes seed m k
 unfolding core_of_stripes accumulator
 core_of_stripes_longer seed m = λ d k. after_stripes_longer w32 round core_of (initial seed 0) (initial seed 1) (initial seed 2) (initial seed 3) m k d

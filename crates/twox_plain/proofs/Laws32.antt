@@ -1,4 +1,4 @@
--- XXH32 determines each unit of the list, at any length, and the seed under 16 bytes.
+-- Laws of XXH32: a changed unit changes the value at any length, and a changed seed does under 16 bytes.
 use Rattle.std.proofs.Common.{◌≡◌, ◌≢◌, ℕ, zero, suc, ◌+◌, ◌-◌, ◌*◌, ◌/◌, ◌%◌, ◌^◌, ◌<◌, ◌≤◌, List, length, nat_lt, true, false, slice_index, inl, inr, refl, sym, ap, subst, ◌∙◌, arith, lit<, lit≤, mod-lt, pow_pos}
 use Rattle.std.proofs.lemmas.Bool.{cases_lt}
 use Rattle.std.proofs.lemmas.Bool.Decides.{nat_tests}
@@ -17,7 +17,7 @@ use Rattle.twox_plain.proofs.ChangedUnitFacts.{differ, word_outside}
 
 -- ---- the steps
 
--- a sum with a multiple of the unit, rotated by k and multiplied: what rounds and tail steps are
+-- Adds unit * p, rotates by k and multiplies by q, as rounds and tail steps do.
 abbrev add_step : ℕ → ℕ → ℕ → ℕ → ℕ → ℕ
 add_step k p q x unit = rotate_left w32 ((x + unit * p % 2 ^ 32) % 2 ^ 32) k * q % 2 ^ 32
 
@@ -72,7 +72,7 @@ accumulator-lt : (seed : ℕ) (m : List ℕ) (j k : ℕ) → seed < 2 ^ 32 → a
 unfolding accumulator
 accumulator-lt seed m j k h = after_units-lt _ _ round round_tells (λ i. word_at w32 m (i * 16 + j * 4)) (slice_index (initial_accumulators seed) j) k (initial-lt seed j h)
 
--- ---- what two lists share
+-- ---- equal parts of two lists
 
 accumulator_same : (seed : ℕ) (m n : List ℕ) (j k : ℕ) → ((i : ℕ) → i < k → word_at w32 m (i * 16 + j * 4) ≡ word_at w32 n (i * 16 + j * 4)) → accumulator seed m j k ≡ accumulator seed n j k
 unfolding accumulator
@@ -89,9 +89,9 @@ after_words_same : (m n : List ℕ) (i x t : ℕ) → ((u : ℕ) → u < t / 4 �
 unfolding after_words
 after_words_same m n i x t same = after_units_same take_word _ _ x (t / 4) same
 
--- ---- what equal values determine
+-- ---- consequences of equal values
 
--- the value before its last mixing
+-- Lemma: equal values of lists of the same length are equal before the avalanche.
 tail_told : (m n : List ℕ) (seed other : ℕ) → length n ≡ length m → xxh32 seed m ≡ xxh32 other n
     → let i = length m / 16 * 16 in
     after_tail m i (start seed m) (length m % 16) ≡ after_tail n i (start other n) (length m % 16)
@@ -99,14 +99,14 @@ unfolding xxh32
 tail_told m n seed other len e =
     avalanche_32_told _ _ (after_tail-lt m _ _ _ (start-lt seed m)) (after_tail-lt n _ _ _ (start-lt other n)) (rw len at e)
 
--- the value before the bytes, where they are the same
+-- Lemma: values that are equal after the same bytes are equal before them.
 words_told : (m n : List ℕ) (i x y t : ℕ) → IsBytes m → x < 2 ^ 32 → y < 2 ^ 32 → ((u : ℕ) → u < t % 4 → slice_index n (i + t / 4 * 4 + u) ≡ slice_index m (i + t / 4 * 4 + u))
     → after_tail m i x t ≡ after_tail n i y t → after_words m i x t ≡ after_words n i y t
 unfolding after_tail
 words_told m n i x y t p bx by same e =
     bytes_told (2 ^ 32) take_byte take_byte_tells m n (i + t / 4 * 4) _ _ (t % 4) p (after_words-lt m i x t bx) (after_words-lt n i y t by) same e
 
--- the value before the words, where they are the same
+-- Lemma: values that are equal after the same words are equal before them.
 begin_told : (m n : List ℕ) (i x y t : ℕ) → IsBytes m → x < 2 ^ 32 → y < 2 ^ 32 → ((u : ℕ) → u < t / 4 → word_at w32 n (i + u * 4) ≡ word_at w32 m (i + u * 4))
     → after_words m i x t ≡ after_words n i y t → x ≡ y
 unfolding after_words
@@ -114,7 +114,7 @@ begin_told m n i x y t p bx by same e =
     start_told _ _ take_word take_word_tells (λ u. word_at w32 m (i + u * 4)) x y (t / 4) (λ u low. word_at-lt_32 m (i + u * 4) p) bx by
     (e ∙ after_units_same take_word _ _ y (t / 4) same)
 
--- an accumulator among four, where the other three are the same
+-- Lemma: the convergence determines accumulator j, given the other three.
 convergence_told : (f g : ℕ → ℕ) (j : ℕ) → j < 4 → ((i : ℕ) → f i < 2 ^ 32) → ((i : ℕ) → g i < 2 ^ 32) → ((i : ℕ) → i < 4 → i ≢ j → f i ≡ g i)
     → convergence (f 0) (f 1) (f 2) (f 3) ≡ convergence (g 0) (g 1) (g 2) (g 3) → f j ≡ g j
 convergence_told f g zero low bf bg same e =
@@ -139,7 +139,7 @@ convergence_told f g (suc (suc (suc zero))) low bf bg same e =
     (omega (arith, e, ap (λ x. rotate_left w32 x 1) (same 0 (lit< tt) (λ h. absurd (omega (arith, h)))), ap (λ x. rotate_left w32 x 7) (same 1 (lit< tt) (λ h. absurd (omega (arith, h)))), ap (λ x. rotate_left w32 x 12) (same 2 (lit< tt) (λ h. absurd (omega (arith, h))))))
 convergence_told f g (suc (suc (suc (suc j)))) low bf bg same e = absurd (omega arith)
 
--- the four accumulators as one value, of a list with a stripe
+-- Lemma: equal start values of lists of at least a stripe have equal convergences.
 accumulators_told : (seed : ℕ) (m n : List ℕ) → length n ≡ length m → 16 ≤ length m → start seed m ≡ start seed n
     → let k = length m / 16 in
     convergence (accumulator seed m 0 k) (accumulator seed m 1 k) (accumulator seed m 2 k) (accumulator seed m 3 k) ≡ convergence (accumulator seed n 0 k) (accumulator seed n 1 k) (accumulator seed n 2 k) (accumulator seed n 3 k)
@@ -151,7 +151,7 @@ accumulators_told seed m n len long e =
 
 -- ---- the laws
 
--- a byte after the whole words
+-- Lemma: a changed byte after the whole words changes the value.
 byte_law : (seed : ℕ) (m n : List ℕ) (from : ℕ) → IsBytes m → IsBytes n → length m / 4 * 4 ≤ from → from < length m → DiffersWithin from 1 m n → xxh32 seed m ≢ xxh32 seed n
 unfolding after_tail
 byte_law seed m n from p q late within apart e =
@@ -162,12 +162,12 @@ byte_law seed m n from p q late within apart e =
     byte_noticed (2 ^ 32) take_byte take_byte_tells m n (i + t / 4 * 4) _ _ (t % 4) from p q (after_words-lt m i _ t (start-lt seed m)) words (omega arith) (omega arith) apart
     (tail_told m n seed seed apart.lengths e)
 
--- the word, once its two readings are known to be equal
+-- Lemma: lists that differ within a word have different words at its offset.
 word_differs : (m n : List ℕ) (from at : ℕ) → IsBytes m → IsBytes n → from + 4 ≤ length m → DiffersWithin from 4 m n → at ≡ from → word_at w32 m at ≡ word_at w32 n at → ⊥
 word_differs m n from at p q fits apart place e =
     differ m n from 4 apart (told_by_word_32 m n from from p q fits (omega (arith, apart.lengths)) (subst (λ x. word_at w32 m x ≡ word_at w32 n x) place e))
 
--- a word of the tail
+-- Lemma: a changed word of the tail changes the value after the words of the tail.
 tail_word_law : (seed : ℕ) (m n : List ℕ) (from : ℕ) → IsBytes m → IsBytes n → from % 4 ≡ 0 → length m / 16 * 16 ≤ from → from + 4 ≤ length m → DiffersWithin from 4 m n
     → after_words m (length m / 16 * 16) (start seed m) (length m % 16) ≢ after_words n (length m / 16 * 16) (start seed n) (length m % 16)
 unfolding after_words
@@ -183,7 +183,7 @@ tail_word_law seed m n from p q whole late within apart e =
     (λ k h. word_at-lt_32 m (i + k * 4) p) (λ k h. word_at-lt_32 n (i + k * 4) q) (omega arith) (start-lt seed m)
     (e ∙ ap (λ x. after_units take_word (λ k. word_at w32 n (i + k * 4)) x (t / 4)) (sym begun)))
 
--- a word of a stripe
+-- Lemma: a changed word of a stripe changes the start value.
 stripe_word_law : (seed : ℕ) (m n : List ℕ) (from : ℕ) → seed < 2 ^ 32 → IsBytes m → IsBytes n → from % 4 ≡ 0 → from < length m / 16 * 16 → DiffersWithin from 4 m n → start seed m ≢ start seed n
 unfolding accumulator
 stripe_word_law seed m n from small p q whole early apart e =
@@ -212,14 +212,14 @@ word_law seed m n from small p q whole within apart e =
           (λ u h. sym (word_outside w32 m n from 4 (i + u * 4) apart (omega arith) (inr (omega arith)))) words)
     ]
 
--- another list that differs in one unit has another value
+-- Lemma: a list that differs in one unit has another value.
 pub unit_law_32 : (seed : ℕ) (m n : List ℕ) (from size : ℕ) → seed < 2 ^ 32 → IsBytes m → IsBytes n → IsUnit32 (length m) from size → DiffersWithin from size m n → xxh32 seed n ≢ xxh32 seed m
 unit_law_32 seed m n from size small p q unit apart e = elim unit [
   | inl word ↦ word_law seed m n from small p q word.1 word.2 (subst (λ x. DiffersWithin from x m n) word.0 apart) (sym e)
   | inr byte ↦ byte_law seed m n from p q byte.1 byte.2 (subst (λ x. DiffersWithin from x m n) byte.0 apart) (sym e)
 ]
 
--- under 16 bytes the seed is determined
+-- Lemma: the start value of less than 16 bytes is seed + p5 + length, modulo 2 ^ 32.
 short_start : (seed : ℕ) (m : List ℕ) → length m < 16 → start seed m ≡ ((seed + p5) % 2 ^ 32 + counted (length m) % 2 ^ 32) % 2 ^ 32
 unfolding start
 short_start seed m short =

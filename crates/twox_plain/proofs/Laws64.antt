@@ -1,4 +1,4 @@
--- XXH64 determines each unit of the bytes that fill no stripe, at any length, and the seed under 32 bytes.
+-- Laws of XXH64: a changed unit of the tail changes the value, and a changed seed does under 32 bytes.
 use Rattle.std.proofs.Common.{◌≡◌, ◌≢◌, ℕ, ◌+◌, ◌-◌, ◌*◌, ◌/◌, ◌%◌, ◌^◌, ◌<◌, ◌≤◌, List, length, nat_lt, true, slice_index, bit_xor, inl, inr, refl, sym, ap, subst, ◌∙◌, arith, lit<, lit≤, mod-lt, pow_pos}
 use Rattle.std.proofs.lemmas.Bool.{cases_lt}
 use Rattle.std.proofs.lemmas.Bool.Decides.{nat_tests}
@@ -18,7 +18,7 @@ use Rattle.twox_plain.proofs.Tail64.{after_words_short, after_words_long}
 
 -- ---- the steps
 
--- the unit, by g, goes in by xor; the sum is rotated by k and multiplied
+-- Lemma: xor with g of the unit, a rotation by k and a product by p make a step one-to-one in state and unit.
 xor_step_tells : (units : ℕ) (g : ℕ → ℕ) (k p q : ℕ) → ((u : ℕ) → g u < 2 ^ 64) → IsOneToOne units g → 0 < k → k < 64 → p * q % 2 ^ 64 ≡ 1
     → IsTelling (2 ^ 64) units (λ x u. rotate_left w64 (bit_xor x (g u)) k * p % 2 ^ 64)
 xor_step_tells units g k p q below told low high odd = record {
@@ -27,7 +27,7 @@ xor_step_tells units g k p q below told low high odd = record {
   in_unit = λ x small u v a b e. told u v a b (xor_cancel_left x (g u) (g v) (turned_multiple_told w64 k p q low high odd _ _ (xor_lt 64 x (g u) small (below u)) (xor_lt 64 x (g v) small (below v)) e));
 }
 
--- a constant more
+-- Lemma: adding a constant keeps a step one-to-one in state and unit.
 plus_tells : (units : ℕ) (step : ℕ → ℕ → ℕ) (c : ℕ) → IsTelling (2 ^ 64) units step → IsTelling (2 ^ 64) units (λ x u. (step x u + c) % 2 ^ 64)
 plus_tells units step c tells = record {
   closed = λ x u. mod-lt _ (pow_pos 64);
@@ -43,7 +43,7 @@ round_told u v a b e =
     let products : u * p2 % 2 ^ 64 ≡ v * p2 % 2 ^ 64 = omega (arith, turned_multiple_told w64 31 p1 0x887493432badb37 (lit< tt) (lit< tt) refl _ _ (mod-lt _ (pow_pos 64)) (mod-lt _ (pow_pos 64)) e) in
     multiple_one_to_one p2 0xba79078168d4baf (2 ^ 64) refl u v a b products
 
--- a multiple of a shorter unit
+-- Lemma: multiplying a unit by p, which has the inverse q, is one-to-one.
 multiple_told : (units p q : ℕ) → units ≤ 2 ^ 64 → p * q % 2 ^ 64 ≡ 1 → IsOneToOne units (λ u. u * p % 2 ^ 64)
 multiple_told units p q few odd u v a b e = multiple_one_to_one p q (2 ^ 64) odd u v (omega arith) (omega arith) e
 
@@ -79,13 +79,13 @@ after_tail-lt : (m : List ℕ) (i x n : ℕ) → x < 2 ^ 64 → after_tail m i x
 unfolding after_tail
 after_tail-lt m i x n h = after_units-lt _ _ take_byte take_byte_tells (λ u. slice_index m (i + n / 4 * 4 + u)) (after_words m i x n) (n % 4) (after_words-lt m i x n h)
 
--- ---- what two lists share
+-- ---- equal parts of two lists
 
 accumulator_same : (seed : ℕ) (m n : List ℕ) (j k : ℕ) → ((i : ℕ) → i < k → word_at w64 m (i * 32 + j * 8) ≡ word_at w64 n (i * 32 + j * 8)) → accumulator seed m j k ≡ accumulator seed n j k
 unfolding accumulator
 accumulator_same seed m n j k same = after_units_same round _ _ (slice_index (initial_accumulators seed) j) k same
 
--- lists that differ in the tail
+-- Lemma: lists that differ only in the tail have the same start value.
 start_same : (seed : ℕ) (m n : List ℕ) (from size : ℕ) → DiffersWithin from size m n → length m / 32 * 32 ≤ from → start seed m ≡ start seed n
 unfolding start
 start_same seed m n from size apart late =
@@ -97,9 +97,9 @@ eights_same : (m n : List ℕ) (i x t : ℕ) → ((u : ℕ) → u < t / 8 → wo
 unfolding after_eights
 eights_same m n i x t same = after_units_same take_eight _ _ x (t / 8) same
 
--- ---- what equal values determine
+-- ---- consequences of equal values
 
--- the value before its last mixing
+-- Lemma: equal values of lists of the same length are equal before the avalanche.
 tail_told : (m n : List ℕ) (seed other : ℕ) → length n ≡ length m → xxh64 seed m ≡ xxh64 other n
     → let i = length m / 32 * 32 in
     after_tail m i (start seed m) (length m % 32) ≡ after_tail n i (start other n) (length m % 32)
@@ -107,14 +107,14 @@ unfolding xxh64
 tail_told m n seed other len e =
     avalanche_64_told _ _ (after_tail-lt m _ _ _ (start-lt seed m)) (after_tail-lt n _ _ _ (start-lt other n)) (rw len at e)
 
--- the value before the bytes, where they are the same
+-- Lemma: values that are equal after the same bytes are equal before them.
 words_told : (m n : List ℕ) (i x y t : ℕ) → IsBytes m → x < 2 ^ 64 → y < 2 ^ 64 → ((u : ℕ) → u < t % 4 → slice_index n (i + t / 4 * 4 + u) ≡ slice_index m (i + t / 4 * 4 + u))
     → after_tail m i x t ≡ after_tail n i y t → after_words m i x t ≡ after_words n i y t
 unfolding after_tail
 words_told m n i x y t p bx by same e =
     bytes_told (2 ^ 64) take_byte take_byte_tells m n (i + t / 4 * 4) _ _ (t % 4) p (after_words-lt m i x t bx) (after_words-lt n i y t by) same e
 
--- the value before the four-byte word, where it is the same
+-- Lemma: values that are equal after the same four-byte word, or none, are equal before it.
 eights_told : (m n : List ℕ) (i x y t : ℕ) → IsBytes m → x < 2 ^ 64 → y < 2 ^ 64 → (4 ≤ t % 8 → word_at w32 n (i + t / 8 * 8) ≡ word_at w32 m (i + t / 8 * 8))
     → after_words m i x t ≡ after_words n i y t → after_eights m i x t ≡ after_eights n i y t
 eights_told m n i x y t p bx by same e = elim (cases_lt (t % 8) 4) [
@@ -124,7 +124,7 @@ eights_told m n i x y t p bx by same e = elim (cases_lt (t % 8) 4) [
       (sym (after_words_long m i x t long) ∙ e ∙ after_words_long n i y t long ∙ ap (take_four (after_eights n i y t)) (same long))
 ]
 
--- the value before the eight-byte words of one list
+-- Lemma: values that are equal after the eight-byte words of one list are equal before them.
 begin_told : (m : List ℕ) (i x y t : ℕ) → IsBytes m → x < 2 ^ 64 → y < 2 ^ 64 → after_eights m i x t ≡ after_eights m i y t → x ≡ y
 unfolding after_eights
 begin_told m i x y t p bx by e =
@@ -132,7 +132,7 @@ begin_told m i x y t p bx by e =
 
 -- ---- the laws
 
--- a byte after the whole words
+-- Lemma: a changed byte after the whole words changes the value.
 byte_law : (seed : ℕ) (m n : List ℕ) (from : ℕ) → IsBytes m → IsBytes n → length m / 4 * 4 ≤ from → from < length m → DiffersWithin from 1 m n → xxh64 seed m ≢ xxh64 seed n
 unfolding after_tail
 byte_law seed m n from p q late within apart e =
@@ -152,7 +152,7 @@ byte_law seed m n from p q late within apart e =
     byte_noticed (2 ^ 64) take_byte take_byte_tells m n (i + t / 4 * 4) _ _ (t % 4) from p q (after_words-lt m i _ t (start-lt seed m)) words (omega arith) (omega arith) apart
     (tail_told m n seed seed apart.lengths e)
 
--- the four-byte word
+-- Lemma: a change in the four-byte word changes the value.
 four_law : (seed : ℕ) (m n : List ℕ) (from : ℕ) → IsBytes m → IsBytes n → from ≡ length m / 8 * 8 → from + 4 ≤ length m → DiffersWithin from 4 m n → xxh64 seed m ≢ xxh64 seed n
 four_law seed m n from p q place within apart e =
     let i = length m / 32 * 32 in
@@ -168,7 +168,7 @@ four_law seed m n from p q place within apart e =
     (sym (after_words_long m i (start seed m) t long) ∙ words ∙ after_words_long n i (start seed n) t long ∙ ap (λ x. take_four x (word_at w32 n (i + t / 8 * 8))) (sym eights)) in
     differ m n from 4 apart (told_by_word_32 m n from from p q within (omega (arith, apart.lengths)) (subst (λ x. word_at w32 m x ≡ word_at w32 n x) at told))
 
--- an eight-byte word
+-- Lemma: a change in an eight-byte word of the tail changes the value.
 eight_law : (seed : ℕ) (m n : List ℕ) (from : ℕ) → IsBytes m → IsBytes n → length m / 32 * 32 ≤ from → from % 8 ≡ 0 → from + 8 ≤ length m → DiffersWithin from 8 m n → xxh64 seed m ≢ xxh64 seed n
 unfolding after_eights
 eight_law seed m n from p q late whole within apart e =
@@ -186,7 +186,7 @@ eight_law seed m n from p q late whole within apart e =
     (eights ∙ ap (λ x. after_units take_eight (λ k. word_at w64 n (i + k * 8)) x (t / 8)) (sym begun)) in
     differ m n from 8 apart (told_by_word_64 m n from from p q within (omega (arith, apart.lengths)) (subst (λ x. word_at w64 m x ≡ word_at w64 n x) at told))
 
--- another list that differs in one unit of the tail has another value
+-- Lemma: a list that differs in one unit of the tail has another value.
 pub unit_law_64 : (seed : ℕ) (m n : List ℕ) (from size : ℕ) → IsBytes m → IsBytes n → IsTailUnit64 (length m) from size → DiffersWithin from size m n → xxh64 seed n ≢ xxh64 seed m
 unit_law_64 seed m n from size p q unit apart e = elim unit [
   | inl eight ↦ eight_law seed m n from p q eight.1 eight.2 eight.3 (subst (λ x. DiffersWithin from x m n) eight.0 apart) (sym e)
@@ -194,7 +194,7 @@ unit_law_64 seed m n from size p q unit apart e = elim unit [
   | inr (inr byte) ↦ byte_law seed m n from p q byte.1 byte.2 (subst (λ x. DiffersWithin from x m n) byte.0 apart) (sym e)
 ]
 
--- under 32 bytes the seed is determined
+-- Lemma: the start value of less than 32 bytes is seed + p5 + length, modulo 2 ^ 64.
 short_start : (seed : ℕ) (m : List ℕ) → length m < 32 → start seed m ≡ ((seed + p5) % 2 ^ 64 + counted (length m)) % 2 ^ 64
 unfolding start
 short_start seed m short =

@@ -1,4 +1,4 @@
--- What a record of XXH64 represents, from call to call, and the value of the message.
+-- Lemmas on the list that a record of XXH64 represents, from call to call, and on the value of the message.
 use Rattle.std.proofs.Common.{◌≡◌, ℕ, ◌*◌, ◌/◌, ◌%◌, ◌<◌, List, [], ◌++◌, drop, length, nat_lt, if◌then◌else◌, true, false, inl, inr, refl, ap, ◌∙◌, arith, lit<, length-drop}
 use Rattle.std.proofs.lemmas.Bool.{cases_lt}
 use Rattle.std.proofs.lemmas.Bool.Decides.{nat_tests}
@@ -13,18 +13,18 @@ use Rattle.twox_plain.proofs.RecordFacts
 use Rattle.twox_plain.proofs.Core64Facts.{core_of_stripes_longer, core_of_stripes_one, core_of_stripes_more}
 use Rattle.twox_plain.proofs.Tail64.{after_tail-drop}
 
--- the record of no bytes
+-- Lemma: the initial record represents the empty list.
 pub initial_record_stands : (seed : ℕ) → StandsFor (initial_record seed) []
 unfolding StandsFor
 initial_record_stands seed = (refl, record { whole = refl; left = refl; bytes = refl })
 
--- one more chunk
+-- Lemma: a record that represents m represents m ++ d after a write of d.
 pub after_write_stands : (s : SavedState) (m d : List ℕ) → length s.buffer ≡ 32 → StandsFor s m → StandsFor (after_write s d) (m ++ d)
 unfolding StandsFor after_write
 after_write_stands s m d size stands =
     RecordFacts.after_write_stands 32 core_of_stripes core_after_stripes (lit< tt) core_of_stripes_longer core_of_stripes_one core_of_stripes_more (parts s) m d size stands
 
--- the value before the tail, in a message with a stripe and in one without
+-- Lemma: the value before the tail is start seed m, with or without a stripe.
 starts : (seed : ℕ) (m : List ℕ) (core : Core) → core ≡ core_of_stripes seed m (length m / 32)
     → let len = counted (length m) in
     wrap_add w64 (if nat_lt len 32 then wrap_add w64 seed p5 else convergence core.v1 core.v2 core.v3 core.v4) len ≡ start seed m
@@ -40,7 +40,7 @@ starts seed m core at = elim (cases_lt (length m) 32) [
       rw (test, test2, at) refl
 ]
 
--- the value of the message, from its accumulators and the bytes that fill no stripe
+-- Lemma: the value from the accumulators of m and the bytes that fill no stripe is xxh64 seed m.
 pub value_of_message : (seed : ℕ) (m rest : List ℕ) (len : ℕ) (core : Core) → len ≡ counted (length m) → core ≡ core_of_stripes seed m (length m / 32) → rest ≡ drop (length m / 32 * 32) m
     → value_of seed len core rest ≡ xxh64 seed m
 unfolding value_of xxh64
@@ -52,7 +52,7 @@ pub finish_value_of_message : (s : SavedState) (m : List ℕ) → StandsFor s m 
 unfolding StandsFor
 finish_value_of_message s m stands = value_of_message s.seed m _ s.total_len s.core stands.0 stands.1.whole stands.1.bytes
 
--- the value of a message that fills no stripe
+-- Lemma: the value of a message shorter than a stripe comes only from its seed, length and tail.
 pub short_message : (seed : ℕ) (m : List ℕ) → length m < 32 → avalanche (after_tail m 0 (wrap_add w64 (wrap_add w64 seed p5) (length m)) (length m)) ≡ xxh64 seed m
 unfolding value_of
 short_message seed m short =
@@ -61,7 +61,7 @@ short_message seed m short =
     let test : nat_lt (counted (length m)) 32 ≡ true = grind (arith, nat_tests) in
     rw (test, len) at (value_of_message seed m m (counted (length m)) (core_of_stripes seed m (length m / 32)) refl refl (rw none refl))
 
--- records that agree in use still do after the same chunk, and have equal values
+-- Lemma: records that agree in use agree in use after the same chunk, and have equal values.
 pub after_write_agree : (r s : SavedState) (d : List ℕ) → length r.buffer ≡ 32 → r.buffer_usage < 32 → AgreeInUse r s
     → AgreeInUse (after_write r d) (after_write s d)
 unfolding after_write

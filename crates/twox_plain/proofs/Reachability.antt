@@ -1,5 +1,5 @@
--- Any accumulators are reached: a block of words takes them from any values to any others, so what is held follows
--- some list of bytes. For any width, any block length and any accumulators.
+-- Lemmas on reachability: a block of words takes any accumulators to any others, so each state that fits its count
+-- follows some list of bytes. They hold for any width, any block length and any accumulators.
 use Rattle.std.proofs.Common.{◌≡◌, ℕ, zero, suc, ◌+◌, ◌-◌, ◌*◌, ◌/◌, ◌%◌, ◌^◌, ◌<◌, ◌≤◌, List, [], ◌∷◌, ◌++◌, length, take, drop, replicate, inl, inr, refl, sym, ap, ◌∙◌, arith, lit<, mod-lt, pow_pos, zero-mul, zero-add, slice_index, length-append}
 use Rattle.std.proofs.lemmas.Bool.{cases_lt}
 use Rattle.std.proofs.lemmas.List.{drop_at, take_at, drop-drop, length-replicate, length-take-le, take_all}
@@ -45,7 +45,7 @@ IsBytes-low_bytes (x ∷ xs) = IsBytes-cons (x % 2 ^ 8) (low_bytes xs) (mod-lt x
 
 -- ---- words, written as bytes
 
--- a word is written as the bytes that it is read from
+-- True if each word reads back from the bytes that it is written as.
 pub record IsWritable (w : Width) : Type 0 where
   pub back : (n : ℕ) → n < 2 ^ bits w → from_le_bytes w (to_le_bytes w n) ≡ n
   pub size : (n : ℕ) → length (to_le_bytes w n) ≡ byte_len w
@@ -67,7 +67,7 @@ writable_64 = record {
   bytes = λ n. IsBytes-low_bytes (n ∷ n / 256 ^ 1 ∷ n / 256 ^ 2 ∷ n / 256 ^ 3 ∷ n / 256 ^ 4 ∷ n / 256 ^ 5 ∷ n / 256 ^ 6 ∷ n / 256 ^ 7 ∷ []);
 }
 
--- the words f 0, f 1 and so on, n of them
+-- The bytes of the n words f 0, f 1 and so on.
 pub words_of : Width → (ℕ → ℕ) → ℕ → List ℕ
 words_of w f zero = []
 words_of w f (suc n) = words_of w f n ++ to_le_bytes w (f n)
@@ -101,13 +101,13 @@ module _ (w : Width) (writable : IsWritable w) (f : ℕ → ℕ) where
 
 -- ---- the word that takes an accumulator from one value to another
 
--- from each value of the accumulator, a word leads to each
+-- A word for each two values of the accumulator that leads from the first to the second.
 pub record IsReaching (w : Width) (step : ℕ → ℕ → ℕ) : Type 0 where
   pub word : ℕ → ℕ → ℕ
   pub below : (a b : ℕ) → word a b < 2 ^ bits w
   pub leads : (a b : ℕ) → a < 2 ^ bits w → b < 2 ^ bits w → step a (word a b) ≡ b
 
--- a round of both plain hashes: q1 and q2 are the inverses of p1 and p2
+-- Lemma: a round of both plain hashes reaches each value. q1 and q2 are the inverses of p1 and p2.
 pub round_reaches : (w : Width) (r p1 q1 p2 q2 : ℕ) → 0 < r → r < bits w → q1 * p1 % 2 ^ bits w ≡ 1 → q2 * p2 % 2 ^ bits w ≡ 1
     → IsReaching w (λ a word. wrap_mul w (rotate_left w (wrap_add w a (wrap_mul w word p2)) r) p1)
 round_reaches w r p1 q1 p2 q2 some less odd1 odd2 =
@@ -130,7 +130,7 @@ round_reaches w r p1 q1 p2 q2 some less odd1 odd2 =
           ∙ multiple_back q1 p1 m b odd1 q;
     }
 
--- accumulator j goes from a j to c j by word j of one block
+-- Lemma: word j of one block takes accumulator j from a j to c j.
 pub accumulator_reached : (w : Width) → IsWritable w → (step : ℕ → ℕ → ℕ) (reaches : IsReaching w step) (a c : ℕ → ℕ) (n j : ℕ) → j < n → a j < 2 ^ bits w → c j < 2 ^ bits w
     → step (a j) (word_at w (words_of w (λ i. reaches.word (a i) (c i)) n) (j * byte_len w)) ≡ c j
 accumulator_reached w writable step reaches a c n j low p q =
@@ -138,7 +138,7 @@ accumulator_reached w writable step reaches a c n j low p q =
 
 -- ---- four accumulators
 
--- each of the four is a word
+-- True if each of the four is a word.
 pub record AreWords (w : Width) (a b c d : ℕ) : Type 0 where
   pub v1 : a < 2 ^ bits w
   pub v2 : b < 2 ^ bits w
@@ -146,7 +146,7 @@ pub record AreWords (w : Width) (a b c d : ℕ) : Type 0 where
   pub v4 : d < 2 ^ bits w
 
 module _ {C : Type 0} (w : Width) (writable : IsWritable w) (round : ℕ → ℕ → ℕ) (reaches : IsReaching w round) (core : ℕ → ℕ → ℕ → ℕ → C) (a b c d x y z t : ℕ) where
-  -- the stripe that takes a, b, c and d to x, y, z and t
+  -- The stripe that takes a, b, c and d to x, y, z and t.
   abbrev pub stripe_between : List ℕ
   stripe_between = words_of w (λ j. reaches.word (slice_index (a ∷ b ∷ c ∷ d ∷ []) j) (slice_index (x ∷ y ∷ z ∷ t ∷ []) j)) 4
 
@@ -173,7 +173,7 @@ module _ {C : Type 0} (w : Width) (writable : IsWritable w) (round : ℕ → ℕ
 module _ {X : Type 0} (block : ℕ) (after : List ℕ → ℕ → X) (from : X → List ℕ → ℕ → X) (some : 0 < block)
     (longer : (m d : List ℕ) (k : ℕ) → k * block ≤ length m → after (m ++ d) k ≡ after m k)
     (one : (m d : List ℕ) (k : ℕ) → d ≡ take block (drop (k * block) m) → from (after m k) d 1 ≡ after m (k + 1)) where
-  -- a block of bytes takes the accumulators from k blocks of zeros to x
+  -- A block of bytes that takes the accumulators from k blocks of zeros to x.
   pub record LastBlock (x : X) (k : ℕ) : Type 0 where
     pub last : List ℕ
     pub bytes : IsBytes last
@@ -184,14 +184,14 @@ module _ {X : Type 0} (block : ℕ) (after : List ℕ → ℕ → X) (from : X �
     in_use : length (take h.usage h.buffer) ≡ h.usage
     in_use = length-take-le h.usage h.buffer (omega arith)
 
-    -- initial accumulators follow the bytes in use
+    -- Lemma: a state with initial accumulators follows its bytes in use.
     short_followed : h.accumulators ≡ after [] 0 → Follows block after (take h.usage h.buffer) h
     short_followed initial =
         let rest = take h.usage h.buffer in
         let none : 0 * block ≡ 0 = zero-mul block in
         follows_from block after rest h 0 (omega (arith, in_use)) short (initial ∙ sym (longer [] rest 0 (omega arith))) (rw none refl)
 
-    -- other accumulators follow k blocks of zeros, the block that takes the accumulators to them, and the bytes in use
+    -- The list for other accumulators: k blocks of zeros, the block that leads to them, and the bytes in use.
     listed : (k : ℕ) → LastBlock h.accumulators k → List ℕ
     listed k l = replicate (k * block) 0 ++ (l.last ++ take h.usage h.buffer)
 
@@ -221,7 +221,7 @@ module _ {X : Type 0} (block : ℕ) (after : List ℕ → ℕ → X) (from : X �
         let before : after zeros k ≡ after m k = sym (longer zeros (l.last ++ rest) k (omega arith)) in
         follows_from block after m h (k + 1) (length-listed k l) short (sym l.takes ∙ ap (λ (x : X). from x l.last 1) before ∙ one m l.last k next) unused
 
-  -- what is held follows some list of bytes that has the count
+  -- A list of bytes that has the count `total` and that the state follows.
   abbrev pub FollowsSome : ℕ → BlockState X → Type 0
   FollowsSome total h = (m : List ℕ) × IsBytes m × ((total ≡ counted (length m)) × Follows block after m h)
 
@@ -239,7 +239,7 @@ module _ {X : Type 0} (block : ℕ) (after : List ℕ → ℕ → X) (from : X �
     (count ∙ ap counted (sym (length-listed h full short k l)), long_followed h full short k l),
   )
 
-  -- it does where the usage and the accumulators fit the count
+  -- Lemma: a state whose usage and accumulators fit the count follows some list of bytes.
   pub some_followed : (total : ℕ) (h : BlockState X) → (total < 2 ^ 64 - 1 → h.usage ≡ total % block) → (total ≡ 2 ^ 64 - 1 → h.usage < block) → (total < block → h.accumulators ≡ after [] 0)
       → total < 2 ^ 64 → IsBytes h.buffer → length h.buffer ≡ block → ((k : ℕ) → LastBlock h.accumulators k) → FollowsSome total h
   some_followed total h known lost initial fits bytes full lasts = elim (cases_lt total (2 ^ 64 - 1)) [

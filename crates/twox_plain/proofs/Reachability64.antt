@@ -1,4 +1,4 @@
--- The records of XXH64 that represent some list of bytes are those that fit.
+-- Lemmas on the records of XXH64: a record represents some list of bytes if and only if it fits.
 use Rattle.std.proofs.Common.{◌≡◌, ℕ, zero, suc, ◌*◌, ◌/◌, ◌%◌, ◌^◌, ◌<◌, List, [], length, replicate, refl, ap, ◌∙◌, arith, lit<, lit≤, mod-lt, pow_pos}
 use Rattle.std.specs.Int.{w64}
 use Rattle.twox_words.specs.Word.{IsBytes}
@@ -12,14 +12,14 @@ use Rattle.twox_plain.proofs.Core64Facts.{core_of, core_of_stripes_longer, core_
 use Rattle.twox_plain.proofs.Reachability.{IsReaching, writable_64, round_reaches, AreWords, stripe_between, IsBytes-stripe_between, length-stripe_between, four_reached}
 use Rattle.twox_plain.proofs.RecordFacts
 
--- each accumulator is a word
+-- True if each accumulator is a word.
 abbrev pub IsCore : Core → Type 0
 IsCore c = AreWords w64 c.v1 c.v2 c.v3 c.v4
 
 reaches : IsReaching w64 round
 reaches = round_reaches w64 31 p1 0x887493432badb37 p2 0xba79078168d4baf (lit< tt) (lit< tt) refl refl
 
--- the stripe that takes a to c
+-- The stripe that takes the accumulators a to c.
 abbrev between : Core → Core → List ℕ
 between a c = stripe_between w64 writable_64 round reaches core_of a.v1 a.v2 a.v3 a.v4 c.v1 c.v2 c.v3 c.v4
 
@@ -35,7 +35,7 @@ unfolding core_of_stripes accumulator after_units
 IsCore-core_of_stripes seed m zero p = record { v1 = below _; v2 = below _; v3 = p; v4 = below _ }
 IsCore-core_of_stripes seed m (suc k) p = record { v1 = below _; v2 = below _; v3 = below _; v4 = below _ }
 
--- a record that fits represents some list of bytes
+-- Lemma: a record that fits represents some list of bytes.
 pub fits_stands : (s : SavedState) → s.total_len < 2 ^ 64 → s.seed < 2 ^ 64 → IsCore s.core → IsBytes s.buffer → length s.buffer ≡ 32 → UsageFits s → CoreFits s
     → (m : List ℕ) × IsBytes m × StandsFor s m
 unfolding StandsFor
@@ -50,7 +50,7 @@ fits_stands s small seed core bytes size usage initial =
       takes = core_reached a c (IsCore-core_of_stripes s.seed _ k seed) core;
     })
 
--- a record that represents a list fits
+-- Lemma: a record that represents a list fits.
 pub stands_fits : (s : SavedState) (m : List ℕ) → StandsFor s m → UsageFits s × CoreFits s
 unfolding StandsFor
 stands_fits s m stands =

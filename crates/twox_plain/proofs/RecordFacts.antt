@@ -1,4 +1,4 @@
--- What a record represents, from call to call: for both plain hashes.
+-- Lemmas on the list that a record represents, from call to call, for both plain hashes.
 use Rattle.std.proofs.Common.{◌≡◌, ℕ, ◌*◌, ◌+◌, ◌-◌, ◌^◌, ◌<◌, ◌≤◌, min, List, ◌++◌, take, drop, length, ap}
 use Rattle.twox_words.specs.Word.{IsBytes}
 use Rattle.twox_plain.specs.Record.{Record, StandsFor, after_write, UsageFits, CoreFits, AgreeInUse}
@@ -8,7 +8,7 @@ use Rattle.twox_plain.proofs.Reachability.{LastBlock, some_followed}
 module _ {C : Type 0} (stripe : ℕ) (core_of : ℕ → List ℕ → ℕ → C) (core_after : C → List ℕ → ℕ → C) (some : 0 < stripe)
     (longer : (seed : ℕ) (m d : List ℕ) (k : ℕ) → k * stripe ≤ length m → core_of seed (m ++ d) k ≡ core_of seed m k)
     (one : (seed : ℕ) (m d : List ℕ) (k : ℕ) → d ≡ take stripe (drop (k * stripe) m) → core_after (core_of seed m k) d 1 ≡ core_of seed m (k + 1)) where
-  -- one more chunk
+  -- Lemma: a record that represents m represents m ++ d after a write of d.
   pub after_write_stands : (more : (seed : ℕ) (m d : List ℕ) (k n : ℕ) → d ≡ drop (k * stripe) m → core_after (core_of seed m k) d n ≡ core_of seed m (k + n))
       (r : Record C) (m d : List ℕ) → length r.state.buffer ≡ stripe → StandsFor stripe core_of r m → StandsFor stripe core_of (after_write stripe core_after r d) (m ++ d)
   after_write_stands more r m d size stands = (
@@ -16,7 +16,7 @@ module _ {C : Type 0} (stripe : ℕ) (core_of : ℕ → List ℕ → ℕ → C) 
     after_piece_follows stripe (core_of r.seed) core_after some (longer r.seed) (one r.seed) (more r.seed) m d r.state stands.1 size,
   )
 
-  -- a record that fits represents some list of bytes
+  -- Lemma: a record that fits represents some list of bytes.
   pub fits_stands : (r : Record C) → r.total_len < 2 ^ 64 → IsBytes r.state.buffer → length r.state.buffer ≡ stripe → UsageFits stripe r → CoreFits stripe core_of r
       → ((k : ℕ) → LastBlock stripe (core_of r.seed) core_after some (longer r.seed) (one r.seed) r.state.accumulators k)
       → (m : List ℕ) × IsBytes m × StandsFor stripe core_of r m
@@ -24,7 +24,7 @@ module _ {C : Type 0} (stripe : ℕ) (core_of : ℕ → List ℕ → ℕ → C) 
       some_followed stripe (core_of r.seed) core_after some (longer r.seed) (one r.seed) r.total_len r.state usage.known usage.lost initial small bytes size last
 
 module _ {C : Type 0} (stripe : ℕ) (core_after : C → List ℕ → ℕ → C) where
-  -- records that agree in use still do after the same chunk
+  -- Lemma: records that agree in use agree in use after the same chunk.
   pub after_write_agree : (r s : Record C) (d : List ℕ) → length r.state.buffer ≡ stripe → r.state.usage < stripe → AgreeInUse r s
       → AgreeInUse (after_write stripe core_after r d) (after_write stripe core_after s d)
   after_write_agree r s d size short agree = record {

@@ -1,4 +1,4 @@
--- The texts and values of records, and that they read back, for both plain hashes.
+-- Lemmas on the texts and values of records, and on reading them back, for both plain hashes.
 use Rattle.std.proofs.Common.{◌≡◌, ◌<◌, ◌≤◌, ◌^◌, ℕ, List, false, true, nat_lt, Option, Some, refl, arith, lit≤}
 use Rattle.std.proofs.lemmas.Bool.Decides.{nat_tests}
 use Rattle.serde_json.specs.Data.{Data, depth}
@@ -15,12 +15,12 @@ module _ (total_len seed a b c d : ℕ) (buffer : List ℕ) (usage : ℕ) where
   pub shallow : depth (record_data total_len seed (core_data a b c d) (bytes_data buffer) usage) ≤ max_depth
   shallow = rw (flat buffer) (lit≤ tt)
 
-  -- the compact text of a record's value
+  -- Lemma: the compact text of a record's value is its saved text.
   pub compact_text-record_data : compact_text (record_data total_len seed (core_data a b c d) (bytes_data buffer) usage) ≡ saved_text total_len seed (core_text a b c d) buffer usage
   unfolding serde_json_on_literals
   compact_text-record_data = rw (← array_of buffer) refl
 
--- what a text has reads back, where each number is in its type's range
+-- Lemma: a number in the range of its type passes the range test, as each number that is read back must.
 test : (x n : ℕ) → x < n → nat_lt x n ≡ true
 test x n small = grind (arith, nat_tests)
 

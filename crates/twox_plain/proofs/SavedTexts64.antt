@@ -1,4 +1,4 @@
--- The text and the value of a record of XXH64, and that the text reads back as the record.
+-- Lemmas on the text and the value of a record of XXH64, and on reading the record back.
 use Rattle.std.proofs.Common.{◌≡◌, ◌<◌, ◌≤◌, ◌^◌, false, Some}
 use Rattle.serde_json.specs.Data.{depth}
 use Rattle.serde_json.specs.Read.{max_depth}

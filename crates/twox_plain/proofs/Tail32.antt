@@ -1,4 +1,4 @@
--- The bytes that fill no stripe, on their own and in their place.
+-- Lemmas on the bytes that fill no stripe: as a separate list and in the whole list, they give the same value.
 use Rattle.std.proofs.Common.{◌≡◌, ℕ, ◌*◌, ◌/◌, ◌%◌, List, drop}
 use Rattle.std.specs.Int.{w32}
 use Rattle.twox_plain.specs.Xxh32.{take_word, take_byte, after_words, after_tail}

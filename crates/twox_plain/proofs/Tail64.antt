@@ -1,4 +1,4 @@
--- The bytes that fill no stripe, on their own and in their place.
+-- Lemmas on the bytes that fill no stripe: as a separate list and in the whole list, they give the same value.
 use Rattle.std.proofs.Common.{◌≡◌, ℕ, ◌+◌, ◌*◌, ◌/◌, ◌%◌, ◌<◌, ◌≤◌, List, drop, nat_lt, true, false, refl, ap, ◌∙◌, arith}
 use Rattle.std.proofs.lemmas.Bool.Decides.{nat_tests}
 use Rattle.std.specs.Int.{w32, w64}
@@ -22,7 +22,7 @@ unfolding after_tail
 after_tail-drop i m x n =
     rw (after_words-drop i m x n) (bytes_drop take_byte i m (after_words m i x n) (n % 4) (n / 4 * 4))
 
--- with and without a four-byte word
+-- Lemma: after_words is after_eights, and one take_four more if at least four bytes are left.
 pub after_words_short : (m : List ℕ) (i x n : ℕ) → n % 8 < 4 → after_words m i x n ≡ after_eights m i x n
 unfolding after_words
 after_words_short m i x n short =

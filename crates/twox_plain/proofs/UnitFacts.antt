@@ -1,4 +1,4 @@
--- A value that takes words or bytes of a list, one after another, where the list is cut or joined.
+-- Lemmas on values that take words or bytes of a list one after another, for lists that are split or joined.
 use Rattle.std.proofs.Common.{◌≡◌, ℕ, zero, suc, ◌+◌, ◌-◌, ◌*◌, ◌/◌, ◌<◌, ◌≤◌, List, ◌++◌, length, take, drop, slice_index, refl, sym, ap, ap₂, ◌∙◌, arith, add-one, add-zero, add-suc}
 use Rattle.std.proofs.Math.Nat.{add-div_right, add-mul, div-mul-le_self, one-mul, zero-mul}
 use Rattle.std.proofs.lemmas.List.{drop-drop, get_or-drop}
@@ -12,16 +12,16 @@ pub after_units_next : (step : ℕ → ℕ → ℕ) (unit : ℕ → ℕ) (a k : 
 unfolding after_units
 after_units_next step unit a k = rw add-one refl
 
--- equal units give equal values
+-- Lemma: equal units give equal values.
 pub after_units_same : (step : ℕ → ℕ → ℕ) (f g : ℕ → ℕ) (a k : ℕ) → ((i : ℕ) → i < k → f i ≡ g i) → after_units step f a k ≡ after_units step g a k
 unfolding after_units
 after_units_same step f g a zero same = refl
 after_units_same step f g a (suc k) same =
     ap₂ step (after_units_same step f g a k (λ i low. same i (omega arith))) (same k (omega arith))
 
--- ---- the words at one place `at` of each block of a message
+-- ---- the words at offset `at` of each block of a message
 
--- the words of k blocks within m stay as d follows
+-- Lemma: bytes appended to m don't change the value after the words of k blocks of m.
 pub words_longer : (w : Width) (step : ℕ → ℕ → ℕ) (m d : List ℕ) (a k block at : ℕ) → at + byte_len w ≤ block → k * block ≤ length m
     → after_units step (λ i. word_at w (m ++ d) (i * block + at)) a k ≡ after_units step (λ i. word_at w m (i * block + at)) a k
 words_longer w step m d a k block at inside within =
@@ -29,7 +29,7 @@ words_longer w step m d a k block at inside within =
     let rows : (i + 1) * block ≤ k * block = mul-le (i + 1) block k block (omega arith) (omega arith) in
     word_at-append w m d (i * block + at) (omega arith))
 
--- one word more, read in block k by itself
+-- Lemma: one more word, read from block k as a separate list, gives k + 1 words.
 pub words_one : (w : Width) (step : ℕ → ℕ → ℕ) (a : ℕ) (m part : List ℕ) (k block at : ℕ) → part ≡ take block (drop (k * block) m) → at + byte_len w ≤ block
     → after_units step (λ i. word_at w part (i * block + at)) (after_units step (λ i. word_at w m (i * block + at)) a k) 1 ≡ after_units step (λ i. word_at w m (i * block + at)) a (k + 1)
 unfolding after_units
@@ -37,7 +37,7 @@ words_one w step a m part k block at e inside =
     let word : word_at w part (0 * block + at) ≡ word_at w m (k * block + at) = ap (word_at w part) (omega arith) ∙ word_at-part w block m part (k * block) at e inside in
     rw (add-one, word) refl
 
--- n words more, read in what follows the first k blocks
+-- Lemma: n words of the bytes after the first k blocks give k + n words.
 pub words_more : (w : Width) (step : ℕ → ℕ → ℕ) (a : ℕ) (m rest : List ℕ) (k n block at : ℕ) → rest ≡ drop (k * block) m
     → after_units step (λ i. word_at w rest (i * block + at)) (after_units step (λ i. word_at w m (i * block + at)) a k) n ≡ after_units step (λ i. word_at w m (i * block + at)) a (k + n)
 unfolding after_units
@@ -46,7 +46,7 @@ words_more w step a m rest k (suc n) block at e =
     let word : word_at w rest (n * block + at) ≡ word_at w m ((k + n) * block + at) = rw e (word_at-drop w (k * block) m (n * block + at) ∙ ap (word_at w m) (omega arith)) in
     rw add-suc (ap₂ step (words_more w step a m rest k n block at e) word)
 
--- ---- the words and bytes that fill no block, on their own and in their place
+-- ---- words and bytes of the tail, in a separate list and in the whole list
 
 pub words_drop : (w : Width) (step : ℕ → ℕ → ℕ) (i : ℕ) (m : List ℕ) (a k size : ℕ)
     → after_units step (λ u. word_at w (drop i m) (0 + u * size)) a k ≡ after_units step (λ u. word_at w m (i + u * size)) a k
@@ -60,11 +60,11 @@ bytes_drop step i m a k at =
 
 -- ---- a loop that takes a list unit by unit
 
--- how many units of w bytes were taken of m where this rest is left
+-- The number of units of w bytes taken of m if `rest` is left.
 abbrev pub taken : (w : ℕ) (m rest : List ℕ) → ℕ
 taken w m rest = length m / w - length rest / w
 
--- the rest is what follows the units taken of m
+-- True if `rest` is the bytes after the units taken of m.
 pub record IsRest (w : ℕ) (m rest : List ℕ) : Type 0 where
   pub shorter : length rest ≤ length m
   pub follows : rest ≡ drop (taken w m rest * w) m

@@ -1,11 +1,11 @@
--- A value that takes units one after another determines its start, and each unit, if each step does.
+-- Lemmas on values that take units one after another: one-to-one steps determine the start and each unit.
 use Rattle.std.proofs.Common.{◌≡◌, ◌≢◌, ℕ, zero, suc, ◌<◌, ◌≤◌, inl, inr, sym, ap, subst, ◌∙◌, arith}
 use Rattle.std.proofs.Math.Nat.{eq-or-lt_of_le}
 use Rattle.twox_plain.specs.Units.{after_units}
 use Rattle.twox_words.proofs.OneToOne.{IsOneToOne}
 use Rattle.twox_plain.proofs.UnitFacts.{after_units_same}
 
--- a step from states and units to states, one to one in each of the two
+-- True if a step from states and units to states is one-to-one in each of the two.
 pub record IsTelling (states units : ℕ) (step : ℕ → ℕ → ℕ) : Type 0 where
   pub closed : (x u : ℕ) → step x u < states
   pub in_state : (u : ℕ) → u < units → IsOneToOne states (λ x. step x u)
@@ -17,7 +17,7 @@ module _ (states units : ℕ) (step : ℕ → ℕ → ℕ) (tells : IsTelling st
   after_units-lt f a zero h = h
   after_units-lt f a (suc k) h = tells.closed (after_units step f a k) (f k)
 
-  -- the start
+  -- Lemma: equal values after the same units have the same start.
   pub start_told : (f : ℕ → ℕ) (a b k : ℕ) → ((i : ℕ) → i < k → f i < units) → a < states → b < states
       → after_units step f a k ≡ after_units step f b k → a ≡ b
   unfolding after_units
@@ -26,7 +26,7 @@ module _ (states units : ℕ) (step : ℕ → ℕ → ℕ) (tells : IsTelling st
       start_told f a b k (λ i low. small i (omega arith)) p q
       (tells.in_state (f k) (small k (omega arith)) _ _ (after_units-lt f a k p) (after_units-lt f b k q) e)
 
-  -- the one unit that may differ
+  -- Lemma: equal values from the same start have the same unit i if all other units are the same.
   pub unit_told : (f g : ℕ → ℕ) (i a k : ℕ) → ((j : ℕ) → j < k → j ≢ i → f j ≡ g j) → ((j : ℕ) → j < k → f j < units) → ((j : ℕ) → j < k → g j < units)
       → i < k → a < states → after_units step f a k ≡ after_units step g a k → f i ≡ g i
   unfolding after_units

@@ -1,10 +1,10 @@
--- The word at the end of a longer one.
+-- Lemma on the upper half of an eight-byte word.
 use Rattle.std.proofs.Common.{◌≡◌, ℕ, ◌+◌, ◌*◌, ◌/◌, ◌^◌, ◌<◌, ◌≤◌, List, length, slice_index, sym, ap, ◌∙◌, arith}
 use Rattle.std.specs.Int.{w32, w64}
 use Rattle.twox_words.specs.Word.{word_at}
 use Rattle.twox_words.proofs.WordFacts.{word_at_listed}
 
--- the upper half of eight bytes is the word of the last four
+-- Lemma: the upper half of the eight-byte word at offset i is the four-byte word at offset i + 4.
 pub upper_word : (m : List ℕ) (i : ℕ) → ((k : ℕ) → slice_index m k < 256) → i + 8 ≤ length m → word_at w64 m i / 2 ^ 32 ≡ word_at w32 m (i + 4)
 upper_word m i bytes fits =
     let b = λ (k : ℕ). slice_index m (i + k) in

@@ -1,4 +1,4 @@
--- The word of a record in memory that is the mark and how many bytes wait.
+-- Lemma on the usage word of a record in memory: the mark plus the number of buffered bytes.
 use Rattle.std.proofs.Common.{◌≡◌, ℕ, ◌+◌, ◌≤◌, arith}
 use Rattle.std.specs.Int.{w32}
 use Rattle.twox_words.specs.Word.{wrap_sub}

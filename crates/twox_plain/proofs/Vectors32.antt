@@ -1,11 +1,11 @@
--- Published values of XXH32, so that a wrong constant, step or order in the definition does not check: from
--- the tests of the Rust crate `twox-hash`, which are from the C library.
+-- Test vectors of XXH32, which a wrong constant, step or order in the definition fails. They are from the tests of the
+-- Rust crate `twox-hash`, which has them from the C library.
 use Rattle.std.proofs.Common.{◌≡◌, ℕ, zero, suc, ◌∷◌, ◌++◌, [], ◌+◌, List, codes, refl}
 use Rattle.twox_words.specs.Word.{word_at}
 use Rattle.twox_plain.specs.Units.{after_units}
 use Rattle.twox_plain.specs.Xxh32.{accumulator, start, after_words, after_tail, xxh32}
 
--- the k numbers from i up
+-- The k numbers from i up.
 abbrev counting : ℕ → ℕ → List ℕ
 counting i zero = []
 counting i (suc k) = i ∷ counting (i + 1) k

@@ -1,4 +1,4 @@
--- A stream in the page's memory, and the lists that it represents.
+-- Lemmas on a stream in the page's memory and on the lists that it represents.
 use Rattle.std.proofs.Common.{◌≡◌, ℕ, List, refl, sym, ◌∙◌, arith}
 use Rattle.twox_core.specs.Long.{initial_accumulators}
 use Rattle.twox_core.specs.Stripes.{no_stripe}
@@ -7,7 +7,7 @@ use Rattle.twox_core.specs.declared.xxhash3.streaming.core_state.CoreState.{Core
 use Rattle.twox_core.proofs.TakenFacts.{took_none}
 use Rattle.twox_web.specs.Stream.{IsCounted}
 
--- accumulators that have taken nothing are the initial ones
+-- Lemma: accumulators that have taken no stripe are the initial ones.
 none_taken_is_start : (s m : List ℕ) (k : ℕ) (b : List ℕ) (u : ℕ) (c : CoreState) → Holds s m k c.taken b u → k ≡ 0 → c.taken.stripes ≡ no_stripe
 none_taken_is_start s m k b u c held none =
     let initial = took_none s m in
@@ -15,7 +15,7 @@ none_taken_is_start s m k b u c held none =
     let place : c.taken.stripes.current_stripe ≡ 0 = rw none at held.taken.stripes.place ∙ sym initial.stripes.place in
     rw (sums, place) refl
 
--- the numbers of what follows a list agree
+-- Lemma: the counts of a state that follows a list agree with each other.
 pub follows_counted : (s m : List ℕ) (c : CoreState) → Follows s c m → IsCounted c
 unfolding Follows
 follows_counted s m c held =

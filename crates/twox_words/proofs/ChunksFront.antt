@@ -1,4 +1,4 @@
--- A `&mut [T]` is lent on as a `&mut [[T; n]]` over its front, beside the rest. Assumes `Logic`.
+-- Lends a `&mut [T]` as a `&mut [[T; n]]` over its front and a `&mut [T]` over the rest. Assumes `Logic`.
 use mathlib.Core.Path.{◌≡◌, refl, sym, ap, ◌∙◌}
 use Prim.Native.Nat.{ℕ, ◌+◌, ◌*◌}
 use native.Mathlib.Omega.{arith}

@@ -1,9 +1,9 @@
--- A list that is copied over another of its length in two parts, which may overlap.
+-- Lemma on copying a list over another of the same length in two parts, which may overlap.
 use Rattle.std.proofs.Common.{◌≡◌, ℕ, ◌+◌, ◌-◌, ◌≤◌, List, [], ◌++◌, length, take, drop, ap, ap₂, ◌∙◌, arith, length-append, length-drop}
 use Rattle.std.proofs.lemmas.List.{append-nil, drop_all, length-take-le, take_all, take-append-drop, take-append-le, take-take}
 use borrow.Rule.Slice.PartMut.{put_mid, mid_of, post_of}
 
--- the first n, then the n from `last` on, which end the list
+-- Lemma: copying the first n elements, and then the last n, copies the whole list if last ≤ n.
 pub both_ends : {X : Type 0} (n last : ℕ) (to from : List X) → length to ≡ length from → last + n ≡ length from → last ≤ n
     → let half = take n from ++ drop n to in
     put_mid last (length half - last) half (take n (mid_of last (length from - last) from) ++ drop n (mid_of last (length half - last) half)) ≡ from

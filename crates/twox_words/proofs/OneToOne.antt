@@ -1,4 +1,4 @@
--- Steps on words that are one to one, each over the modulus or the width.
+-- Lemmas on one-to-one functions on words: the steps of the hashes, below a modulus or 2 ^ width.
 use Rattle.std.proofs.Common.{◌≡◌, ℕ, ◌+◌, ◌-◌, ◌*◌, ◌/◌, ◌%◌, ◌^◌, ◌<◌, ◌≤◌, bit_xor, sym, ap, ◌∙◌, arith, mod-lt, pow_pos}
 use Rattle.std.specs.Int.{Width, rotate_left}
 use mir.Val.{bits}
@@ -9,15 +9,15 @@ use Rattle.std.specs.Int.Bits.{xor_assoc, xor_self, xor_zero_r}
 use Rattle.twox_words.specs.Word.{xor_shift}
 use Rattle.twox_words.proofs.Rotations.{rotated, turned_back, left_is_rotated, left-lt}
 
--- f is one to one on the numbers below n
+-- True if f is one-to-one on the numbers below n.
 abbrev pub IsOneToOne : ℕ → (ℕ → ℕ) → Type 0
 IsOneToOne n f = (x y : ℕ) → x < n → y < n → f x ≡ f y → x ≡ y
 
--- f has the inverse g there
+-- Lemma: f is one-to-one below n if g inverts it there.
 pub from_inverse : (n : ℕ) (f g : ℕ → ℕ) → ((x : ℕ) → x < n → g (f x) ≡ x) → IsOneToOne n f
 from_inverse n f g inverts x y p q e = sym (inverts x p) ∙ ap g e ∙ inverts y q
 
--- f, and then g
+-- Lemma: f and then g is one-to-one below n if both are and f maps numbers below n to numbers below n.
 pub then_one_to_one : (n : ℕ) (f g : ℕ → ℕ) → ((x : ℕ) → x < n → f x < n) → IsOneToOne n f → IsOneToOne n g → IsOneToOne n (λ x. g (f x))
 then_one_to_one n f g below p q x y a b e = p x y a b (q (f x) (f y) (below x a) (below y b) e)
 
@@ -45,7 +45,7 @@ quotient_zero d m two e =
     let whole : d * m + d % m ≡ d = ap (λ (x : ℕ). x * m + d % m) e ∙ div-add-mod' d m in
     let more : d * 2 ≤ d * m = mul-le-mul_left d two in omega arith
 
--- with d the xor of two such numbers, d is its own quotient, and so zero
+-- Lemma: x xor (x >> k) determines x. The xor d of two such x equals d / 2 ^ k, so it is zero.
 pub xor_shift_told : (k x y : ℕ) → 2 ≤ 2 ^ k → bit_xor x (x / 2 ^ k) ≡ bit_xor y (y / 2 ^ k) → x ≡ y
 xor_shift_told k x y two e =
     let d = bit_xor x y in
@@ -56,7 +56,7 @@ xor_shift_told k x y two e =
 pub xor_shift_one_to_one : (n k : ℕ) → 2 ≤ 2 ^ k → IsOneToOne n (λ x. bit_xor x (x / 2 ^ k))
 xor_shift_one_to_one n k two x y p q e = xor_shift_told k x y two e
 
--- ---- a multiple by p, which has the inverse q modulo m
+-- ---- a product by p, which has the inverse q modulo m
 
 pub multiple_back : (p q m x : ℕ) → p * q % m ≡ 1 → x < m → x * p % m * q % m ≡ x
 multiple_back p q m x e below =
@@ -83,13 +83,13 @@ pub left_one_to_one : (w : Width) (k : ℕ) → 0 < k → k < bits w → IsOneTo
 left_one_to_one w k low high x y p q e =
     rotated_one_to_one (bits w) (bits w - k) (omega arith) x y p q (sym (left_is_rotated w k x low high) ∙ e ∙ left_is_rotated w k y low high)
 
--- ---- a rotation, and then a multiple by p
+-- ---- a rotation, then a product by p
 
 pub turned_multiple_told : (w : Width) (k p q : ℕ) → 0 < k → k < bits w → p * q % 2 ^ bits w ≡ 1 → IsOneToOne (2 ^ bits w) (λ x. rotate_left w x k * p % 2 ^ bits w)
 turned_multiple_told w k p q low high odd x y a b e =
     left_one_to_one w k low high x y a b (multiple_one_to_one p q (2 ^ bits w) odd _ _ (left-lt w k x low high a) (left-lt w k y low high b) e)
 
--- ---- the last mixing of both plain hashes: shifts by i, j and k, and multiples by p and q between them
+-- ---- the avalanche of both plain hashes: shifts by i, j and k, and products by p and q between them
 
 pub xor_shift-lt : (n k x : ℕ) → x < 2 ^ n → bit_xor x (x / 2 ^ k) < 2 ^ n
 xor_shift-lt n k x h = xor_lt n x (x / 2 ^ k) h (omega (arith, shr_le x k))

@@ -1,4 +1,4 @@
--- A word is below its width, and determines its bytes.
+-- Lemmas on words: a word is below 2 ^ 32 or 2 ^ 64, and equal words have equal bytes.
 use Rattle.std.proofs.Common.{◌≡◌, ℕ, ◌+◌, ◌^◌, ◌<◌, ◌≤◌, List, length, take, drop, get_or, slice_index, inl, inr, refl, sym, ap, subst, ◌∙◌, arith, lit<, length-drop, length-take}
 use Rattle.std.proofs.lemmas.Bool.{cases_lt}
 use Rattle.std.proofs.lemmas.List.{get_or-drop, get_or-take, get_or_past}
@@ -6,7 +6,7 @@ use Rattle.std.proofs.lemmas.Nat.{le_bytes_4, le_bytes_8}
 use Rattle.std.specs.Int.{Width, w32, w64, byte_len, from_le_bytes, to_le_bytes}
 use Rattle.twox_words.specs.Word.{IsBytes, word_at}
 
--- ---- a part of a list
+-- ---- parts of a list
 
 pub at_part : (n i k : ℕ) (m : List ℕ) → k < n → slice_index (take n (drop i m)) k ≡ slice_index m (i + k)
 at_part n i k m low = get_or-take n (drop i m) k 0 low ∙ get_or-drop i m k 0
@@ -22,7 +22,7 @@ IsBytes-part n i m bytes k = elim (cases_lt k n) [
 pub length-part : (n i : ℕ) (m : List ℕ) → i + n ≤ length m → length (take n (drop i m)) ≡ n
 length-part n i m fits = length-take n (drop i m) ∙ omega (arith, length-drop i m)
 
--- ---- a word is below its width
+-- ---- bounds of words
 
 pub word_at-lt_32 : (m : List ℕ) (i : ℕ) → IsBytes m → word_at w32 m i < 2 ^ 32
 unfolding word_at
@@ -46,7 +46,7 @@ word_at-lt_64 m i bytes =
     let b6 = b 6 in
     let b7 = b 7 in omega arith
 
--- ---- a word determines its bytes, if the width can be written back
+-- ---- bytes of equal words, given that encoding inverts decoding
 
 module _ (w : Width) (back : (bs : List ℕ) (n : ℕ) → length bs ≡ byte_len w → ((k : ℕ) → get_or bs k 0 < 256) → n ≡ from_le_bytes w bs → to_le_bytes w n ≡ bs) where
   told_by_word : (m n : List ℕ) (i j : ℕ) → IsBytes m → IsBytes n → i + byte_len w ≤ length m → j + byte_len w ≤ length n → word_at w m i ≡ word_at w n j

@@ -71,7 +71,7 @@ later-preserved c =
           ∙ sym (pairs_second-next seed s m 128 3 _ p);
     }
 
--- the last 32 bytes as two chunks, and the secret's for them
+-- Lemma: the last step takes the last 32 bytes of the input, and the secret's 32 bytes at offset 103.
 tail_pair : (c : goal.After-finalize_medium) → c.bp_as_chunks.result.0.now ≡ pair_at c.args.input.now (length c.args.input.now - 32)
 tail_pair c =
     last-pair c.args.input.now _ _ _ (omega arith) c.split_at.ensures.back c.bp_as_chunks.ensures.chunks (omega arith)
@@ -84,7 +84,7 @@ last_chunk c =
     let place : length c.args.input.now - 32 + 16 ≡ length c.args.input.now - 16 = omega arith in
     ap (λ l. get_or l 1 []) (tail_pair c) ∙ ap (chunk_at c.args.input.now) place
 
--- each accumulator after the last step
+-- Lemma: the accumulators after the last step are first_129_to_240 and second_129_to_240.
 last_first : (c : goal.After-finalize_medium) → c.accumulator_step.result ≡ first_129_to_240 c.args.seed (secret_bytes c.args.secret) c.args.input.now
 unfolding first_129_to_240
 last_first c =

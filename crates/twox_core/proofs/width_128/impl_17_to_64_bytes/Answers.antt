@@ -4,7 +4,7 @@ use Rattle.twox_core.specs.Middle.{first_17_to_128, second_17_to_128}
 use Rattle.twox_core.specs.Value.{steps_of}
 use Rattle.twox_core.proofs.width_128.impl_17_to_64_bytes.Goals as goal
 
--- at most two steps: none comes before the last but one
+-- Lemma: mix_two_chunks takes all steps except the last. There are at most two steps.
 before_last_first : (c : goal.After-mix_last) → c.mix_two_chunks-accumulators.result.first
     ≡ first_17_to_128 c.args.seed (secret_bytes c.args.secret) c.args.input.now (steps_of c.args.input.now) (steps_of c.args.input.now - 1)
 unfolding first_17_to_128

@@ -5,7 +5,7 @@ use Rattle.twox_core.specs.Value.{high_in, low_in, steps_of}
 use Rattle.twox_core.proofs.ValueLaws.{middle_17_to_128}
 use Rattle.twox_core.proofs.width_128.mix_last.Goals as goal
 
--- an accumulator y after the last of n steps, from x before it: F is the value after each step
+-- Lemma: the last of n steps takes an accumulator from F (n - 1) to F n, with F k its value after k steps.
 last_step : (F : ℕ → ℕ) (n x y : ℕ) → (x ≡ F (n - 1 - 0) → y ≡ F (n - 0)) → x ≡ F (n - 1) → y ≡ F n
 last_step F n x y step before =
     let from : n - 1 ≡ n - 1 - 0 = omega arith in

@@ -9,7 +9,7 @@ abbrev pub invariant-early : goal.invariant-early
 invariant-early l =
     l.acc ≡ (length l.input * prime64_1 + sum_below (early l.seed (secret_bytes l.secret) l.input) l.c) % 2 ^ 64
 
--- the chunks of part 2 that were taken are the first c, or all where there are fewer
+-- Invariant: the sum includes the first c chunks of part 2, or all chunks if there are fewer.
 abbrev pub invariant-later : goal.invariant-later
 invariant-later l =
     l.acc ≡ (avalanche ((length l.input * prime64_1 + sum_below (early l.seed (secret_bytes l.secret) l.input) 8) % 2 ^ 64)

@@ -5,16 +5,16 @@ use Rattle.twox_core.specs.Steps.{sum_below}
 use Rattle.twox_core.specs.Middle.{both_ends}
 use Rattle.twox_core.proofs.width_64.sum_17_to_128.Goals as goal
 
--- the sum of the first n steps
+-- The sum after the first n steps.
 abbrev sum_after : ℕ → List ℕ → List ℕ → ℕ → ℕ
 sum_after seed s m n = (length m * prime64_1 + sum_below (both_ends seed s m) n) % 2 ^ 64
 
--- the sum before the first step
+-- Lemma: the sum before the first step is length m * prime64_1.
 before : (seed : ℕ) (s m : List ℕ) (n : ℕ) → n ≡ length m → n * prime64_1 % 2 ^ 64 ≡ sum_after seed s m 0
 unfolding sum_below
 before seed s m n e = omega arith
 
--- the steps that an input of this length has
+-- Lemma: n steps are all steps of m if n is (length m - 1) / 32 + 1.
 all_steps : (seed : ℕ) (s m : List ℕ) (n : ℕ) → n ≡ (length m - 1) / 32 + 1 → sum_after seed s m n ≡ sum_after seed s m ((length m - 1) / 32 + 1)
 all_steps seed s m n e = ap (sum_after seed s m) e
 

@@ -2,7 +2,7 @@ use Rattle.std.proofs.Common.{arith, refl}
 use Rattle.twox_exports.proofs.StreamFacts.{follows_in_range, finished_64}
 use Rattle.twox_exports.proofs.stream_3.finish_64.Goals as goal
 
--- What follows a list lies in range, and is not refused.
+-- A state that follows a list is in range, so it isn't refused.
 pub returns-then-not-is_in_range-clause-message : goal.returns-then-not-is_in_range-clause-message
 returns-then-not-is_in_range-clause-message g c = λ m held enough.
     let in_range = follows_in_range c.args.secret.now m c.args.core.now enough c.is_in_range.ensures.size held in

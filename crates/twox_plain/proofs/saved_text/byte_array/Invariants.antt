@@ -3,7 +3,7 @@ use Rattle.serde_json.specs.View.{items_view}
 use Rattle.twox_plain.specs.SavedText.{item_bytes}
 use Rattle.twox_plain.proofs.saved_text.byte_array.Given as goal
 
--- the first i items are the first i bytes
+-- Invariant: the first i elements of the array are the first i bytes.
 abbrev pub invariant-loop-i : goal.invariant-loop-i
 invariant-loop-i g l = record {
   size : length l.bytes ≡ g.row.N;

@@ -7,7 +7,7 @@ use Rattle.twox_hash.specs.ChangedUnit.{IsUnit32, DiffersWithin, NoticesChangedU
 use Rattle.twox_hash.specs.Xxh32.{xxh32}
 use Rattle.uses.proofs.blocks.first_changed.Goals as goal
 
--- no block that has the index's hash is one changed unit away from the block that was indexed
+-- Lemma: a block with the index's hash isn't one changed unit away from the block that was indexed.
 noticed : (seed i from size : ℕ) (index : List ℕ) (block indexed : List ℕ) → slice_get index i ≡ Some (xxh32 seed block) → NoticesChangedUnit IsUnit32 (xxh32 seed) block (xxh32 seed block)
     → slice_get index i ≡ Some (xxh32 seed indexed) → IsBytes indexed → IsUnit32 (length block) from size → DiffersWithin from size block indexed → ⊥
 noticed seed i from size index block indexed now notices stored bytes unit differs =
@@ -49,7 +49,7 @@ loop-i-preserved g c =
       ];
     }
 
--- every block was compared
+-- Lemma: each block has an index below n if n is at least the number of blocks, so every block was compared.
 compared : (blocks : List (List ℕ)) (i n : ℕ) (block : List ℕ) → length blocks ≤ n → slice_get blocks i ≡ Some block → i < n
 compared blocks i n block all at = let within = slice_get_within blocks i block at in omega arith
 

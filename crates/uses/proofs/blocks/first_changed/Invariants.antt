@@ -3,7 +3,7 @@ use Rattle.twox_hash.specs.Xxh32.{xxh32}
 use Rattle.twox_hash.specs.ChangedUnit.{IsUnit32, NoticesChangedUnit}
 use Rattle.uses.proofs.blocks.first_changed.Given as goal
 
--- the blocks so far have the hashes of the index, which no block has that is one changed unit away
+-- Invariant: the blocks so far have the hashes of the index, and no block one changed unit away has its block's hash.
 abbrev pub invariant-loop-i : goal.invariant-loop-i
 invariant-loop-i g l = record {
   unchanged : (i : ℕ) (block : List ℕ) → i < l.i → slice_get l.blocks i ≡ Some block → slice_get l.index i ≡ Some (xxh32 l.seed block);

@@ -3,7 +3,7 @@ use Rattle.twox_core.specs.Steps.{avalanche, sum_below}
 use Rattle.twox_core.specs.Long.{pair_fold, merge_accumulators}
 use Rattle.twox_core.proofs.xxhash3.large.final_merge.Goals as goal
 
--- two sums of two folds are one of four
+-- Lemma: adding two folds and then two more is adding four folds.
 in_two_steps : (init a b c d front all : ℕ) → front ≡ (init + a + b) % 2 ^ 64 → all ≡ (front + c + d) % 2 ^ 64 → all ≡ (init + (0 + a + b + c + d)) % 2 ^ 64
 in_two_steps init a b c d front all first second = omega (arith, first, second)
 

@@ -7,7 +7,7 @@ use Rattle.twox_plain.proofs.Usage32.{usage_marked}
 use Rattle.twox_plain.proofs.xxhash32.StateInMemory.add_stripes.Goals as goal
 use Rattle.twox_plain.proofs.xxhash32.StateInMemory.add_stripes.Goals.{then-input-ge-BYTES_IN_STRIPE, else-input-ge-BYTES_IN_STRIPE}
 
--- a rest without a stripe only is kept
+-- Lemma: a rest shorter than a stripe is only written to the buffer.
 after_short_rest : (s : SavedState) (d : List ℕ) → length d < 16 → after_rest s d ≡ record s { buffer = d ++ drop (length d) s.buffer; buffer_usage = length d }
 unfolding after_rest core_after_stripes after_units
 after_short_rest s d short =

@@ -7,7 +7,7 @@ use Rattle.twox_plain.specs.Saved64.{record_of_data, record_data}
 use Rattle.twox_plain.proofs.SavedTexts64.{has_no_float, shallow, compact_text-record_data, core_of_data-core_data, record_of_data-record_data}
 use Rattle.twox_plain.proofs.xxhash64.SavedState.to_json.Goals as goal
 
--- the value that is written is the record's
+-- Lemma: the value that is written is the record's value.
 value_is : (c : goal.Joined-branch-4) → view c.in_ok-record_value.field-0 ≡ record_data c.args.self.now
 value_is c = rw (c.in_ok-record_value.ensures, c.in_ok-buffer.ensures.value, c.in_ok-core.ensures) refl
 

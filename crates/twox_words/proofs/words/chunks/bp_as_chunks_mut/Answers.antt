@@ -3,7 +3,7 @@ use Rattle.std.proofs.Math.Nat.{mod-eq-sub-div-mul}
 use Rattle.twox_words.proofs.WordFacts.{first_chunks_take}
 use Rattle.twox_words.proofs.words.chunks.bp_as_chunks_mut.Goals as goal
 
--- the chunks of the items before the rest are the chunks of all items
+-- The chunks of the elements before the rest are the chunks of all elements.
 pub returns : goal.returns
 returns g c =
     let items = c.args.items.now in

@@ -1,4 +1,4 @@
--- `chunks_and_rest_mut` lends the first chunks of N items, beside the rest, for every T and N. Assumes `Logic`.
+-- `chunks_and_rest_mut` lends the first c chunks of N elements and the rest, for every T and N. Assumes `Logic`.
 use mathlib.Core.Path.{◌≡◌, refl, sym, subst, ap, ◌∙◌}
 use Prim.Native.Nat.{ℕ, ◌*◌, ◌^◌, ◌<◌, ◌≤◌, ◌+◌, ◌-◌}
 use native.Mathlib.Omega.{arith}
