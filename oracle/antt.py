@@ -1,13 +1,12 @@
-"""Reads the definitions of the hashes in the crates' specs/ and evaluates them. It supports only the part of the
-language that they use. A definition is found by its own name and by the imports of its file, and becomes a Python
-function, each operation the one in the file.
-"""
+"""Reads the definitions of the hashes in the crates' specs/ and evaluates them. Supports only the part of the language
+that they use. A definition is found by its name and the imports of its file. It becomes a Python function with the same
+operations."""
 import glob
 import os
 import re
 import sys
 
-# Names that the definitions import from the library, by their meaning there.
+# Names that the definitions import from the library, with the library's semantics.
 
 
 def from_le_bytes(bits, xs):
@@ -59,17 +58,17 @@ OPERATORS = {
     "∷": lambda a, b: (a,) + tuple(b),
     "++": lambda a, b: tuple(a) + tuple(b),
 }
-# From the loosest to the tightest; those with True are right-associative.
+# From the lowest precedence to the highest; those with True are right-associative.
 LEVELS = [(("==",), False), (("∷", "++"), True), (("+", "-"), False), (("*", "/", "%"), False), (("^",), True)]
 ENDS = {")", "then", "else", "in", "=", None} | set(OPERATORS)
 
 
 class Unreadable(Exception):
-    """A text outside the supported part of the language."""
+    """Raised for text outside the supported part of the language."""
 
 
 def tokens(text):
-    """The tokens of a text, each with its place. A name extends to the next space or bracket, as in the language."""
+    """Returns the tokens of a text with their positions. As in the language, a name ends at a space or bracket."""
     out = []
     for m in re.finditer(r"--[^\n]*|[()]|λ|[^\s()λ]+", text):
         word, at = m.group(0), m.start()
@@ -83,7 +82,7 @@ def tokens(text):
 
 
 class Reader:
-    """Parses an expression: a tree of tuples, each leaf with the token's number."""
+    """Parses an expression to a tree of tuples. Leaves and operators have the token's index."""
 
     def __init__(self, words):
         self.words, self.at = words, 0
@@ -165,8 +164,8 @@ class Reader:
 
 
 class Definition:
-    """A definition of a file: its type as written, whether it must be unfolded by name, and its clauses, each the
-    tokens of the patterns and of the right-hand side."""
+    """A definition of a file: its type as written, whether it must be unfolded by name, and its clauses, each as tokens
+    of the patterns and of the right-hand side."""
 
     def __init__(self, module, name, type_words, is_unfoldable):
         self.module, self.name, self.type_words, self.is_unfoldable = module, name, type_words, is_unfoldable
@@ -179,7 +178,7 @@ class Definition:
         return len(self.patterns(0))
 
     def patterns(self, number):
-        """The patterns of a clause: ("name", n), ("zero",), ("suc", n) or ("constructor", n)."""
+        """Returns the patterns of a clause: ("name", n), ("zero",), ("suc", n) or ("constructor", n)."""
         words, out, at = [word for word, _ in self.clauses[number][0]], [], 0
         while at < len(words):
             if words[at] == "(":
@@ -251,14 +250,14 @@ class Definitions:
                     self.modules[path] = Module(path, file)
 
     def entry(self, name):
-        """The only definition of that name."""
+        """Returns the only definition with that name."""
         found = [m.definitions[name] for m in self.modules.values() if name in m.definitions and m.definitions[name].clauses]
         if len(found) != 1:
             raise Unreadable(f"{len(found)} definitions of {name}")
         return found[0]
 
     def resolve(self, module, name):
-        """The meaning of a name in a module: a definition, ("library", name) or ("constructor", data, name)."""
+        """Returns the meaning of a name in a module: a definition, ("library", name) or ("constructor", data, name)."""
         if name in module.definitions:
             return module.definitions[name]
         if name in module.constructors:
@@ -299,10 +298,8 @@ def call(function, *arguments):
 
 
 class Program:
-    """The entries and everything that they reach, as Python functions.
-
-    `changed` has other clauses for some definitions, as lists of words.
-    """
+    """The entries and everything that they reach, compiled to Python functions. `run` can replace right-hand sides of a
+    definition's clauses."""
 
     def __init__(self, definitions, entries):
         self.definitions, self.ids, self.order, self.code = definitions, {}, [], {}
@@ -320,7 +317,7 @@ class Program:
         return self.ids[definition]
 
     def python(self, definition, sides):
-        """The text of the function, with these right-hand sides of the clauses."""
+        """Returns the Python code of a definition, with these right-hand sides of the clauses."""
         name, arity = self.ids[definition], definition.arity()
         lines = [f"def {name}({', '.join(f'a{k}' for k in range(arity))}):"]
         for number, words in enumerate(sides):
@@ -391,8 +388,8 @@ class Program:
         return f"Function({known[0]}, LIBRARY[{meaning[1]!r}][1])" if isinstance(known, tuple) else str(known)
 
     def run(self, changed=None, traced=None):
-        """The entries as functions, with other right-hand sides of some definitions. `traced` collects the
-        definitions that are reached."""
+        """Returns the entries as functions. `changed` maps definitions to other right-hand sides; `traced` collects the
+        definitions that calls reach."""
         space = {"OPERATORS": OPERATORS, "LIBRARY": LIBRARY, "Function": Function, "call": call}
         for definition in self.order:
             exec(self.compiled(definition, changed or {}), space)
@@ -414,7 +411,7 @@ class Program:
 
 
 def remembered(function):
-    """A constant, computed once."""
+    """Returns a function that computes a constant only once."""
     values = []
 
     def value():
@@ -432,7 +429,7 @@ def noted(function, definition, traced):
 
 
 def with_deep_recursion(function, *arguments):
-    """Runs a function in a thread whose stack is large enough for the recursion over 100,000 bytes."""
+    """Runs a function in a thread with a large stack, for recursion over 100,000 bytes."""
     import threading
     result = []
     sys.setrecursionlimit(10 ** 6)

@@ -1,4 +1,4 @@
-"""Changes of one token of the definitions, and whether a test case detects them."""
+"""Makes one-token changes of the definitions, and tests if a test case detects them."""
 import os
 import sys
 
@@ -13,8 +13,8 @@ LIBRARY_PAIRS.update({other: word for word, other in list(LIBRARY_PAIRS.items())
 
 
 class Change:
-    """Another word in one place of a definition's clause. Definitions are stored by name, so that a change can be
-    passed to other processes."""
+    """Another word at one place of a definition's clause. Holds the definition's name only, so that it can be sent to
+    other processes."""
 
     def __init__(self, definition, clause, place, word):
         words = [w for w, _ in definition.clauses[clause][1]]
@@ -27,7 +27,7 @@ class Change:
 
 
 def types_of(definition):
-    """The types of a definition's arguments, as written."""
+    """Returns the types of a definition's arguments, as written."""
     parts, depth, part = [], 0, []
     for word in definition.type_words:
         depth += (word == "(") - (word == ")")
@@ -40,7 +40,7 @@ def types_of(definition):
 
 
 def meaning_of(program, module, name):
-    """The meaning of the name in the module, or None if it is no word of a definition."""
+    """Returns the meaning of a name in a module, or None if it has none."""
     try:
         return program.definitions.resolve(module, name)
     except antt.Unreadable:
@@ -48,7 +48,7 @@ def meaning_of(program, module, name):
 
 
 def reachable(program):
-    """For each definition everything that it reaches."""
+    """Maps each definition to everything that it reaches."""
     direct = {}
     for definition in program.order:
         words = {word for _, right in definition.clauses for word, _ in right}
@@ -67,7 +67,7 @@ def reachable(program):
 
 
 def in_scope(program, definition):
-    """The definitions that the file names or imports."""
+    """Returns the definitions that the definition's file contains or imports, by name."""
     module = definition.module
     found = {name: d for name, d in module.definitions.items() if d.clauses}
     for name in module.names:
@@ -96,8 +96,8 @@ def changes_of(program, reached, definition):
 
 
 def others(program, reached, definition, scope, local, word):
-    """The words that may replace a word: of numbers the next and the one before, of operators other ones,
-    of names those of the same type."""
+    """Returns the words that may replace a word: for a number the next and the previous one, for an operator other
+    operators, for a name names of the same type."""
     if word in OTHERS:
         return OTHERS[word]
     if word[0].isdigit():
@@ -123,7 +123,7 @@ def all_changes(program):
 
 
 def rows_by_definition(program, rows):
-    """For each definition the test cases that reach it, those of the fewest bytes first."""
+    """Maps each definition to the test cases that reach it, the shortest first."""
     table = {}
     for row in sorted(rows, key=lambda row: row.length):
         traced = set()
@@ -134,7 +134,7 @@ def rows_by_definition(program, rows):
 
 
 def reasons():
-    """The changes that change no value."""
+    """Returns the reasons of changes that change no value."""
     return Reasons(os.path.join(table.FOLDER, "equal_changes.txt"))
 
 
@@ -148,7 +148,7 @@ def outcome(program, rows, change):
         entries = program.run({definition: sides})
     except antt.Unreadable:
         return "unreadable"
-    if len(program.order) != known:  # it reaches a definition that was not reached before
+    if len(program.order) != known:  # it reaches a definition not reached before
         entries = program.run({definition: sides})
     sys.setrecursionlimit(8000)
     for row in rows.get(definition, ()):

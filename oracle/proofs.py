@@ -1,6 +1,5 @@
-"""The proofs of outside vectors, as texts of files, generated from the oracle's table so that no test case is typed
-by hand. The test cases are those of proved_rows.py; a test case's proof unfolds what its evaluation reaches, under
-the current names."""
+"""Generates the proofs of outside vectors, as texts of files, from the oracle's table, so that no test case is typed by
+hand. proved_rows.py chooses the test cases. A test case's proof unfolds the definitions that its evaluation reaches."""
 import os
 import sys
 
@@ -22,7 +21,7 @@ FILES = {
 
 
 def unfolded(program, row):
-    """The definitions that a proof of the test case must unfold by name, in the program's order."""
+    """Returns the definitions that a proof of the test case must unfold by name, in the program's order."""
     traced = set()
     if not row.agrees(program.run(traced=traced)):
         sys.exit("the definition disagrees with a row: oracle/definition says which")
@@ -30,7 +29,7 @@ def unfolded(program, row):
 
 
 def imports(definitions):
-    """A line for each module of the definitions."""
+    """Returns an import line for each module of the definitions."""
     modules = {}
     for d in definitions:
         modules.setdefault(d.module.path, []).append(d.name)
@@ -38,7 +37,7 @@ def imports(definitions):
 
 
 def request(row):
-    """The left-hand side of a test case's equation."""
+    """Returns the left-hand side of a test case's equation."""
     message, seed = f"(drawn {row.start:#x} {row.length})", f"{row.seed or 0:#x}"
     if row.is_plain():
         return f"{row.entry} {seed} {message}"
@@ -53,7 +52,7 @@ def statement(name, equation, opened):
 
 
 def name_of(row, taken):
-    """A name for the request, for example of_240_bytes_seeded."""
+    """Returns a name for the request, for example of_240_bytes_seeded."""
     kind = "keyed" if row.seed is None else "seeded_and_keyed" if row.secret else "seeded" if row.seed else "unseeded"
     name = f"of_{row.length}_bytes_{kind}" + (f"_by_{row.secret[0]}" if row.secret else "")
     taken[name] = taken.get(name, 0) + 1
@@ -66,7 +65,7 @@ def rows_file(program, title, rows):
         opened = unfolded(program, row)
         needed.update(opened)
         statements.append(statement(name_of(row, taken), f"{request(row)} ≡ {row.answer:#x}", [d.name for d in opened] + ["drawn"]))
-    # The rule for the secrets in effect is a part of the requests.
+    # The requests contain the rule for the effective secret.
     named = {word.strip("()") for row in rows for word in request(row).split()}
     needed.update(program.entries[name] for name in named if name in program.entries)
     return "\n".join([
@@ -80,7 +79,7 @@ def rows_file(program, title, rows):
 
 
 def common_file(program):
-    """The definitions by which the other files generate their bytes, and the counted lengths."""
+    """Returns the text of the file that defines the bytes of the test cases, and has the counted lengths."""
     rows = proved_rows.counted_lengths()
     needed = {program.entries["counted"]}.union(*(unfolded(program, row) for row in rows))
     opened = [d.name for d in program.order if d in needed and d.is_unfoldable]
@@ -107,7 +106,7 @@ def files():
 
 
 def outdated():
-    """The files that differ from this program's output, or are missing, with their texts."""
+    """Returns the files that differ from this program's output, or are missing, with the right texts."""
     out = {}
     for path, text in files().items():
         there = ""

@@ -1,5 +1,5 @@
-"""The test cases of the oracle's table that the proofs compute: for each hash each edge of each range, with seeds of
-every kind; secrets from 136 bytes on; and values past a scramble."""
+"""Chooses the test cases of the oracle's table that the proofs compute: for each hash the edges of each range, with all
+sorts of seeds; secrets from 136 bytes on; and inputs longer than a block."""
 import table
 
 PLAIN = {
@@ -13,13 +13,13 @@ SEEDED_LONG = [320, 512, 1024, 1025, 1088, 1089]
 FIXED = ["0", "1", "ffffffff", "8000000000000000", "ffffffffffffffff"]
 
 
-# The counted length, for lengths that no input of the table has: the rule of this repository, not a value of the
-# reference library.
+# Counted lengths, for lengths that no input of the table has: a rule of this repository, not a value of the reference
+# library.
 COUNTED = [(2 ** 64 + d, 2 ** 64 + min(d, -1)) for d in (-2, -1, 0, 1)] + [(2 ** 65, 2 ** 64 - 1)]
 
 
 class CountedLength:
-    """The result of `counted` for a length."""
+    """A test case of `counted`."""
 
     def __init__(self, length, value):
         self.length, self.value = length, value
@@ -33,7 +33,7 @@ def counted_lengths():
 
 
 def choose():
-    """The test cases, in the table's order, each once."""
+    """Returns the test cases, in the table's order, without repetition."""
     rows = [table.Row(line) for line in table.lines()]
     found = {}
     for row in rows:

@@ -1,16 +1,16 @@
-"""The test cases of the oracle's table, and how the definition is evaluated for each."""
+"""The test cases of the oracle's table, and the definition's value for each."""
 import os
 
 FOLDER = os.path.dirname(os.path.abspath(__file__))
 TOP = os.path.dirname(FOLDER)
 CRATES = ["twox_words", "twox_plain", "twox_core"]
-# The names of the definitions' entries.
+# Names of the definitions' entries.
 ENTRIES = ["xxh32", "xxh64", "xxh3_64", "xxh3_128", "default_secret", "derived_secret", "effective_secret", "counted"]
 HASHES = {"32": "xxh32", "64": "xxh64", "3-64": "xxh3_64", "3-128": "xxh3_128"}
 
 
 def drawn(start, length):
-    """The bytes of a test case, as defined in oracle/vectors.c."""
+    """Returns the bytes of a test case, as defined in oracle/vectors.c."""
     out, x = bytearray(), start
     for _ in range(length):
         x = (x * 6364136223846793005 + 1442695040888963407) % 2 ** 64
@@ -19,7 +19,7 @@ def drawn(start, length):
 
 
 class Row:
-    """A request and the reference library's value. `seed` and `secret` are None where the row has none."""
+    """A request and the reference library's value. `seed` and `secret` are None if the row has none."""
 
     def __init__(self, line):
         self.line = line.strip()
@@ -33,7 +33,7 @@ class Row:
         return self.entry in ("xxh32", "xxh64")
 
     def ask(self, entries):
-        """The definition's value, by the rule for the seed and secret in effect."""
+        """Returns the definition's value, by the rule for the effective seed and secret."""
         message, seed = drawn(self.start, self.length), self.seed or 0
         if self.is_plain():
             return entries[self.entry](seed, message)
@@ -53,6 +53,6 @@ def lines():
 
 
 def heading():
-    """The table's first line, which names the reference library's version."""
+    """Returns the table's first line, which names the reference library's version."""
     with open(os.path.join(FOLDER, "vectors.txt"), encoding="utf-8") as file:
         return file.readline().lstrip("# ").strip()

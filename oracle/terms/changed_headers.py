@@ -1,5 +1,5 @@
-"""Wrong headers, and a few correct ones: each is a change of the header's source that the induction must refuse, or
-prove. Many of them differ only at lengths that no table of values can contain."""
+"""Planted faults in the header, and a few equivalent changes: the induction must refuse the faults, and prove the
+others. Many of them differ only at lengths that no test can reach."""
 import os
 import tempfile
 
@@ -15,8 +15,7 @@ SECOND_ROUND = "v2 = XXH64_round(v2, XXH_get64bits(input)); input+=8;"
 ONCE, STREAM, STREAM_3 = every_length.show, plain_streams.show, xxh3_streams.show
 BY_SECRET = "3-64:secret", "3-128:both"
 
-# how to show, the kinds to show, the function, the text there, its replacement, whether the value stays the
-# same
+# Proof function, kinds, function to change, old text, new text, whether the value stays the same.
 CHANGES = [
     (ONCE, ["64"], LOOP_64, "input<limit", "input<=limit", False),
     (ONCE, ["64"], LOOP_64, "bEnd - 31", "bEnd - 32", False),
@@ -75,7 +74,7 @@ DEAR = [
 
 
 def changed(header, function, old, new):
-    """The header with another body in a function."""
+    """Returns the header with a text in a function's body replaced."""
     start = header.index(function)
     while ";" in header[start:header.index("{", start)]:     # a declaration or a call
         start = header.index(function, start + 1)
@@ -84,7 +83,7 @@ def changed(header, function, old, new):
 
 
 def outcome(header, show, kind):
-    """The refusal of a header, or None if the kind is proved."""
+    """Returns the refusal of a header, or None if the kind is proved."""
     with tempfile.TemporaryDirectory(prefix="symbolic-") as room:
         with open(os.path.join(room, "xxhash.h"), "w", encoding="utf-8") as file:
             file.write(header)
@@ -97,7 +96,7 @@ def outcome(header, show, kind):
 
 
 def tell(changes):
-    """For each change and kind: whether it has the expected result, and a line."""
+    """Yields for each change and kind: whether it has the expected result, and a line."""
     with open(os.path.join(HEADERS, "xxhash.h"), encoding="utf-8") as file:
         header = file.read()
     for show, kinds, function, old, new, is_equal in changes:

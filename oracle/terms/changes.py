@@ -1,11 +1,11 @@
-"""Changes of either side, each of which must be detected: a comparison that fails for none would prove nothing.
+"""Tests that changes of either side are detected: otherwise a passing comparison would prove nothing.
 
-    of one token of the definition's text     mutants.py's; those that change no value are in equal_changes.txt
-    of LLVM's text of the reference           another operation, or a number that is one more or one less
-    by hand                                   of the definition's text, that differ on one input in 2 ^ 32 or fewer
+    one token of the definition               mutants.py's changes; those that change no value are in equal_changes.txt
+    the reference's LLVM code                 another operation, or a number that is one more or one less
+    by hand                                   of the definition, that differ on one input in 2 ^ 32 or fewer
 
-A change is detected if the terms differ and a point is known where their values do. If the terms differ and no such
-point is known, it is refused. A crash of this program counts as neither."""
+A change is detected if the terms differ and a point is found where their values do. If the terms differ and no such
+point is found, it counts as refused. A crash of this program counts as neither."""
 import collections
 import contextlib
 import os
@@ -26,7 +26,7 @@ from .requests import Request, differing_point, differing_point_of_numbers
 from .machine import Function
 from .nodes import Node, WrongRule
 
-SECONDS = 4              # a change that takes longer doesn't end, as far as is seen here
+SECONDS = 4              # time limit, after which a change counts as not ending
 EQUAL_LINES = os.path.join(os.path.dirname(os.path.abspath(__file__)), "equal_lines.txt")
 RECURSION, MEMORY = 8000, 6 << 30
 NO_NUMBER = (antt.Unreadable, TypeError, AttributeError, IndexError, OverflowError, ValueError, RecursionError,
@@ -41,14 +41,14 @@ class Slow(Exception):
 
 @contextlib.contextmanager
 def limits():
-    """Limits the recursion and the memory for a changed text."""
+    """Limits the recursion and the memory for changed texts."""
     sys.setrecursionlimit(RECURSION)
     resource.setrlimit(resource.RLIMIT_AS, (MEMORY, MEMORY))
     yield
 
 
 class Limited:
-    """A context manager that raises Slow after some seconds of processor time."""
+    """Context manager that raises Slow after SECONDS of CPU time."""
 
     def __enter__(self):
         signal.signal(signal.SIGPROF, self.stop)
@@ -62,7 +62,7 @@ class Limited:
 
 
 def asked():
-    """The requests that test changes, the shortest first: the lengths of the rows that the proofs compute."""
+    """Returns the requests that test changes, the shortest first: the lengths that the proofs compute."""
     out = []
     for name, lengths in proved_rows.PLAIN.items():
         out += [Request(name, "seed", n) for n in lengths]
@@ -79,17 +79,17 @@ def difference(request, a, b):
     return NOTICED if values[0] != values[1] or differing_point(request, a, b) else REFUSED
 
 
-# ---- the definition's text
+# ---- changes of the definition
 
 class Asked:
-    """A request with the reference's term, in the form of mutants.py's rows: `outcome` is its last result."""
+    """A request with the reference's term, in the form of mutants.py's rows: `outcome` is the last result."""
 
     def __init__(self, request, module):
         self.request, self.length, self.outcome = request, request.length, None
         self.answer = sides.of_reference(request, module)
 
     def agrees(self, entries):
-        """True if another row has to be asked: False if the two differ at a point."""
+        """False if the two differ at a point; True if further rows must be tested."""
         try:
             with Limited():
                 value = self.request.of_definition(entries)
@@ -106,8 +106,8 @@ class Asked:
         return self.outcome in (None, REFUSED, REFUSED_WITHOUT_TERM)
 
     def by_numbers(self, entries, error=None):
-        """The text has no term: it is evaluated on numbers. Where it comes to no number there either, it isn't the
-        definition's any more; where it comes to one, the error was this program's."""
+        """Evaluates a definition without a term on numbers. If that fails too, the change is detected. If it succeeds,
+        `error` is this program's fault."""
         try:
             with Limited():
                 differs = differing_point_of_numbers(self.request, entries, self.answer)
@@ -130,7 +130,7 @@ class CountedLength:
 
 
 def of_text(module, part, parts):
-    """Yields for each change of one token, or a part of them: (outcome, the change's text)."""
+    """Returns (outcome, text) for each change of one token, or for a part of them."""
     nodes.forget()
     program = definition.program()
     rows = [Asked(request, module) for request in asked()]
@@ -148,7 +148,7 @@ def of_text(module, part, parts):
     return out
 
 
-# ---- the reference's text
+# ---- changes of the reference
 
 SWAPS = {"add": "sub", "sub": "add", "mul": "add", "xor": "or", "or": "xor", "and": "or", "shl": "lshr", "lshr": "shl",
          "udiv": "mul", "ult": "ule", "ule": "ult", "ugt": "uge", "uge": "ugt", "slt": "sle", "eq": "ne", "ne": "eq"}
@@ -157,7 +157,7 @@ NUMBER = re.compile(r"(?<=[ ])(?:i\d+ )?(-?\d+)(?=[,)]|$)")
 
 
 def changed_lines(line):
-    """The line with another operation, or with a number plus or minus one."""
+    """Returns the line with another operation, or with a number plus or minus one."""
     match = LINE.match(line)
     if not match or match.group(2) in ("alloca", "ret", "br"):
         return []
@@ -174,7 +174,7 @@ def changed_lines(line):
 
 
 def all_lines(module):
-    """(function's name, line's number, other line)"""
+    """Returns (function's name, line's number, changed line) of all changes, shuffled."""
     out, name = [], None
     for k, line in enumerate(module.lines):
         if line.startswith("define "):
@@ -188,14 +188,14 @@ def all_lines(module):
 
 
 def with_line(module, name, k, other):
-    """The function with another line."""
+    """Returns the function with a line replaced."""
     first = max(j for j in range(k) if module.lines[j].startswith("define "))
     end = module.lines.index("}", first)
     return Function(module, module.lines[first:k] + [other] + module.lines[k + 1:end])
 
 
 def reaching(module, requests):
-    """A dictionary: function's name -> the requests that run it."""
+    """Maps each function's name to the requests that run it."""
     out, run = collections.defaultdict(list), Function.run
     seen = set()
 
@@ -215,7 +215,7 @@ def reaching(module, requests):
 
 
 def of_reference(module, sample, part, parts):
-    """Yields for a sample of the changes of LLVM's text: (outcome, what was changed)."""
+    """Returns (outcome, text) for a sample of the changes of the LLVM code."""
     nodes.forget()
     requests, entries = asked(), definition.program().run()
     answers = {id(request): request.of_definition(entries) for request in requests}
@@ -258,7 +258,7 @@ RARE = ("twox_plain.specs.Xxh64", "twox_core.specs.Long", "twox_core.specs.Steps
         "twox_core.specs.Middle")
 XXH3 = ["3-64", "3-128"]
 AVALANCHE = "avalanche x = xor_shift (wrap_mul w64 (xor_shift (wrap_mul w64 (xor_shift {} 33) p2) 29) p3) 32"
-# file, old text, new text, the hashes that it concerns, whether the new text is equal for all inputs
+# File, old text, new text, hashes, whether the new text is equal for all inputs.
 BY_HAND = [
     (RARE[0], "(wrap_mul w64 word p2)) 31)", "(wrap_mul w64 (word % (2 ^ 64 - 1)) p2)) 31)", ["64"], False),
     (RARE[0], "merge x a = wrap_add w64 (wrap_mul w64 (bit_xor x (round 0 a)) p1) p4",
@@ -285,8 +285,8 @@ BY_HAND = [
 HAND_LENGTHS = {"64": [32, 64], **dict.fromkeys(XXH3, [9, 16, 17, 128, 240, 241, 1089])}
 
 
-# Changes of one token that differ only from 2 ^ 31 or 2 ^ 32 bytes on: words of the change as mutants.py prints it,
-# the file, old text, new text, and the kind that the induction is asked
+# Changes of one token that differ only from 2 ^ 31 or 2 ^ 32 bytes on: words of the change as printed by mutants.py,
+# file, old text, new text, and the kind for the induction.
 AT_LARGE_LENGTHS = [
     ("% [2 -> 3] ^ 32", "twox_plain.specs.Xxh32", "(counted (length m) % 2 ^ 32)", "(counted (length m) % 3 ^ 32)",
      "32"),
@@ -300,7 +300,7 @@ AT_LARGE_LENGTHS = [
 
 
 def by_induction(module):
-    """Yields for each of these: whether the induction refuses it, and a line."""
+    """Returns for each of these: whether the induction refuses it, and a line."""
     out = []
     for words, path, old, new, kind in AT_LARGE_LENGTHS:
         program = definition.read()
@@ -314,7 +314,7 @@ def by_induction(module):
 
 
 def with_text(program, path, old, new):
-    """Replaces the old text of a clause by the new one."""
+    """Replaces a text of a clause by another one."""
     words, others = ([word for word, _ in antt.tokens(text)] for text in (old, new))
     for changed in program.order:
         for number, (left, right) in enumerate(changed.clauses if changed.module.path == f"Rattle.{path}" else ()):
@@ -330,7 +330,7 @@ def with_text(program, path, old, new):
 
 
 def by_hand(module):
-    """Yields for each change by hand: (whether the result is the expected one, a line)."""
+    """Returns for each change by hand: whether the result is the expected one, and a line."""
     out = []
     for path, old, new, hashes, is_equal in BY_HAND:
         nodes.forget()
@@ -343,7 +343,7 @@ def by_hand(module):
                 a, b = request.of_definition(entries), sides.of_reference(request, module)
                 asked_lengths += 1
                 if not nodes.is_same(a, b):
-                    point = point or not others and differing_point(request, a, b)   # asked once
+                    point = point or not others and differing_point(request, a, b)   # tested once
                     others += 1
         found = f"another term at {others} of {asked_lengths} lengths" + (", and a point was found" if point else "")
         out.append(((others == 0) == is_equal, f"{old}  ->  {new}{' (equal)' if is_equal else ''}: {found}"))

@@ -1,4 +1,4 @@
-"""Rows of comparisons, one length after the other: for all bytes, all seeds and all bytes of a secret."""
+"""Compares both sides for one length after another: for all bytes, all seeds and all bytes of a secret."""
 import random
 
 from . import definition, nodes
@@ -18,21 +18,21 @@ PAIRS = 6
 
 
 def kinds(secrets):
-    """(hash, kind of call, length of the secret)"""
+    """Returns the kinds of calls: (hash, function, length of the secret)."""
     of_secret = [(way, n) for way in ("secret", "both") for n in secrets]
     ways = [("default", None), ("seed", None), *of_secret]
     return PLAIN + [(name, *way) for name in ("3-64", "3-128") for way in ways]
 
 
 def edges(secret_length):
-    """Lengths above 1,100 at the edges of blocks."""
+    """Returns lengths above 1,100 at the edges of blocks."""
     block = 64 * ((secret_length or 192) - 64) // 8
     ends = [b * block + d for b in range(1, LONGEST // block + 1) for d in (0, 1)]
     return sorted({n for n in [*ends, 2048, 2049, 4096, 4097, LONGEST - 1, LONGEST] if EDGES_FROM <= n <= LONGEST})
 
 
 def cuts_of(length):
-    """The cuts of the streams of a length: none, one and two of the edges, counted from the start and from the
+    """Returns the cuts for streams of a length: none, one or two of the edges, counted from the start and from the
     end."""
     ends = sorted({end for end in [*CUTS, *(length - end for end in CUTS), 0, length] if 0 <= end <= length})
     draw = random.Random(length)
@@ -48,7 +48,7 @@ def requests(hash_name, kind, secret_length, lengths, streams=False):
 
 
 def complaint(request, name, ours, theirs):
-    """The message if the definition's term differs from another side's."""
+    """Returns the message if the definition's term differs from another side's."""
     found = differing_point(request, ours, theirs)
     if not found:
         return f"{request}: {name} gives another term, though no point was found at which they differ"
@@ -59,8 +59,8 @@ def complaint(request, name, ours, theirs):
 
 
 def compare(sides, asked):
-    """Compares requests: returns how many values of the other sides (name -> a function of a request) are the
-    definition's term, and the messages on those that aren't."""
+    """Compares requests. `sides` maps a name to a function of a request. Returns how many values equal the definition's
+    term, and the messages on the others."""
     texts, equal, complaints = {}, 0, []
     nodes.forget()
     entries = definition.program().run()
@@ -70,7 +70,7 @@ def compare(sides, asked):
             texts.clear()
             entries = definition.program().run()
         key = request.hash_name, request.kind, request.length, request.secret_length, request.fixed_seed
-        if key not in texts:          # a stream's is that of the whole message
+        if key not in texts:          # a stream has the term of the whole message
             texts = {key: request.of_definition(entries)}
         told = [found for name, ask in sides.items() if (found := difference(request, name, texts[key], ask))]
         equal += len(sides) - len(told)
@@ -79,7 +79,7 @@ def compare(sides, asked):
 
 
 def difference(request, name, ours, ask):
-    """The message on a side's value, or None if it is the definition's term."""
+    """Returns the message on a side's value, or None if it equals the definition's term."""
     try:
         theirs = ask(request)
     except (*REFUSALS, WrongRule) as error:

@@ -1,7 +1,7 @@
-"""The definition's side: the files in specs/, parsed and evaluated unchanged by antt.py, over terms.
+"""The definition's side: antt.py parses the unchanged files in specs/ and evaluates them symbolically.
 
-Extends antt.py for this: how to subtract numbers that it can't order, how a message is represented as a list, and,
-for induction, that some calls of a recursion have an assumed value."""
+This module extends antt.py with subtraction of symbolic numbers, messages as lists, and, for induction, assumed values
+of calls in a recursion."""
 import functools
 
 import antt
@@ -14,7 +14,7 @@ from .polynomials import Poly, is_number, is_natural, minus, monus, plus, smalle
 
 ENTRIES = table.ENTRIES + ["word64", "Xxh32.accumulator", "Xxh64.accumulator", "Long.accumulator_after"]
 RECURSIONS = "after_units", "accumulator_after"
-FARTHEST = 64            # steps of a recursion from a hypothesis
+FARTHEST = 64            # calls in a recursion without a hypothesis
 
 
 class Bytes:
@@ -45,12 +45,12 @@ def length(xs):
     return xs.length() if isinstance(xs, Bytes) else len(xs)
 
 
-words = memo()           # (symbol, first byte, bytes) -> the word
-compared = set()         # (bits, bytes) of which a word was compared with what antt.py makes of its bytes one by one
+words = memo()           # (symbol, first byte, bytes) -> word
+compared = set()         # (bits, bytes) of words already compared with antt.py's result from single bytes
 
 
 def from_le_bytes(bits, xs):
-    """Bytes of an input are those of a symbol, and a word of them is that many of its bits."""
+    """Returns a word of bytes. For an input, it consists of bits of the input's symbol."""
     if not isinstance(xs, Bytes):
         return word_of_bytes(bits, xs)
     n = min(xs.length(), bits // 8)
@@ -83,10 +83,10 @@ antt.LIBRARY.update({
 })
 
 
-# ---- suppositions: the value of a call in a recursion
+# ---- assumed values of calls in a recursion
 
 class Suppositions:
-    """Calls with a polynomial among their arguments, and the values that are assumed for them."""
+    """Calls with a polynomial argument, and the values assumed for them."""
 
     def __init__(self):
         self.values, self.next, self.kept, self.depth = {}, [], [], 0
@@ -96,14 +96,14 @@ class Suppositions:
             known.clear()
 
     def suppose(self, call, values):
-        """Names the values of call(0), call(1), ..: each must reach one call of a recursion, whose value it is."""
+        """Assumes the values of call(0), call(1), ..: each must reach exactly one call of a recursion."""
         for i, value in enumerate(values):
             self.next.append(value)
             if call(i) is not value or self.next:
                 raise Undecided("the hypothesis isn't of the recursion")
 
     def around(self, function, definition):
-        """The function of a recursion, with the assumed values."""
+        """Returns a recursion's function with the assumed values."""
         def call(*arguments):
             if any(isinstance(x, Poly) for x in arguments):
                 key = str(definition), tuple(self.identity(x) for x in arguments)
@@ -116,7 +116,7 @@ class Suppositions:
         return call
 
     def unfolded(self, function, arguments):
-        """A call without a hypothesis. One that lies far behind it has none that it comes to."""
+        """Calls a function without a hypothesis. Raises after FARTHEST nested calls: none has a hypothesis."""
         if self.depth == FARTHEST:
             raise Undecided("a recursion that comes to no hypothesis")
         self.depth += 1
@@ -126,13 +126,13 @@ class Suppositions:
             self.depth -= 1
 
     def identity(self, x):
-        """The same for two arguments only if they are the same object, number, or function of the same text and
+        """Returns a key that is equal only for the same object, the same number, or a function with the same code and
         values."""
         if isinstance(x, (int, str)):
             return x
         if isinstance(x, Poly):
             return "polynomial", x.key()
-        self.kept.append(x)   # so that no other object gets its id
+        self.kept.append(x)   # keeps the object alive so that its id stays unique
         if isinstance(x, antt.Function):
             code = getattr(x.body, "__code__", None)
             cells = [cell.cell_contents for cell in getattr(x.body, "__closure__", None) or ()]
@@ -145,7 +145,7 @@ plain_noted = antt.noted
 
 
 def noted(function, definition, traced):
-    """antt.py's hook to wrap each function: `traced` is a set of definitions, or these assumptions."""
+    """Overrides antt.py's hook that wraps each function: `traced` is a set of definitions, or these assumptions."""
     if traced is not suppositions:
         return plain_noted(function, definition, traced)
     return suppositions.around(function, definition) if definition.name in RECURSIONS else function
@@ -157,7 +157,7 @@ antt.noted = noted
 # ---- the definitions
 
 class Named(antt.Definitions):
-    """Finds a definition by its own name, or with its module's before it."""
+    """Finds a definition by its name, optionally with its module's name before it."""
 
     def entry(self, name):
         module, dot, own = name.rpartition(".")
@@ -168,7 +168,7 @@ class Named(antt.Definitions):
 
 
 def read(crates=(), entries=()):
-    """The definitions, with those of further crates. A caller that changes their text parses them itself."""
+    """Returns the definitions, with those of further crates. Callers that change the text need their own copy."""
     return antt.Program(Named(table.TOP, [*table.CRATES, *crates]), [*ENTRIES, *entries])
 
 
@@ -176,7 +176,7 @@ program = functools.cache(read)      # the same, read once
 
 
 def value(entries, hash_name, kind, seed, secret, message):
-    """The definition's value, by the rule of table.Row.ask: `kind` is seed, default, secret or both."""
+    """Returns the definition's value, by the rule of table.Row.ask: `kind` is seed, default, secret or both."""
     entry = entries[table.HASHES[hash_name]]
     if hash_name in ("32", "64"):
         return entry(seed, message)

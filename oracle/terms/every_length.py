@@ -1,8 +1,8 @@
-"""The one-shots of every length, by induction over the reference's loops.
+"""Proves the one-shots for every length, by induction over the reference's loops.
 
-A length is a polynomial: XXH32's and XXH64's n is stripe * a + r, with r a number; XXH3's n above 240 is
-64 q B + 64 J + t + 1, B blocks of q stripes, J < q stripes of the last one, and t < 64. With a secret that is given,
-q is any number from 9 on and the secret has 64 + 8 q + u bytes, u < 8; else q is 16 and J a number."""
+A length is a polynomial. XXH32 and XXH64: n = stripe * a + r, r a number. XXH3 above 240 bytes: n = 64 q B + 64 J + t +
+1, B blocks of q stripes, J < q stripes of the last block, t < 64. A custom secret has 64 + 8 q + u bytes, q >= 9, u <
+8. Without one, the call of the function for long inputs is checked."""
 from . import definition, nodes
 from .definition import Bytes, suppositions
 from .loops import Loop, Loops
@@ -13,8 +13,8 @@ from .nodes import Node, symbol
 from .operations import side_by_side
 from .polynomials import agree, at_most, divided, given, is_same, minus, plus, Poly, times, variable
 
-SHORTEST_SECRET_STRIPES = 9        # a secret has at least 136 bytes
-DEFAULT_SECRET, DEFAULT_STRIPES = 192, 16     # its bytes, and the stripes of a block under it
+SHORTEST_SECRET_STRIPES = 9        # stripes of a block, with a secret of 136 bytes
+DEFAULT_SECRET, DEFAULT_STRIPES = 192, 16     # its bytes, and the stripes of a block with it
 WAYS = "default", "seed", "seed 0", "secret", "both"
 OWN_SECRET = "secret", "both"
 XXH3 = "3-64", "3-128"
@@ -22,12 +22,12 @@ KINDS = ["32", "64"] + [f"{name}:{way}" for name in XXH3 for way in WAYS]
 
 
 def shortest(kind):
-    """The shortest length of a kind's induction; those below are compared one by one."""
+    """Returns the shortest length that the induction proves; shorter ones are compared one by one."""
     return {"32": 16, "64": 32}.get(kind, 0 if kind.endswith(OWN_SECRET) else 241)
 
 
 class Proof:
-    """Runs the induction over a module: its report on the loops, and the number of its cases."""
+    """Proves one-shots of a module by induction. Keeps a report on the loops, and the number of cases."""
 
     def __init__(self, module, program=None):
         self.module, self.told, self.cases = module, [], 0
@@ -36,13 +36,13 @@ class Proof:
         self.texts = (program or definition.program()).run(traced=suppositions)
 
     def prepare(self, said, memories=()):
-        """Prepares a run of the reference: how its loops are proved, and which memories live."""
+        """Prepares a run of the reference: the proofs of its loops, and the live memories."""
         self.module.reset()
         self.module.loops = Loops(said, self.told)
         self.module.live[:] = [*self.module.globals.values(), *memories]
 
     def lines(self):
-        """The report on the loops, each once, with one name for the turns."""
+        """Returns the report on the loops, without repeated lines."""
         return list(dict.fromkeys(self.told))
 
     # ---- XXH32 and XXH64
@@ -74,7 +74,7 @@ class Proof:
             self.by_derived_secret(hash_name, way)
 
     def own_secret(self):
-        """A secret of any length: (memory, list, stripes of a block, facts)."""
+        """Returns a secret of any length: (memory, list, stripes of a block, facts)."""
         q, u = variable("q"), variable("u")
         size = plus(64, times(8, q), u)
         source = Input("s", size)
@@ -82,7 +82,7 @@ class Proof:
         return source, Bytes(source, 0, size), q, of_secret
 
     def short(self, hash_name, way, n):
-        """n bytes, at most 240, with a secret of any length."""
+        """Proves n bytes, n <= 240, with a secret of any length."""
         source, secret, _, of_secret = self.own_secret()
         seed = seed_symbol(hash_name) if way == "both" else 0
         message = Input("m", n)
@@ -92,7 +92,7 @@ class Proof:
             self.expect(f"XXH{hash_name}, {way}, of {n} bytes", ours, theirs)
 
     def long(self, hash_name, way):
-        """64 q B + 64 J + t + 1 bytes, with a secret of any length."""
+        """Proves 64 q B + 64 J + t + 1 bytes, with a secret of any length."""
         source, secret, q, of_secret = self.own_secret()
         B, J, t = (variable(name) for name in "BJt")
         n = plus(times(times(64, q), B), times(64, J), t, 1)
@@ -107,7 +107,7 @@ class Proof:
             self.expect(f"XXH{hash_name}, {way}, of {n} bytes", ours, theirs)
 
     def by_derived_secret(self, hash_name, way):
-        """n bytes above 240, with the default secret or one that the seed derives."""
+        """Proves n > 240 bytes, with the default secret or one derived from the seed."""
         n, seed = variable("n"), seed_symbol(hash_name) if way == "seed" else 0
         with given(minus(n, 241), at_most(n, LONGEST)):
             message = Input("m", n)
@@ -119,14 +119,14 @@ class Proof:
         self.cases += 1
 
     def expect_internal(self, hash_name, message, n, secret, length, value):
-        """Checks that the function for long inputs was called with these, and that its value is the result."""
+        """Checks the arguments of the call for long inputs, and that its value is the result."""
         *arguments, answer = self.called
         asked = [(message, 0), n, secret, length]
         if not all(agree(a, b) for a, b in zip(arguments[:4], asked, strict=True)) or not nodes.is_same(answer, value):
             raise NotShown(f"XXH{hash_name}: another call of the function for long inputs")
 
     def call(self, hash_name, way, arguments, seed, said):
-        """The result of a one-shot of the reference. Without its own secret, a long input's value is a symbol."""
+        """Returns a one-shot of the reference. Without a custom secret, a long input's hash is a symbol."""
         out = Memory("out", 16)
         self.prepare(said, [out])
         self.watch(f"@XXH3_hashLong_{hash_name[2:]}b_internal", runs=way in OWN_SECRET)
@@ -140,7 +140,7 @@ class Proof:
         return out.load(0, 16)
 
     def watch(self, name, runs):
-        """Records the arguments and the value of each call of a function, which runs or returns symbols."""
+        """Records the arguments and the value of each call of a function. It runs, or returns symbols."""
         function = self.module.functions[name]
         self.called = None
 
@@ -164,8 +164,8 @@ class Proof:
 
 
 def plain_loop(name, accumulator, seed, message, last, width, first=0, cells=None):
-    """The loop over stripes: after k turns the accumulators are those after first + k stripes. They are in an array, or
-    the variables v1 to v4."""
+    """Returns a function that describes the loop over stripes: after k iterations the accumulators are the words after
+    first + k stripes. They are in an array, or in the variables v1 to v4."""
     def after(k):
         return lambda j: accumulator(seed, message, j, plus(first, k))
 
@@ -178,7 +178,7 @@ def plain_loop(name, accumulator, seed, message, last, width, first=0, cells=Non
 
 
 def xxh3_loop(after, name, last, cells, place):
-    """A loop of XXH3: after k turns the accumulators are those after place(k) stripes."""
+    """Describes a loop of XXH3: after k iterations the accumulators are the words after place(k) stripes."""
     return Loop(name, last, cells, 64, lambda k, values: suppositions.suppose(lambda i: after(i, place(k)), values),
                 lambda k: [after(i, place(k)) for i in range(8)])
 
@@ -188,9 +188,8 @@ def cells_at(address):
 
 
 def long_loops(accumulator_after, q, B, J, secret, message):
-    """The loop over the blocks, and the one over the stripes of a block, where their number isn't a number. The
-    definition scrambles with the last stripe of a block and the library after it, so that stripe is the loop's last
-    turn."""
+    """Describes the loop over blocks, and the one over a block's stripes if their number is symbolic. The definition
+    scrambles with the last stripe of a block, the library after it, so that stripe is the loop's last iteration."""
     def after(i, k):
         return accumulator_after(secret, message, i, k)
 
@@ -208,8 +207,8 @@ def long_loops(accumulator_after, q, B, J, secret, message):
 
 
 def show(module, kind, program=None):
-    """Proves one kind for every length from shortest(kind) on, or raises; returns the Proof. `program` is the
-    definition's text, if it is changed."""
+    """Proves one kind for every length from shortest(kind) on. Returns the Proof, or raises. `program` is the
+    definition, if it is changed."""
     proof = Proof(module, program)
     name, _, way = kind.partition(":")
     if way:

@@ -1,4 +1,4 @@
-"""Products of two 64-bit words computed from the products of their halves, as on machines without wide
+"""Recognises products of two 64-bit words computed from the products of their halves, as on machines without wide
 multiplication.
 
 For halves a0, a1, b0, b1 below 2 ^ 32, a = a0 + 2^32 a1 and b = b0 + 2^32 b1:
@@ -7,18 +7,18 @@ For halves a0, a1, b0, b1 below 2 ^ 32, a = a0 + 2^32 a1 and b = b0 + 2^32 b1:
     product_by_halves     a b / 2^64 = a1 b1 + t / 2^32 + u / 2^32
                           a b mod 2^64 = 2^32 (u mod 2^32) + a0 b0 mod 2^32
 
-crates/symbolic_rules proves both. The canonical form of a product with a number doesn't show its factors, so the
-steps are found by the operations that produced a value, which are recorded here."""
+crates/symbolic_rules proves both. The canonical form of a product doesn't show its factors, so this module records the
+operations that produced each value."""
 from . import operations, rules
 from .nodes import Node, WrongRule, is_same, memo, most_of, use
 
 WORD, HALF = 64, 32
-givers = memo()      # number of a node -> the operations on words of 64 bits that gave it: (name, a, b)
+givers = memo()      # number of a node -> the 64-bit operations that produced it: (name, a, b)
 
 
 def noted(name, a, b, answer):
-    """The result of an operation on words of 64 bits: add, mul, and, or, shl, lshr. If it is the last step of such a
-    product, it becomes a term with that product."""
+    """Records a 64-bit operation, add, mul, and, or, shl or lshr, and returns its result. After the last step of such a
+    product, the result is a term with that product."""
     if not isinstance(answer, Node):
         return answer
     known = givers.setdefault(answer.number, [])
@@ -30,19 +30,19 @@ def noted(name, a, b, answer):
 
 
 def pairs(x, name):
-    """The pairs of arguments, in both orders, for which an operation returned a value."""
+    """Yields the pairs of arguments, in both orders, of an operation that produced x."""
     for word, a, b in givers.get(x.number, ()) if isinstance(x, Node) else ():
         if word == name:
             yield from ((a, b), (b, a))
 
 
 def argument(x, name, number):
-    """The value that gave x by an operation with a number, or None."""
+    """Returns the value from which an operation with a number produced x, or None."""
     return next((a for a, b in pairs(x, name) if b.__class__ is int and b == number), None)
 
 
 def steps_to(u):
-    """(a0, a1, b0, b1, t, a0 b0) if u is that sum."""
+    """Yields (a0, a1, b0, b1, t, a0 b0) if u is that sum."""
     for second, of_t in pairs(u, "add"):
         t = argument(of_t, "and", rules.ones(HALF))
         for first, of_lowest in pairs(t, "add"):
@@ -60,7 +60,7 @@ def joined(low, high):
 
 
 def same(answer, other):
-    """The result, which must have the same values as the other."""
+    """Returns the new term. Checks that it has the same values as the other one."""
     use("product_by_halves")
     if isinstance(answer, Node) and answer.values != other.values:
         raise WrongRule("a product by halves")
@@ -68,8 +68,8 @@ def same(answer, other):
 
 
 def with_upper_word(out, x, y):
-    """The sum, where x or y is u / 2^32, with the upper word in place of that, t / 2^32 and a1 b1. The last two may be
-    added elsewhere, so they are taken away here."""
+    """Returns the sum with u / 2^32, which is x or y, replaced by the product's upper word minus t / 2^32 and a1 b1.
+    These two may be added elsewhere."""
     for shifted in (x, y):
         for a0, a1, b0, b1, t, _ in steps_to(argument(shifted, "lshr", HALF)):
             upper = operations.bits(operations.multiply(joined(a0, a1), joined(b0, b1)), WORD, WORD)
@@ -79,7 +79,7 @@ def with_upper_word(out, x, y):
 
 
 def with_lower_word(out, x, y):
-    """The union of a0 b0 mod 2^32 and 2^32 u, as the product mod 2^64."""
+    """Returns the product modulo 2^64, if x and y are a0 b0 mod 2^32 and 2^32 u."""
     for low, high in ((x, y), (y, x)):
         for a0, a1, b0, b1, _, lowest in steps_to(argument(high, "shl", HALF)):
             if is_same(operations.bits(lowest, 0, HALF), low):

@@ -1,11 +1,11 @@
-"""Proves loops of any number of iterations (turns) by induction, whatever runs them.
+"""Proves loops of any number of iterations (turns) by induction, on any machine.
 
-At a loop's head after k turns, the cells of `words` hold words of the definition, those of `places` have advanced k
+At the loop head after k turns, the cells of `words` hold words of the definition, those of `places` have advanced k
 steps, those of `counts` one step per turn in the block, those of `unset` may hold anything, and all others are
-unchanged. First turns show which cells are which. A turn from any k is then proved to lead to the same for k + 1. A
-cell that does anything else may hold anything from then on, if it is allowed to, and the turn is run again.
+unchanged. First turns determine these sets. Then a turn from any k is proved to lead to the same for k + 1. A cell that
+violates this becomes unset, if it may, and the turn runs again.
 
-loops.py has the states for LLVM's text, text/induction.py for assembly, text/wasm/induction.py for a module."""
+loops.py has the states for LLVM code, text/induction.py for assembly sources, text/wasm/induction.py for modules."""
 from .polynomials import agree, given, is_number, minus, plus, times, variable
 from .polynomials import is_same as is_same_number
 from .refusals import NotShown
@@ -22,7 +22,7 @@ def same(a, b):
 
 
 def step_between(old, now):
-    """By how much a number or an address has advanced, or None."""
+    """Returns by how much a number or an address has advanced, or None."""
     if isinstance(old, tuple) and isinstance(now, tuple):
         goes_on = len(old) == len(now) == 2 and (old[0] is now[0] or old[0] == now[0])
         return step_between(old[1], now[1]) if goes_on else None
@@ -32,7 +32,7 @@ def step_between(old, now):
 
 
 def moved(x, step, k):
-    """A value after it advanced by k steps."""
+    """Returns a value advanced by k steps."""
     if isinstance(x, tuple):
         return *x[:-1], moved(x[-1], step, k)
     if hasattr(type(x), "bases"):
@@ -41,9 +41,9 @@ def moved(x, step, k):
 
 
 class Induction:
-    """A loop, from the cells at its head. A subclass has `name`; `state()`, the cells now; `put(cells)`, which sets them; `turn()`,
-    from the head to the head; `new_name(prefix)`; `said(k)`, the definition's words after k turns; `supposed(k)`, new symbols
-    that are assumed to be these; and `may_hold_anything(cell)`."""
+    """A loop, given by the cells at its head. A subclass has `name`; `state()`, the current cells; `put(cells)`, which
+    sets them; `turn()`, from the head to the head; `new_name(prefix)`; `said(k)`, the definition's words after k turns;
+    `supposed(k)`, fresh symbols assumed equal to these; and `may_hold_anything(cell)`."""
 
     name_of = staticmethod(str)
 
@@ -56,7 +56,7 @@ class Induction:
         self.words, self.places, self.counts, self.unset = {}, {}, {}, set()
 
     def expected(self, k, words, j=0):
-        """The cells after k turns, j of them in a block, with these words; without those that may hold anything."""
+        """Returns the cells after k turns, j of them in a block, with these words; without unset cells."""
         out = dict(self.start)
         for turns, cells in ((k, self.places), (j, self.counts)):
             out.update({cell: moved(x, step, turns) for cell, (x, step) in cells.items()})
@@ -66,7 +66,7 @@ class Induction:
         return out
 
     def as_stored(self, cell, x):
-        """A word as a cell has it: with its size, if that is a part of it."""
+        """Returns a word in the form in which a cell holds it: with its size, if the cell has one."""
         old = self.start[cell]
         return (old[0], x) if isinstance(old, tuple) else x
 
@@ -80,7 +80,7 @@ class Induction:
             self.until_settled(lambda: self.show_turn(k))
 
     def until_settled(self, show):
-        """Repeats a proof until no more cell may hold anything."""
+        """Repeats a proof until no further cell becomes unset."""
         size = None
         while size != len(self.unset):
             size = len(self.unset)
@@ -92,7 +92,7 @@ class Induction:
         self.compare(plus(k, 1))
 
     def compare(self, k, j=0):
-        """Checks that the cells are those after k turns."""
+        """Checks that the cells are the expected ones after k turns."""
         expected, now = self.expected(k, self.said(k), j), self.state()
         for cell in {*expected, *now} - self.unset:
             if not same(now.get(cell), expected.get(cell)):
@@ -108,11 +108,11 @@ class Induction:
     # ---- guesses
 
     def changed(self, now):
-        """The cells that differ from the start."""
+        """Returns the cells that differ from the start."""
         return {cell for cell in {*self.start, *now} if not same(self.start.get(cell), now.get(cell))}
 
     def guess_places(self, cells, once, twice=None):
-        """Finds which of these cells advance, by their values after one turn, or after one and two."""
+        """Guesses which of these cells advance, by their values after one turn, or after one and two."""
         for cell in cells - set(self.words):
             step = step_between(self.start.get(cell), once.get(cell))
             if step is None or twice is not None and not same(twice.get(cell), moved(once[cell], step, 1)):

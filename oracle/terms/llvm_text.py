@@ -1,4 +1,4 @@
-"""Reads LLVM's text, as clang 14 writes it at -O0: types, constants, and instructions as (target, operation, parts).
+"""Reads LLVM code as clang 14 writes it at -O0: types, constants, and instructions as (target, operation, parts).
 
 Anything else is Unsupported: only attributes, alignments and metadata are skipped silently."""
 import re
@@ -85,7 +85,7 @@ class FunctionName:
 
 
 POINTER, VOID = Pointer(), Void()
-NOTHING = "@no.operation"   # what an empty `asm` calls
+NOTHING = "@no.operation"   # callee of an empty `asm`
 
 
 def rounded_up(n, k):
@@ -125,7 +125,7 @@ class Reader:
         while True:
             if self.take("*"):
                 t = POINTER
-            elif self.peek() == "(":   # of a function: always behind a pointer
+            elif self.peek() == "(":   # a function's parameters, always behind a pointer
                 self.skip_brackets()
             else:
                 return t
@@ -177,7 +177,7 @@ class Reader:
     # ---- operands
 
     def operand(self, t):
-        """A Register or a Constant."""
+        """Reads an operand: a Register or a Constant."""
         word = self.next()
         if word[0] == "%":
             return Register(word)
@@ -211,7 +211,7 @@ class Reader:
         raise Unsupported(f"the operand {word} in {' '.join(self.words)}")
 
     def empty_assembly(self):
-        """Inline assembly without instructions: the compiler's guard, which returns its argument."""
+        """Reads inline assembly without instructions, the compiler's guard. It returns its argument."""
         self.take("sideeffect")
         if self.peek() != '""':
             raise Unsupported(" ".join(self.words))
@@ -233,7 +233,7 @@ class Reader:
         return out
 
     def rest(self):
-        """The operands after a comma each, to the line's end or to what isn't one (`align 8`, metadata)."""
+        """Reads operands, each after a comma, to the line's end or to `align 8` or metadata."""
         out = []
         while self.take(","):
             if self.peek() == "align" or self.peek()[0] == "!":
@@ -244,7 +244,7 @@ class Reader:
     # ---- initial values
 
     def initial(self, t):
-        """The initial value of a global: [(offset, size, value)]."""
+        """Returns the initial value of a global: [(offset, size, value)]."""
         word = self.peek()
         if word.startswith('c"'):
             self.next()
@@ -266,7 +266,7 @@ class Reader:
 
 
 def place_of(t, address, *steps):
-    """The result of getelementptr, if all steps are numbers with their signs."""
+    """Returns the result of getelementptr. The steps are signed numbers."""
     memory, at = address
     for k, index in enumerate(steps):
         if k and isinstance(t, Struct):
@@ -288,7 +288,7 @@ CASTS = {"zext", "sext", "trunc", "bitcast", "ptrtoint"}
 
 
 def instruction(module, line):
-    """(target or None, operation, parts)"""
+    """Returns an instruction: (target or None, operation, parts)."""
     reader, target = Reader(module, line), None
     if reader.words[1:2] == ["="]:
         target = reader.next()
@@ -308,7 +308,7 @@ def instruction(module, line):
 
 
 def read_br(reader, _):
-    """(condition or None, where to, where else)"""
+    """Returns (condition or None, target, target if the condition is 0)."""
     if reader.take("label"):
         return None, reader.next(), None
     _, condition = reader.typed()
@@ -360,7 +360,7 @@ def read_alloca(reader, target):
 
 
 def alignment_said(reader):
-    """The number after `align`, or 1."""
+    """Returns the number after `align`, or 1."""
     rest = reader.words[reader.at:]
     return int(rest[rest.index("align") + 1]) if "align" in rest else 1
 

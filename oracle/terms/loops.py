@@ -1,9 +1,9 @@
-"""Loops of LLVM's text, proved by induction (induction.py).
+"""Proves loops of LLVM code by induction (induction.py).
 
-The words are the accumulators, whose cells are found by their names in the header: they hold the definition's values
-at the start, or the proof fails. A cell that a first iteration changes advances by a step, or is unset at the head,
-so that reading it is an error. No other live cell may change. The loop is left after the last iteration. Heads
-aren't named: they are the blocks to which a function jumps back."""
+The words are the accumulators. Their cells are found by their names in the header, and must hold the definition's
+values at the start. A cell that a first iteration changes advances by a step, or is unset at the loop head: then
+reading it is an error. No other live cell may change. The loop is left after the last iteration. A loop head is a block
+to which a function jumps back."""
 from .induction import Induction, moved
 from .nodes import is_same, symbol
 from .polynomials import given, is_natural, minus, variable
@@ -12,9 +12,9 @@ from .refusals import NotShown
 
 
 class Loop:
-    """The claim on a loop: after k turns, k from 0 to `last`, the cells (memory, offset) hold definition(k).
-    `suppose(k, values)` makes that the hypothesis. The loop is left from the last k, or, with `then`, comes to its
-    head once more, where `then` is claimed of the turns that are left."""
+    """The claim about a loop: after k iterations, k from 0 to `last`, the cells (memory, offset) hold definition(k).
+    `suppose(k, values)` assumes that. The loop is left from the last k. With `then`, control reaches the head once
+    more, and `then` is the claim about the remaining iterations."""
 
     def __init__(self, name, last, cells, width, suppose, definition, then=None):
         self.name, self.last, self.cells, self.width = name, last, cells, width
@@ -32,7 +32,7 @@ def successors(function):
 
 
 def reached(after, first, without=None):
-    """The blocks that are reachable from one, on paths that avoid another."""
+    """Returns the blocks that are reachable from `first` on paths that avoid `without`."""
     seen, waiting = set(), [first] if first != without else []
     while waiting:
         block = waiting.pop()
@@ -43,7 +43,7 @@ def reached(after, first, without=None):
 
 
 def loops_of(function):
-    """A dictionary: head -> the blocks of the loop. A head is on each path to a block that jumps back to it."""
+    """Maps each loop head to the blocks of the loop. A head is on each path to a block that jumps back to it."""
     if not hasattr(function, "loops"):
         after, function.loops = successors(function), {}
         for head in function.blocks:
@@ -66,15 +66,14 @@ def blocks_of_loop(after, head, back):
 
 
 class Loops:
-    """Asks `said` how to prove each loop that is reached. `said` has, for the beginning of a function's name, a
-    function of the module's function and the registers that returns a Loop, or None if the turns are a
-    number."""
+    """Proves each loop that control reaches. `said` maps the prefix of a function's name to a function of the module's
+    function and the registers. That returns a Loop, or None if the number of iterations is concrete."""
 
     def __init__(self, said, told):
         self.said, self.told, self.running = said, told, {}
 
     def pass_by(self, function, registers, before, block):
-        """(before, block) after the loop, or as given."""
+        """Returns (before, block) after the loop, or unchanged if the loop isn't proved."""
         say = next((say for name, say in self.said.items() if function.name.startswith(name)), None)
         if say is None or block not in loops_of(function):
             return before, block
@@ -84,7 +83,7 @@ class Loops:
             loop = around.then if around.is_leaving else None
         else:
             loop = say(function, registers)
-        if loop is None or is_same_number(loop.last, 0):   # it is run
+        if loop is None or is_same_number(loop.last, 0):   # runs iteration by iteration
             return before, block
         self.running[key] = loop
         try:
@@ -94,7 +93,7 @@ class Loops:
 
 
 class Proof(Induction):
-    """A cell is one of a live memory, with its size."""
+    """Proof of a loop. A cell is one of a live memory, with its size."""
 
     def __init__(self, loops, loop, function, registers, before, head):
         self.loops, self.loop, self.function, self.registers = loops, loop, function, registers
@@ -116,7 +115,7 @@ class Proof(Induction):
         self.registers.update(self.kept)
 
     def behind(self):
-        """Proves the loop, and returns (before, block) after it, with the registers and memories at that place."""
+        """Proves the loop. Returns (before, block) after it, with the registers and memories at that point."""
         loop = self.loop
         if not is_natural(loop.last):
             raise NotShown(f"{loop.name}: no number of turns")
@@ -135,7 +134,7 @@ class Proof(Induction):
         return answer
 
     def accumulators(self):
-        """The accumulators at the start, which are the definition's."""
+        """Yields the accumulators' cells at the start. They must hold the definition's values."""
         size, said = self.loop.width // 8, self.said(0)
         for i, (memory, at) in enumerate(self.loop.cells):
             x = memory.load(at, size)
@@ -144,7 +143,7 @@ class Proof(Induction):
             yield (memory, at), (size, x)
 
     def guess(self):
-        """A first turn shows which cells advance, and which are written before they are read."""
+        """Guesses from a first iteration which cells advance, and which are written before they are read."""
         self.is_guessing = True
         with given(minus(self.loop.last, 1)):
             self.enter(0, self.said(0))

@@ -1,5 +1,5 @@
-"""Runs functions of LLVM's text over terms. Addresses, lengths and branches are numbers, or polynomials that the facts
-decide; what is loaded from an input is a term. A vector is one number, its first lane the lowest bits."""
+"""Runs functions of LLVM code symbolically. Addresses, lengths and branches are numbers, or polynomials that the facts
+decide; bytes of an input are terms. A vector is one number, with its first lane in the lowest bits."""
 from . import operations
 from .llvm_text import (NOTHING, FunctionName, Pointer, Reader, Register, Struct, alignment_said, instruction, place_of)
 from .memory import Input, Memory, Unset, is_address
@@ -17,11 +17,11 @@ HALF = 1 << WORD - 1
 def binary(module, parts, value, before):
     word, t, a, b = parts
     a, b = value(a), value(b)
-    if word == "sub" and is_address(a) and is_address(b):   # the difference of two places in one object
+    if word == "sub" and is_address(a) and is_address(b):   # the difference of two addresses in one object
         if a[0] is not b[0]:
             raise Unsupported("the difference of two objects")
         a, b = a[1], b[1]
-    if word == "and" and is_address(a):                     # whether a place is aligned
+    if word == "and" and is_address(a):                     # a test of alignment
         if not isinstance(b, int) or b & b + 1 or a[0].alignment % (b + 1):
             raise Unsupported("the bits of an address")
         a = a[1]
@@ -131,7 +131,7 @@ def address(module, parts, value, before):
     if not all(is_number(x) for x in numbers):
         raise Undecided("an address")
     memory, at = place_of(t, value(base), *numbers)
-    if constant_of(at) >= HALF and is_natural(minus(at, HALF)):   # an offset is one mod 2 ^ 64
+    if constant_of(at) >= HALF and is_natural(minus(at, HALF)):   # offsets are numbers modulo 2 ^ 64
         at = minus(at, 1 << WORD)
     return memory, at
 
@@ -150,7 +150,7 @@ def allocate(module, parts, value, before):
     return memory, 0
 
 
-# ---- LLVM's own functions
+# ---- LLVM's intrinsics
 
 def intrinsic(name, arguments):
     if name == NOTHING:
@@ -176,7 +176,7 @@ def intrinsic(name, arguments):
 
 
 def copy(to, source, n):
-    """memcpy. A copy with a length that isn't a number, or to a place where runs are kept, stays a run of an input."""
+    """Performs memcpy. A copy of symbolic length, or to an area that keeps runs, is stored as a run of an input."""
     (memory, at), (source, first) = to, source
     area = memory.run_area
     if not (isinstance(n, int) and isinstance(at, int)) or area and area[0] <= at < area[1]:
@@ -193,7 +193,7 @@ def copy(to, source, n):
 def copy_word(memory, at, source, first, n):
     try:
         memory.store(at, n, source.load(first, n))
-    except Unset:   # bytes of which some were stored, as at the end of a buffer
+    except Unset:   # only some of the bytes were stored, as at the end of a buffer
         memory.clear(at, n)
         for k in range(n):
             if source.has(first + k):
@@ -256,7 +256,7 @@ OPERATIONS = {
 # ---- functions and modules
 
 class Function:
-    """A function of a module: blocks of instructions, by their labels."""
+    """A function of a module: blocks of instructions, by label."""
 
     def __init__(self, module, lines):
         head = Reader(module, lines[0][len("define "):])
@@ -280,8 +280,8 @@ class Function:
             del self.module.live[live:]
 
     def walk(self, registers, before, block, body=None, stop=None):
-        """Runs from a block to the function's end, and returns its value. With `body`, the blocks of a loop whose
-        head it is, it runs to the block `stop` or out of the loop; then the result is (before, block)."""
+        """Runs from a block to the function's end, and returns its value. With `body`, the blocks of a loop with this
+        head, runs to the block `stop` or out of the loop, and returns (before, block)."""
         is_first = True
         while True:
             if body is None or not is_first:
@@ -298,7 +298,7 @@ class Function:
             before, block = block, target
 
     def run_block(self, registers, before, block):
-        """The target of a block's branch, or (None, the function's value)."""
+        """Returns the target of a block's branch and None, or None and the function's value."""
         def value(x):
             return registers[x.name] if x.__class__ is Register else x.value
         for target, operation, parts in self.blocks[block]:
@@ -316,14 +316,14 @@ class Function:
 
 
 class Module:
-    """A text of LLVM's, and what holds while its functions run.
+    """A module of LLVM code, and the assumptions while its functions run.
 
-    different            pairs of values that are supposed to differ, where the library asks whether a seed is 0
-    allows_unknown_bits  whether a comparison of terms is a bit that may be 0 or 1, instead of an error
-    beside               how far outside of its object an address may be that is compared
-    live                 the memories that live
-    instead              function's name -> what is called in its place
-    loops                asked at each block, whether a loop begins there that is shown by induction (loops.py)
+    different            pairs of values assumed to differ, if the library tests a seed for 0
+    allows_unknown_bits  whether an undecided comparison of terms is an unknown bit instead of an error
+    beside               how far outside of its object a compared address may be
+    live                 the live memories
+    instead              function's name -> Python function called instead
+    loops                called at each block; may prove a loop by induction (loops.py)
     """
 
     def __init__(self, text):
@@ -361,7 +361,7 @@ class Module:
         return (self.globals[name], 0) if name in self.globals else FunctionName(name)
 
     def fresh(self, prefix):
-        """A name that no other symbol has."""
+        """Returns a symbol name not used before."""
         self.made += 1
         return f"{prefix}#{self.made}"
 

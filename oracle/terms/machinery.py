@@ -1,5 +1,5 @@
-"""Checks of the verifier itself: random operations against numbers, algebraic laws, the reference's terms on the
-rows of the table, and a second opinion on each use of a rule by an independent solver (z3)."""
+"""Tests the verifier itself: random operations against numbers, algebraic laws, the reference's terms on the rows of
+the test vectors, and each use of a rule with an independent solver (z3)."""
 import glob
 import os
 import random
@@ -26,7 +26,7 @@ MOST_NODES = 1_000_000
 # ---- the names of the rules
 
 def rules_are_proved(module):
-    """Checks that each rule that the program names is the contract of a function in crates/symbolic_rules."""
+    """Checks that each rule named in this folder is the contract of a function in crates/symbolic_rules."""
     with open(os.path.join(table.TOP, "crates", "symbolic_rules", "src", "lib.rt"), encoding="utf-8") as file:
         proved = set(re.findall(r"^pub fn (\w+)\(", file.read(), re.M))
     named = set()
@@ -48,12 +48,12 @@ def rotated(x, k, width=64):
 
 
 def turned(x):
-    """A word with its bytes reversed."""
+    """Returns a word with its bytes reversed."""
     return sum((bits(x, 8 * k, 8) << 8 * (7 - k) for k in range(8)), 0)
 
 
 def by_halves(x, y):
-    """The upper and the lower word of a product, computed by the steps of halves.py."""
+    """Returns the upper and the lower word of a product, computed by the steps of halves.py."""
     def step(name, a, b):
         return halves.noted(name, a, b, BINARY[name](64, a, b))
     (a0, a1), (b0, b1) = ((bits(z, 0, 32), bits(z, 32, 32)) for z in (x, y))
@@ -93,7 +93,7 @@ def random_operations(module, rounds):
 
 
 def laws(draw, message):
-    """Equal functions in two forms."""
+    """Returns pairs of equal values in two forms."""
     def word():
         return bits(message, 8 * draw.randrange(50), 64)
 
@@ -117,12 +117,12 @@ def laws(draw, message):
         (wrap(add(xor(z, (1 << 64) - 1), x)), wrap(add(x, monus((1 << 64) - 1, z)))),
         (shift_right(remainder(multiply(add(multiply(s, 1 << 64), v), c), 1 << 128), 64),
          wrap(add(shift_right(multiply(v, c), 64), multiply(s, c)))),
-        *(pair for b in (s, c | 1 << 40)     # a number with both halves
+        *(pair for b in (s, c | 1 << 40)     # a number whose halves are both nonzero
           for pair in zip(by_halves(v, b), (bits(multiply(v, b), 64, 64), multiply_at(64, v, b)))),
     ]
 
 
-# ---- the rows of the table
+# ---- the rows of the test vectors
 
 def asked_by(row):
     name = {entry: name for name, entry in table.HASHES.items()}[row.entry]
@@ -134,8 +134,7 @@ def asked_by(row):
 
 
 def table_rows(module):
-    """The reference's terms at the bytes of each row: the compiled code by gcc must agree with the result of the
-    header here."""
+    """Evaluates the reference's terms at the bytes of each row: gcc's compiled code must agree with the header here."""
     rows = [row for row in map(table.Row, table.lines()) if row.length <= LONGEST_ROW]
     nodes.forget()
     terms, bad = {}, []
@@ -154,16 +153,16 @@ def table_rows(module):
     return f"{len(rows)} rows of up to {LONGEST_ROW} bytes", bad
 
 
-# ---- a second opinion: each use of a rule, by z3
+# ---- each use of a rule, checked by z3
 
-SOLVED, EACH = 16, 8     # lengths up to this one; each so manieth operation
-SECONDS = 2              # for a question
+SOLVED, EACH = 16, 8     # longest tested length; step between tested operations
+SECONDS = 2              # time limit per query
 DEEPEST = 6
 
 
 class Solver:
-    """Asks z3 whether a result is the operation on its arguments, for all values. The parts of the terms below some
-    depth are variables: what holds for any values of these also holds for theirs."""
+    """Asks z3 if a result equals the operation on its arguments, for all values. Parts of the terms below some depth
+    are free variables: a result that holds for all their values also holds for theirs."""
 
     def __init__(self):
         sys.path.append(DEBIAN_PYTHON)
@@ -171,12 +170,12 @@ class Solver:
         self.z3, self.asked, self.bad = z3, {}, []
 
     def watch(self, name, answer, arguments):
-        """Records an operation, once."""
+        """Records each operation once."""
         if any(isinstance(x, Node) for x in arguments):
             self.asked[name, key_of(answer), tuple(map(key_of, arguments))] = name, answer, arguments
 
     def sized(self, x, width):
-        """A bit vector truncated or extended to a width."""
+        """Returns a bit vector truncated or zero-extended to a width."""
         size = x.size()
         if size < width:
             return self.z3.ZeroExt(width - size, x)
@@ -186,7 +185,7 @@ class Solver:
         return self.z3.BitVecVal(x, width)
 
     def term(self, x, depth, known):
-        """A value as a bit vector of its width."""
+        """Returns a value as a bit vector of its width."""
         if isinstance(x, int):
             return self.number(x, max(1, x.bit_length()))
         if x.number not in known:
@@ -218,7 +217,7 @@ class Solver:
         return out
 
     def meaning(self, name, arguments, width, depth, known):
-        """The operation on its arguments, at a width that holds the result."""
+        """Returns the operation on its arguments, at a width that holds the result."""
         def at(x, size=width):
             return self.sized(self.term(x, depth, known), size)
         if name == "add_at":
@@ -249,7 +248,7 @@ class Solver:
         return operations_of_two[name]()
 
     def holds(self, name, answer, arguments):
-        """True if the result is correct for all values, or None if that isn't decided in time."""
+        """True if the result is correct for all values, or None if z3 doesn't decide it in time."""
         numbers = [x for x in [answer, *arguments] if isinstance(x, (int, Node))]
         widths = [x.width if isinstance(x, Node) else x.bit_length() for x in numbers]
         width = sum(widths[1:]) if name == "multiply" else max(widths) + 1

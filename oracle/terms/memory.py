@@ -1,21 +1,21 @@
-"""Memory: objects that are stored to, and inputs, which are read-only and of which only the length is known.
+"""Memory objects: writable ones, and inputs, which are read-only and of which only the length is known.
 
-An address is (object, offset). Offsets and lengths may be polynomials. Each access must be proved to lie inside its
-object. Loading a byte that was never stored is an error."""
+An address is (object, offset). Offsets and lengths may be polynomials. Each access must be provably inside its object.
+Loading a byte that was never stored is an error."""
 from . import operations
 from .refusals import Unsupported
 from .nodes import symbol
 from .polynomials import constant_of, is_natural, is_number, is_same, minus, plus
 from .rules import bits_of, from_segments
 
-LONGEST = 1 << 15        # bytes of the window that begins at byte 0 of an input
-REACH = 4096             # bytes to each side of a window that begins elsewhere
-WIDEST = 32              # bytes that a cell has at most: a vector's
+LONGEST = 1 << 15        # bytes of the window at the start of an input
+REACH = 4096             # bytes on each side of any other window
+WIDEST = 32              # maximum bytes of a cell: a vector's
 RUNS = "runs"
 
 
 class Unset(Unsupported):
-    """Raised by a load of bytes that were never stored."""
+    """Raised if a load reads bytes that were never stored."""
 
 
 def is_inside(at, n, length):
@@ -25,13 +25,13 @@ def is_inside(at, n, length):
 
 
 def is_within(first, end, low, high):
-    """low <= first and end <= high."""
+    """True if low <= first and end <= high."""
     return is_natural(minus(first, low)) and is_natural(minus(high, end))
 
 
 class Input:
-    """The bytes of a message or a secret. Those at x + c, c a number, are bytes of a separate symbol for each x: two
-    such windows may be the same bytes, but nothing here uses that."""
+    """The bytes of a message or a secret. Bytes at x + c, c a number, belong to one symbol for each x: such windows may
+    overlap, but nothing here uses that."""
 
     alignment = 1
 
@@ -39,7 +39,7 @@ class Input:
         self.name, self.length = name, length
 
     def window(self, at, n):
-        """The symbol, and the byte of it that is byte `at`."""
+        """Returns the window's symbol, and the byte in it that is byte `at`."""
         if not is_inside(at, n, self.length):
             raise Unsupported(f"{n} bytes at {at} of {self.name}, which has {self.length}")
         if isinstance(at, int) and at + n <= LONGEST:
@@ -57,12 +57,12 @@ class Input:
         raise Unsupported(f"a store to {self.name}")
 
     def origin(self, at):
-        """The input and the place in it that the byte at an offset is."""
+        """Returns the input and the offset in it of the byte `at`."""
         return self, at
 
 
 class Piece(Input):
-    """The bytes of an input from `first` on, as a separate object."""
+    """Part of an input from `first` on, as a separate object."""
 
     def __init__(self, whole, first, length):
         super().__init__(whole.name, length)
@@ -78,10 +78,9 @@ class Piece(Input):
 
 
 class Memory:
-    """An object that is stored to. `cells` has what was stored at an offset, with its size; and under RUNS what was
-    copied with a length or to a place that isn't a number: (low, high, input, place), byte c of the object is byte
-    place + c of the input for low <= c < high. No byte is in two of them. What is copied into `run_area` is kept as a
-    run."""
+    """A writable object. `cells` maps offsets to (size, value). Under RUNS it has copies of symbolic length or to a
+    symbolic offset: (low, high, input, place) means that byte c of the object is byte place + c of the input, low <= c
+    < high. No byte is in two of them. Copies to `run_area` are kept as runs."""
 
     def __init__(self, name, length, cells=(), runs=(), run_area=None, alignment=1):
         self.name, self.length, self.run_area, self.alignment = name, length, run_area, alignment
@@ -108,7 +107,7 @@ class Memory:
         self.cells[at] = n, value
 
     def clear(self, at, n):
-        """Forgets some bytes."""
+        """Makes some bytes unset."""
         for first in self.cells_near(at, n):
             size, value = self.cells.pop(first)
             for k in range(size):
@@ -119,12 +118,12 @@ class Memory:
                 raise Unsupported(f"a store into a run of {self.name}")
 
     def cells_near(self, at, n):
-        """The cells that have some of the bytes."""
+        """Returns the cells that contain some of the bytes."""
         cells = self.cells
         return [first for first in range(at - WIDEST + 1, at + n) if first in cells and first + cells[first][0] > at]
 
     def cell_with(self, at):
-        """The cell that has a byte, or None: no two cells have one byte."""
+        """Returns the cell that contains a byte, or None. No two cells overlap."""
         first = next((first for first in range(at, at - WIDEST, -1) if first in self.cells), None)
         return first if first is not None and first + self.cells[first][0] > at else None
 
@@ -147,7 +146,7 @@ class Memory:
         return from_segments(self.parts_from(at, n))
 
     def parts_from(self, at, n):
-        """The bytes as segments."""
+        """Returns the bytes as segments."""
         out = []
         while n:
             first = self.cell_with(at) if isinstance(at, int) else None
@@ -165,21 +164,21 @@ class Memory:
     # ---- runs
 
     def origin(self, at, n):
-        """The input and the place in it that the n bytes at an offset are."""
+        """Returns the input and the offset in it of the n bytes at an offset."""
         for low, high, source, place in self.runs():
             if is_within(at, plus(at, n), low, high):
                 return source, plus(place, at)
         raise Unset(f"{n} bytes at {at} of {self.name}")
 
     def has_run(self, run):
-        """True if the bytes of a run are known to be those."""
+        """True if the bytes are known to be those of a run."""
         low, high, source, place = run
         return any(other[2] is source and is_same(other[3], place) and is_within(low, high, other[0], other[1])
                    for other in self.runs())
 
     def put_run(self, at, n, source, place):
-        """Makes the n bytes at an offset those of an input at a place. Whatever can't be distinguished from them is given
-        up: a load of it is an error."""
+        """Stores bytes of an input, from `place` on, as a run at an offset. Cells that aren't known to be disjoint
+        become unset: loading them is an error."""
         self.check(at, n)
         end = plus(at, n)
         self.cells = {first: cell for first, cell in self.cells.items()
@@ -195,7 +194,7 @@ class Memory:
 
 
 def in_order(a, b):
-    """The two, the smaller one first."""
+    """Returns the two, the smaller one first. Raises if the order isn't decided."""
     if is_natural(minus(b, a)):
         return a, b
     if is_natural(minus(a, b)):
@@ -204,7 +203,7 @@ def in_order(a, b):
 
 
 def outside(run, at, end):
-    """The rest of a run outside of at .. end - 1."""
+    """Returns the part of a run outside of at .. end - 1."""
     low, high, source, place = run
     if is_natural(minus(at, high)) or is_natural(minus(low, end)):
         return [run]

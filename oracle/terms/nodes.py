@@ -1,4 +1,4 @@
-"""Terms: numbers made of symbols, each written down once, so that equal terms are one object.
+"""Terms: symbolic numbers in a canonical form, so that equal terms are one object.
 
 A value is a Python int or a Node. Each node has a width, and its value is below 2 ^ width:
 
@@ -7,20 +7,20 @@ A value is a Python int or a Node. Each node has a width, and its value is below
              and of `length` bits of each atom; an atom is (number of a node that isn't BITS, its first bit)
     SUM      (constant + sum of coefficient * node) mod 2 ^ width, each node of one segment
     PRODUCT  the product of two or more nodes mod 2 ^ width
-    OPAQUE   any other operation on naturals, by its name and arguments; honest sides never come to one
+    OPAQUE   any other operation on naturals, by its name and arguments; correct sources never produce one
 
 Each node has its values at POINTS points, computed only from its own structure. Each operation compares its result at
-these points with the operation on its arguments (operations.py), so that each use of each rule is tested there.
+these points with the operation on its arguments (operations.py), so each use of each rule is tested there.
 """
 import random
 
 SYMBOL, BITS, SUM, PRODUCT, OPAQUE = "symbol", "bits", "sum", "product", "opaque"
 POINTS = 2
-WORD = 64   # a symbol above this width has its values as bytes
+WORD = 64   # a wider symbol's values are bytes
 
 
 class WrongRule(Exception):
-    """Raised if a rule returned a term of another value: this program is wrong."""
+    """Raised if a rule returns a term of another value: a fault of this program."""
 
 
 class Node:
@@ -31,15 +31,15 @@ class Node:
 
 
 NODES, BY_KEY = [], {}
-MEMOS = [BY_KEY]           # what has to forget nodes with the table
-USED = {}                  # how often each rule was used, by its name
-symbol_values = {}         # name -> the symbol's values
+MEMOS = [BY_KEY]           # dictionaries to clear together with the table
+USED = {}                  # name of a rule -> number of its uses
+symbol_values = {}         # name of a symbol -> its values
 EXTREME = bytes([0] * 90 + [255] * 90 + [1] * 20 + [128] * 20 + list(range(220, 256)))
 draw = random.Random(20240229)
 
 
 def memo():
-    """A dictionary that is cleared with the table."""
+    """Returns a dictionary that is cleared together with the table."""
     MEMOS.append({})
     return MEMOS[-1]
 
@@ -56,12 +56,12 @@ def forget():
 
 
 def mark():
-    """A point to return to by `release`."""
+    """Returns the current size of the tables, for `release`."""
     return len(NODES), [len(known) for known in MEMOS]
 
 
 def release(point):
-    """Forgets the nodes made since."""
+    """Forgets the nodes made since `mark`."""
     nodes, sizes = point
     del NODES[nodes:]
     for known, size in zip(MEMOS, sizes):
@@ -70,7 +70,7 @@ def release(point):
 
 
 def node(kind, parts, width, most, constant=0, is_exact=False):
-    """The one node of that structure. `most` is no less than its greatest value."""
+    """Returns the node of a structure, made only once. `most` is an upper bound of its value."""
     if kind is BITS:
         key = kind, parts
     elif kind is SUM:
@@ -106,7 +106,7 @@ def symbol(name, width):
 
 
 def values_of_symbol(name, width):
-    """The first point is random; in the second most bytes are 0 or 255, where sums carry far."""
+    """Returns random values. In the second one most bytes are 0 or 255, so that sums have long carries."""
     if name not in symbol_values:
         size = (width + 7) // 8
         values = [draw.randbytes(size) for _ in range(POINTS)]
@@ -117,13 +117,13 @@ def values_of_symbol(name, width):
 
 
 def window(value, first, length):
-    """Bits first .. first + length - 1 of a number, or of bytes."""
+    """Returns bits first .. first + length - 1 of a number, or of bytes."""
     if isinstance(value, bytes):
         value, first = int.from_bytes(value[first >> 3:first + length + 7 >> 3], "little"), first & 7
     return value >> first & (1 << length) - 1
 
 
-# What the operations mean that have no canonical form.
+# Semantics of the operations that have no canonical form.
 NATURALS = {
     "mod": lambda a, b: a % b if b else a, "div": lambda a, b: a // b if b else 0, "and": lambda a, b: a & b,
     "or": lambda a, b: a | b, "monus": lambda a, b: a - b if a > b else 0,
@@ -131,7 +131,7 @@ NATURALS = {
 
 
 def meaning(x, value):
-    """The value of a node, from those of its parts."""
+    """Returns the value of a node, from the values of its parts."""
     if x.kind is BITS:
         out = at = 0
         for length, part, atoms in x.parts:
@@ -151,7 +151,7 @@ def meaning(x, value):
 
 
 def children(x):
-    """The nodes inside a node."""
+    """Returns the nodes inside a node."""
     if x.kind is BITS:
         return [NODES[atom] for _, _, atoms in x.parts for atom, _ in atoms]
     if x.kind is SUM:
@@ -160,7 +160,7 @@ def children(x):
 
 
 def values_at(roots, symbols):
-    """The values of some values at the symbols' values in a dictionary."""
+    """Evaluates terms at given values of the symbols."""
     known = {}
 
     def value(x):
@@ -183,5 +183,5 @@ def most_of(x):
 
 
 def is_same(a, b):
-    """True if two values are one term."""
+    """True if two values are the same term or number."""
     return a is b or isinstance(a, int) and isinstance(b, int) and a == b

@@ -1,8 +1,8 @@
-"""Operations on terms: those on naturals, which the definitions use, and those on words of a width, which LLVM's text
-uses. A polynomial among the arguments of an operator becomes a word.
+"""Operations on terms: on naturals, as in the definitions, and on words of a width, as in LLVM code. Python operators
+convert a polynomial argument to a word.
 
-Each operation is computed once for the same arguments, and its result is then compared, at the points of nodes.py,
-with the operation on numbers. CHECKED turns that off."""
+Each operation is computed once for the same arguments. Its result is then compared, at the points of nodes.py, with the
+operation on numbers. CHECKED = False turns this off."""
 import functools
 
 from . import nodes, rules
@@ -12,9 +12,9 @@ from .polynomials import lifted
 from .rules import bits_of, from_segments, narrow, places, product_at, segments_of, sum_at, xor_segments, zeros_below
 
 CHECKED = True
-watching = []        # called with each operation that is done: its name, its result and its arguments
+watching = []        # called with each operation: its name, its result and its arguments
 
-# What each operation means on numbers.
+# Semantics of each operation on numbers.
 MEANINGS = {
     "add": lambda a, b: a + b, "multiply": lambda a, b: a * b, "monus": NATURALS["monus"], "remainder": NATURALS["mod"],
     "quotient": NATURALS["div"], "xor": lambda a, b: a ^ b, "either": lambda a, b: a | b, "both": lambda a, b: a & b,
@@ -34,7 +34,7 @@ def joined(widths, values):
 
 
 def checked(name, answer, *arguments):
-    """The result, after a comparison with the operation on numbers."""
+    """Returns the result, after a comparison with the operation on numbers."""
     if CHECKED:
         for k in range(nodes.POINTS):
             numbers = [x.values[k] if isinstance(x, Node) else x for x in arguments]
@@ -46,8 +46,8 @@ def checked(name, answer, *arguments):
 
 
 def once(operation):
-    """An operation that remembers its results, until the nodes are forgotten. Two arguments are equal if they are
-    the same node or the same number."""
+    """Decorator that caches an operation's results until the nodes are forgotten. Arguments are equal if they are the
+    same node or the same number."""
     known = memo()
 
     @functools.wraps(operation)
@@ -73,7 +73,7 @@ def multiply(a, b):
 
 @once
 def monus(a, b):
-    """a - b, or 0 if b is greater."""
+    """Returns a - b, or 0 if b is greater."""
     if isinstance(a, int) and most_of(b) <= a:
         answer = sum_at(a.bit_length(), a, [(-1, b)])
     else:
@@ -83,7 +83,7 @@ def monus(a, b):
 
 @once
 def add_at(width, *parts):
-    """(coefficient, value) parts added mod 2 ^ width."""
+    """Returns the sum of coefficient * value of the parts modulo 2 ^ width."""
     return checked("add_at", sum_at(width, 0, list(parts)), width, tuple(c for c, _ in parts), *(x for _, x in parts))
 
 
@@ -127,7 +127,7 @@ def shift_right(a, k):
 
 @once
 def bits(a, first, n):
-    """Bits first .. first + n - 1 of a value, as a number."""
+    """Returns bits first .. first + n - 1 of a value, as a number or a term."""
     if isinstance(a, int):
         return window(a, first, n)
     return checked("bits", from_segments(bits_of(a, first, n)), a, first, n)
@@ -135,7 +135,7 @@ def bits(a, first, n):
 
 @once
 def side_by_side(*parts):
-    """(value, width) parts as one number, the first its lowest bits."""
+    """Concatenates values, each as (value, width), the lowest bits first."""
     answer = from_segments([segment for x, width in parts for segment in bits_of(x, 0, width)])
     return checked("side_by_side", answer, tuple(width for _, width in parts), *(x for x, _ in parts))
 
@@ -149,14 +149,14 @@ def xor(a, b):
 
 @once
 def complement(width, a):
-    """2 ^ width - 1 - a, for a below 2 ^ width."""
+    """Returns 2 ^ width - 1 - a, for a below 2 ^ width."""
     use("complement")
     return checked("complement", sum_at(width, rules.ones(width), [(-1, a)]), width, a)
 
 
 @once
 def either(a, b):
-    """The bits of a or b."""
+    """Returns the bitwise or."""
     if isinstance(a, int):
         a, b = b, a
     if a is b:
@@ -174,7 +174,7 @@ def either(a, b):
 
 @once
 def both(a, b):
-    """The bits of a and b."""
+    """Returns the bitwise and."""
     if isinstance(a, int):
         a, b = b, a
     if a is b:
@@ -188,7 +188,7 @@ def both(a, b):
 
 
 def masked(a, mask):
-    """The bits of a where the mask has them, as segments."""
+    """Returns a under a mask, as segments."""
     out, at = [], 0
     while mask >> at:
         is_kept = mask >> at & 1
@@ -199,7 +199,7 @@ def masked(a, mask):
 
 
 def is_below(a, b):
-    """a < b, if the bounds decide it."""
+    """Returns a < b, if the bounds decide it."""
     if a is b or isinstance(a, int) and most_of(b) <= a:
         return False
     if isinstance(b, int) and most_of(a) < b:
@@ -214,7 +214,7 @@ def is_equal(a, b):
 
 
 def opaque(name, most, *arguments):
-    """An operation that has no canonical form."""
+    """Returns an operation that has no canonical form."""
     if all(isinstance(x, int) for x in arguments):
         return NATURALS[name](*arguments)
     use(f"opaque {name}")
@@ -233,7 +233,7 @@ def turned(operation):
     return lambda self, other: operation(lifted(other), self)
 
 
-# What the evaluator of the definitions asks of its numbers.
+# Operators that the evaluator of the definitions uses on its numbers.
 for name, on_naturals in {"add": add, "mul": multiply, "xor": xor, "or": either, "and": both, "mod": remainder,
                           "floordiv": quotient}.items():
     setattr(Node, f"__{name}__", operator(on_naturals))

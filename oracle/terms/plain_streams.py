@@ -1,9 +1,9 @@
-"""The streams of XXH32 and XXH64: reset, any number of updates of any lengths, digest, by induction over the updates.
+"""Proves the streams of XXH32 and XXH64 by induction over the updates: reset, any number of updates, digest.
 
-A state represents the first N bytes of a message when its total is N, its accumulators are the definition's after
-N / stripe stripes, its memsize is N % stripe, and its buffer begins with these bytes. A reset gives a state that
-represents no byte; each update leads from one that represents N = stripe * a + r bytes to one for stripe * b + s; and
-a digest of one is the definition's value, and changes nothing."""
+A state represents the first N bytes of a message if its total is N, its accumulators are the definition's after N /
+stripe stripes, its memsize is N % stripe, and its buffer begins with the last memsize bytes. A reset creates a state of
+0 bytes. An update leads from a state of N = stripe * a + r bytes to one of stripe * b + s. A digest returns the
+definition's value and changes nothing."""
 from .definition import Bytes, suppositions
 from .every_length import Proof, plain_loop
 from .refusals import NotShown
@@ -37,11 +37,11 @@ class PlainStreams(Proof):
     # ---- states
 
     def total(self, n):
-        """XXH32 counts mod 2 ^ 32."""
+        """Returns the state's total of n bytes. XXH32 counts modulo 2 ^ 32."""
         return n if self.width == 64 or is_natural(at_most(n, (1 << 32) - 1)) else as_word(n, 32)
 
     def numbers(self, a, r, accumulators):
-        """The content of a state that represents stripe * a + r bytes, except the buffer: (offset, size, value)."""
+        """Returns the content of a state of stripe * a + r bytes, without the buffer: (offset, size, value)."""
         n = plus(times(self.stripe, a), r)
         out = [(self.at["total"], self.word, self.total(n)), (self.at["memsize"], 4, r)]
         if self.width == 32:
@@ -49,7 +49,7 @@ class PlainStreams(Proof):
         return out + [(self.at["accumulators"] + self.word * j, self.word, x) for j, x in enumerate(accumulators)]
 
     def buffered(self, a, r):
-        """The bytes that fill no stripe, as a run in the buffer."""
+        """Returns the bytes of an incomplete stripe, as a run in the buffer."""
         first = self.at["buffer"]
         return [(first, plus(first, r), self.source, minus(times(self.stripe, a), first))] if not is_same(r, 0) else []
 
@@ -75,7 +75,7 @@ class PlainStreams(Proof):
             if not memory.has_run(run):
                 raise NotShown(f"{what}: the buffer isn't that of {self.stripe} * ({a}) + {r} bytes")
 
-    # ---- the three parts
+    # ---- the three steps of the induction
 
     def reset(self):
         memory = Memory("state", self.size)
@@ -85,12 +85,11 @@ class PlainStreams(Proof):
             self.expect_state("reset", memory, 0, 0)
 
     def up_to(self, n, *more):
-        """The facts: n bytes of the whole message, whose length is at most 2 ^ 64 - 1."""
+        """Returns the facts: n bytes of the whole message, of at most 2 ^ 64 - 1 bytes."""
         return given(at_most(self.whole, LONGEST), minus(self.whole, n), *more)
 
     def updates(self):
-        """From stripe * a + r bytes: chunks that complete no stripe, one that completes one, and those that complete
-        more."""
+        """Proves updates from stripe * a + r bytes: by chunks that complete no stripe, one stripe, or more."""
         r, t, d = variable("r"), variable("t"), variable("d")
         some = [minus(r, 1), at_most(r, self.stripe - 1)]
         for a in (0, variable("a")):
@@ -100,12 +99,12 @@ class PlainStreams(Proof):
                 self.update(a, 0, plus(a, d), s, [*of_s, minus(d, 1)])
                 self.update(a, r, plus(a, 1), s, [*some, *of_s, minus(minus(r, 1), s)])
                 self.update(a, r, plus(a, d), s, [*some, *of_s, minus(d, 2)])
-            self.update(a, r, plus(a, 1), t, [*some, at_most(t, self.stripe - 1), minus(t, r)])   # here t is 1 or more
+            self.update(a, r, plus(a, 1), t, [*some, at_most(t, self.stripe - 1), minus(t, r)])   # t >= 1 here
 
     def update(self, a, r, b, s, facts):
-        """From stripe * a + r bytes by one chunk to stripe * b + s."""
+        """Proves an update by one chunk from stripe * a + r bytes to stripe * b + s."""
         begun, ended = plus(times(self.stripe, a), r), plus(times(self.stripe, b), s)
-        first = plus(a, int(not is_same(r, 0)))     # the stripe behind the one that the buffer is part of
+        first = plus(a, int(not is_same(r, 0)))     # the first stripe behind the buffered one
         with self.up_to(ended, *facts, *at_least_one(a)):
             self.prepare({})
             self.module.allows_unknown_bits, self.module.beside = self.width == 32, BESIDE
@@ -123,7 +122,7 @@ class PlainStreams(Proof):
             self.expect_state("update", memory, b, s)
 
     def update_of_nothing(self):
-        """A null chunk changes nothing."""
+        """Checks that a null chunk changes nothing."""
         with self.up_to(3):
             memory = self.state(0, 3)
             kept = dict(memory.cells)
@@ -140,7 +139,7 @@ class PlainStreams(Proof):
 
     def digest(self, a, r):
         n = plus(times(self.stripe, a), r)
-        self.source = Input("m", n)              # here the message is whole
+        self.source = Input("m", n)              # the whole message here
         self.message = Bytes(self.source, 0, n)
         with given(at_most(n, LONGEST), *at_least_one(a)):
             self.prepare({})
@@ -153,17 +152,17 @@ class PlainStreams(Proof):
 
 
 def at_least_one(a):
-    """The fact that there were stripes, if their number isn't 0."""
+    """Returns the fact that there were stripes, if their number isn't 0."""
     return [] if is_same(a, 0) else [minus(a, 1)]
 
 
 def of_any_length(say):
-    """How to prove a loop in a function, if its length isn't a number."""
+    """Returns a function that describes a loop like `say`, if the length isn't a number."""
     return lambda function, registers: None if isinstance(registers.get("%len"), int) else say(function, registers)
 
 
 def show(module, kind):
-    """Proves the streams of XXH32 or XXH64, or raises; returns the proof."""
+    """Proves the streams of XXH32 or XXH64. Returns the proof, or raises."""
     streams = PlainStreams(module, int(kind))
     streams.reset()
     streams.update_of_nothing()

@@ -1,8 +1,8 @@
-"""Naturals that depend on a length: polynomials over natural variables, under facts, each a polynomial that isn't
+"""Naturals that depend on a length: polynomials over natural variables, under facts. A fact is a polynomial that isn't
 negative. A comparison is decided if the facts decide it for all values, and is Undecided otherwise.
 
 `is_natural(x)` tries to write x as a sum of monomials and of facts times monomials, after shifting each variable to
-begin at 0. Each "yes" is compared with the value at some points where the facts hold."""
+begin at 0. Each positive result is also tested at some points that satisfy the facts."""
 import contextlib
 import random
 
@@ -11,32 +11,32 @@ from .nodes import symbol
 from .refusals import Undecided
 
 WORD = 64
-DEPTH = 4                     # how often a fact may be taken away
-TRIED, KEPT = 60, 8           # points that are drawn, and how many are kept
-NEAR, STAYS = 100, 0.7        # how many are drawn near to known ones, and of these how often a variable stays
-SEARCHED, IN_TURN = 400, 20   # how many are drawn until one is found, and so many of them of each choices
-MOVES = 40                    # of a point, to where the facts hold
+DEPTH = 4                     # maximum number of subtracted facts
+TRIED, KEPT = 60, 8           # points drawn, and points kept
+NEAR, STAYS = 100, 0.7        # points drawn near known ones, and the probability that a variable keeps its value
+SEARCHED, IN_TURN = 400, 20   # points drawn until one is found, and how many of these use the same choices
+MOVES = 40                    # steps to move a point to where the facts hold
 CHOICES = (0, 1, 2, 3, 5, 62, 200), (0, 1, 7, 15, 480, 1 << 20, 1 << 32)
 
-SETS = 4000                   # of facts, of which is kept what was decided
+SETS = 4000                   # sets of facts whose decisions are kept
 
 facts, least = [], {}         # polynomials >= 0; variable -> its least value
 
 
 class Decided:
-    """The knowledge under a set of facts: points at which they hold, the facts in variables that begin at 0, and for
-    polynomials, whether they are never negative."""
+    """Known results under a set of facts: points that satisfy them, the facts in variables that begin at 0, and
+    polynomials with whether they are never negative."""
 
     def __init__(self, points=()):
         self.points, self.zero_based, self.answers = points, None, {}
 
 
-under = Decided()             # these facts; and each set of facts that there was
+under = Decided()             # under the current facts; and under each earlier set
 decided = {}
 
 
 class Poly:
-    """The sum of coefficient * product of variables. Without a variable it is an int instead."""
+    """The sum of coefficient * product of variables. A polynomial without variables is an int instead."""
     __slots__ = "parts", "known_key"
 
     def __init__(self, parts):
@@ -114,7 +114,7 @@ def plus(*terms):
 
 
 def with_constant(x, c):
-    """A polynomial and a number added."""
+    """Returns a polynomial plus a number."""
     parts = dict(x.parts)
     c += parts.pop((), 0)
     if c:
@@ -123,7 +123,7 @@ def with_constant(x, c):
 
 
 def minus(a, b):
-    """a - b, which may be negative."""
+    """Returns a - b, which may be negative."""
     if isinstance(b, int):
         return plus(a, -b)
     out = dict(parts_of(a))
@@ -155,7 +155,7 @@ def is_same(a, b):
 
 @contextlib.contextmanager
 def given(*more):
-    """The facts that hold inside a `with`. A fact `v - c` makes the variable v begin at c."""
+    """Context manager that adds facts. A fact `v - c` makes the variable v begin at c."""
     global under
     size, bounds, around = len(facts), dict(least), under
     try:
@@ -182,7 +182,7 @@ def suppose(fact):
 
 
 def at_most(x, bound):
-    """The fact x <= bound."""
+    """Returns the fact x <= bound."""
     return minus(bound, x)
 
 
@@ -200,7 +200,7 @@ def names_of(*polynomials):
 
 
 def points_for(x):
-    """Some points at which each fact holds, with values for the variables of x."""
+    """Yields points that satisfy the facts, with values for the variables of x."""
     names = sorted(names_of(x) - names_of(*facts))
     for number, point in enumerate(under.points):
         yield {**point, **{name: least.get(name, 0) + CHOICES[0][(number + k) % len(CHOICES[0])] for k,
@@ -208,8 +208,8 @@ def points_for(x):
 
 
 def decided_under(around):
-    """The knowledge under these facts. Facts that hold nowhere would imply anything: there must be points at which
-    these hold. Points at which the facts around them hold are tried first."""
+    """Returns the known results under the current facts. Contradictory facts would imply anything, so there must be
+    points that satisfy them. Points of the enclosing facts are tried first."""
     key = frozenset([*(fact.key() for fact in facts), *least.items()])
     if key not in decided:
         names, draw = sorted(names_of(*facts)), random.Random(1)
@@ -223,7 +223,7 @@ def decided_under(around):
 
 
 def drawn_points(names, draw, around, attempts):
-    """Points at which the facts hold; or some that are near to others, of which most variables stay."""
+    """Returns points that satisfy the facts, near to the points `around` if there are any."""
     found = []
     for attempt in range(attempts):
         choices = CHOICES[attempt // IN_TURN % len(CHOICES)]
@@ -238,7 +238,7 @@ def drawn_points(names, draw, around, attempts):
 
 
 def moved(point, draw):
-    """A point, one variable of which after another is moved to where a fact holds, until all do; or None."""
+    """Moves a point, one variable after another, until it satisfies the facts. Returns None if that fails."""
     for _ in range(MOVES):
         broken = [(fact, value) for fact in facts if (value := value_at(fact, point)) < 0]
         if not broken:
@@ -253,7 +253,7 @@ def moved(point, draw):
 
 
 def from_zero(x):
-    """x in variables that begin at 0, as its parts."""
+    """Returns x in variables that begin at 0, as its parts."""
     out = 0
     for names, c in parts_of(x).items():
         for name in names:
@@ -263,7 +263,7 @@ def from_zero(x):
 
 
 def is_natural(x):
-    """x >= 0 for all values that the facts allow."""
+    """True if x >= 0 for all values that the facts allow."""
     if isinstance(x, int):
         return x >= 0
     key = x.key()
@@ -277,7 +277,7 @@ def is_natural(x):
 
 
 def without(names, product):
-    """The variables of a product without some of them, or None."""
+    """Returns the variables of a product without some of them, or None."""
     out = list(product)
     for name in names:
         if name not in out:
@@ -287,8 +287,7 @@ def without(names, product):
 
 
 def is_sum_of_facts(x, zero_based, depth):
-    """True if x is a sum of facts times monomials and of monomials: a negative part is removed by a fact that has
-    it."""
+    """True if x is a sum of monomials and of facts times monomials: removes a negative part by a fact that has it."""
     negative = [names for names, c in x.items() if c < 0]
     if not negative:
         return True
@@ -304,7 +303,7 @@ def is_sum_of_facts(x, zero_based, depth):
 
 
 def taken_away(x, fact, part, scale, rest):
-    """scale * x - |coefficient of part| * rest * fact, in which `part` no longer is."""
+    """Returns scale * x - |coefficient of part| * rest * fact, which doesn't contain `part`."""
     out = {names: scale * c for names, c in x.items()}
     for names, c in fact.items():
         key = tuple(sorted(names + rest))
@@ -313,7 +312,7 @@ def taken_away(x, fact, part, scale, rest):
 
 
 def is_below(a, b):
-    """a < b: True, False, or None if the facts don't decide it."""
+    """Returns a < b, or None if the facts don't decide it."""
     if is_natural(minus(minus(b, a), 1)):
         return True
     return False if is_natural(minus(a, b)) else None
@@ -335,7 +334,7 @@ def monus(a, b):
 
 
 def divided(a, b):
-    """Quotient and remainder: guessed, then proved."""
+    """Returns quotient and remainder: guessed, then proved."""
     if is_same(b, 0):
         raise Undecided(f"{a} / {b}")
     for q in quotients(a, b):
@@ -346,8 +345,8 @@ def divided(a, b):
 
 
 def quotients(a, b):
-    """Guesses, by the part of b that has the most variables: of the parts of a that it divides without a rest; then of
-    each part to the nearest number, as j - 1 for 960 j / 1024, j from 1 to 15. One less and one more are guesses, too."""
+    """Yields guesses of a / b. Divides the parts of a by the part of b with the most variables: exactly divisible ones,
+    then each to the nearest number, as j - 1 for 960 j / 1024, j from 1 to 15. Then one less and one more."""
     names, d = max(parts_of(b).items(), key=lambda part: len(part[0]))
     parts = [(rest, c) for product, c in parts_of(a).items() for rest in [without(names, product)] if rest is not None]
     for is_near in (False, True):
@@ -367,7 +366,7 @@ def remainder(a, b):
 # ---- polynomials as words
 
 def wrapped(x, width):
-    """x mod 2 ^ width as a polynomial."""
+    """Returns x modulo 2 ^ width as a polynomial."""
     for more in (0, 1 << width, -1 << width):
         y = plus(x, more)
         if is_natural(y) and is_natural(at_most(y, (1 << width) - 1)):
@@ -376,13 +375,13 @@ def wrapped(x, width):
 
 
 def as_word(x, width):
-    """x mod 2 ^ width as a term. A product of variables is a symbol there, the product mod 2 ^ 64."""
+    """Returns x modulo 2 ^ width as a term. A product of variables is a symbol for the product modulo 2 ^ 64."""
     parts = [(c, symbol("*".join(names), WORD)) for names, c in parts_of(x).items() if names]
     return rules.sum_at(width, constant_of(x), parts)
 
 
 def lifted(x):
-    """A polynomial, which must lie below 2 ^ 64, as a term. Any other value is returned unchanged."""
+    """Returns a polynomial, which must be below 2 ^ 64, as a term. Returns other values unchanged."""
     if not isinstance(x, Poly):
         return x
     if not (is_natural(x) and is_natural(at_most(x, (1 << WORD) - 1))):

@@ -1,5 +1,5 @@
-"""Runs the rows of a check, each in its own process and several at once, prints their results, and selects rows by
-the arguments of the command line."""
+"""Runs the rows of a check, each in its own process and several at once, prints their results, and parses the check's
+options."""
 import argparse
 import concurrent.futures
 import multiprocessing
@@ -14,21 +14,21 @@ from . import changes
 from .refusals import REFUSALS
 from .nodes import WrongRule
 
-SHOWN = 30                   # complaints of a row
+SHOWN = 30                   # printed failures of a row
 OWN = resource.RUSAGE_SELF, resource.RUSAGE_CHILDREN       # of a row's process
 FORK, STARTING = multiprocessing.get_context("fork"), threading.Lock()
 
 
 class Row:
-    """A row: its title, and a function that returns (counts, failures) as lines."""
+    """A row: its title, and a function that returns the counts, and the failures as lines."""
 
     def __init__(self, title, ask, is_deep=True):
         self.title, self.ask = title, ask
-        self.is_deep = is_deep     # long recursions need a thread with a large stack, and time limits the main one
+        self.is_deep = is_deep     # deep recursions need a thread with a large stack; time limits need the main thread
 
 
 def options(usage, jobs=2):
-    """A parser of a check's options: --all, --only WORD and --jobs NUMBER."""
+    """Returns a parser of a check's options: --all, --only WORD and --jobs NUMBER."""
     out = argparse.ArgumentParser(usage=usage)
     out.add_argument("--all", action="store_true")
     out.add_argument("--only", default="")
@@ -37,7 +37,7 @@ def options(usage, jobs=2):
 
 
 def run(rows, jobs):
-    """Runs the rows and prints their results; returns the command's status."""
+    """Runs the rows and prints their results. Returns the exit status."""
     began, passed = time.monotonic(), 0
     with concurrent.futures.ThreadPoolExecutor(jobs) as pool:
         for line, is_good in pool.map(in_process, rows):
@@ -54,8 +54,8 @@ def processor_time(of):
 
 
 def in_process(row):
-    """Runs a row: its output, and whether it passed. A process that is killed prints nothing and fails."""
-    with STARTING:     # so that no other process holds the pipe's end
+    """Runs a row. Returns its output, and whether it passed. A process that is killed fails."""
+    with STARTING:     # so that no other process inherits the pipe's end
         ours, theirs = FORK.Pipe(duplex=False)
         process = FORK.Process(target=answer, args=(row, theirs))
         process.start()

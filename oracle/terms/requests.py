@@ -1,4 +1,4 @@
-"""A request of a hash, and its value by the definition, as a term."""
+"""A request for a hash, and the definition's value of it as a term."""
 import os
 import random
 
@@ -8,7 +8,7 @@ from .memory import Input
 from .nodes import symbol, values_at
 
 TOP = os.path.dirname(os.path.dirname(os.path.dirname(os.path.abspath(__file__))))
-LONGEST, LONGEST_SECRET = (1 << 64) - 1, 1 << 60        # bytes of a message and of a secret
+LONGEST, LONGEST_SECRET = (1 << 64) - 1, 1 << 60        # maximum bytes of a message and of a secret
 
 
 def seed_symbol(hash_name):
@@ -16,8 +16,8 @@ def seed_symbol(hash_name):
 
 
 class Request:
-    """A hash, a kind of call (seed, default, secret, both), a length, and for some kinds the secret's length. `seed`
-    is a number if it isn't a symbol, and `cuts` are the ends of a stream's chunks except the last."""
+    """A hash, a function (seed, default, secret, both), a length, and the secret's length if needed. `seed` is a
+    number, or None for a symbol. `cuts` are the ends of a stream's chunks but the last, or None for a one-shot."""
 
     def __init__(self, hash_name, kind, length, secret_length=None, seed=None, cuts=None):
         self.hash_name, self.kind, self.length, self.secret_length = hash_name, kind, length, secret_length
@@ -46,23 +46,23 @@ class Request:
                                 Bytes(self.message, 0, self.length))
 
     def definition_at(self, entries, point):
-        """The definition's value if the symbols are numbers."""
+        """Returns the definition's value at concrete values of the symbols."""
         seed = self.seed() if isinstance(self.seed(), int) else point[self.seed().parts[0]]
         return definition.value(entries, self.hash_name, self.kind, seed, memoryview(point["s"]),
                                 memoryview(point["m"]))
 
     def with_seed_0(self):
-        """The case that of_reference leaves out, if any."""
+        """Returns the case with the seed 0 in a list, if of_reference leaves it out, else an empty list."""
         is_long = self.length > 240 or self.cuts is not None
         asks = self.hash_name.startswith("3-") and self.fixed_seed is None and is_long
         if not asks or not self.has_seed() or self.kind == "both" and self.cuts is None:
             return []
         if self.kind == "both" and self.hash_name == "3-128" and self.length <= 240:
-            return []     # where release 0.8.1 differs: xxh3_streams.py
+            return []     # release 0.8.1 differs here: see xxh3_streams.py
         return [Request(self.hash_name, self.kind, self.length, self.secret_length, 0, self.cuts)]
 
     def points(self, count, draw):
-        """Values of the symbols: some at the ends of their ranges, then random ones."""
+        """Yields values of the symbols: some at the ends of their ranges, then random ones."""
         n, k = self.length, self.secret_length or 0
         for byte in (0, 255):
             for seed in (0, 2 ** 64 - 1, 2 ** 63):
@@ -73,7 +73,7 @@ class Request:
 
 
 def differing_point(request, a, b, count=20):
-    """(symbols, value of a, value of b) where the two terms differ, or None if no such point is found."""
+    """Returns (symbols, value of a, value of b) at a point where two terms differ, or None if none is found."""
     for point in request.points(count, random.Random(7)):
         x, y = values_at([a, b], point)
         if x != y:
@@ -82,7 +82,7 @@ def differing_point(request, a, b, count=20):
 
 
 def differing_point_of_numbers(request, entries, b, count=3):
-    """The same if the definition has no term, and is evaluated on numbers."""
+    """The same if the definition has no term: evaluates it on numbers."""
     for point in request.points(count, random.Random(11)):
         x, (y,) = request.definition_at(entries, point), values_at([b], point)
         if x != y:

@@ -1,4 +1,4 @@
-"""The rows of oracle/symbolic: the requests, each in its own process, and their results."""
+"""Chooses and runs the rows of oracle/symbolic: the requests, each in its own process, and their results."""
 import collections
 import functools
 import os
@@ -13,14 +13,14 @@ from .comparison import SECRETS
 from .machine import Module
 from .sides import HEADERS, VECTORS, llvm_text, of_reference
 
-PARTS = 4                    # the changes are tried in so many rows
-SAMPLE = 32                  # in CI, each so manieth change of the definition's text
-LINES, FEW_LINES = 5000, 100  # changes of LLVM's text
+PARTS = 4                    # rows into which the changes are split
+SAMPLE = 32                  # in CI, step between tested changes of the definition
+LINES, FEW_LINES = 5000, 100  # changes of the LLVM code, with --all and without
 GATE_SECRETS, STREAM_SECRETS = (136,), (136, 192)
 
 
 class Row(processes.Row):
-    """A row whose function runs on a module: the library's code for some vectors."""
+    """A row whose function takes a module: the library's code for scalar, SSE2 or AVX2."""
 
     def __init__(self, title, ask, vector="scalar", is_deep=True):
         super().__init__(title + ("" if vector == "scalar" else f", {vector}"), ask, is_deep)
@@ -36,7 +36,7 @@ def choose(given):
     return [row for row in rows if given.only in row.title]
 
 
-# ---- lengths one by one
+# ---- single lengths
 
 def title_of(hash_name, kind, secret):
     return f"XXH{hash_name}, {kind}" + (f" of {secret} bytes" if secret else "")
@@ -55,7 +55,7 @@ def lengths(is_all, vector):
 
 
 def vector_lengths(vectors):
-    """The code for other vectors, which differs from 241 bytes on."""
+    """Returns the rows of the code for other vector instructions, which differs from 241 bytes on."""
     kinds = [kind for kind in comparison.kinds((136,)) if kind[0].startswith("3-")]
     return [compared(title_of(*kind), kind, [*range(241, 501), *comparison.edges(kind[2])], vector)
             for vector in vectors for kind in kinds]
@@ -112,7 +112,7 @@ def of_changes(is_all, vector, headers):
     out.append(Row("changes of the definitions that differ from 2^31 bytes on alone, asked by induction",
                    large_changes, vector))
     out.append(Row("changes by hand of the definitions, that differ on rare inputs alone", hand_changes, vector))
-    if headers != HEADERS:      # the texts are those of Debian's
+    if headers != HEADERS:      # the changes fit only Debian's header
         return out
     asked = changed_headers.CHANGES if is_all else changed_headers.CHANGES[::4]
     out.append(Row("changes of the header 0.8.1, asked by induction", functools.partial(header_changes, changed=asked)))
@@ -144,7 +144,7 @@ def line_changes(module, sample, part, parts):
 
 
 def faults(found, reasons_of):
-    """The changes that are undetected without a reason."""
+    """Returns the changes that are undetected without a reason."""
     return [f"{what}: {text}" for what, text in found if is_fault(what, bool(reasons_of(text)), must_fit=False)]
 
 
@@ -158,7 +158,7 @@ def hand_changes(module):
 
 
 def header_is_the_one_named(headers, vector, _module):
-    """Checks that the text is of the summed header, even if a folder that compilers search has another one."""
+    """Checks that the LLVM code is of the header with the printed checksum, even if compilers find another."""
     with tempfile.TemporaryDirectory(prefix="symbolic-") as room:
         with open(f"{room}/xxhash.h", "w", encoding="utf-8") as file:
             file.write('#error "another header"\n')
@@ -183,7 +183,7 @@ def of_machinery(is_all, vector, headers):
 # ---- processes
 
 def run(rows, headers, jobs):
-    """Runs the rows, each with its own module; returns the command's status."""
+    """Runs the rows, each with its own module. Returns the exit status."""
     texts = {vector: llvm_text(headers, vector) for vector in {row.vector for row in rows}}
     return processes.run([processes.Row(row.title, functools.partial(asked, row, texts[row.vector]), row.is_deep)
                           for row in rows], jobs)

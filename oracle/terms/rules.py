@@ -1,24 +1,23 @@
 """The canonical form of terms: segments, sums and products, by rules that crates/symbolic_rules proves.
 
-Each rule has its name there; `use` counts it here. In words, for naturals, w, j and k widths, c a coefficient:
+Each rule has its name there; `use` counts its uses here. For naturals, with widths w, j and k and a coefficient c:
 
     parts_of_a_number     v = v mod 2^k + 2^k (v / 2^k): a number is its segments
     concatenation         (a + 2^k b) mod 2^k = a and (a + 2^k b) / 2^k = b for a < 2^k
     bits_of_bits          (v mod 2^(j + k)) / 2^k = (v / 2^k) mod 2^j
     xor_of_parts          (a + 2^k b) xor (c + 2^k d) = (a xor c) + 2^k (b xor d) for a, c < 2^k
     joined_coefficients   c (v mod 2^k) + c 2^k (v / 2^k) = c v
-    narrowed_factor       c 2^k (v mod 2^j) = c 2^k v, mod 2^w, for w <= j + k: of a factor only the bits that count are
-                          kept, and a sum that was narrowed no further than that is taken apart
+    narrowed_factor       c 2^k (v mod 2^j) = c 2^k v, mod 2^w, for w <= j + k: a factor keeps only the bits that
+                          count, and a sum that wasn't narrowed below these is taken apart
     narrowed_twice        (v mod 2^j) mod 2^w = v mod 2^w for w <= j
     narrowed_sum, narrowed_product    a sum and a product mod 2^w are those of the parts mod 2^w
     high_of_a_sum         ((r + 2^k y) mod 2^w) / 2^k = ((r mod 2^w) / 2^k + y) mod 2^(w - k) for k <= w
 
-Those of operations.py: xor_in_any_order, bits_apart, mask, union_with_ones, complement (here of a part of a sum too),
-small_remainder.
-"""
+The rules of operations.py are xor_in_any_order, bits_apart, mask, union_with_ones, complement (used here for a part of
+a sum too), and small_remainder."""
 from .nodes import BITS, NODES, OPAQUE, PRODUCT, SUM, SYMBOL, Node, memo, node, use
 
-SPLIT_AT = 64            # bits of a sum from this one on give up the parts of the sum that lie above it
+SPLIT_AT = 64            # bits of a sum from this one on are split off the parts of the sum above it
 STANDARD = (64, 128)     # widths to which sums and products are narrowed
 
 bits_memo, sum_memo = memo(), memo()
@@ -29,7 +28,7 @@ def ones(n):
 
 
 def zeros_below(c):
-    """The number of trailing 0 bits of c."""
+    """Returns the number of trailing 0 bits of c."""
     return (c & -c).bit_length() - 1
 
 
@@ -42,7 +41,7 @@ def segments_of(x):
 
 
 def from_segments(segments):
-    """The value of segments. Neighbours that continue each other are joined, and zeros at the top are dropped."""
+    """Returns the value of segments. Joins neighbours that continue each other, and drops zeros at the top."""
     out = []
     for segment in segments:
         joined = out and joined_with(out[-1], segment)
@@ -76,7 +75,7 @@ def drop_zeros(segments):
 
 
 def joined_with(low, high):
-    """Two neighbouring segments as one, or None."""
+    """Returns two neighbouring segments joined, or None."""
     (n, constant, atoms), (m, above, others) = low, high
     if len(atoms) != len(others):
         return None
@@ -89,7 +88,7 @@ def joined_with(low, high):
 
 
 def lower_neighbours(atoms, n):
-    """The atoms of the n bits below those of some atoms: a sum's low bits may be those of a narrower sum."""
+    """Returns the atoms of the n bits below some atoms, or None. A sum's low bits may be a narrower sum's."""
     out = []
     for atom, first in atoms:
         low = bits_of(NODES[atom], first - n, n) if first >= n else ()
@@ -101,7 +100,7 @@ def lower_neighbours(atoms, n):
 
 
 def xor_segments(a, b):
-    """The xor of two values, segment by segment (xor_of_parts)."""
+    """Returns the xor of two values, segment by segment (xor_of_parts)."""
     out, a, b = [], list(reversed(a)), list(reversed(b))
     while a and b:
         n = min(a[-1][0], b[-1][0])
@@ -109,7 +108,7 @@ def xor_segments(a, b):
             if side[-1][0] > n:
                 segment = side.pop()
                 side += reversed(cut_segment(segment, 0, n) + cut_segment(segment, n, segment[0] - n))
-        if a[-1][0] == b[-1][0]:   # a narrower sum may have fallen into several segments
+        if a[-1][0] == b[-1][0]:   # a narrower sum may have become several segments
             (n, constant, atoms), (_, other, others) = a.pop(), b.pop()
             out.append((n, constant ^ other, differing_atoms(atoms, others)))
     return out + list(reversed(a or b))
@@ -120,7 +119,7 @@ def differing_atoms(a, b):
 
 
 def cut_segment(segment, first, n):
-    """Bits first .. first + n - 1 of a segment."""
+    """Returns bits first .. first + n - 1 of a segment."""
     length, constant, atoms = segment
     if first == 0 and n == length:
         return [segment]
@@ -132,7 +131,7 @@ def cut_segment(segment, first, n):
 
 
 def bits_of(x, first, n):
-    """Bits first .. first + n - 1 of a value, as segments of n bits together."""
+    """Returns bits first .. first + n - 1 of a value, as segments of n bits together."""
     if n <= 0:
         return []
     if isinstance(x, int):
@@ -167,7 +166,7 @@ def bits_of_atom(x, first, n):
 
 
 def bits_of_sum(x, first, n):
-    """Bits of a sum or product: those of the narrowest one of a standard width that has them."""
+    """Returns bits of a sum or product, from the narrowest one of a standard width that has them."""
     for width in STANDARD:
         if first + n <= width < x.width:
             return bits_of(narrow(x, width), first, n)
@@ -179,7 +178,7 @@ def bits_of_sum(x, first, n):
 
 
 def high_of_a_sum(x, k):
-    """x / 2^k, where a part of the sum lies from bit k on; else None."""
+    """Returns x / 2^k if a part of the sum is a multiple of 2^k, else None."""
     above = [(c >> k, y) for c, y in x.parts if not c % (1 << k)]
     if not above and not x.constant >> k:
         return None
@@ -192,7 +191,7 @@ def high_of_a_sum(x, k):
 
 
 def narrow(x, width):
-    """A value mod 2 ^ width."""
+    """Returns a value modulo 2 ^ width."""
     if isinstance(x, int):
         return x % (1 << width)
     if x.width <= width or x.most < 1 << width:
@@ -207,7 +206,7 @@ def narrow(x, width):
 
 
 def places(x):
-    """The bits that may be 1."""
+    """Returns a mask of the bits that may be 1."""
     if isinstance(x, int):
         return x
     out = at = 0
@@ -220,7 +219,7 @@ def places(x):
 # ---- sums
 
 def sum_at(width, constant, parts):
-    """(constant + sum of coefficient * value) mod 2 ^ width."""
+    """Returns (constant + sum of coefficient * value) modulo 2 ^ width."""
     mask = ones(width)
     constant += sum(c * x for c, x in parts if isinstance(x, int))
     parts = [(c & mask, x) for c, x in parts if not isinstance(x, int) and c & mask]
@@ -252,7 +251,7 @@ def new_sum(width, constant, parts):
 
 
 def concatenation(width, constant, parts):
-    """The sum as segments, where no two of its parts have a bit in common; else None."""
+    """Returns the sum as segments if no two of its parts have a common bit, else None."""
     seen = constant
     for c, x in parts:
         if c & c - 1:
@@ -270,7 +269,7 @@ def concatenation(width, constant, parts):
 
 
 class Collected:
-    """The parts of a sum mod 2 ^ width, each a run of bits with its coefficient, by the run's atoms."""
+    """Collects the parts of a sum modulo 2 ^ width, each a run of bits with its coefficient, by the run's atoms."""
 
     def __init__(self, width, constant):
         self.width, self.constant, self.waiting, self.runs = width, constant, [], {}
@@ -287,14 +286,14 @@ class Collected:
                 self.take_segments(c, x)
 
     def take_apart(self, c, x):
-        """A sum within the sum, whose own width leaves nothing out that counts."""
+        """Adds the parts of an inner sum, whose own width drops no bit that counts."""
         use("narrowed_factor")
         self.constant += c * x.constant
         mask = ones(self.width)
         self.waiting += [(c * d & mask, y) for d, y in x.parts if c * d & mask]
 
     def take_segments(self, c, x):
-        """The segments, each times its place."""
+        """Adds the segments of x, each times its place value."""
         use("parts_of_a_number")
         mask = ones(self.width)
         for segment in x.segments:
@@ -308,7 +307,7 @@ class Collected:
 
     def take_segment(self, c, segment):
         length, constant, atoms = segment
-        room = self.width - zeros_below(c)   # how many bits of the segment count
+        room = self.width - zeros_below(c)   # number of bits of the segment that count
         whole = NODES[atoms[0][0]]
         is_low = len(atoms) == 1 and not constant and not atoms[0][1] and whole.kind is SUM
         if is_low and (min(length, whole.width) >= room or whole.is_exact and length == whole.width):
@@ -334,7 +333,7 @@ class Collected:
         self.runs.setdefault(key, []).append((first, length, constant, c))
 
     def joined(self):
-        """The parts, those of one run of bits joined; and whether one of them was cut to the bits that count."""
+        """Returns the parts, with runs of the same bits joined, and whether a part was cut to the bits that count."""
         out, is_cut, mask = [], False, ones(self.width)
         for key, runs in self.runs.items():
             for first, length, constant, c in joined_runs(runs, mask) if len(runs) > 1 else runs:
@@ -346,8 +345,8 @@ class Collected:
 
 
 def joined_runs(runs, mask):
-    """Runs of the same atoms (first, length, constant, coefficient), cut at their common ends, added up, and joined
-    where the coefficient goes on as a place value does."""
+    """Splits runs of the same atoms (first, length, constant, coefficient) at their common ends, adds them up, and
+    joins neighbours if the coefficient continues like a place value."""
     out = []
     for cluster in agreeing(sorted(runs)):
         ends = sorted({end for first, length, *_ in cluster for end in (first, first + length)})
@@ -373,8 +372,8 @@ def add_run(runs, start, length, constant, c, mask):
 
 
 def agreeing(runs):
-    """Clusters of runs that are xored with the same bits where they overlap."""
-    clusters = []   # [places, bits there, runs]
+    """Returns clusters of runs that are xored with the same bits where they overlap."""
+    clusters = []   # [mask, bits in it, runs]
     for run in runs:
         first, length, constant, _ = run
         here, bits = ones(length) << first, constant << first
@@ -393,7 +392,7 @@ def agreeing(runs):
 # ---- products
 
 def product_at(width, factors):
-    """The product of values mod 2 ^ width."""
+    """Returns the product of values modulo 2 ^ width."""
     constant, nodes = 1, []
     for x in factors:
         x = narrow(x, width)
@@ -407,7 +406,7 @@ def product_at(width, factors):
         out = product_of_nodes(width, nodes)
     elif constant & constant - 1:
         out = nodes[0]
-    else:                           # a shift keeps its bits together
+    else:                           # a shift keeps the bits together
         k = zeros_below(constant)
         return from_segments([(k, 0, ()), *bits_of(nodes[0], 0, min(nodes[0].width, width - k))])
     return out if constant == 1 else sum_at(width, 0, [(constant, out)])

@@ -1,4 +1,4 @@
-"""Shows the term of a request step by step, as each side computes it."""
+"""Prints the term of a request step by step, as each side computes it."""
 from . import definition, nodes, sides
 from .nodes import BITS, NODES, PRODUCT, SUM, SYMBOL, Node
 from .requests import Request
@@ -7,7 +7,7 @@ NAMES = {"m": "message", "s": "secret", "seed32": "seed", "seed64": "seed"}
 
 
 def bits_shown(x, first, length, names):
-    """Some bits of a node that isn't BITS."""
+    """Returns some bits of a node that isn't BITS, as text."""
     if x.kind is SYMBOL:
         name = NAMES[x.parts[0]]
         if x.width <= 64:
@@ -27,7 +27,7 @@ def segment_shown(segment, names):
 
 
 def shown(x, names):
-    """A node by the names of its parts."""
+    """Returns a node as text, with the names of its parts."""
     if x.kind is BITS:
         if len(x.parts) == 1:
             return segment_shown(x.parts[0], names)
@@ -51,7 +51,7 @@ def named(x, names):
 
 
 def steps(value):
-    """The lines of a value: each sum and product in it has a name."""
+    """Returns the lines that show a value: each sum and product in it has a name."""
     lines, names = [], {}
 
     def visit(x):
@@ -70,7 +70,7 @@ def steps(value):
 
 
 def show(module, hash_name, length):
-    """The lines of both sides, each from an empty table; with a seed, or the given secret."""
+    """Returns the lines of both sides, each from an empty table, with a symbolic seed."""
     out = []
     request = Request(hash_name, "seed", length)
     for side, ask in (("the definition", lambda: request.of_definition(definition.program().run())),

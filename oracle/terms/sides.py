@@ -1,4 +1,4 @@
-"""The reference's code as LLVM's text, and its result for a request."""
+"""The reference's code as LLVM code, and its result for a request."""
 import hashlib
 import os
 import shutil
@@ -15,15 +15,15 @@ from .machine import Module
 from .memory import Memory
 from .nodes import Node
 
-HEADERS = "/usr/include"          # where Debian's libxxhash-dev puts xxhash.h
+HEADERS = "/usr/include"          # folder of Debian's libxxhash-dev
 VECTORS = {"scalar": ["-DXXH_VECTOR=0"], "sse2": ["-DXXH_VECTOR=1"], "avx2": ["-DXXH_VECTOR=2", "-mavx2"]}
 CLANG = "clang-14"
 DEBIAN_PYTHON = "/usr/lib/python3/dist-packages"
-BESIDE = 512                      # bytes around a chunk in which a stream compares addresses
+BESIDE = 512                      # bytes around a chunk within which streams compare addresses
 
 
 def install(headers, with_solver):
-    """Installs the missing packages: clang, Debian's header if it is the requested one, and z3."""
+    """Installs missing packages: clang, Debian's header if it is used, and z3."""
     is_there = {CLANG: shutil.which(CLANG),
                 "libxxhash-dev": headers != HEADERS or os.path.exists(f"{HEADERS}/xxhash.h"),
                 "python3-z3": not with_solver or os.path.exists(f"{DEBIAN_PYTHON}/z3")}
@@ -31,8 +31,8 @@ def install(headers, with_solver):
 
 
 def llvm_text(headers=HEADERS, vector="scalar"):
-    """LLVM's text of the header in a folder, as clang's front end writes it without an optimiser. The header is
-    copied to a separate folder: clang ignores `-I /usr/include`, and would use the header of another folder."""
+    """Returns the LLVM code of the header in a folder, written by clang's front end without optimiser. The header is
+    copied to a separate folder: clang ignores `-I /usr/include`, and could use a header of another folder."""
     with tempfile.TemporaryDirectory(prefix="symbolic-") as room:
         out = f"{room}/reference.ll"
         shutil.copy(f"{headers}/xxhash.h", room)
@@ -47,7 +47,7 @@ def module(headers=HEADERS, vector="scalar"):
 
 
 def release_of(headers):
-    """The header's version, and its SHA-256."""
+    """Returns the header's version, and its SHA-256."""
     with open(f"{headers}/xxhash.h", "rb") as file:
         text = file.read()
     numbers = [line.split()[2].decode() for line in text.splitlines()
@@ -57,7 +57,7 @@ def release_of(headers):
 
 
 def of_reference(request, module):
-    """The library's result. The library tests whether a seed is 0: here it isn't, and with_seed_0 is that case."""
+    """Returns the library's result. Assumes that a symbolic seed is nonzero; with_seed_0 has that case."""
     seed, out = request.seed(), Memory("out", 16)
     arguments = [(request.message, 0), request.length]
     arguments += [(request.secret, 0), request.secret_length] if request.secret else []

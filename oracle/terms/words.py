@@ -1,4 +1,4 @@
-"""Operations, comparisons and rotations of words, which are numbers, polynomials or terms."""
+"""Operations, comparisons and rotations of words: numbers, polynomials or terms."""
 import contextlib
 
 from . import operations
@@ -10,7 +10,7 @@ from .rules import ones
 
 
 def words(on_numbers, on_terms, on_polynomials=None):
-    """An operation of a width. If a polynomial's result is none, it becomes a term."""
+    """Returns an operation modulo 2 ^ width. If the result on polynomials is undecided, it becomes a term."""
     def operation(width, a, b):
         if isinstance(a, int) and isinstance(b, int):
             return on_numbers(width, a, b) % (1 << width)
@@ -39,7 +39,7 @@ def xor(width, a, b):
 
 
 def low_bits(width, a, b):
-    """a and b, where one is 2 ^ k - 1."""
+    """Returns the bitwise and, if one operand is 2 ^ k - 1."""
     if isinstance(a, int):
         a, b = b, a
     if not isinstance(b, int) or b & b + 1:

@@ -1,14 +1,13 @@
-"""The streams of XXH3: reset, any number of updates of any lengths, digests of 64 and 128 bits, by induction over the
-updates.
+"""Proves the streams of XXH3 by induction over the updates: reset, any number of updates of any lengths, digests of 64
+and 128 bits.
 
-A state represents the first N = 64 K + f bytes of a message, K = q b + j stripes, j < q: q is the number of stripes
-in a block, f <= 256 the bytes in the buffer, f = 0 only where N = 0, and K is 0 or at least 4. Its accumulators are
-the definition's after K stripes, its counters j, f and N; its buffer begins with the f bytes behind the stripes, and
-where K > 0 the buffer's bytes from 192 on that aren't among these are those of the last stripe.
+A state represents the first N = 64 K + f bytes of a message, K = q b + j stripes, j < q. q is the number of stripes in
+a block, f <= 256 the number of buffered bytes, f = 0 only if N = 0, and K is 0 or at least 4. Its accumulators are the
+definition's after K stripes, its counters j, f and N. Its buffer begins with the last f bytes. If K > 0, the other
+bytes of the buffer from 192 on are the last stripe's.
 
-The secret lies outside of the state, with any length, or inside, where the one derived from a seed is stored. Its
-bytes don't matter to an update or a digest, so they are symbols: a secret derived from a seed and the default one
-are cases of these."""
+The secret is outside of the state, with any length, or inside, where one derived from a seed is stored. Its bytes are
+symbols: derived secrets and the default one are instances."""
 from . import definition, nodes
 from .definition import Bytes
 from .every_length import DEFAULT_STRIPES, SHORTEST_SECRET_STRIPES, Proof, cells_at, suppositions, xxh3_loop
@@ -21,7 +20,7 @@ from .operations import side_by_side
 from .polynomials import agree, at_most, divided, given, is_natural, is_same, minus, plus, Poly, times, variable
 from .sides import BESIDE
 
-LONGEST = (1 << 63) - 1      # bytes together: the header takes differences of addresses as signed numbers
+LONGEST = (1 << 63) - 1      # bytes of a stream: the header takes differences of addresses as signed numbers
 FIELDS = ["accumulators", "inside", "buffer", "buffered", "uses_seed", "so_far", "total", "per_block", "limit", "seed",
           "reserved", "outside"]
 BUFFER, STRIPE, LAST_STRIPE = 256, 64, 192
@@ -32,7 +31,7 @@ PLACES = "outside", "inside"
 
 
 class Xxh3Streams(Proof):
-    """The streams whose secret lies in a place; `q` stripes per block, any number from 9 on if it lies outside."""
+    """Proves streams with the secret `place`, "outside" or "inside", of the state. Outside, q >= 9 is symbolic."""
 
     def __init__(self, module, place):
         super().__init__(module)
@@ -41,11 +40,11 @@ class Xxh3Streams(Proof):
         self.size, self.place, self.source = layout.size(), place, Input("m", 0)
         self.message = Bytes(self.source, 0, 0)
         self.seed, self.uses_seed = seed_symbol("3-64"), symbol("uses_seed", 32)
-        self.is_0_8_1 = bool(loops_of(module.functions["@XXH3_update"]))   # 0.8.3 has none there
+        self.is_0_8_1 = bool(loops_of(module.functions["@XXH3_update"]))   # 0.8.3 has no loop there
         self.use_stripes(variable("q") if place == "outside" else DEFAULT_STRIPES)
 
     def use_stripes(self, q):
-        """From here on, a block has q stripes."""
+        """Sets q stripes per block."""
         u = variable("u") if self.place == "outside" else 0
         self.q, self.secret_length = q, plus(STRIPE, times(8, q), u)
         self.secret_source = Input("s", self.secret_length)
@@ -64,7 +63,7 @@ class Xxh3Streams(Proof):
         return plus(times(STRIPE, self.stripes(b, j)), f)
 
     def numbers(self, b, j, f):
-        """The content of a state except accumulators and buffer: (offset, size, value)."""
+        """Returns the content of a state, without accumulators and buffer: (offset, size, value)."""
         values = {"buffered": (4, f), "so_far": (8, j), "total": (8, self.bytes_of(b, j, f)), "per_block": (8, self.q),
                   "uses_seed": (4, self.uses_seed), "seed": (8, self.seed),
                   "limit": (8, minus(self.secret_length, STRIPE)),
@@ -72,7 +71,7 @@ class Xxh3Streams(Proof):
         return [(self.at[name], size, x) for name, (size, x) in values.items()]
 
     def run(self, low, high, place):
-        """Bytes low .. high - 1 of the buffer are those of the message from place + low on."""
+        """Returns a run: bytes low .. high - 1 of the buffer are the message's from place + low on."""
         first = self.at["buffer"]
         return plus(first, low), plus(first, high), self.source, minus(place, first)
 
@@ -80,7 +79,7 @@ class Xxh3Streams(Proof):
         return [] if is_same(f, 0) else [self.run(0, f, times(STRIPE, self.stripes(b, j)))]
 
     def before(self, b, j, low):
-        """The end of the last stripe, in the buffer from `low` on."""
+        """Returns the run of the end of the last stripe, in the buffer from `low` on."""
         return self.run(low, BUFFER, minus(times(STRIPE, self.stripes(b, j)), BUFFER))
 
     def secret_runs(self):
@@ -88,7 +87,7 @@ class Xxh3Streams(Proof):
         return [(first, first + DEFAULT_SECRET, self.secret_source, -first)] if self.place == "inside" else []
 
     def ends(self, b, j, f):
-        """The required contents of the buffer, by the possible cases of f: (facts, runs)."""
+        """Yields the required contents of the buffer, by the possible cases of f: (facts, runs)."""
         if not is_natural(minus(f, LAST_STRIPE + 1)):
             yield [at_most(f, LAST_STRIPE)], [*self.buffered(b, j, f), self.before(b, j, LAST_STRIPE)]
         if not is_natural(minus(LAST_STRIPE - 1, f)):
@@ -119,7 +118,7 @@ class Xxh3Streams(Proof):
     # ---- updates
 
     def one_update_for_both_widths(self):
-        """The update of 128 bits has the text of the one of 64, or calls it: a proof of one is a proof of both."""
+        """Checks that the update of 128 bits has the code of the one of 64, or calls it: then one proof covers both."""
         both = [self.module.functions[f"@XXH_INLINE_XXH3_{width}bits_update"] for width in WIDTHS]
         lines = [line for block in both[1].blocks.values() for line in block]
         called = [parts[0].value.name for _, operation, parts in lines if operation == "call"]
@@ -127,7 +126,7 @@ class Xxh3Streams(Proof):
             raise NotShown("two updates")
 
     def update(self, start, end, runs, expected, facts, blocks=None):
-        """By one chunk from (b, j, f) to (b, j, f). `blocks` returns the message on the loop over blocks."""
+        """Proves an update by one chunk from a state (b, j, f) to another. `blocks` describes the loop over blocks."""
         begun, ended = self.bytes_of(*start), self.bytes_of(*end)
         length, rest = minus(ended, begun), variable("rest")
         self.source.length = self.message.end = plus(ended, rest)
@@ -153,14 +152,14 @@ class Xxh3Streams(Proof):
             self.texts = definition.program().run(traced=suppositions)
 
     def expect_some_stripes(self, start, end):
-        """If stripes were taken, then at least four in all."""
+        """Checks that at least four stripes were taken, if any."""
         k = self.stripes(*end[:2])
         if not is_same(k, self.stripes(*start[:2])) and not is_natural(minus(k, 4)):
             raise NotShown("fewer than four stripes are taken")
 
     def of_stripes(self, function, registers):
-        """The loop over stripes, if their number isn't a number. To a block's end, its last turn includes the
-        scramble."""
+        """Describes the loop over stripes if their number is symbolic. At a block's end, the last iteration includes
+        the scramble."""
         count = registers.get("%nbStripes")
         if not isinstance(count, Poly):
             return None
@@ -173,7 +172,7 @@ class Xxh3Streams(Proof):
                          lambda k: plus(first, k))
 
     def loop(self, name, last, place, then=None):
-        """A loop of an update: after k turns the state's accumulators are those after place(k) stripes."""
+        """Describes a loop of an update: after k iterations the accumulators are the words after place(k) stripes."""
         def say(function, registers):
             memory = self.module.live[len(self.module.globals)]
             cells = cells_at((memory, self.at["accumulators"]))
@@ -196,7 +195,7 @@ class Xxh3Streams(Proof):
             self.by_buffers_over_an_end()
 
     def small_pieces(self):
-        """Chunks that fit in the buffer."""
+        """Proves chunks that fit in the buffer."""
         b, j, f, L = (variable(name) for name in "bjfL")
         after = plus(f, L)
         fits = at_most(after, BUFFER)
@@ -208,7 +207,7 @@ class Xxh3Streams(Proof):
             self.update(start, end, runs, self.ends(*end), [*there, of_f])
 
     def starts(self):
-        """The start of an update that takes stripes: the state, the facts, and the block and stripe after the
+        """Yields the states before an update that takes stripes, with facts, and the block and stripe after the
         buffer."""
         b, j, f = (variable(name) for name in "bjf")
         yield (0, 0, 0), [], 0, 0
@@ -218,23 +217,23 @@ class Xxh3Streams(Proof):
             yield (b, minus(self.q, i), f), there, plus(b, 1), 4 - i
 
     def rest_in_buffer(self, start, facts, b, j):
-        """The buffer's stripes are processed, and the rest of the chunk is stored there."""
+        """Proves updates that take the buffer's stripes, and store the rest of the chunk in the buffer."""
         R = variable("R")
         if not is_same(start[2], 0):
             self.update(start, (b, j, R), self.buffered(*start), self.ends(b, j, R),
                         [*facts, minus(R, 1), at_most(R, BUFFER)])
 
-    # ---- chunks after which more is left than the buffer takes: release 0.8.3
+    # ---- chunks of which more is left than fits in the buffer: release 0.8.3
 
     def within_a_block(self, start, facts, b, j):
-        """S stripes after the buffer, which end within the block, and 1 + h bytes."""
+        """Proves S stripes after the buffer, which end within the block, and 1 + h bytes."""
         S, h = variable("S"), variable("h")
         end = b, plus(j, S), plus(1, h)
         more = [minus(S, 4), at_most(h, 63), minus(minus(self.q, 1), plus(j, S))]
         self.update(start, end, self.buffered(*start), self.ends(*end), [*facts, *more])
 
     def to_ends_of_blocks(self, start, facts, b, j):
-        """To the block's end, D blocks, e stripes, and 1 + h bytes. The loop's first turn goes to the block's end."""
+        """Proves stripes to the block's end, D blocks, e stripes, 1 + h bytes. The first turn ends the block."""
         h, e, D = (variable(name) for name in ("h", "e", "D"))
         for blocks, of_blocks in ((0, []), (D, [minus(D, 1)])):
             say = self.loop("an update's blocks", minus(D, 1), lambda k: times(self.q, plus(b, 1, k)))
@@ -247,7 +246,7 @@ class Xxh3Streams(Proof):
     # ---- the same: release 0.8.1
 
     def whole_blocks(self, start, facts, b, j):
-        """At least a block after the buffer: to the block's end, D blocks, e stripes, and 1 + h bytes."""
+        """Proves at least a block after the buffer: to the block's end, D blocks, e stripes, and 1 + h bytes."""
         h, e, D = (variable(name) for name in ("h", "e", "D"))
         S = plus(minus(self.q, j), times(self.q, D), e)
         end = plus(b, 1, D), e, plus(1, h)
@@ -256,12 +255,12 @@ class Xxh3Streams(Proof):
                     self.loop("an update's blocks", D, lambda k: times(self.q, plus(b, 1, k))))
 
     def of_buffers(self, T):
-        """The facts where T times the buffer's length is taken, and h bytes are left: at most a block together."""
+        """Returns the facts if T times the buffer's length is taken, and h bytes are left: at most a block together."""
         h = variable("h")
         return [minus(h, 1), at_most(h, BUFFER), minus(times(STRIPE, self.q), plus(times(BUFFER, T), h))]
 
     def by_buffers_within_a_block(self, start, facts, b, j):
-        """T times four stripes, which end within the block."""
+        """Proves T times four stripes, which end within the block."""
         T, h = variable("T"), variable("h")
         end = b, plus(j, times(4, T)), h
         more = [*self.of_buffers(T), minus(T, 1), minus(minus(self.q, 1), end[1])]
@@ -269,7 +268,7 @@ class Xxh3Streams(Proof):
                     self.loop("four stripes", minus(T, 1), lambda k: plus(self.stripes(b, j), times(4, k))))
 
     def by_buffers_over_an_end(self):
-        """K times four stripes within the block, four of which c end it, and M times four stripes of the next."""
+        """Proves 4 K stripes in a block, four of which c end it, and 4 M stripes of the next block."""
         M, h, whole = variable("M"), variable("h"), self.q
         for start, facts, b, j, K, c, goes_on in self.starts_before_an_end():
             first = self.stripes(b, j)
@@ -283,24 +282,24 @@ class Xxh3Streams(Proof):
         self.use_stripes(whole)
 
     def starts_before_an_end(self):
-        """As `starts`, where K times four stripes and c more, c from 1 to 4, are left of the block; and whether four
-        stripes and more can be left then."""
+        """Yields states like `starts`, with 4 K + c stripes, c from 1 to 4, left of the block, and whether four or more
+        stripes can be left afterwards."""
         b, f, K, whole = variable("b"), variable("f"), variable("K"), self.q
         there = [minus(f, 1), at_most(f, BUFFER)]
         for c in range(1, 5):
             j = minus(whole, plus(times(4, K), c))
             yield (b, minus(j, 4), f), [*there, minus(j, 4)], b, j, K, c, True
-        if not isinstance(whole, Poly) and whole % 4 == 0:   # 4 - i stripes, 4 K and c are no block for i < c <= 4
+        if not isinstance(whole, Poly) and whole % 4 == 0:   # for i < c <= 4, 4 - i stripes, 4 K and c make no block
             return
         for i in range(1, 5):
-            for c in range(i + 1, 5):       # else a block or more would be taken, as with four stripes more
+            for c in range(i + 1, 5):       # otherwise a block or more is taken
                 self.use_stripes(plus(times(4, K), 4 - i + c))
                 yield (b, minus(self.q, i), f), there, plus(b, 1), 4 - i, K, c, False
 
     # ---- reset and digest
 
     def update_of_nothing(self):
-        """A null chunk changes nothing."""
+        """Checks that a null chunk changes nothing."""
         self.source.length = self.message.end = 3
         for width in WIDTHS:
             with given(*self.facts):
@@ -313,7 +312,7 @@ class Xxh3Streams(Proof):
             self.cases += 1
 
     def digests(self, way):
-        """Of a state that was reset with a secret, with a seed, with both, or with a secret and the seed 0."""
+        """Proves digests after a reset with a secret, with a seed, with both, or with a secret and the seed 0."""
         self.uses_seed, self.seed = int(way != "secret"), seed_symbol("3-64") if way in ("seed", "both") else 0
         b, j, h = (variable(name) for name in "bjh")
         for n in range(241):
@@ -347,15 +346,15 @@ class Xxh3Streams(Proof):
                     raise NotShown("a digest changes the state")
 
     def effective(self, way, width):
-        """The effective secret. In release 0.8.1 a digest of 128 bits tests whether the seed is 0, and not whether
-        one was given: the one place where its streams differ from its one-shots (docs/C.md)."""
+        """Returns the effective secret. In release 0.8.1 a digest of 128 bits tests if the seed is 0, and not if one
+        was given: the only difference between its streams and its one-shots (docs/C.md)."""
         if way == "secret" or way == "both 0" and width == "128" and self.is_0_8_1:
             return self.secret
         return self.texts["effective_secret"](self.secret, self.message)
 
     def resets(self):
-        """Each way to reset gives a state that represents no byte. A seed's secret is derived, but from a state that
-        has it; and the seed 0 is no seed."""
+        """Proves that each reset creates a state of 0 bytes. A seed's secret is derived, unless the state has it
+        already. The seed 0 counts as no seed."""
         seed, default = seed_symbol("3-64"), (self.module.globals["@XXH3_kSecret"], 0)
         if [default[0].load(k, 1) for k in range(DEFAULT_SECRET)] != list(self.texts["default_secret"]()) \
                 or self.texts["derived_secret"](0) != self.texts["default_secret"]():
@@ -374,7 +373,7 @@ class Xxh3Streams(Proof):
             self.reset(f"{width}bits_reset_withSeed", (seed,), 1, seed, 0, DEFAULT_SECRET, seed)
 
     def reset(self, name, arguments, uses_seed, seed, outside, secret_length, seed_before=0):
-        """From a state of that seed, with a secret inside."""
+        """Proves a reset of a state with the seed `seed_before`, and a secret inside."""
         derived = [self.texts["word64"](self.texts["derived_secret"](seed), 8 * i) for i in range(DEFAULT_SECRET // 8)]
         inside = [(self.at["inside"] + 8 * i, 8, x) for i, x in enumerate(derived)]
         memory = Memory("state", self.size, [(self.at["seed"], 8, seed_before), (self.at["outside"], 8, 0)],
@@ -395,7 +394,7 @@ class Xxh3Streams(Proof):
         self.cases += 1
 
     def reset_numbers(self, outside, secret_length):
-        """The content of a state that represents no byte, with a secret that lies outside, or inside where that is 0."""
+        """Returns the content of an empty state, whose secret is at `outside`, or inside if that is 0."""
         others = {"outside": outside, "limit": minus(secret_length, STRIPE),
                   "per_block": divided(minus(secret_length, STRIPE), 8)[0]}
         kept = [cell for cell in self.numbers(0, 0, 0) if cell[0] not in [self.at[name] for name in others]]
@@ -404,7 +403,7 @@ class Xxh3Streams(Proof):
 
 
 def at_second_time(say):
-    """How to prove a loop when its head is reached again, in one call of its function."""
+    """Returns a function that describes a loop like `say` when its head is reached again in one call."""
     seen = []
 
     def again(function, registers):
@@ -416,7 +415,7 @@ def at_second_time(say):
 
 
 def show(module, place):
-    """Proves the streams of XXH3 whose secret lies in a place, or raises; returns the proof."""
+    """Proves the streams of XXH3 whose secret is outside or inside of the state. Returns the proof, or raises."""
     streams = Xxh3Streams(module, place)
     streams.resets()
     streams.one_update_for_both_widths()

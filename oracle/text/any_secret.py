@@ -1,7 +1,6 @@
-"""One-shots of XXH3 above 240 bytes with a secret of any length, by induction over the loops: 64 (q B + J) + t + 1
-bytes, q stripes in a block, B blocks, J below q, and t below 64; a secret of 64 + 8 q + u bytes, u below 8. The
-sources have separate paths for q = 16 (every_length.py has these), from 31,744 bytes on, and where the number of
-stripes reaches 2 ^ 32."""
+"""Proves the one-shots of XXH3 above 240 bytes with a secret of any length, by induction over the loops. The input has
+64 (q B + J) + t + 1 bytes: q stripes per block, B blocks, J < q, t < 64. The secret has 64 + 8 q + u bytes, u < 8. The
+sources have separate paths for q = 16 (see every_length.py), from 31,744 bytes on, and from 2 ^ 32 stripes on."""
 import collections
 import functools
 
@@ -15,7 +14,7 @@ from .stripes import Part
 from .values import address
 from .xxh3_updates import LEAST, TAKE, Xxh3Updates
 
-# A case: B, J, t, and facts.
+# A case: B, J, t, and facts about them.
 Case = collections.namedtuple("Case", "blocks more rest facts")
 
 
@@ -24,7 +23,7 @@ class AnySecret(Xxh3Updates):
         return plus(times(64, self.stripes((case.blocks, case.more))), case.rest, 1)
 
     def cases(self):
-        """Any q except DERIVED."""
+        """Yields the cases for each q except DERIVED."""
         q, B, J, t = (variable(name) for name in "qBJt")
         below, above = [minus(q, LEAST), at_most(q, DERIVED - 1)], [minus(q, DERIVED + 1)]
         of_t, of_J = at_most(t, 63), minus(minus(q, 1), J)
@@ -33,7 +32,7 @@ class AnySecret(Xxh3Updates):
             yield Case(0, J, t, [*of_q, of_t, of_J, minus(J, 4), self.near(0, J)])
             for more, facts in ((0, []), (J, [of_J, minus(J, 1)])):
                 here, K = [*of_q, of_t, *facts, minus(B, 1)], self.stripes((B, more))
-                whole = minus(times(q, B), DERIVED)        # more than half of K
+                whole = minus(times(q, B), DERIVED)        # true for more than half of K
                 yield Case(B, more, t, [*here, self.near(B, more)])
                 yield Case(B, more, t, [*here, *self.far(B, more), whole, at_most(K, MANY - 1)])
                 yield Case(B, more, t, [*here, minus(K, MANY), whole])

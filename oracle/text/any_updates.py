@@ -1,12 +1,11 @@
-"""The streams of XXH32 and XXH64 of an assembly source: reset, any number of updates of any lengths, digest, by
-induction over the updates, like terms/plain_streams.py for the reference.
+"""Proves the streams of XXH32 and XXH64 of an assembly source by induction over the updates: a reset, any number of
+updates of any lengths, a digest. terms/plain_streams.py does this for the reference.
 
-A state represents the first N bytes of a message, N = stripe * a + r, when its total is N, its accumulators are the
-definition's after a stripes, its marked word is the mark and r, and its buffer begins with the r bytes behind the
-stripes; all else in it may be anything. A reset gives a state that represents no byte. An update leads from one that
-represents stripe * a + r bytes to one for so many more, where r, the bytes that are left and the stripes mod those
-that a text takes at once are numbers, and all else may be any. A digest of one is the definition's value, and changes
-nothing."""
+A state represents the first N = stripe * a + r bytes of a message if its total is N, its accumulators are the
+definition's after a stripes, its marked word is the mark plus r, and its buffer begins with the last r bytes. All other
+bytes are unconstrained. A reset creates a state that represents 0 bytes. An update leads from a state that represents N
+bytes to one that represents N plus its length. Its r, its tail and its stripes modulo the unrolled loop's are numbers;
+all else is symbolic. A digest returns the definition's value and leaves the state unchanged."""
 import collections
 
 from terms import definition, nodes
@@ -24,13 +23,13 @@ from .every_length import LIMIT, UNROLLED
 from .induction import Family, Loops
 from .memory import Words
 
-# Where the parts of a state lie: the accumulators, the seed, the marked word, the total, the buffer; and the mark.
+# Offsets in a state of the accumulators, the seed, the marked word, the total and the buffer; and the mark.
 Layout = collections.namedtuple("Layout", "accumulators seed marked total buffer mark")
 LAYOUTS = {"32": Layout((0, 8, 16, 28), 4, 12, 20, 32, 0x32335858),
            "64": Layout((0, 16, 32, 48), 8, 40, 24, 56, 0x34365858)}
 
-# An update: r bytes wait; it fills their stripe, takes `further` stripes, which aren't a number with `more`, and leaves
-# s; or it fills no stripe.
+# An update of a state with r buffered bytes. It fills their stripe or not, takes `further` stripes, plus any number of
+# turns of the unrolled loop with `more`, and leaves s bytes in the buffer.
 Update = collections.namedtuple("Update", "r s fills further more")
 
 
@@ -44,14 +43,14 @@ def updates(hash_name):
 
 
 def length_of(one, hash_name, turns):
-    """The bytes of an update's chunk."""
+    """Returns the length of an update's chunk, with `turns` turns of the unrolled loop."""
     stripe = int(hash_name) // 2
     whole = int(one.fills) + one.further + (UNROLLED[hash_name] * turns if one.more else 0)
     return stripe * whole + one.s - one.r
 
 
 def left_out(hash_name):
-    """The chunks (r, length) that no update has: of the first lengths, to which each turn more adds as much."""
+    """Returns the chunks (r, length) that no update covers, for lengths up to 3 turns of the unrolled loop."""
     most = int(hash_name) // 2 * UNROLLED[hash_name]
     found = {(one.r, length_of(one, hash_name, turns)) for one in updates(hash_name) for turns in range(1, 4)}
     return sorted({(r, length) for r in range(int(hash_name) // 2) for length in range(3 * most)} - found)
@@ -68,7 +67,7 @@ class AnyUpdates:
         self.read()
 
     def read(self):
-        """The definition's texts."""
+        """Runs the definition's program on symbols."""
         suppositions.clear()
         self.seed = seed_symbol(self.hash_name)
         self.texts = definition.program().run(traced=suppositions)
@@ -76,7 +75,7 @@ class AnyUpdates:
     # ---- states
 
     def begin(self, n):
-        """A message of n bytes and more."""
+        """Sets a symbolic message of n or more bytes."""
         self.source = Input("m", plus(n, variable("rest")))
         self.message = Bytes(self.source, 0, self.source.length)
 
@@ -84,7 +83,7 @@ class AnyUpdates:
         return self.texts[f"Xxh{self.width}.accumulator"](self.seed, self.message, j, k)
 
     def parts(self, a, r, accumulators):
-        """The content of a state that represents stripe * a + r bytes: (offset, size, value)."""
+        """Yields the content of a state that represents stripe * a + r bytes: (offset, size, value)."""
         word, n = self.width // 8, plus(times(self.stripe, a), r)
         yield from ((at, word, x) for at, x in zip(self.at.accumulators, accumulators, strict=True))
         yield from ((self.at.seed, word, self.seed), (self.at.marked, 4, self.at.mark + r), (self.at.total, 8, n))
@@ -92,7 +91,7 @@ class AnyUpdates:
             yield self.at.buffer + k, 1, self.source.load(plus(times(self.stripe, a), k), 1)
 
     def state(self, a, r):
-        """One that represents stripe * a + r bytes, whose accumulators are symbols, unless there was no stripe."""
+        """Returns a state that represents stripe * a + r bytes. Its accumulators are symbols if a isn't 0."""
         suppositions.clear()
         accumulators = [self.accumulator(j, 0) for j in range(4)]
         if not is_same_number(a, 0):
@@ -112,14 +111,14 @@ class AnyUpdates:
                 raise NotShown(f"{what}: the state at {at} is {found} and not {x}, of {self.stripe} * ({a}) + {r}")
 
     def call(self, what, state, *rest):
-        """Calls of the library: those that reset, update or digest a state."""
+        """Calls a function of the library that resets, updates or digests `state`."""
         self.cpu.not_zero, self.cpu.live = [], [state]
         return what(self.cpu, *rest)
 
-    # ---- the three parts
+    # ---- the three steps of the induction
 
     def reset(self):
-        """Resets memory that holds anything."""
+        """Proves a reset of memory with any content."""
         self.begin(0)
         with given(at_most(self.source.length, LONGEST)):
             state = streams.new_state(self.cpu, self.hash_name)
@@ -127,7 +126,7 @@ class AnyUpdates:
             self.expect_state("a reset", state, 0, 0)
 
     def update(self, one):
-        """Updates from stripe * a + r bytes, a any number, by one chunk."""
+        """Proves an update by one chunk of a state that represents stripe * a + r bytes, for any a."""
         a = variable("a")
         further = plus(one.further, times(UNROLLED[self.hash_name], variable("d")) if one.more else 0)
         b = plus(a, int(one.fills), further)
@@ -154,7 +153,7 @@ class AnyUpdates:
                       lambda k, values: suppositions.suppose(after(k), values))
 
     def digest(self, a, r):
-        """Digests a state that represents the whole message."""
+        """Proves the digest of a state that represents the whole message."""
         n = plus(times(self.stripe, a), r)
         self.source = Input("m", n)
         self.message = Bytes(self.source, 0, n)

@@ -1,5 +1,5 @@
-"""The exports that are neither a one-shot nor a stream: canonical forms, comparisons, copies, generated secrets,
-refusals. Each function runs a processor, returns its number of cases, and raises on anything else."""
+"""Tests the exports other than one-shots and streams: canonical forms, comparisons, copies, generated secrets,
+refusals. Each function runs a processor, returns its number of cases, and raises an exception on any mismatch."""
 import itertools
 import random
 
@@ -17,10 +17,10 @@ from .streams import ERROR, OK, contents, digest, expect_answer, expect_same, ne
 from .values import address, arithmetic, bits, low
 
 WIDTHS = {"XXH32": 32, "XXH64": 64, "XXH128": 128}
-SHORTEST, LONGEST_KEPT = 136, 256       # bytes of a secret: that a call takes, that a state keeps
-# Of a state of XXH3: where parts of it lie, and the bytes of its buffer.
+SHORTEST, LONGEST_KEPT = 136, 256       # bytes of a secret: the minimum, and the longest that a state stores
+# Offsets in a state of XXH3, and the size of its buffer.
 PLACE, COUNTED, WAITING, TOTAL, SECRET_LENGTH, BUFFERED = 0x40, 0x88, 0x290, 0x298, 0x2b8, 512
-# A message and a secret in one place: where each begins, and its bytes.
+# A message and a secret in one memory object: the offset and length of each.
 ONE_PLACE = [(0, 136, 0, 136), (0, 300, 0, 192), (64, 240, 0, 136), (0, 1100, 8, 200), (1, 17, 0, 136), (130, 16, 0, 136),
              (100, 700, 36, 143), (0, 129, 128, 136)]
 MOST_NODES = 500_000                    # between two cases
@@ -35,12 +35,12 @@ def expect(what, ours, theirs):
 # ---- canonical forms and comparisons
 
 def words_of(width, name):
-    """A hash in the registers that pass it: one of 64 bits, or two."""
+    """Returns a symbolic hash as the registers that pass it: one of up to 64 bits, or two."""
     return [(symbol(f"{name}{k} of {width}", min(width, 64)), min(width, 64)) for k in range(max(1, width // 64))]
 
 
 def canonical_forms(cpu):
-    """Converts a hash to bytes, the highest first, and back. The bytes have no alignment."""
+    """Tests the conversion of a hash to big-endian bytes and back. The bytes are unaligned."""
     for name, width in WIDTHS.items():
         words, size = words_of(width, "hash"), width // 8
         of_hash = Words("canonical", size, alignment=1)
@@ -57,7 +57,7 @@ def canonical_forms(cpu):
 
 
 def is_equal(cpu):
-    """Tests equal hashes, and hashes that differ in the low word, in the high one, in both."""
+    """Tests equal hashes, and hashes that differ in the low word, in the high word, or in both."""
     low_word, high_word = symbol("low", 64), symbol("high", 64)
     for differs in ((), (0,), (1,), (0, 1)):
         cpu.not_zero = [symbol(f"difference{k}", 64) for k in differs]
@@ -69,7 +69,7 @@ def is_equal(cpu):
 
 
 def compare(cpu):
-    """Tests each word of the first hash above, at or below that of the second."""
+    """Tests each word of the first hash above, equal to, and below the second hash's word."""
     order = {1: 1, 0: 0, -1: LIMITS[32]}
     for high in order:
         for under in order:
@@ -86,7 +86,7 @@ def compare(cpu):
 
 
 def compare_in_one_place(cpu):
-    """Tests two hashes at one place, and two with a common word: the order of three words, by two steps."""
+    """Tests a hash against itself, and two hashes that overlap in one word: the order of three words, in two steps."""
     order, count = {1: 1, 0: 0, -1: LIMITS[32]}, 0
     for above, below in itertools.product(order, order):
         a, d, e = (variable(name) for name in ("a", "d", "e"))
@@ -111,7 +111,7 @@ def version(cpu):
 # ---- states
 
 def copies(cpu):
-    """Tests that a copy has all bytes of its original, which stays unchanged."""
+    """Tests that a copy has all bytes of its original, and that the original is unchanged."""
     for hash_name in ("32", "64", "3-64"):
         original, other = new_state(cpu, hash_name), new_state(cpu, hash_name)
         other.name, before = "copy", contents(original)
@@ -122,7 +122,7 @@ def copies(cpu):
 
 
 def marked(cpu, hash_name):
-    """A state whose mark `forget` has removed: the state, the places of the removed words, and their values."""
+    """Returns a state whose mark `forget` has removed, the offsets of the removed words, and their values."""
     state = new_state(cpu, hash_name)
     expect_answer(reset(cpu, Request(hash_name, "seed" if one_shots.is_plain(hash_name) else "default", 0), state), OK)
     before = contents(state, 4)
@@ -144,7 +144,7 @@ def forgotten(cpu):
 
 
 def refused(cpu, hash_name, state):
-    """Tests an update and a digest of memory that is no state: an error, 0, and nothing changed."""
+    """Tests that an update and a digest of memory without a valid state return an error and 0, and change nothing."""
     before = contents(state)
     for piece in (Input("m", 5), Input("m", 700), None):
         expect_answer(update(cpu, hash_name, state, piece), ERROR)
@@ -153,7 +153,7 @@ def refused(cpu, hash_name, state):
 
 
 def without_mark(cpu):
-    """Memory that holds anything, and in the mark's place any word that isn't a mark: all below the first mark, and
+    """Tests memory with any content, and any word in the mark's place that isn't a mark: all below the first mark, and
     all above the last."""
     count = 0
     for hash_name, marks in (("32", 16), ("64", 32), ("3-64", 1), ("3-128", 1)):
@@ -171,8 +171,8 @@ def without_mark(cpu):
 
 
 def out_of_range(cpu):
-    """States of XXH3 with a mark, and a part that no call leaves: a secret that is too short or too long, more bytes
-    that wait than there is room for, none after some came, a place behind the secret's end."""
+    """Tests states of XXH3 with a mark and a field that no call leaves: a secret that is too short or too long, more
+    buffered bytes than the buffer holds, none although the total isn't 0, a position behind the secret's end."""
     v, count = variable("v"), 0
     for hash_name in ("3-64", "3-128"):
         for at, low_end, most in ((SECRET_LENGTH, 0, SHORTEST - 1), (SECRET_LENGTH, LONGEST_KEPT + 1, LIMITS[64]),
@@ -187,7 +187,7 @@ def out_of_range(cpu):
 
 
 def counters_stay(cpu):
-    """Tests that a counter of bytes or of stripes that is 2 ^ 64 - 1 stays so."""
+    """Tests that a counter of bytes or of stripes saturates at 2 ^ 64 - 1."""
     count, most = 0, LIMITS[64]
     for hash_name, places in (("32", [0x14]), ("64", [0x18]), ("3-64", [TOTAL, COUNTED]), ("3-128", [TOTAL, COUNTED])):
         for n in (5, 40, 200, 600, 3000):
@@ -205,7 +205,7 @@ def counters_stay(cpu):
 
 
 def refused_resets(cpu):
-    """Tests secrets that a state doesn't accept: an error, and an unchanged state; null too, if the length is 0."""
+    """Tests that a reset refuses a secret of an invalid length. The state stays unchanged."""
     count = 0
     for hash_name in ("3-64", "3-128"):
         for kind in ("secret", "both"):
@@ -221,8 +221,8 @@ def refused_resets(cpu):
 # ---- secrets
 
 def short_secrets(cpu, hash_name, lengths):
-    """A secret that is too short gives 0 where it is needed, which is at each length, or above 240 bytes where there
-    is a seed too; up to there the seed's value. A null secret is one of no bytes."""
+    """Tests one-shots with a secret that is too short. The result is 0 if the secret is needed: always without a seed,
+    and above 240 bytes with a seed. Otherwise it is the seed's hash."""
     entries, count = definition.program().run(), 0
     for n in lengths:
         if len(nodes.NODES) > MOST_NODES:
@@ -239,7 +239,7 @@ def short_secrets(cpu, hash_name, lengths):
 
 
 def null_pointers(cpu):
-    """Tests that an input and a secret of no bytes may be null."""
+    """Tests that an input and a secret of length 0 may be null."""
     entries, count = definition.program().run(), 0
     for hash_name, kind in (("32", "seed"), ("64", "seed"), *((name, kind) for name in ("3-64", "3-128")
                                                                 for kind in one_shots.WAYS)):
@@ -255,8 +255,8 @@ def null_pointers(cpu):
 
 
 def in_one_place(cpu):
-    """One-shots of a message and a secret that have bytes in common, or all, of numbers. That no branch depends on where they
-    lie the rows of symbols show."""
+    """Tests one-shots of concrete messages and secrets that overlap or are equal. The rows with symbols show that no
+    branch depends on their addresses."""
     entries, count, draw = definition.program().run(), 0, random.Random(3)
     cpu.not_zero = []
     for hash_name, kind, (first, n, own, size) in itertools.product(("3-64", "3-128"), ("secret", "both"), ONE_PLACE):
@@ -274,7 +274,7 @@ def in_one_place(cpu):
 
 
 def updates_of_nothing(cpu):
-    """Tests that a null chunk of no bytes, before, between and after others, leaves a state's value unchanged."""
+    """Tests that a null chunk of length 0, before, between and after other chunks, leaves the digest unchanged."""
     entries, count = definition.program().run(), 0
     for hash_name, kind in (("32", "seed"), ("64", "seed"), ("3-64", "default"), ("3-128", "default")):
         for n in (0, 5, 33, 300, 700):
@@ -289,7 +289,7 @@ def updates_of_nothing(cpu):
 
 
 def derived_secret(cpu):
-    """The 192 bytes of the secret derived from a seed."""
+    """Tests the 192 bytes of the secret derived from a seed."""
     entries = definition.program().run()
     for seed in (symbol("seed64", 64), 0):
         cpu.not_zero = []
@@ -301,7 +301,7 @@ def derived_secret(cpu):
 
 
 def made_secrets(cpu, asked):
-    """Secrets of some lengths, of custom seeds of some lengths; too short ones are refused, and nothing is written."""
+    """Tests secrets of given sizes, generated from seeds of given lengths. A refusal of a small size writes nothing."""
     program = definition.program(("twox_c",), ("generated_secret",))
     entries = program.run()
     for size, length in asked:
@@ -322,7 +322,7 @@ def some_secrets(cpu):
     return made_secrets(cpu, [(SHORTEST - 1, 3), (SHORTEST, 0), (143, 3), (200, 17), (256, 241)])
 
 
-# A row's title, the least number of its cases, and what is asked: of calls that take no message, and of those that take one.
+# Titles, minimum numbers of cases, and test functions: of calls that take no message, and of calls that take one.
 WITHOUT_MESSAGE = [("canonical forms and back", 6, canonical_forms), ("equal hashes", 4, is_equal),
                    ("the order of hashes", 9, compare), ("the order of hashes in one place", 36, compare_in_one_place),
                    ("the version", 1, version), ("copies of states", 3, copies),

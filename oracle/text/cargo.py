@@ -1,7 +1,7 @@
-"""The assembly sources of the cargo crate, rust/asm, and how their exports are called, as in
-rust/src/kernels/assembly.rs. The number of the interface and the instruction set are left out of the names here.
+"""Models the assembly sources of the cargo crate, rust/asm, and calls of their exports as in
+rust/src/kernels/assembly.rs. Names here omit the interface's number and the instruction set.
 
-Each call of an XXH3 stream is given its secret. The stream begins with the accumulators, like a C state."""
+Each call of an XXH3 stream takes the secret as an argument. The stream begins with the accumulators, like a C state."""
 import os
 import re
 
@@ -18,22 +18,22 @@ from .values import address, joined, low
 
 FOLDER = os.path.join(TOP, "rust", "asm")
 NAMED = re.compile(r"twox_rust_\d+_(\w+?)(?:_v[34])?|(.+)\.i\d+(?:_v[34])?|twox_rust_(interface)(?:_v[34])?")
-DONE, TOO_SHORT, NO_STREAM, FEW = 0, 1, 2, 3            # codes
+DONE, TOO_SHORT, NO_STREAM, FEW = 0, 1, 2, 3            # return codes
 SHORTEST = 136                    # bytes of a secret
-LONGEST_WITHOUT = 240             # bytes of a message that needs no secret where there is a seed
+LONGEST_WITHOUT = 240             # bytes of a message that needs no secret if there is a seed
 
 
 class CargoProgram(Program):
-    """The assembly source of an instruction set, from the file of that name."""
+    """The assembly source of an instruction set, read from the file of that name."""
 
-    EXPORT = WEAK, HIDDEN         # versions of the crate that have one interface share the code of one of them
+    EXPORT = WEAK, HIDDEN         # versions of the crate with the same interface share one copy of the code
 
     def __init__(self, name, path):
         self.name = name
         super().__init__(path)
 
     def all_names(self):
-        """The names in the source."""
+        """Returns all symbol names in the source."""
         return {symbol.name for symbol in self.object.symbols}
 
     def names(self):
@@ -42,7 +42,7 @@ class CargoProgram(Program):
 
     @staticmethod
     def named(functions):
-        """The functions by the names used here."""
+        """Maps the functions by their names here."""
         return {plain(name): place for name, place in functions.items()}
 
     @staticmethod
@@ -67,7 +67,7 @@ class CargoProcessor(Processor):
 
 
 class Value(Words):
-    """The place where a call writes a value of 128 bits, which holds anything before."""
+    """Memory object for a call's 128-bit result, with any content before the call."""
 
     def __init__(self, cpu):
         self.before = [cpu.fresh("a value") for _ in range(2)]
@@ -78,8 +78,8 @@ class Value(Words):
 
 
 def call_into(cpu, hash_name, name, *arguments):
-    """(code, value) of a call that may refuse: of 64 bits both are in registers; one of 128 bits is written, and a
-    refusal writes nothing."""
+    """Returns (code, value) of a call that may be refused. A 64-bit value is returned in a register. A 128-bit value is
+    written to memory, and a refusal writes nothing."""
     if hash_name != "3-128":
         code, value = cpu.call(name, *arguments)
         return low(code, 32), value
@@ -107,12 +107,12 @@ class ForCargo:
 
     @staticmethod
     def has(request):
-        """True if the source has a call for a request: it hashes long inputs with a secret."""
+        """True if the source has a call for a request: a long input with a secret."""
         return request.kind == "secret" and request.cuts is None and request.length > LONGEST_WITHOUT
 
     @staticmethod
     def one_shot(cpu, hash_name, kind, *arguments):
-        """The hash; or 0, if a secret must be refused, and is."""
+        """Returns the hash, or 0 if the secret is too short and the call refuses it."""
         if kind != "secret":
             raise Unsupported(f"no export hashes with {kind}")
         secret_length = arguments[3]

@@ -1,5 +1,4 @@
-"""The exports of the cargo crate's sources that neither hash a long input nor take a chunk: refusals. calls.py has
-those of the C library."""
+"""Tests the refusals of the cargo crate's exports. calls.py tests those of the C library."""
 import re
 
 from terms.memory import Input
@@ -15,7 +14,7 @@ HASHES = "3-64", "3-128"
 
 
 def interface(cpu):
-    """The number in the names of the exports."""
+    """Tests that `interface` returns the number in the exports' names."""
     names = cpu.program.all_names()
     numbers = {int(found[1]) for name in names if (found := re.match(r"twox_rust_(\d+)_", name))}
     rax, _ = cpu.call("interface")
@@ -23,10 +22,10 @@ def interface(cpu):
     return 1
 
 
-# ---- long inputs that are refused
+# ---- refused long inputs
 
 def long_input(cpu, hash_name, n, size, code):
-    """A call with n bytes and a secret of that length: it returns a code, and no value."""
+    """Tests that a call with n bytes and a secret of `size` bytes returns a code, and the value 0."""
     message, secret = (address(Input(name, length)) if length else 0 for name, length in (("m", n), ("s", size)))
     name = f"{export_name(hash_name)}_long"
     told, value = call_into(cpu, hash_name, name, message, n, secret, size)
@@ -35,7 +34,7 @@ def long_input(cpu, hash_name, n, size, code):
 
 
 def few_bytes(cpu):
-    """Tests inputs of 0 to 240 bytes, with secrets that are long enough and with others."""
+    """Tests inputs of 0 to 240 bytes, with an empty secret and with one of 136 bytes."""
     for hash_name in HASHES:
         for n in range(LONGEST_WITHOUT + 1):
             for size in (0, SHORTEST):
@@ -51,10 +50,10 @@ def secrets_of_long_inputs(cpu):
     return len(HASHES) * SHORTEST
 
 
-# ---- chunks that are refused
+# ---- refused chunks
 
 def refused(cpu, hash_name, state, code, secret=()):
-    """A write that returns a code, with nothing written."""
+    """Tests that a write returns a code and writes nothing."""
     name, before = write_of(hash_name), contents(state)
     for piece in (Input("m", 5), Input("m", 700), None):
         length = piece.length if piece else 0
@@ -64,8 +63,8 @@ def refused(cpu, hash_name, state, code, secret=()):
 
 
 def not_marked(layout, stripe):
-    """Words that are no mark, with facts: all below the marks, and all above those of a stripe, with both signs, and with
-    both of what they have more than the mark."""
+    """Yields words that aren't marks, with facts: all below the marks, and all above a stripe's marks, with the sign
+    bit clear and set."""
     v, first, half = variable("v"), layout.mark + stripe, 1 << 31
     yield v, [at_most(v, layout.mark - 1)]
     yield first, []
@@ -75,7 +74,7 @@ def not_marked(layout, stripe):
 
 
 def without_mark(cpu):
-    """Records of XXH32 that hold anything, but in the mark's place a word that is none."""
+    """Tests records of XXH32 with any content, and any word in the mark's place that isn't a mark."""
     layout, count = any_updates.LAYOUTS["32"], 0
     for word, facts in not_marked(layout, 16):
         with given(*facts):
@@ -87,8 +86,8 @@ def without_mark(cpu):
 
 
 def out_of_range(cpu):
-    """Streams of XXH3 with a part that no call leaves, with a secret of 192 bytes: more bytes that wait than there is
-    room for, none after some came, a place behind the secret's end."""
+    """Tests streams of XXH3 with a secret of 192 bytes and a field that no call leaves: more buffered bytes than the
+    buffer holds, none although the total isn't 0, a position behind the secret's end."""
     v, secret = variable("v"), (address(Input("s", 192)), 192)
     for at, low_end in ((WAITING, BUFFERED + 1), (TOTAL, 1), (PLACE, 16)):
         with given(at_most(v, LIMITS[64] - low_end)):
@@ -101,7 +100,7 @@ def out_of_range(cpu):
 
 
 def secrets_of_streams(cpu):
-    """Tests secrets of fewer than 136 bytes, for streams that hold anything."""
+    """Tests secrets of fewer than 136 bytes, for streams with any content."""
     for size in range(SHORTEST):
         secret = (address(Input("s", size)) if size else 0, size)
         refused(cpu, "3-64", new_state(cpu, "3-64"), TOO_SHORT, secret)

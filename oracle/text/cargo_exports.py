@@ -1,14 +1,14 @@
-"""The exports of the cargo crate's sources, each with the rows that prove it; and functions of another source."""
+"""Lists the exports of the cargo crate's sources with their rows, and finds functions shared by two sources."""
 import re
 
 from .cargo import export_name
 
-BEGIN = "cargo: "                 # of each row's title
-WIDEST = 64                       # how many bytes an instruction reads at most
+BEGIN = "cargo: "                 # beginning of each row's title
+WIDEST = 64                       # bytes that an instruction reads, at most
 
 
 def shown_by():
-    """A dictionary: export -> the beginning of a row's title."""
+    """Maps each export to the beginning of a row's title."""
     out = {"interface": "the number of the interface", "xxh32_write": "pieces of XXH32", "xxh3_write": "pieces of XXH3",
            **{f"{export_name(name)}_long": f"XXH{name}, secret" for name in ("3-64", "3-128")}}
     return {name: BEGIN + title for name, title in out.items()}
@@ -23,17 +23,17 @@ def exports_left_out(texts, titles):
     return len(known) * len(texts) - len(bad), bad
 
 
-# ---- functions that are another text's
+# ---- functions that are equal in another source
 
 def shape(program, section):
-    """A section's bytes, and the targets of its instructions outside of it."""
+    """Returns a section's bytes, and the targets of its instructions outside of it."""
     code = program.sections[section]
     led = [(at, led_to(program, x)) for at, x in sorted(code.items()) if x.target and x.target[0] != section]
     return program.object.body(program.heads[section]), led
 
 
 def led_to(program, instruction):
-    """A function, or of a constant what the instruction reads, which is all of it where it takes the address."""
+    """Returns a target: a function's name and offset, or the bytes of a constant that an instruction reads."""
     name, at = instruction.target
     if name not in program.constants:
         return bare(name), at
@@ -42,12 +42,12 @@ def led_to(program, instruction):
 
 
 def bare(section):
-    """The name of a section without the interface's number."""
+    """Returns a section's name without the interface's number."""
     return re.sub(r"\.i\d+(_v[34])?$", "", section)
 
 
 def shared(program, other):
-    """The functions that equal another source's byte for byte, with everything that they reach."""
+    """Returns the functions that equal another source's byte for byte, with everything that they reach."""
     found = {name: place for name, place in program.functions.items() if other.functions.get(name, (0, 1))[1] == 0}
     shapes = {name: shape(program, place[0]) for name, place in found.items()}
     equal = {name for name in found if shapes[name] == shape(other, other.functions[name][0])}

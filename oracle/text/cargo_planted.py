@@ -1,4 +1,4 @@
-"""Wrong sources of the cargo crate that must be refused, like planted.py for the C library."""
+"""Planted faults in the cargo crate's sources, which must be detected, like planted.py for the C library."""
 import os
 import re
 import subprocess
@@ -18,14 +18,14 @@ TAKER, LEADS = "twox_core.xxhash3.stripes.take_stripes", "twox_core.width_64.one
 
 
 def export(name, *lines):
-    """An export with lines inserted at its start, whatever the number of the interface is."""
+    """Returns a change that inserts lines at the start of an export, for any number of the interface."""
     def change(text):
         return begun(re.search(rf"^twox_rust_\d+_{name}(?=:$)", text, re.M)[0], *lines)(text)
     return change
 
 
 def local(name, *lines):
-    """The same for a function that is no export."""
+    """The same for a function that isn't exported."""
     return lambda text: begun(re.search(rf"^{re.escape(name)}\.i\d+(?=:$)", text, re.M)[0], *lines)(text)
 
 
@@ -33,16 +33,16 @@ def not_hidden(text):
     return re.sub(r"^\t\.hidden .*_interface\n", "", text, flags=re.M)
 
 
-# ---- what is asked
+# ---- test cases
 
 def any_update(cpu):
-    """An update that fits in the buffer."""
+    """Proves an update that fits in the buffer."""
     proof = CargoUpdates(cpu)
     proof.update(*list(proof.small_pieces())[-1])
 
 
 def piece_of_32(cpu):
-    """A chunk that takes stripes."""
+    """Proves a chunk that takes a stripe."""
     any_updates.AnyUpdates(cpu, "32").update(any_updates.Update(0, 3, False, 1, False))
 
 
@@ -53,7 +53,7 @@ def exported(cpu):
 
 
 def same_code(cpu):
-    """Checks that a function, and one that leads to it, are those of the unchanged source."""
+    """Checks that TAKER and LEADS, which calls it, equal the unchanged source's."""
     with tempfile.TemporaryDirectory(prefix="machine-text-") as room:
         subprocess.run(["gcc", "-c", SOURCE, "-o", f"{room}/right.o"], check=True)
         right = CargoProgram(V1, f"{room}/right.o")

@@ -1,5 +1,5 @@
-"""The rows of oracle/machine-text on the cargo crate's sources, rust/asm, for x86-64. Some functions of the source
-for x86-64-v3 are c/asm's, byte for byte, and are proved by the same rows."""
+"""Chooses the rows of oracle/machine-text on the cargo crate's sources for x86-64, rust/asm. Some functions of the
+sources for x86-64-v3 and v4 are c/asm's, byte for byte, and have the same rows."""
 import functools
 
 from terms import comparison
@@ -10,15 +10,15 @@ from .cargo_exports import BEGIN, exports_left_out, shared
 from .instructions import V1, V3, V4
 from .sources import assembled
 
-NAMES, LIKE = (V1, V3, V4), (V3, V4)      # the sets, and those that c/asm has too
-LEAST_SHARED = 8                  # functions of one of these that are c/asm's
+NAMES, LIKE = (V1, V3, V4), (V3, V4)      # the instruction sets, and those of c/asm among them
+LEAST_SHARED = 8                  # minimum number of functions shared with c/asm
 EXPORTS = 5
-FRAMED = 3000                     # instructions of a text, at least
-# Those that x86-64-v4 has other code for, or that lead to it.
+FRAMED = 3000                     # minimum number of instructions of a source
+# Exports with other code for x86-64-v4, or that reach such code.
 WIDENED = [*(f"{export_name(name)}_long" for name in cargo_calls.HASHES), "xxh3_write"]
 LENGTHS = [241, 242, 255, 256, 257, 300, 1024]
 MORE_LENGTHS = [*range(241, rows.MORE.stop), every_length.PREFETCHED]
-SOME_UPDATES = 389                # each so many of the cases of updates, without --all
+SOME_UPDATES = 389                # step between tested cases of updates, without --all
 TAKING = [summary.name for summary in (xxh3_updates.TAKE, xxh3_updates.TAKE_MANY, xxh3_updates.TAKE_BLOCKS,
                                        xxh3_updates.TAKE_WIDENED)]
 SECRETS = 136, 192
@@ -31,7 +31,7 @@ def programs():
 # ---- the rows
 
 def choose(texts, like, is_all):
-    """The rows; `like` has c/asm's sources."""
+    """Returns the rows on `texts`; `like` has c/asm's sources."""
     made = rows.makers(texts)
     out = [*with_begin(long_input_rows(texts, is_all)), *with_begin(piece_rows(rows.before_v4(made), is_all, SOME_UPDATES)),
            *with_begin(xxh3_rows(made, is_all)), *with_begin(every_length_rows(made, is_all)), *call_rows(texts, like, is_all)]
@@ -47,7 +47,7 @@ def with_begin(found):
 
 
 def long_input_rows(texts, is_all):
-    """Rows of one length after another. With a secret of 136 bytes x86-64-v4 runs the code of x86-64-v3."""
+    """Yields the rows of single lengths. With a secret of 136 bytes x86-64-v4 runs the code of x86-64-v3."""
     for hash_name in cargo_calls.HASHES:
         for size in SECRETS:
             kind = hash_name, "secret", size
@@ -57,7 +57,7 @@ def long_input_rows(texts, is_all):
 
 
 def piece_rows(made, is_all, some=rows.SOME_UPDATES):
-    """Rows of chunks of XXH32 of any lengths: all cases, in parts, or some."""
+    """Yields the rows of XXH32 chunks of any length: all cases, in parts, or a sample."""
     count = len(list(any_updates.updates("32")))
     yield rows.counted("each update of XXH32 and XXH64 has its row", 2, rows.updates_left_out)
     for name, make in made.items():
@@ -74,7 +74,7 @@ def pieces(make, part, some):
 
 
 def xxh3_rows(made, is_all, kind=cargo_streams.CargoUpdates, like=LIKE):
-    """Functions that take stripes are c/asm's where that has the set, byte for byte, and have their rows with --all."""
+    """Yields the rows of XXH3 chunks. With --all c/asm's rows cover functions of LIKE that take stripes."""
     left_out = [name for name in made if name.endswith(like)] if is_all else []
     for row in rows.xxh3_rows(made, is_all, kind):
         row.title = row.title.replace("streams of XXH3", "pieces of XXH3")
@@ -83,7 +83,7 @@ def xxh3_rows(made, is_all, kind=cargo_streams.CargoUpdates, like=LIKE):
 
 
 def every_length_rows(made, is_all):
-    """Rows of long inputs of every length, with any secret: all cases, or some."""
+    """Yields the rows of long inputs of every length, with any secret: all cases, or some."""
     yield rows.counted("every length with any secret has its row", rows.COVERED[is_all],
                        functools.partial(rows.secrets_left_out, made, is_all))
     for hash_name in cargo_calls.HASHES if is_all else cargo_calls.HASHES[:1]:
@@ -99,7 +99,7 @@ def every_length_rows(made, is_all):
 
 
 def expect_shared(program, other):
-    """How many there are. What is compiled for x86-64-v4 is among them, and what takes stripes."""
+    """Returns the number of shared functions, and the missing ones that take stripes or are for x86-64-v4."""
     found = shared(program, other)
     bad = [f"{name} isn't" for name in program.functions
            if (name.endswith("_widened") or name in TAKING) and name not in found]
@@ -112,7 +112,7 @@ def expect_code_of_v3(program, other):
 
 
 def refusal_rows(of):
-    """Rows of refusals: `of` makes a row of a title, a number of cases and a function."""
+    """Yields the rows of refusals: `of` makes a row of a title, a number of cases and a function."""
     yield of("the number of the interface", 1, cargo_calls.interface)
     yield of("a message and a secret in one place", 6, calls.in_one_place)
     yield of("inputs of up to 240 bytes", 900, cargo_calls.few_bytes)

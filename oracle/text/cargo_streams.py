@@ -1,5 +1,5 @@
-"""The chunks of streams of XXH3 of a source of the cargo crate, by induction over the updates, like xxh3_updates.py
-for the C library. A stream has no mark, no seed and no secret: each call is given that."""
+"""Proves the chunks of XXH3 streams of a cargo source by induction over the updates, like xxh3_updates.py for the C
+library. A stream has no mark, seed or secret: each call takes the secret as an argument."""
 from terms.polynomials import at_most, given, is_natural, minus, plus, variable
 from terms.polynomials import is_same as is_same_number
 from terms.requests import LONGEST_SECRET
@@ -7,7 +7,7 @@ from terms.requests import LONGEST_SECRET
 from .whole_blocks import with_value
 from .xxh3_updates import ROOM, STRIPES, UPDATES, Xxh3Updates
 
-FEW = 64                                      # bytes of a chunk up to which a write has a way of its own
+FEW = 64                                      # bytes of a chunk, up to which a write has a separate path
 
 
 class CargoUpdates(Xxh3Updates):
@@ -23,10 +23,10 @@ class CargoUpdates(Xxh3Updates):
         return []
 
     def one_update(self):
-        """One export serves both widths."""
+        """Empty: one export serves both widths."""
 
     def all_updates(self):
-        """If the length of a chunk may be on both sides of a separate path, these are two cases."""
+        """Splits a case in two if the length of its chunk may be on both sides of a separate path."""
         for (place, f), (to, left), length, facts, *rest in super().all_updates():
             few, more = at_most(length, FEW), minus(length, FEW + 1)
             with given(*self.facts, *facts):
@@ -34,13 +34,13 @@ class CargoUpdates(Xxh3Updates):
                 name = "left" if is_natural(minus(left, minus(length, left))) else "r"
             yield (place, f), (to, left), length, facts if is_known else [*facts, few], *rest
             if not is_known:
-                # So long is a chunk of 65 + w bytes, of which the greater part is what the other one leaves.
+                # A chunk of 65 + w bytes: `left` or `r` becomes 65 + w minus the length's other parts.
                 value = minus(plus(FEW + 1, variable("w")), minus(length, variable(name)))
                 f, left, length, *facts = (with_value(x, name, value) for x in (f, left, length, *facts))
                 yield (place, f), (to, left), length, facts, *rest
 
     def small_pieces(self):
-        """A chunk of no bytes, with a full buffer, is a separate case."""
+        """Makes a chunk of no bytes with a full buffer a separate case."""
         for (place, f), end, length, facts in super().small_pieces():
             if is_same_number(length, 0) and not is_same_number(f, 0):
                 yield (place, ROOM), (place, ROOM), length, facts

@@ -1,5 +1,4 @@
-"""The rows on a source of the cargo crate that shares no part with another source: each of its functions has its own
-rows."""
+"""Chooses the rows on a cargo source that shares no function with another source."""
 import functools
 
 from terms import comparison
@@ -10,7 +9,7 @@ from .cargo_streams import CargoUpdates
 
 
 def choose(name, make, is_all, updates=CargoUpdates):
-    """The rows on a source of a name: `make` makes a processor of it, and `updates` proves its streams of XXH3."""
+    """Returns the rows on a source: `make` makes its processor, and `updates` proves its streams of XXH3."""
     made = {name: make}
     out = [*long_input_rows(name, make, is_all), *cargo_rows.piece_rows(made, is_all),
            *cargo_rows.xxh3_rows(made, is_all, updates, ()), *cargo_rows.every_length_rows(made, is_all),
@@ -22,7 +21,7 @@ def choose(name, make, is_all, updates=CargoUpdates):
 
 
 def named(name, found):
-    """Rows with the name of their text in their titles."""
+    """Puts the source's name before the titles of rows."""
     for row in found:
         row.title = f"{name}: {row.title}"
         yield row

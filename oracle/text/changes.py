@@ -1,10 +1,10 @@
-"""Changes of single instructions of an assembly source, each of which must be detected: another register, operand,
-number, condition or shift, an instruction left out, or two neighbours swapped.
+"""Tests that single-instruction changes of an assembly source are detected: another register, operand, number,
+condition or shift, an instruction left out, or two neighbours swapped.
 
-A change is tested by requests that run the instruction (questions.py). It is detected if the source's term differs
-from the definition's, or if the source does what no call may do. Undetected changes are listed in equal_changes with
-their reasons, in one file per source. A listed change that is detected after all fails as well, and so does, with
---all, a reason that no change needs. A crash of this program isn't counted as detected."""
+A change is tested by requests that run the instruction (questions.py). It is detected if the source's term differs from
+the definition's, or if the source does something that no call may do. Undetected changes are listed in equal_changes
+with their reasons, in one file per source. A listed change that is detected fails. With --all an unneeded reason fails
+too. A crash of this program doesn't count as detection."""
 import collections
 import functools
 import hashlib
@@ -20,10 +20,10 @@ from .objects import TEXT, Immediate, Place, Register
 from .questions import FOR_C, are_long, by_induction, further, near, questions, reaching, takes_stripes
 
 FOLDER = os.path.join(os.path.dirname(os.path.abspath(__file__)), "equal_changes")
-LIMIT = 40_000                   # instructions of a changed text's call
-MOST, NEAR, FEWEST = 200, 40, 10  # the shortest requests, of which so few are asked over symbols; requests near to them
-DRAWS = 10                        # of changes with --all, and one without it
-ROWS = 4                          # the changes of the texts for ARM and RISC-V are tried in so many rows, with --all
+LIMIT = 40_000                   # instructions of a changed source's call
+MOST, NEAR, FEWEST = 200, 40, 10  # shortest requests; generated requests near them; requests tested on symbols
+DRAWS = 10                        # random seeds with --all; one otherwise
+ROWS = 4                          # rows into which the changes of the sources for ARM and RISC-V are split, with --all
 IDLE = "nop", "prefetcht0", "vzeroupper", "ud2"
 ALIKE = [("je", "jne"), ("jb", "jbe"), ("ja", "jae"), ("jb", "jae"), ("sete", "setne"), ("cmovb", "cmovae"),
          ("add", "sub"), ("xor", "or"), ("and", "or"), ("inc", "dec"), ("neg", "not"), ("shl", "shr"), ("mul", "div"),
@@ -32,12 +32,12 @@ ALIKE = [("je", "jne"), ("jb", "jbe"), ("ja", "jae"), ("jb", "jae"), ("sete", "s
          ("pslldq", "psrldq")]
 
 
-# ---- what becomes of a change
+# ---- outcome of a change
 
 def outcome(cpu, instructions, asked, draw, entries, more):
-    """By the requests that run it and others near to them, and by `more` ways to ask where none of these detects it; first
-    by these where only long requests run it. What detects a change must accept the unchanged text: otherwise it shows nothing
-    of the change."""
+    """Returns the outcome of changed instructions: tests the requests that run them, requests near those, a few on
+    symbols, and `more` questions. If only long requests run them, `more` comes first. A question that detects a change
+    must accept the unchanged source: otherwise its result says nothing about the change."""
     before = [cpu.program.sections[x.section][x.at] for x in instructions]
     requests = [question for question in asked if question.request]
     few = draw.sample(requests[:MOST], min(FEWEST, len(requests[:MOST])))
@@ -70,7 +70,7 @@ def with_operand(x, k, operand):
 
 
 def of_operand(x, k, draw):
-    """Replacements of one operand: (description, instruction)."""
+    """Yields replacements of one operand: (description, instruction)."""
     operand = x.operands[k]
     if isinstance(operand, Register):
         yield "register", with_operand(x, k, Register(other_register(operand.name, draw)))
@@ -91,7 +91,7 @@ def of_operand(x, k, draw):
 
 
 def of_instruction(x, draw):
-    """All changes of one instruction: (description, instructions)."""
+    """Yields all changes of one instruction: (description, instructions)."""
     yield "left out", [x._replace(mnemonic="nop", operands=(), target=None)]
     for pair in ALIKE:
         for name, other in (pair, pair[::-1]):
@@ -103,7 +103,7 @@ def of_instruction(x, draw):
 
 
 def swapped(x, y):
-    """Swaps two neighbours, if the second uses the result of the first."""
+    """Yields the swap of two neighbours, if the second uses the result of the first."""
     is_plain = all(z.target is None and z.operands and z.mnemonic not in ("push", "pop") for z in (x, y))
     made = x.operands[-1] if is_plain else None
     if isinstance(made, Register) and made in y.operands[:-1] and made != y.operands[-1]:
@@ -119,15 +119,15 @@ def anywhere(_):
 
 
 def drawn(cpu, is_drawn, places, draw):
-    """(place, text, instructions) of random changes in some sections. Their order goes by functions and instructions
-    only, so that the same ones are drawn for an unchanged function, whatever becomes of others."""
+    """Yields (place, text, instructions) of random changes in some sections. The order depends only on functions and
+    instructions: an unchanged function gets the same changes, whatever happens to the others."""
     salt, kept = draw.getrandbits(32), {place for place in places if is_drawn(place[0])}
     for key, place in sorted((key, place) for key, place in keys(cpu, kept, salt) if place in kept):
         yield from changed_at(cpu, place, random.Random(key))
 
 
 def keys(cpu, places, salt):
-    """(word, place) of each instruction of the places' functions."""
+    """Yields (hash, place) of each instruction of the places' functions."""
     seen = collections.Counter()
     for section, at, x in ((section, at, x) for section in sorted({section for section, _ in places})
                            for at, x in sorted(cpu.program.sections[section].items())):
@@ -137,7 +137,7 @@ def keys(cpu, places, salt):
 
 
 def changed_at(cpu, place, draw):
-    """A change at a place, or None. Instructions that compute nothing aren't changed."""
+    """Yields a random change at a place, or nothing. Instructions that compute nothing aren't changed."""
     section, at = place
     x = cpu.program.sections[section][at]
     if x.mnemonic in IDLE:
@@ -153,7 +153,7 @@ def changed_at(cpu, place, draw):
 
 
 def written(x):
-    """An instruction as objdump prints it, without its place."""
+    """Returns an instruction as objdump prints it, without its address."""
     parts = []
     for y in x.operands:
         if isinstance(y, Place):
@@ -168,8 +168,8 @@ def written(x):
 # ---- the row
 
 def more_ways(cpu, asked, entries, is_all, section, beside):
-    """Of a change in a section: the calls among some questions, inductions with --all, and further requests. A function that
-    takes many stripes is shown by induction in any case: requests of its longest way take long."""
+    """Yields further questions about a change in a section: calls without a request, inductions with --all, and further
+    requests. A function that takes many stripes always gets inductions: its requests take long."""
     requests = [question for question in asked if question.request]
     yield from (question.over_symbols for question in asked if not question.request)
     if beside.updates and (is_all or takes_stripes(cpu.program, section)):
@@ -178,7 +178,7 @@ def more_ways(cpu, asked, entries, is_all, section, beside):
 
 
 def noticed(name, make, count, is_all, is_drawn=anywhere, beside=FOR_C):
-    """(changes of a text that were tried, what there is to say of them): so many of a draw, in some sections or in all."""
+    """Returns the number of tested changes of a source, and the failures. `is_drawn` selects the sections."""
     cpu, known = make(), Reasons(os.path.join(FOLDER, f"{name}.txt"))
     some = of_draws(functools.partial(drawn, cpu, is_drawn), count, DRAWS if is_all else 1)
     texts, bad = noticed_of(cpu, some, known, is_all, beside)
@@ -186,19 +186,19 @@ def noticed(name, make, count, is_all, is_drawn=anywhere, beside=FOR_C):
 
 
 def of_draws(one, count, draws=1):
-    """So many changes of each draw, as `noticed_of` takes them: of places."""
+    """Returns a function of places, as `noticed_of` takes it: `count` changes of each of `draws` random seeds."""
     return lambda places: itertools.chain.from_iterable(
         itertools.islice(one(places, random.Random(1 + number)), count) for number in range(draws))
 
 
 def part_of(changes, part):
-    """Each so manieth of some changes, from one of the first on."""
+    """Returns a function of places that yields every ROWS-th change, starting at `part`."""
     return lambda places: itertools.islice(changes(places), part, None, ROWS)
 
 
 def noticed_of(cpu, changes, known, is_all, beside=FOR_C):
-    """(texts of changes that were tried, the messages on those that weren't detected): of the `changes` that are
-    drawn out of a text's places, with the reasons that are known. What a change is asked doesn't depend on others."""
+    """Returns the texts of the tested changes, and the messages for undetected ones. `changes` draws from a source's
+    places; `known` has the reasons. The questions about a change don't depend on other changes."""
     nodes.forget()
     cpu.limit = LIMIT
     entries = definition.program().run()

@@ -1,18 +1,18 @@
-"""Checks that the cases of the streams of XXH3 are complete: each of many points, a state and a chunk as numbers, is
-in some case. Only the polynomials and the facts that a case's proof uses are taken from it."""
+"""Checks that the cases of the streams of XXH3 are complete: many points, each a concrete state and chunk, must be in a
+case. Only the polynomials and facts that a case's proof uses are taken from it."""
 import random
 
 from terms.polynomials import names_of, plus, value_at
 
 from . import xxh3_updates
 
-STRIPES, LONG_BLOCKS = range(9, 25), (100, 1 << 20)          # stripes of a block, and where a secret may be any
+STRIPES, LONG_BLOCKS = range(9, 25), (100, 1 << 20)          # stripes of a block, and long blocks for any secret
 EDGES = 0, 1, 2, 3, 4, 7, 8, 16, 17, 32, 33, 63, 64, 65, 127, 128, 448, 449, 511, 512, 513, 1023, 1024, 1500, 2047, 2048
 FAR_OFF = 31_744, 32_000, 100_000, 1 << 40
 
 
 def points(count, proof):
-    """(q, u, b, j, f, L): edges and others, at random and the same each time."""
+    """Yields points (q, u, b, j, f, L): edges and random numbers, the same each time."""
     draw = random.Random(5)
     stripes = [*STRIPES, *(LONG_BLOCKS if proof.has_long_blocks() else ())]
     for k in range(count):
@@ -33,7 +33,7 @@ def states(count, proof):
 
 
 def variables(q, u, b, j, f, L=0):
-    """The values of the cases' variables at a point."""
+    """Returns the values of the cases' variables at a point."""
     r = -f % 64
     g, left = (f + r) // 64, L - r
     n = max(0, left - 64) // 64
@@ -44,14 +44,14 @@ def variables(q, u, b, j, f, L=0):
 
 
 def has(point, facts, said):
-    """True if a case has a point: its facts hold there, and its polynomials have the given values."""
+    """True if a case contains a point: its facts hold there, and its polynomials have the given values."""
     names = names_of(*facts, *(x for x, _ in said))
     return all(point.get(name, -1) >= 0 for name in names) and all(value_at(x, point) == n for x, n in said) and \
         all(value_at(fact, point) >= 0 for fact in facts)
 
 
 def without_update(cases, proof, count):
-    """Points that are in no update."""
+    """Returns the points that no update contains."""
     cases, out = list(cases), []
     for q, u, b, j, f, L in points(count, proof):
         point = variables(q, u, b, j, f, L)
@@ -77,7 +77,7 @@ def without_digest(cases, proof, count):
 
 
 def of_stripes(b, j, n):
-    """The same for processed stripes: for any block, and for blocks of 16 by fours and by blocks."""
+    """Yields further variables for taken stripes of blocks of 16: by fours, and by blocks."""
     for front, unit in (-j % 4, 4), (-j % 16, 16):
         at = (j + front) % 16
         D, e = divmod((n - front) // unit * unit - (16 - at), 16)
@@ -85,7 +85,7 @@ def of_stripes(b, j, n):
 
 
 def without_taken(cases, proof, names, count):
-    """Stripes that are in no case: of any number, and of many."""
+    """Returns the points of taken stripes that no case contains, for any number of stripes and for many."""
     cases, out = list(cases), []
     for q, u, b, j, f, L in points(count, proof):
         for name, least in names:
@@ -104,7 +104,7 @@ def without_taken(cases, proof, names, count):
 
 
 def without_one_shot(cases, facts, count):
-    """Lengths and secrets that are in no case, for blocks of any number of stripes except 16."""
+    """Returns lengths (q, n) that no case contains, for blocks of q stripes, q not 16."""
     cases, out, draw = list(cases), [], random.Random(6)
     while count:
         q = draw.choice((*STRIPES, draw.randrange(9, 600), draw.randrange(9, 1 << 33)))
@@ -125,7 +125,7 @@ def sum_of(parts):
 
 
 def left_out(proof, count):
-    """Tests that many points of each sort: updates, digests, and functions that process stripes."""
+    """Returns the points that no case contains: of updates, digests, and functions that take stripes."""
     taken = [(xxh3_updates.TAKE.name, 0), (xxh3_updates.TAKE_MANY.name, xxh3_updates.MANY)]
     taken += [(xxh3_updates.TAKE_WIDENED.name, xxh3_updates.BLOCK)] * proof.is_widened()
     return [*without_update(proof.all_updates(), proof, count), *without_digest(proof.digests(), proof, count),

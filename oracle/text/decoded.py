@@ -1,6 +1,5 @@
-"""Compares each instruction's bytes with the printed instruction: otherwise a decoder that prints one instruction
-for the bytes of another would go undetected. GNU as assembles the printed text again. Jumps are computed here, and
-instructions that do nothing are listed."""
+"""Compares each instruction's bytes with its printed text, to detect a decoder that prints another instruction. GNU as
+assembles the text again. Bytes of jumps are computed here, and instructions that do nothing are listed."""
 import os
 import re
 import struct
@@ -12,7 +11,7 @@ from terms.refusals import Unsupported
 from .listed import X86_64, Object
 from .sources import GNU
 
-SLOT = 16                                     # bytes of an instruction that is assembled separately
+SLOT = 16                                     # bytes between instructions that are assembled separately
 REMARK = re.compile(r"\s*(#(?!\w|-)|//).*")
 NOPS = {bytes.fromhex(x) for x in (
     "90", "0f1f00", "0f1f4000", "0f1f440000", "660f1f440000", "0f1f8000000000", "0f1f840000000000", "660f1f840000000000",
@@ -23,7 +22,7 @@ ARM_CONDITIONS = {name: k for k, name in enumerate("eq ne cs cc mi pl vs vc hi l
 
 
 def rows_of(program):
-    """(section, place, bytes, text, whether it has a relocation) of each instruction."""
+    """Yields (section, offset, bytes, text, is relocated) of each instruction."""
     for section, rows in program.listing.items():
         for at, raw, text in rows:
             yield section, at, raw, " ".join(REMARK.sub("", text).split()), program.is_relocated(section, at, at + len(raw))
@@ -48,7 +47,7 @@ def expect_bytes(program):
 
 
 def assembled_alone(texts, kind):
-    """The bytes of instructions, one after another in a slot."""
+    """Returns the bytes of assembled instructions, each padded to SLOT bytes."""
     with tempfile.TemporaryDirectory(prefix="machine-text-") as room:
         source, made = os.path.join(room, "alone.s"), os.path.join(room, "alone.o")
         with open(source, "w", encoding="utf-8") as file:
@@ -61,10 +60,10 @@ def assembled_alone(texts, kind):
     return next(object_.body(head) for head in object_.heads if head.name == ".text")
 
 
-# ---- jumps, and what does nothing
+# ---- jumps and instructions that do nothing
 
 def led_on_x86(at, raw, text, is_relocated):
-    """The required bytes of an instruction, or None if the assembler computes them."""
+    """Returns the required bytes of a jump, call or nop, or None for other instructions, which are assembled again."""
     mnemonic, *rest = text.split()
     if "nop" in text:
         return raw if raw in NOPS else b""

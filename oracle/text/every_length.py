@@ -1,10 +1,9 @@
-"""The one-shots of an assembly source of every length, by induction over its loops.
+"""Proves the one-shots of an assembly source for every length, by induction over its loops.
 
-XXH32 and XXH64: stripe * (u b + c) + r bytes, where a source processes u stripes at once, b is any number from 1 on,
-c below u and r below a stripe. XXH3, above the lengths that are asked one by one: 64 (16 B + J) + t + 1 bytes, B
-blocks of 16 stripes, J below 16, and t below 64, with the default secret, with one derived from a seed, and with one
-of 192 to 199 bytes (any_secret.py has the others). The sources have separate paths from 31,744 bytes on; `left_out`
-computes that the cases have all lengths except those that it returns."""
+XXH32 and XXH64: stripe * (u b + c) + r bytes. The source processes u stripes per turn, b >= 1, c < u, r < stripe. XXH3,
+above the lengths that are tested one by one: 64 (16 B + J) + t + 1 bytes, B blocks of 16 stripes, J < 16, t < 64, with
+the default secret, with one derived from a seed, and with one of 192 to 199 bytes (any_secret.py has the other
+secrets). The sources have separate paths from 31,744 bytes on. `left_out` computes the lengths that no case covers."""
 import collections
 import functools
 import itertools
@@ -20,16 +19,16 @@ from terms.polynomials import Poly, at_most, given, minus, parts_of, plus, times
 from .induction import Family, Loops
 from .values import address
 
-UNROLLED = {"32": 8, "64": 2}     # stripes that a text takes at once, or a part of them
-LEAST = {"32": 2, "64": 1}        # such turns that the cases have at least: below, lengths are asked one by one
-PREFETCHED = 31_744               # bytes from which on the texts of XXH3 have loops of their own
-LIMIT = 30_000                    # instructions that a case may run: else a loop is run that should be shown
+UNROLLED = {"32": 8, "64": 2}     # multiple of the stripes that a source processes per turn
+LEAST = {"32": 2, "64": 1}        # minimum number of turns in a case: shorter lengths are tested one by one
+PREFETCHED = 31_744               # bytes from which on the sources of XXH3 have separate loops
+LIMIT = 30_000                    # instructions of a case: beyond, a loop runs that the induction should cover
 SHORTEST = 136                    # bytes of a secret
-TURNS, FAR, MANY = "turns", 496, 1 << 32      # stripes from which on a text takes other ways
-DERIVED = 16                      # stripes of a block, by default
+TURNS, FAR, MANY = "turns", 496, 1 << 32      # the variable; numbers of stripes from which on a source has other paths
+DERIVED = 16                      # stripes of a block, with the default secret's length
 
-# A case: its length, and the stripes in it that are accumulated, in the variable `turns` and others; facts; the values
-# of the others; and how many bytes a secret has behind its stripes.
+# A case: its length, and its accumulated stripes, in the variable `turns` and others; facts; the other variables'
+# values; and the bytes of a secret beyond those that the stripes need.
 Case = collections.namedtuple("Case", "length stripes facts others rest", defaults=(0,))
 
 
@@ -44,7 +43,7 @@ def plain_cases(hash_name):
 
 
 def xxh3_case(blocks, J, *facts, is_near=False):
-    """A case of so many blocks and stripes more, below PREFETCHED bytes where it is near."""
+    """Returns a case of `blocks` blocks and J stripes, below PREFETCHED bytes if `is_near`."""
     stripes, t = plus(times(DERIVED, blocks), J), variable("t")
     n = plus(times(64, stripes), t, 1)
     of_n = [at_most(n, PREFETCHED - 1)] if is_near else [at_most(stripes, LONGEST // 64)]
@@ -59,36 +58,36 @@ def derived_cases():
 
 
 def cases(kind):
-    """Of XXH32 and XXH64, and of XXH3 without a secret of its own."""
+    """Returns the cases of XXH32, of XXH64, or of XXH3 without a secret argument."""
     return list(plain_cases(kind) if kind in UNROLLED else derived_cases())
 
 
 def of_secret():
-    """Above 240 bytes with a secret of 192 to 199 bytes. The texts ask whether it has 192."""
+    """Returns the cases above 240 bytes with a secret of 192 to 199 bytes. The sources test for a length of 192."""
     found = [xxh3_case(0, 3, minus(variable("t"), 48)), *(xxh3_case(0, J) for J in range(4, DERIVED - 1))]
-    # x86-64-v4 asks whether there is a whole block.
+    # x86-64-v4 tests if there is a whole block.
     found += [xxh3_case(0, DERIVED - 1, at_most(variable("t"), 62)), Case(64 * DERIVED, DERIVED - 1, [], {})]
     found += [*derived_cases(), Case(PREFETCHED, FAR - 1, [], {})]
     return [with_rest(case, rest) for case in found for rest in (False, True)]
 
 
 def of_secret_by_turns():
-    """Those of it where x86-64-v4 has no way of its own, or takes a number of blocks by that. Its others are asked one by
-    one: of 192 bytes, up to a block and a little more."""
+    """Returns the cases of `of_secret` in which x86-64-v4 has no separate path, or that have a variable number of
+    blocks. Its other lengths, with 192 bytes and up to a block and a little more, are tested one by one."""
     return [case for case in of_secret() if isinstance(case.rest, Poly) or (TURNS,) in parts_of(case.length)]
 
 
 def with_rest(case, rest):
-    """With a secret of `rest` bytes more than its stripes ask for: 0, or 1 to 7."""
+    """Returns a case with a secret longer by 0 bytes, or by 1 to 7 with `rest`, than its stripes need."""
     u = variable("u")
     facts, others = [*case.facts, minus(u, 1), at_most(u, 7)], {**case.others, "u": [1]}
     return case._replace(rest=u, facts=facts, others=others) if rest else case
 
 
-# ---- that these are all
+# ---- completeness of the cases
 
 def turns_of(case, point):
-    """The least and the greatest number of turns, or None, that a case has where the others have some values."""
+    """Returns the least and the greatest number of turns (None: any) in a case, at values of the other variables."""
     least, most = 0, None
     for fact in case.facts:
         c, step = value_at(fact, {TURNS: 0, **point}), parts_of(fact).get((TURNS,), 0)
@@ -102,7 +101,7 @@ def turns_of(case, point):
 
 
 def spans(found, period):
-    """For each rest by the period, the spans of quotients that the cases have."""
+    """Maps each remainder modulo the period to the spans of quotients in the cases."""
     out = collections.defaultdict(list)
     for case in found:
         names, ranges = case.others.keys(), case.others.values()
@@ -116,7 +115,7 @@ def spans(found, period):
 
 
 def left_out(found, first, period):
-    """The lengths from `first` on that no case has, one of each gap."""
+    """Returns the lengths from `first` on that no case contains, one of each gap."""
     out, known = [], spans(found, period)
     for rest in range(period):
         at = -(-(first - rest) // period)
@@ -131,10 +130,10 @@ def left_out(found, first, period):
     return sorted(out)
 
 
-# ---- a case
+# ---- proof of a case
 
 class EveryLength:
-    """A kind of call of a source, its cases one by one: 32, 64, or of XXH3 as in 3-64:seed."""
+    """Proves the cases of one call of a source, one by one: XXH32, XXH64, or XXH3 as in 3-64:seed."""
 
     def __init__(self, cpu, kind):
         self.cpu, self.guesses, self.kind = cpu, {}, kind
@@ -146,12 +145,12 @@ class EveryLength:
         self.read()
 
     def read(self):
-        """The definition's texts."""
+        """Runs the definition's program on symbols."""
         suppositions.clear()
         self.texts = definition.program().run(traced=suppositions)
 
     def show(self, case, seed=None):
-        """A case, with a seed that isn't 0, or the given one."""
+        """Proves a case, with the given seed or a symbolic nonzero one."""
         with given(*case.facts, at_most(case.length, LONGEST)):
             source = Input("m", case.length)
             ask = self.xxh3 if self.way else self.plain
@@ -160,7 +159,7 @@ class EveryLength:
             raise NotShown(f"XXH{self.kind} of {case.length} bytes: another value")
 
     def show_short(self, n):
-        """n bytes, at most 240, with a secret of any length from 136 bytes on."""
+        """Proves the hash of n bytes, at most 240, with a secret of any length from 136 bytes on."""
         source, secret = Input("m", n), Input("s", plus(SHORTEST, variable("more")))
         seed = seed_symbol(self.hash_name) if self.way == "both" else 0
         self.cpu.not_zero = []
@@ -200,7 +199,7 @@ class EveryLength:
         return self.with_loops(ask, case, stripe, count, after)
 
     def with_loops(self, ask, case, stripe, count, after):
-        """Calls the source, with the loops of a case's length proved."""
+        """Calls the source, and proves its loops for a case's length."""
         name, limit = f"XXH{self.kind} of {case.length} bytes", self.cpu.limit
         family = Family(name, stripe, case.stripes, count, after,
                         lambda k, values: suppositions.suppose(after(k), values),

@@ -1,4 +1,4 @@
-"""The exports of the sources for C, each with the beginning of the title of the rows that prove it. A source with
+"""Lists the exports of the sources for C with the beginnings of the titles of rows that prove them. A source with
 another name, or without one of these, fails."""
 from terms.refusals import NotShown
 
@@ -9,7 +9,7 @@ STREAMS, FORGET = "streams", "freed states"
 
 
 def shown_by():
-    """A dictionary: name -> the words of a row's title."""
+    """Maps each name to the beginning of a row's title."""
     out = {"XXH_versionNumber": "the version", "XXH128_isEqual": "equal hashes", "XXH128_cmp": "the order of hashes",
            "proved_XXH3_generateSecret": "made secrets", "XXH3_generateSecret_fromSeed": "the derived secret"}
     for name in ("XXH32", "XXH64", "XXH128"):
@@ -28,7 +28,7 @@ def shown_by():
 
 
 def twins():
-    """Names that have the code of another name: of a call under two names, and of an update of both widths."""
+    """Maps names to the name with the same code: calls with two names, and `_dispatch` variants."""
     out = {"XXH128": "XXH3_128bits_withSeed"}
     for name in ("XXH3_64bits", "XXH3_128bits"):
         for way in ("", "_withSeed", "_withSecret", "_update"):
@@ -37,7 +37,7 @@ def twins():
 
 
 def expect_all(program, titles):
-    """Checks that each export is in the table, each name of it is exported, and each has its row."""
+    """Checks that the source exports exactly the names of the table, and that each has its row."""
     known = shown_by()
     for name in sorted({*known, *program.exports}):
         if name not in known:
@@ -50,7 +50,7 @@ def expect_all(program, titles):
 
 
 def expect_twins(program):
-    """Checks that each of those names has the same instructions as the other, one by one."""
+    """Checks that each twin has the same instructions as the other name."""
     for name, other in twins().items():
         if code_of(program, name) != code_of(program, other):
             raise NotShown(f"{name} has other code than {other}")
@@ -60,7 +60,7 @@ def expect_twins(program):
 # ---- the exports of x86-64-v4 that have the code of x86-64-v3
 
 def is_of_v3(name):
-    """All exports of XXH32 and XXH64, and the calls without a message."""
+    """True for all exports of XXH32 and XXH64, and for calls without a message."""
     row = {**shown_by(), **dict.fromkeys(twins(), STREAMS)}[name]
     return name.startswith(("XXH32_", "XXH64_")) or row.startswith(("XXH32,", "XXH64,", *OTHERS))
 
@@ -86,14 +86,14 @@ def expect_code_of_v3(program, other):
 
 
 def led(program, section):
-    """The instructions of a section, where a constant represents its place."""
+    """Returns the instructions of a section, with constants' values instead of their names."""
     code = program.sections.get(section, {})
     return [x._replace(target=(program.constants[x.target[0]], x.target[1])) if x.target and x.target[0] in program.constants
             else x for _, x in sorted(code.items())]
 
 
 def code_of(program, name):
-    """The instructions of a function's section, by their offset."""
+    """Returns the instructions of a function's section, with their offsets."""
     if name not in program.exports:
         raise NotShown(f"{name} isn't exported")
     section, _ = program.exports[name]

@@ -1,9 +1,9 @@
-"""The flags that a branch may use: their operands are kept, and the value is computed when it is needed.
+"""The flags that branches use. The operands are kept, and a condition is computed when it is needed.
 
     sub      of a and b, as `cmp` and `sub`           borrow   of a, b and a carry, as `sbb`: b is their sum
     add      of a and b                               logic    of a result, with no carry
-    shift    of a result, with a carry that isn't here
-    step     of a result, with the carry of before"""
+    shift    of a result; the carry isn't modelled
+    step     of a result; the previous carry remains"""
 import collections
 import operator
 
@@ -17,12 +17,12 @@ from .memory import ENTRY, lie_apart
 from .values import Address, Either, quotients
 
 Flags = collections.namedtuple("Flags", "kind width a b result")
-FAR = 1 << 62                     # no object goes up to there
+FAR = 1 << 62                     # no object reaches this address
 SIGNED = {"l": operator.lt, "ge": operator.ge, "g": operator.gt, "le": operator.le}
 
 
 def condition(cpu, name):
-    """The value of the condition with which a mnemonic ends."""
+    """Returns the value of a condition, given as the suffix of a mnemonic."""
     if name in ("b", "ae"):
         return carry(cpu) == (name == "b")
     if name in ("e", "ne"):
@@ -38,7 +38,7 @@ def condition(cpu, name):
 
 
 def signed_operands(cpu):
-    """The operands of the last comparison, as signed numbers."""
+    """Returns the operands of the last comparison, as signed numbers."""
     now = cpu.flags
     if not now or now.kind not in ("sub", "logic"):
         raise Unsupported("a signed comparison of another result")
@@ -50,7 +50,7 @@ def signed_operands(cpu):
 
 
 def carry(cpu):
-    """True if there was a carry or a borrow, which is known only for numbers."""
+    """True if there was a carry or a borrow. Decided only for numbers."""
     now = cpu.carry
     if now is None or now.kind == "shift":
         raise Unsupported("a carry that isn't set")
@@ -88,7 +88,7 @@ def is_equal(cpu, a, b):
 
 
 def is_not_zero(cpu, x):
-    """True if a term is assumed not to be 0, or contains the bits of one that is."""
+    """True if a term is assumed to be nonzero, or is an `or` with such a term."""
     if any(x is other for other in cpu.not_zero):
         return True
     is_either = isinstance(x, Node) and x.kind is OPAQUE and x.parts[0] == "or"
@@ -96,7 +96,7 @@ def is_not_zero(cpu, x):
 
 
 def is_below(cpu, a, b):
-    """a < b, of naturals."""
+    """True if a < b, as unsigned numbers."""
     if isinstance(a, Address) or isinstance(b, Address):
         return is_below_as_places(cpu, a, b)
     if is_number(a) and is_number(b):
@@ -113,7 +113,7 @@ def is_below(cpu, a, b):
 # ---- addresses
 
 def is_within(x):
-    """True if an address is that of a byte of its object, or of its end."""
+    """True if an address is within its object, or at its end."""
     memory, at = x.place()
     return is_natural(at) and is_natural(minus(memory.length, at))
 
@@ -129,12 +129,12 @@ def are_one_place(a, b):
 
 
 def is_near(offset):
-    """True if two such offsets are equal only if the addresses are, which count mod 2 ^ 64."""
+    """True if an offset is small: two such offsets are equal exactly if the addresses modulo 2 ^ 64 are."""
     return is_natural(minus(FAR, offset)) and is_natural(plus(offset, FAR))
 
 
 def is_below_as_places(cpu, a, b):
-    """Compares two places in one object, and a distance between two objects with a number."""
+    """Compares two addresses in one object, or the distance between two objects with a number."""
     if isinstance(a, Address) and isinstance(b, Address) and a.bases == b.bases and is_within(a) and is_within(b):
         return TESTS["lt"](a.offset, b.offset)
     if isinstance(a, Address) and is_number(b) and is_far(cpu, a, b):
@@ -143,9 +143,9 @@ def is_below_as_places(cpu, a, b):
 
 
 def is_far(cpu, distance, n):
-    """True if the distance mod 2 ^ 64 of two places is n or more, since their objects lie apart. For an object at P
-    with p bytes and one at Q with q, either P - Q >= q or Q - P >= p, and both are below 2 ^ 62. Objects that are
-    only read may be the same bytes."""
+    """True if the distance of two addresses modulo 2 ^ 64 is n or more because their objects are disjoint. For objects
+    at P with p bytes and at Q with q, either P - Q >= q or Q - P >= p, and both are below 2 ^ 62. Two read-only objects
+    may overlap."""
     if sorted(count for _, count in distance.bases) != [-1, 1]:
         return False
     (first, _), (second, _) = sorted(distance.bases, key=lambda base: -base[1])

@@ -1,9 +1,9 @@
-"""The grammar of an assembly source: which lines it may have, in which order. It is strict, so that all assemblers
+"""Checks the grammar of an assembly source: the allowed lines and their order. It is strict, so that all assemblers
 read the source alike and a reader sees everything: one instruction or directive per line, no macros, no conditions
-except the one guard, no symbols that are set, no other encodings, no comment except the first line.
+except the one guard, no assigned symbols, no other encodings, no comment except the first line.
 
-A source is a comment, the guard if it has one, functions and constants, the guard's end, the notes, and `.text`. A
-function is one section: its name, then instructions, labels and frames without a gap."""
+A source is a comment, an optional guard, functions and constants, the guard's end, the notes, and `.text`. A function
+is one section: its name, then instructions, labels and frames without a gap."""
 import re
 
 from terms.refusals import Unsupported
@@ -22,7 +22,7 @@ BYTE = 1 << 8
 
 # ---- instructions
 
-# Of x86-64, as GNU as writes them for AT&T. A long jump that a short one could replace is written as its first bytes and a
+# x86-64 instructions in GNU as's AT&T syntax. A long jump that could be short is written as its opcode bytes and a
 # distance.
 REGISTER = "%[a-z][a-z0-9]*"
 MEMORY = rf"(?:-?{HEX})?\({REGISTER}(?:,{REGISTER},[1248])?\)|{LABEL}(?:\+{HEX})?\(%rip\)"
@@ -32,7 +32,7 @@ X86 = "|".join(["ret|ud2|vzeroupper", rf"(?:j[a-z]+|call) (?:{LABEL}|{NAME}|(?:m
                 rf"\.byte {DECIMAL}(?:,{DECIMAL})*|\.long {LABEL}-\.-4"])
 SHADOW_STACK = ('\t.section .note.gnu.property,"a",@note', "\t.p2align 3", "\t.long 4,16,5", '\t.asciz "GNU"',
                 "\t.long 0xc0000002,4,2,0")
-# Of 64-bit ARM.
+# 64-bit ARM instructions.
 NUMBER = rf"#-?(?:{HEX}|{DECIMAL})"
 WORD = "(?:[xw](?:[12]?[0-9]|30|zr)|w?sp)"
 VECTOR = r"(?:[qds][0-9]+|v[0-9]+\.[0-9]+[bhsd]|v[0-9]+\.[bhsd]\[[0-9]+\]|\{v[0-9]+\.[bhsd]\}\[[0-9]+\])"
@@ -41,13 +41,13 @@ ARM_OPERAND = rf"(?:{WORD}|{VECTOR}|{NUMBER}|{PLACE}|(?:lsl|lsr|ror) #{DECIMAL}|
 ARM = "|".join(["ret|nop", rf"(?:bl?|b\.[a-z]{{2}}) (?:{LABEL}|{NAME})",
                 rf"(?:cbn?z|tbn?z|adrp) {WORD}, (?:#{DECIMAL}, )?{LABEL}",
                 rf"(?!b |bl |cb|tb|adrp)[a-z][a-z0-9]* {ARM_OPERAND}(?:, {ARM_OPERAND}){{0,4}}", r"\.inst 0x[0-9a-f]{8}"])
-KINDS = {"x86-64": (X86, SHADOW_STACK), "aarch64": (ARM, ())}     # the instructions, and the notes behind them
+KINDS = {"x86-64": (X86, SHADOW_STACK), "aarch64": (ARM, ())}     # the instructions, and the notes at the end
 
 
-# ---- a text
+# ---- a source
 
 class Lines:
-    """The lines of a source, read one after another. `number` is that of the next line."""
+    """Reads the lines of a source one after another. `number` is the next line's."""
 
     def __init__(self, path):
         with open(path, "rb") as file:
@@ -65,7 +65,7 @@ class Lines:
                           f"{self.next_one()[:80]!r}")
 
     def has(self, pattern):
-        """Reads the next line if it matches: the match, or None."""
+        """Reads the next line if it matches. Returns the match or None."""
         found = re.fullmatch(pattern, self.next_one(), re.ASCII)
         self.number += bool(found)
         return found
@@ -105,12 +105,12 @@ def expect_grammar(path, kind):
 
 
 def begun(lines):
-    """The match of a line that begins the section of a function or of constants, or None."""
+    """Returns the match of a line that begins the section of a function or of constants, or None."""
     return lines.has(rf'\t\.section (\.text\.{NAME}),"ax",@progbits') or lines.has(CONSTANTS)
 
 
 def take_function(lines, instructions, name):
-    """A function of a name: the set of that name where it is weak."""
+    """Reads a function. Returns its name in a set if it is weak, else an empty set."""
     name = re.escape(name)
     binding = lines.has(rf"\t\.(globl|weak) {name}")
     if binding and binding[1] == "weak":
@@ -133,7 +133,7 @@ def take_constants(lines):
 
 
 def expect_bytes(lines):
-    """Checks that the numbers of a line of bytes are bytes."""
+    """Checks that the numbers in the last line, if it is a `.byte` line, are below 256."""
     line = lines.lines[lines.number - 2]
     if line.startswith("\t.byte ") and any(int(x) >= BYTE for x in line[7:].split(",")):
         lines.number -= 1

@@ -1,9 +1,9 @@
-"""Loops of an assembly source, proved by induction (terms/induction.py).
+"""Proves loops of an assembly source by induction (terms/induction.py).
 
-A cell is a register or its lower half, a lane of a vector, or a cell of the stack or of another writable object. The
-words are the definition's after so many stripes. The cells that have them aren't declared: they are those that hold
-the definition's words at the start, and those of some stripes more after a first iteration. The last cell that has a
-word is never dropped. The flags are unset at a head."""
+A cell is a register or its lower half, a lane of a vector, or a cell of the stack or another writable object. The words
+are the definition's accumulators after some stripes. The cells that hold them are found, not declared: they hold the
+words at the start, and the words some stripes later after a first iteration. The last cell with a word is never
+dropped. The flags are unset at a loop head."""
 import contextlib
 import functools
 
@@ -16,23 +16,23 @@ from terms.polynomials import is_same as is_same_number
 
 from .values import Address, half_of, joined, with_half
 
-STEPS = 1, 2, 4, 8, 16            # stripes that a turn takes
-FIRST_TURNS = 64, 4               # so many stripes are left where a first turn is tried
-NEAR = 0, 1, -1, -2, -4           # stripes that lie between a pointer and what was taken
-HALF = "lower half"               # of a register, where a number of 32 bits lies that was worked out by itself
+STEPS = 1, 2, 4, 8, 16            # stripes per iteration
+FIRST_TURNS = 64, 4               # numbers of stripes left, at which a first iteration is tried
+NEAR = 0, 1, -1, -2, -4           # distance in stripes between a pointer and the processed bytes
+HALF = "lower half"               # of a register that holds a separately computed 32-bit number
 
 
 class Family:
-    """The definition's words: after(k)(j) is word j of `count` after k stripes of so many bytes each, of which there
-    are `total`. suppose(k, values) makes these values the words for k. `together` is the number of 32-bit words in a
-    cell."""
+    """The definition's words: after(k)(j) is word j of `count` after k stripes. A stripe has `stripe` bytes; there are
+    `total` stripes. suppose(k, values) makes these values the words for k. `together` is the number of 32-bit words in
+    a cell."""
 
     def __init__(self, name, stripe, total, count, after, suppose, together=1):
         self.name, self.stripe, self.total, self.count, self.after = name, stripe, total, count, after
         self.put, self.known, self.together = suppose, {}, together
 
     def word(self, k, j):
-        """The contents of cell j after k stripes: a word, or some."""
+        """Returns the content of cell j after k stripes: one word, or several joined."""
         key = repr(k), j
         if key not in self.known:
             n = self.together
@@ -49,18 +49,18 @@ class Family:
         return self.count // self.together
 
     def suppose(self, k, values):
-        self.known.clear()       # what was said before may depend on other suppositions
+        self.known.clear()       # earlier terms may depend on other suppositions
         self.put(k, values)
 
     def seem(self, k, is_there):
-        """True if all words for k are there; tested one by one, since each may be expensive."""
+        """True if `is_there` holds for all words for k. Tests them one by one, since each may be expensive."""
         return all(is_there(self.word(k, j)) for j in range(self.cell_count()))
 
 
 # ---- cells
 
 def cells_of(cpu):
-    """All that a processor holds, and the objects that live: cell -> value. Of memory a cell's size counts as well."""
+    """Maps all cells of a processor and its live objects to their values. A memory cell's key includes its size."""
     out = {("register", name): x for name, x in cpu.registers.items()}
     out.update({(HALF, name): half for name, x in cpu.registers.items() for half in [half_of(x)] if half is not None})
     out.update({("lane", k, lane): x for k, lanes in enumerate(cpu.vectors) for lane, x in enumerate(lanes)})
@@ -70,7 +70,7 @@ def cells_of(cpu):
 
 
 def named(cell):
-    """A cell, with the name of its object."""
+    """Returns a cell with the name of its object instead of the object."""
     return cell if isinstance(cell[0], str) else (cell[0].name, *cell[1:])
 
 
@@ -83,24 +83,24 @@ def name_of(cell):
     return f"{kind} {where[0]}" if isinstance(kind, str) else f"{kind.name}[{where[0]}]"
 
 
-# ---- where loops begin
+# ---- loop heads
 
 class Head(Exception):
-    """The head is come to again."""
+    """Raised when control reaches the loop head again."""
 
 
 class Loops:
-    """Asked wherever a loop may begin: at each place that its section jumps back to. `guesses` has what was shown of loops
-    in other calls, by their heads."""
+    """Called at each possible loop head: at each place with a jump back to it in its section. `guesses` maps heads to
+    what was proved of their loops in other calls."""
 
     def __init__(self, program, family, proof=None, guesses=None):
         self.program, self.family, self.refused, self.known = program, family, [], {}
         self.proof, self.guesses = proof or Proof, {} if guesses is None else guesses
         self.running, self.stop, self.is_guessing, self.given_up = {}, None, False, set()
-        self.tried = set()       # heads, and after how many stripes it was guessed in vain that their loop begins
+        self.tried = set()       # loop heads with the numbers of stripes at which a guess failed
 
     def heads(self, section):
-        """Head -> the last jump back to it."""
+        """Maps each loop head of a section to the last jump back to it."""
         if section not in self.known:
             found = self.known[section] = {}
             for at, x in self.program.sections.get(section, {}).items():
@@ -109,31 +109,31 @@ class Loops:
         return self.known[section]
 
     def pass_by(self, cpu, place):
-        """The place again, or where it goes on behind what was shown of a loop."""
+        """Proves a loop if `place` is its head, and returns the place where execution continues."""
         if self.stop == place:
             self.stop = None
             raise Head
         for head, end in list(self.running.items()):
-            if end is not None and head[0] == place[0] and not head[1] <= place[1] <= end:      # that loop was left
+            if end is not None and head[0] == place[0] and not head[1] <= place[1] <= end:      # control left that loop
                 del self.running[head]
         if place in self.running:
             if self.running[place] is not None:
                 raise NotShown(f"the loop at {place[0]} {place[1]:x} isn't left")
             return place
-        within = tuple(head for head, end in self.running.items() if end is None)      # others, of which this is a turn
+        within = tuple(head for head, end in self.running.items() if end is None)      # enclosing loops
         may_begin = place[1] in self.heads(place[0]) and not self.is_guessing and (within, place) not in self.given_up
         if may_begin and (self.proof.HAS_INNER or not within):
             if self.proof(self, cpu, place).show():
                 self.running[place] = self.heads(place[0])[place[1]]
-            elif within:                               # a number of turns
+            elif within:                               # a concrete number of iterations
                 self.given_up.add((within, place))
         return place
 
 
-# ---- a loop
+# ---- proof of a loop
 
 class Proof(Induction):
-    HAS_INNER = False         # whether the loops within a turn have numbers of turns that are no numbers
+    HAS_INNER = False         # whether inner loops may have symbolic numbers of iterations
     name_of = staticmethod(name_of)
 
     def __init__(self, loops, cpu, head):
@@ -141,7 +141,7 @@ class Proof(Induction):
         self.begin(loops, cpu, head, [cpu.stack, *cpu.live])
 
     def begin(self, loops, cpu, head, memories):
-        """Keeps what is there at the head, and in these objects."""
+        """Saves the state at the loop head, of the processor and the given objects."""
         self.loops, self.cpu, self.family, self.head = loops, cpu, loops.family, head
         self.name, self.new_name, self.first = loops.family.name, cpu.new_name, 0
         super().__init__(self.state())
@@ -151,19 +151,19 @@ class Proof(Induction):
         return cells_of(self.cpu)
 
     def again(self):
-        """Forgets what was guessed, and makes the state what it was."""
+        """Drops the guesses and restores the saved state."""
         self.forget()
         self.enter(0)
         self.cpu.flags, self.cpu.carry = self.flags
 
     def show(self):
-        """Shows the loop, and leaves the processor at its head before the last turn: from there it runs on. False, and
-        the state as it was, where it isn't one of the family: then it is run, turn by turn."""
+        """Proves the loop and leaves the processor at its head before the last iteration; execution continues there.
+        Returns False and restores the state if it isn't a loop of the family: it then runs iteration by iteration."""
         return any(map(self.is_shown_from, self.firsts()))
 
     def is_shown_from(self, first):
-        """The same, by what is known of the loop, or guessed by one first turn, or by two: what doesn't go on as it began is
-        let go by two at once."""
+        """Proves the loop from `first` stripes on. Uses earlier facts about the loop, or guesses from one first
+        iteration, or from two, which drop cells that don't continue in the same way."""
         for guess in (self.guess_again, *(functools.partial(self.guess_of, is_twice) for is_twice in (False, True))):
             try:
                 if self.by_turns(first, guess):
@@ -176,8 +176,8 @@ class Proof(Induction):
         return False
 
     def firsts(self):
-        """After how many stripes the loop may begin: guesses by the places in the message, for which some cells hold
-        the definition's words. Where the stripes that are left are a number the turns are run one by one."""
+        """Yields guesses of the stripes before the loop: 0, or near a pointer into the message, if some cells hold the
+        definition's words. Yields none if a concrete number of stripes is left: such a loop runs turn by turn."""
         guesses = [0]
         for x in self.cpu.registers.values():
             if isinstance(x, Address) and len(x.bases) == 1 and isinstance(x.bases[0][0], Input):
@@ -207,10 +207,10 @@ class Proof(Induction):
         self.enter(last, self.supposed(last))
         return True
 
-    # ---- a turn
+    # ---- an iteration
 
     def put(self, cells):
-        """Makes the cells these, and what may be anything new symbols, or unset."""
+        """Sets the cells to these values. Cells without a known value become fresh symbols or unset."""
         cpu = self.cpu
         cpu.forget_flags()
         for cell in self.start:
@@ -238,7 +238,7 @@ class Proof(Induction):
         return [family.cell(values[k:k + family.together]) for k in range(0, family.count, family.together)]
 
     def turn(self):
-        """From the head to the head. A return from the function of the head leaves the loop."""
+        """Runs one iteration, from the loop head to itself. A return from the head's function leaves the loop."""
         loops, place, running, floor = self.loops, self.head, dict(self.loops.running), self.cpu.stack_pointer()
         loops.running[self.head] = None
         try:
@@ -262,15 +262,15 @@ class Proof(Induction):
         """True if another cell has the same word, or this one has none."""
         return list(self.words.values()).count(self.words.get(cell)) != 1
 
-    # ---- a guess
+    # ---- guesses
 
     def known(self):
-        """The proved facts of the loop, by the names that its cells have in another call."""
+        """Returns the proved facts of the loop, with cells named so that another call can use them."""
         steps = {named(cell): step for cell, (_, step) in self.places.items()}
         return self.step, {named(cell): j for cell, j in self.words.items()}, steps, {*map(named, self.unset)}
 
     def guess_again(self, first):
-        """As it was shown in another call, where the words are there at the start."""
+        """Reuses the facts proved in another call. True if the words are in their cells at the start."""
         if self.head not in self.loops.guesses:
             return False
         self.step, words, steps, unset = self.loops.guesses[self.head]
@@ -291,7 +291,7 @@ class Proof(Induction):
         return any(self.guess(first, turns, is_twice) for turns in FIRST_TURNS)
 
     def guess(self, first, turns, is_twice):
-        """Two turns, or one, determine the words, the steps and what is left."""
+        """Guesses the words, the steps and the unset cells from one iteration or two."""
         self.forget()
         self.enter(0)
         self.loops.is_guessing = True
@@ -312,13 +312,13 @@ class Proof(Induction):
         return True
 
     def steps(self, changed, once):
-        """How many stripes a turn may take: what a place in memory goes on by."""
+        """Returns the possible numbers of stripes per iteration, from the steps of the pointers."""
         moves = {step_between(self.start.get(cell), once.get(cell)) for cell in changed
                  if isinstance(once.get(cell), Address)}
         return [step for step in STEPS if any(is_same_number(x, step * self.family.stripe) for x in moves)] or STEPS
 
     def guess_words(self, first, changed, once):
-        """Which cells hold the words at the start, and those of so many stripes more after a turn: `step`."""
+        """Finds the cells that hold the words at the start, and those `step` stripes later after an iteration."""
         words = self.family.words(first)
         for self.step in self.steps(changed, once):
             then = self.family.words(plus(first, self.step))

@@ -1,22 +1,22 @@
-"""The table of instructions of x86-64: the semantics of each form, and the instruction set that has it.
+"""Defines the table of x86-64 instructions: the semantics of each form, and the instruction set that has it.
 
-A form is a mnemonic with a letter for each operand, as in `add ml`: b, w, l, q a register of 8, 16, 32, 64 bits, h
-the second byte of one, x, y and z one of 128, 256 and 512, m memory, i a number. An instruction that isn't in the
-table is refused. scalar.py and lanes.py fill it: each entry is a function of the processor and the instruction,
-which returns the place of the next instruction if that isn't the following one."""
+A form is a mnemonic with a letter per operand, as in `add ml`: b, w, l, q a register of 8, 16, 32, 64 bits, h a second
+byte such as `ah`, x, y and z a vector of 128, 256 and 512 bits, m memory, i a number. An instruction that isn't in the
+table is refused. scalar.py and lanes.py fill it: each entry is a function of the processor and the instruction. It
+returns the next instruction's place if that isn't the following one."""
 from terms.refusals import Unsupported
 
 from .objects import Immediate, Place, Register
 
 V1, V2, V3, V4 = NAMES = "x86-64", "x86-64-v2", "x86-64-v3", "x86-64-v4"
-SETS = {name: NAMES[:k + 1] for k, name in enumerate(NAMES)}      # which sets a processor of that name has
+SETS = {name: NAMES[:k + 1] for k, name in enumerate(NAMES)}      # instruction sets that a processor of that name has
 TABLE = {}                                 # (mnemonic, letters) -> (set, function)
 WIDE = "rax", "rcx", "rdx", "rbx", "rsp", "rbp", "rsi", "rdi", *(f"r{k}" for k in range(8, 16))
 LETTERS = {8: "b", 16: "w", 32: "l", 64: "q"}
 
 
 def parts_of_registers():
-    """A dictionary: name of a register -> (the whole one, its first bit in it, its width)."""
+    """Maps each register name to (the full register, its first bit in it, its width)."""
     out = {}
     for name in WIDE:
         out[name] = name, 0, 64
@@ -31,11 +31,11 @@ def parts_of_registers():
 
 PARTS = parts_of_registers()
 VECTORS = {f"{letter}mm{k}": k for letter in "xyz" for k in range(32)}
-OLDER = 16                                 # vectors that a processor has before x86-64-v4
+OLDER = 16                                 # number of vector registers before x86-64-v4
 
 
 def form(kind, mnemonics, letters):
-    """Adds a function to the table for all forms of some mnemonics and letters, with their instruction set."""
+    """Returns a decorator that adds a function to the table for the given mnemonics, letters and instruction set."""
     def put(function):
         for mnemonic in mnemonics.split():
             for one in letters.split() or [""]:
@@ -63,12 +63,12 @@ def letters(instruction):
 
 
 def needs_v4(instruction):
-    """True if it has a vector that came with x86-64-v4, of any width."""
+    """True if an operand is a vector register that x86-64-v4 added, of any width."""
     return any(VECTORS.get(x.name, 0) >= OLDER for x in instruction.operands if isinstance(x, Register))
 
 
 def known(instruction, processor):
-    """A processor's function for an instruction."""
+    """Returns the function for an instruction, or raises if the processor lacks it."""
     key = instruction.mnemonic, letters(instruction)
     kind, function = TABLE.get(key, (None, None))
     if kind not in SETS[processor] or needs_v4(instruction) and V4 not in SETS[processor]:

@@ -1,5 +1,5 @@
-"""The semantics of instructions on vectors. A register of 512 bits is eight lanes of 64, each a value. The older
-forms keep the upper lanes of a register, and require aligned memory; those with a `v` set these lanes to 0."""
+"""Semantics of vector instructions. A register of 512 bits is eight lanes of 64 bits, each a value. The older forms
+keep a register's upper lanes and require aligned memory; forms with a `v` set these lanes to 0."""
 from terms.refusals import Unsupported
 from terms.polynomials import plus
 
@@ -8,7 +8,7 @@ from .objects import Register
 from .values import WORD, arithmetic, bits, joined
 
 LANE = 8     # bytes
-WIDTHS = {"x": 2, "y": 4, "z": 8}     # lanes
+WIDTHS = {"x": 2, "y": 4, "z": 8}     # in lanes
 
 
 def is_vector(operand):
@@ -16,7 +16,7 @@ def is_vector(operand):
 
 
 def lanes_count(x):
-    """The number of lanes: 2, 4 or 8, by the widest register."""
+    """Returns the number of lanes, 2, 4 or 8, by the widest register."""
     return max((WIDTHS[y.name[0]] for y in x.operands if is_vector(y)), default=2)
 
 
@@ -44,7 +44,7 @@ def write(cpu, operand, x, lanes, alignment=1):
 
 
 def two(cpu, x):
-    """The two sources, that of the first operand last; of the older form the last operand is one too."""
+    """Returns the two sources, the first operand's last. In the older form the destination is a source too."""
     b, a = x.operands[:-1] if is_new(x) else x.operands
     count = lanes_count(x)
     alignment = 1 if is_new(x) else LANE * count
@@ -56,7 +56,7 @@ def halves(lane):
 
 
 def of_halves(words):
-    """Lanes of words of 32 bits."""
+    """Joins 32-bit words into lanes."""
     return [joined((words[k], 32), (words[k + 1], 32)) for k in range(0, len(words), 2)]
 
 
@@ -79,7 +79,7 @@ def move(cpu, x):
 @form(V1, "movsd", "mx")
 @form(V3, "vmovsd", "mx")
 def move_low(cpu, x):
-    """64 bits; into a vector the rest of 128 becomes 0."""
+    """Moves 64 bits. A vector destination's next 64 bits become 0."""
     source, to = x.operands
     word = cpu.lanes(source)[0] if is_vector(source) else cpu.get(source, WORD, x)
     if is_vector(to):
@@ -142,16 +142,16 @@ def zero_upper(cpu, x):
 # ---- sums, products, bits
 
 def by_lane(word):
-    """On each of 64 bits."""
+    """Returns an operation on each 64-bit lane."""
     def operation(cpu, x):
-        if word == "xor" and len({*x.operands[:2]}) == 1:     # whatever it was
+        if word == "xor" and len({*x.operands[:2]}) == 1:     # 0 for any content
             return write(cpu, x.operands[-1], x, [0] * lanes_count(x))
         return write(cpu, x.operands[-1], x, [arithmetic(word, WORD, p, q) for p, q in zip(*two(cpu, x))])
     return operation
 
 
 def by_half(word):
-    """On each of 32 bits."""
+    """Returns an operation on each 32-bit word."""
     def operation(cpu, x):
         pairs = [pair for lanes in zip(*two(cpu, x)) for pair in zip(*map(halves, lanes))]
         write(cpu, x.operands[-1], x, of_halves([arithmetic(word, 32, p, q) for p, q in pairs]))
@@ -194,7 +194,7 @@ for mnemonic, word in (("psrlq", "lshr"), ("psllq", "shl")):
 
 @form(V4, "vpmullq{1to8}", "mzz")
 def products_by_one(cpu, x):
-    """By one word of memory, for all lanes."""
+    """Multiplies all lanes by one word of memory."""
     source, other, to = x.operands
     factor = cpu.get(source, WORD, x)
     write(cpu, to, x, [arithmetic("mul", WORD, lane, factor) for lane in cpu.lanes(other, lanes_count(x))])
@@ -202,7 +202,7 @@ def products_by_one(cpu, x):
 
 @form(V4, "vpternlogq", "izzz imzz")
 def logic_of_three(cpu, x):
-    """Of the tables of three bits the one that is their sum mod 2."""
+    """Implements only the truth table of a three-way xor."""
     table, c, b, a = x.operands
     if table.value != 0x96:
         raise Unsupported(f"the table {table.value:#x} of three bits")
@@ -210,7 +210,7 @@ def logic_of_three(cpu, x):
     write(cpu, a, x, [arithmetic("xor", WORD, arithmetic("xor", WORD, p, q), r) for p, q, r in lanes])
 
 
-# ---- other orders
+# ---- permutations
 
 @form(V1, "pshufd", "ixx")
 @form(V3, "vpshufd", "ixx iyy")
@@ -227,7 +227,7 @@ def shuffle(cpu, x):
 @form(V1, "shufps", "ixx")
 @form(V3, "vshufps", "ixxx")
 def shuffle_two(cpu, x):
-    """Two words of the first source, and two of the other one."""
+    """Selects two words of the first source, and two of the second."""
     order, second, first = x.operands[:3]
     first, second = ([word for lane in cpu.lanes(y, 2) for word in halves(lane)] for y in (first, second))
     words = [(first if k < 2 else second)[order.value >> 2 * k & 3] for k in range(4)]
@@ -252,7 +252,7 @@ def unpack(cpu, x):
 
 @form(V3, "vpalignr", "ixxx imxx iyyy imyy")
 def align(cpu, x):
-    """In each 128 bits those of both sources, shifted by whole words."""
+    """Shifts each pair of 128-bit parts of both sources by 64 bits."""
     if x.operands[0].value != LANE:
         raise Unsupported("a shift that is no word")
     low_part, high_part = (cpu.lanes(y, lanes_count(x)) if is_vector(y) else read(cpu, y, x, lanes_count(x))
@@ -300,7 +300,7 @@ def shift_bytes(cpu, x):
 
 
 def bytes_moved(pair, count, is_left):
-    """Two lanes, moved by some bytes towards the upper or the lower end, with zeros behind."""
+    """Shifts two lanes by `count` bytes to the left or to the right, and fills with zeros."""
     moved = [bits(lane, 8 * k, 8) for lane in pair for k in range(8)]
     moved = [0] * count + moved[:16 - count] if is_left else moved[count:] + [0] * count
     return [joined(*((byte, 8) for byte in moved[at:at + 8])) for at in (0, 8)]
@@ -308,7 +308,7 @@ def bytes_moved(pair, count, is_left):
 
 @form(V3, "vptest", "xx yy")
 def test(cpu, x):
-    """Sets the flag of 0 if no bit is in both."""
+    """Sets the zero flag if the operands have no common bit."""
     result = 0
     for p, q in zip(*(cpu.lanes(y, lanes_count(x)) for y in x.operands)):
         result = arithmetic("or", WORD, result, p if p is q else arithmetic("and", WORD, p, q))

@@ -1,4 +1,4 @@
-"""How the exports of the C library are called. cargo.py has the same for the cargo crate."""
+"""Calls the exports of the C library. cargo.py does this for the cargo crate."""
 from .one_shots import NAMES, name_of, value_of
 from .streams import OK, SIZES, expect_answer, reset, update
 from .values import address
@@ -13,7 +13,7 @@ class ForC:
 
     @staticmethod
     def one_shot(cpu, hash_name, kind, *arguments):
-        """The hash of a message (an address and a length), with a secret in the same form, and a seed."""
+        """Returns the hash. Arguments: the message's address and length, the secret's if there is one, the seed."""
         return value_of(hash_name, cpu.call(name_of(hash_name, kind), *arguments))
 
     @staticmethod
@@ -26,5 +26,5 @@ class ForC:
 
     @staticmethod
     def digest(cpu, hash_name, state):
-        """The hash of what was written to a state."""
+        """Returns the hash of everything written to a state."""
         return value_of(hash_name, cpu.call(f"{NAMES[hash_name]}_digest", address(state)))

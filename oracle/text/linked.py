@@ -1,10 +1,9 @@
-"""Runs instructions of a processor whose calls leave the return address in a register, over terms, from a function's
-first instruction to its return.
+"""Runs a program symbolically, from a function's first instruction to its return, on a processor whose calls leave the
+return address in a register.
 
-Like processor.py for x86-64: branches, addresses and lengths are numbers, words are terms, and whatever isn't known
-at the beginning is a separate symbol for each call. A place in memory outside of the objects that were passed, a
-byte that was never stored, a store to read-only memory, a branch on a symbol and an instruction that the table lacks
-are errors."""
+Like processor.py for x86-64: branches, addresses and lengths are numbers, words are terms, and everything unknown at
+the start is a fresh symbol for each call. Errors are: an address outside of the passed objects, a load of a byte that
+was never stored, a store to read-only memory, a branch on a symbol, and an instruction that the table lacks."""
 from terms.refusals import Undecided, Unsupported
 from terms.nodes import symbol
 from terms.polynomials import is_same
@@ -14,11 +13,11 @@ from .memory import ENTRY, Constants, Stack, Words, copy, fill
 from .values import WORD, Address, address, joined, low, place_of
 
 MOST_STEPS = 1 << 24
-RETURN = "return"                             # where the first function returns to
+RETURN = "return"                             # return address of the first function
 
 
 class ReturnTo:
-    """The return address of a function."""
+    """Return address of a function."""
 
     def __init__(self, section, at):
         self.place = section, at
@@ -28,8 +27,7 @@ class ReturnTo:
 
 
 class Page:
-    """The page that a place lies in, or the upper part of its distance: with the rest of the same place's address it is
-    that."""
+    """The page of an address, or the upper part of its distance. The low bits of the same address complete it."""
 
     def __init__(self, target):
         self.target = target
@@ -39,7 +37,7 @@ class Page:
 
 
 def filler(table):
-    """Adds a function to a table for some mnemonics, each with some forms, separated by commas."""
+    """Returns a decorator that adds a function to a table for some mnemonics, each with comma-separated forms."""
     def form(mnemonics, forms):
         def put(function):
             for mnemonic in mnemonics.split():
@@ -51,18 +49,18 @@ def filler(table):
 
 
 class Processor:
-    """A program. `not_zero` has terms that are supposed not to be 0; `used` has the places that ran, and `changed` the
-    instructions that are there in place of the program's; `loops`, `live`, `limit` and `replaced` are what they are
-    of processor.py. A kind of processor has the names of its registers, and of these the arguments, those that the caller
-    gets back and those that it doesn't, the one for the place to return to, and the one that is always 0."""
+    """Runs a program. `not_zero` has terms assumed to be nonzero; `used` has the executed places; `changed` has
+    replaced instructions; `loops`, `live`, `limit` and `replaced` are as in processor.py. A subclass names its
+    registers: the arguments, the callee-saved and the caller-saved ones, the link register, and the one that is always
+    0."""
 
     TABLE = {}                                    # (mnemonic, form) -> function
     REGISTERS, ARGUMENTS, KEPT, SCRATCH, LINK, ZERO = (), (), (), (), "", ""
-    VECTORS, KEPT_LANES = 0, ()                   # how many there are, and whose lower lane the caller gets back
-    OUTER = OUTER                                 # what the text calls and another library has
-    TOGETHER = 1                                  # accumulators of 32 bits that one-shots have in a cell
-    PACE = 1                                      # instructions for one of a processor that loads and adds words anywhere
-    carry = None                                  # what `flags` has
+    VECTORS, KEPT_LANES = 0, ()                   # number of vectors, and those whose lower lane is callee-saved
+    OUTER = OUTER                                 # functions that the source calls and another library has
+    TOGETHER = 1                                  # 32-bit accumulators of one-shots in a cell
+    PACE = 1                                      # factor of `limit`, for processors that need more instructions
+    carry = None                                  # unused: `flags` includes the carry
     has_moved = False                             # whether an instruction moved the stack pointer
 
     def __init__(self, program):
@@ -71,7 +69,7 @@ class Processor:
         self.constants = {name: Constants(name, *x) for name, x in program.constants.items()}
 
     def change(self, instruction):
-        """Replaces the instruction at a place."""
+        """Replaces the instruction at its place."""
         self.changed[instruction.section, instruction.at] = instruction
 
     def new_name(self, prefix):
@@ -90,8 +88,8 @@ class Processor:
     # ---- calls
 
     def call(self, name, *arguments, into=None):
-        """Calls a function like C does, and returns the values of the first two registers of arguments. An argument
-        is a number, a term or an address; or (value, width): for 32 bits the kind defines the upper half."""
+        """Calls a function with the C calling convention. Returns the first two argument registers. An argument is a
+        number, a term or an address, or (value, width): the subclass defines the upper half of 32-bit values."""
         self.prepare()
         for register, x in zip(into or self.ARGUMENTS, arguments):
             value, width = x if isinstance(x, tuple) else (x, WORD)
@@ -107,11 +105,11 @@ class Processor:
         return tuple(self.registers[name] for name in self.ARGUMENTS[:2])
 
     def widened(self, register, x):
-        """A register that holds a number of 32 bits. The upper half may be anything."""
+        """Returns a register's value for a 32-bit number, with an unconstrained upper half."""
         return joined((x, 32), (self.fresh(register, 32), 32))
 
     def prepare(self):
-        """Resets the state to one of which nothing is known."""
+        """Resets the state to an unconstrained one."""
         self.registers = {name: self.fresh(name) for name in self.REGISTERS}
         self.vectors = [[self.fresh(f"v{k}"), self.fresh(f"v{k}")] for k in range(self.VECTORS)]
         self.flags, self.stack = None, Stack()
@@ -148,8 +146,8 @@ class Processor:
         return (section, x.end) if to is None else None if to == RETURN else to
 
     def call_outer(self, name):
-        """memcpy, memmove or memset, which are another's: they copy or fill, and leave what isn't kept, and all below
-        the stack pointer, as anything."""
+        """Runs memcpy, memmove or memset of another library: copies or fills, and clobbers the caller-saved registers
+        and everything below the stack pointer."""
         to, source, n = (self.registers[register] for register in self.ARGUMENTS[:3])
         memory, at = self.registers["sp"].place()
         memory.forget_below(at)
@@ -163,7 +161,7 @@ class Processor:
         return place
 
     def give_back(self):
-        """All below the stack pointer may be anything after an instruction moved it: a signal may write there."""
+        """Clobbers all below a moved stack pointer: a signal handler may write there."""
         memory, at = self.registers["sp"].place()
         memory.forget_below(at)
         self.has_moved = False
@@ -172,11 +170,11 @@ class Processor:
         return self.registers["sp"].place()[1]
 
     def frame(self):
-        """The stack, and where the caller's part of it begins, at a function's first instruction."""
+        """Returns the stack, and the offset of the caller's frame, at a function's first instruction."""
         return self.registers["sp"].place()
 
     def return_from_another(self):
-        """Returns from a function that may leave what isn't kept, and all below the stack pointer, as anything."""
+        """Returns from an external function. Clobbers caller-saved registers and everything below the stack pointer."""
         memory, at = self.registers["sp"].place()
         memory.forget_below(at)
         self.registers.update({name: self.fresh(name) for name in self.SCRATCH})
@@ -186,12 +184,12 @@ class Processor:
         return self.return_place()
 
     def return_place(self):
-        """The target of the link, or None after the first function."""
+        """Returns the return address, or None for the first function's."""
         link = self.registers[self.LINK]
         return link.place if isinstance(link, ReturnTo) else None
 
     def argument(self, where):
-        """The value of a register at the first instruction of a function."""
+        """Returns a register's value at a function's first instruction."""
         return self.registers[where]
 
     # ---- registers
@@ -215,7 +213,7 @@ class Processor:
     # ---- memory
 
     def inside(self, found):
-        """(object, offset) of an address, which doesn't lie below the stack's end."""
+        """Returns (object, offset) of an address. Refuses addresses below the stack pointer."""
         memory, at = place_of(found)
         if memory is self.stack and not (isinstance(at, int) and at >= self.registers["sp"].place()[1]):
             raise Unsupported("a place below the stack")

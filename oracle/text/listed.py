@@ -1,5 +1,5 @@
-"""The allowed contents of a source's object: sections by name, kind, flags and alignment, symbols by kind, binding
-and visibility, and the one note. A linker or a loader may handle anything else in its own way."""
+"""Checks the contents of a source's object: sections by name, kind, flags and alignment, symbols by kind, binding and
+visibility, and the one note. A linker or a loader may handle anything else in its own way."""
 import os
 import re
 import struct
@@ -14,20 +14,20 @@ from eh_frame import Table
 from same_bytes import (FRAMES, LOADED, NONE, NOTE, RELA, STRTAB, SYMTAB, USED, Object, difference, differences, is_global,
                         notes_of, properties_of)
 
-PROGBITS, NOBITS, UNWIND = 1, 8, 0x70000001           # kinds of sections
-CODE, CONSTANTS, MERGEABLE, WRITTEN, INFO = LOADED | 4, LOADED, LOADED | 0x10, LOADED | 1, 0x40      # their flags
-LABEL, FUNCTION, SECTION = 0, 2, 3                    # kinds of symbols
-GLOBAL, WEAK = 1, 2                                   # bindings
-DEFAULT, HIDDEN = 0, 2                                # visibilities
-OUTER = "memcpy", "memmove", "memset"                 # what the text calls and another library has
-ELSEWHERE = frames, Table, difference, differences     # of the same folder, for unwinding.py and sources.py
+PROGBITS, NOBITS, UNWIND = 1, 8, 0x70000001           # section types
+CODE, CONSTANTS, MERGEABLE, WRITTEN, INFO = LOADED | 4, LOADED, LOADED | 0x10, LOADED | 1, 0x40      # section flags
+LABEL, FUNCTION, SECTION = 0, 2, 3                    # symbol types
+GLOBAL, WEAK = 1, 2                                   # symbol bindings
+DEFAULT, HIDDEN = 0, 2                                # symbol visibilities
+OUTER = "memcpy", "memmove", "memset"                 # functions that the source calls and another library has
+ELSEWHERE = frames, Table, difference, differences     # used by unwinding.py and sources.py
 HEAD = (1, 0, 0)                                      # version, system and its version
 X86_64, AARCH64 = 62, 183
 PROPERTIES = 5, b"GNU\0"
-SHADOW_STACK = struct.pack("<III", 0xC0000002, 4, 2)  # that a shadow stack may watch the code
+SHADOW_STACK = struct.pack("<III", 0xC0000002, 4, 2)  # declares that the code supports a shadow stack
 MOST_ALIGNED = 64
 NAME = r"[A-Za-z_][\w.]*"
-# Of the sections the names, kinds and flags. Those with 0 bytes are an assembler's own.
+# Allowed names, types and flags of sections. Assemblers add the ones with 0 bytes.
 LISTED = [(rf"\.text\.{NAME}", (PROGBITS,), CODE), (rf"\.rodata(\.{NAME})?", (PROGBITS,), CONSTANTS),
           (r"\.rodata\.cst(4|8|16|32)", (PROGBITS,), MERGEABLE), (r"\.eh_frame", (PROGBITS, UNWIND), CONSTANTS),
           (r"\.note\.gnu\.property", (NOTE,), CONSTANTS), (rf"\.rela(\.eh_frame|\.text\.{NAME})", (RELA,), INFO),
@@ -71,7 +71,7 @@ def expect_section(object_, head):
 
 
 def expect_notes(object_):
-    """On x86-64 the one note that a shadow stack may watch the code, beside what an assembler says of instructions."""
+    """Checks the notes: on x86-64 the one for shadow stacks and an assembler's list of instructions, else none."""
     found = [head for head in object_.heads if head.kind == NOTE]
     notes = [note for head in found for note in notes_of(object_.body(head), 8)]
     want([key for key, _ in notes] == ([PROPERTIES] if object_.machine == X86_64 else []), "other notes")
@@ -80,7 +80,7 @@ def expect_notes(object_):
 
 
 def expect_symbol(object_, symbol, export, begun):
-    """The section that a symbol is the function of, as a set of one, or none."""
+    """Checks a symbol. Returns the section that it is the function of in a set, or an empty set."""
     kind, binding = symbol.info & 15, symbol.info >> 4
     if not symbol.section:
         want((kind, binding, symbol.other) == (LABEL, GLOBAL, DEFAULT) and symbol.name in OUTER,
@@ -100,8 +100,8 @@ def expect_symbol(object_, symbol, export, begun):
 
 
 class Loaded:
-    """The parts of an object that run or are read: `heads`, name -> the head of a section of code or constants;
-    `functions` and `exports`, name -> (section, offset); `constants`, name -> (bytes, alignment)."""
+    """The executed or read parts of an object: `heads`, name -> header of a section of code or constants; `functions`
+    and `exports`, name -> (section, offset); `constants`, name -> (bytes, alignment)."""
 
     MACHINE = X86_64
     EXPORT = GLOBAL, DEFAULT      # binding and visibility
@@ -122,7 +122,7 @@ class Loaded:
                 if head.kind == PROGBITS and head.flags & LOADED and head.size and head.name != FRAMES}
 
     def read_constants(self):
-        """Each entry of a mergeable section is a separate object: a linker may move it separately."""
+        """Yields the constants. Each entry of a mergeable section is a separate memory object."""
         for name, head in self.heads.items():
             data = self.object.body(head)
             if head.flags == CONSTANTS:
@@ -138,7 +138,7 @@ class Loaded:
                 for of_exports in (False, True))
 
     def function(self, name):
-        """The start of a function."""
+        """Returns the place of a function."""
         want(name in self.functions, f"the text has no {name}")
         return self.functions[name]
 
@@ -146,8 +146,8 @@ class Loaded:
         return self.object.heads[symbol.section].name, symbol.value
 
     def target_of(self, symbol, addend):
-        """The target of a relocation: (section, constant or outer name, offset). A linker moves a constant of a
-        mergeable section before it adds to its place, so such a place is the constant's first byte."""
+        """Returns a relocation's target: (section, constant or external function, offset). A linker merges constants
+        before it adds the addend, so a place in a mergeable section must be a constant's first byte."""
         if is_global(symbol):
             want(not symbol.section and symbol.name in OUTER and not addend,
                  f"a way to {symbol.name}{addend:+#x}, which another library may have")
@@ -156,7 +156,7 @@ class Loaded:
         want(name in self.heads, f"a way to {name}")
         if self.heads[name].flags != MERGEABLE:
             return name, value + addend
-        # The addend of the section itself is a place in it.
+        # An addend to the section itself is an offset in it.
         value, addend = (value + addend, 0) if symbol.info & 15 == SECTION else (value, addend)
         want(not addend and f"{name}+{value}" in self.constants,
              f"a place in the constant at {value + addend:#x} of {name}, which a linker may move")

@@ -1,5 +1,5 @@
-"""Secrets generated from 2 ^ 32 bytes and more, by induction over the loops of their hash: for so many bytes a
-source divides places by another instruction."""
+"""Proves the secrets generated from seeds of 2 ^ 32 bytes and more, by induction over the loops of their hash. For such
+lengths a source divides positions with another instruction."""
 from terms import definition
 from terms.definition import Bytes, suppositions
 from terms.refusals import NotShown
@@ -13,7 +13,7 @@ from .memory import Words
 from .streams import OK, expect_answer
 from .values import address
 
-MAKE, WRITES = "proved_XXH3_generateSecret", "twox_c.secrets.write_secret"      # the export, and what it leads to
+MAKE, WRITES = "proved_XXH3_generateSecret", "twox_c.secrets.write_secret"      # the export and its callee
 BLOCK = 1024                      # bytes of a block under the default secret
 
 
@@ -22,12 +22,12 @@ class LongSeeds(EveryLength):
         super().__init__(cpu, "3-128:default")
 
     def read(self):
-        """The definition's texts."""
+        """Runs the definition's program on symbols."""
         suppositions.clear()
         self.texts = definition.program(("twox_c",), ("generated_secret", "default_secret")).run(traced=suppositions)
 
     def show(self, size):
-        """A secret of so many bytes, which is made of whole blocks and 1 to 64 bytes."""
+        """Proves a secret of `size` bytes, generated from whole blocks and 1 to 64 bytes."""
         turns = variable(TURNS)
         case = xxh3_case(turns, 0, minus(turns, (1 << 32) // BLOCK))
         with given(*case.facts, at_most(case.length, LONGEST)):
@@ -45,7 +45,7 @@ class LongSeeds(EveryLength):
 
 
 def made_secrets(cpu, sizes):
-    """How many there are."""
+    """Proves the secrets of these sizes, and returns their number."""
     proof = LongSeeds(cpu)
     for size in sizes:
         proof.show(size)

@@ -1,7 +1,7 @@
 """The memory of a source: terms/memory.py's objects, whose cells may hold addresses, and the stack.
 
-A call may write to the objects that it is given for that, and below its caller's frame. An external function, such
-as memcpy, may use everything below the stack pointer: there is no red zone across a call."""
+A call may write to its writable objects and below its caller's frame. An external function, such as memcpy, may use
+everything below the stack pointer: there is no red zone across a call."""
 import collections
 import contextlib
 
@@ -15,21 +15,21 @@ from terms.rules import ones
 from .values import place_of
 
 STACK = 1 << 14                   # bytes of stack that a call may use
-ENTRY = STACK - 64                # where the caller's frame begins, a multiple of 16
-RED = 128                         # bytes below the stack pointer that are a function's own
+ENTRY = STACK - 64                # offset of the caller's frame, a multiple of 16
+RED = 128                         # bytes of the red zone below the stack pointer
 
-# The number of a term, whose bits were taken apart -> the polynomial that it is where that has so many bits, and these.
+# Maps the number of a term to (polynomial, bits): the term is the polynomial's lowest bits, and equals it if it fits.
 spelled = memo()
 
-# What a call leaves on the stack.
+# A return address on the stack.
 ReturnTo = collections.namedtuple("ReturnTo", "section at")
 
 
 class Words(Memory):
-    """An object whose cells hold values of registers. Addresses and return addresses have no parts."""
+    """Memory object whose cells hold values of registers. Parts of addresses can't be loaded."""
 
     def allow(self, at, n):
-        """Refuses a store that a call mustn't do."""
+        """Refuses a store outside of the object, or at a symbolic offset."""
         if not isinstance(at, int):
             raise Unsupported(f"a store at {at} of {self.name}")
         self.check(at, n)
@@ -51,21 +51,21 @@ class Words(Memory):
         return Memory(self.name, self.length, self.in_bits(near)).load(at, n)
 
     def part_of_number(self, near, at, n):
-        """Bytes of one cell, which has a number and of whose bytes these are one."""
+        """Returns bytes of one cell that holds a polynomial."""
         size, value = self.cells[near[0]]
         if len(near) > 1 or not isinstance(value, Poly) or not near[0] <= at <= near[0] + size - n:
             raise Undecided("bytes of no number")
         return divided(divided(value, 1 << 8 * (at - near[0]))[0], 1 << 8 * n)[1]
 
     def keeps_runs(self, at, n):
-        """True if what is copied there is a run of an input."""
+        """True if a copy to this place is kept as a run of an input."""
         return not (isinstance(at, int) and isinstance(n, int))
 
     def take(self, at, n, source, first):
         raise Unsupported(f"a copy of {n} bytes to {at} of {self.name}")
 
     def in_bits(self, firsts):
-        """Some of the cells, those that have bits: (offset, size, number or term)."""
+        """Yields those of the cells that have bits: (offset, size, number or term)."""
         for first in firsts:
             size, value = self.cells[first]
             if isinstance(value, (int, Node, Poly)):
@@ -81,7 +81,7 @@ class Words(Memory):
 
 
 class OnlyRead(Words):
-    """Objects that a call may only read. Another such object may be the same bytes, or some of them."""
+    """Memory object that a call may only read. Two such objects may overlap."""
 
     def allow(self, at, n):
         raise Unsupported(f"a store to {self.name}")
@@ -93,12 +93,12 @@ class Constants(OnlyRead):
 
 
 def lie_apart(first, second):
-    """True if two objects have no byte in common: one of them is written to."""
+    """True if two objects are disjoint: one of them is writable."""
     return any(isinstance(memory, Words) and not isinstance(memory, OnlyRead) for memory in (first, second))
 
 
 class Stack(Words):
-    """The stack below the caller's frame. `lowest` is the lowest byte that was stored."""
+    """The stack below the caller's frame. `lowest` is the lowest stored offset."""
 
     def __init__(self):
         super().__init__("stack", STACK, alignment=16)
@@ -111,13 +111,13 @@ class Stack(Words):
             raise Unsupported(f"a store to the caller's frame, at {at}")
 
     def forget_below(self, at):
-        """Everything below the stack pointer may be anything."""
+        """Forgets everything below an offset."""
         for first in [first for first in self.cells if first < at]:
             del self.cells[first]
 
 
 class Numbers(Input):
-    """An input whose bytes are numbers."""
+    """Input whose bytes are concrete."""
 
     def __init__(self, name, data):
         super().__init__(name, len(data))
@@ -130,7 +130,7 @@ class Numbers(Input):
 
 
 def spell(x, width=WORD):
-    """A number as its lowest bits, which are known to equal it if it has no others."""
+    """Returns a polynomial's lowest bits as a term, and records the polynomial for `numbered`."""
     found = lifted(x)
     if isinstance(x, Poly) and isinstance(found, Node):
         lowest = {n: bits(found, 0, n) for n in range(8, WORD + 1, 8)}
@@ -140,13 +140,13 @@ def spell(x, width=WORD):
 
 
 def numbered(x):
-    """A term, or the number whose bits it has, where these were taken apart."""
+    """Returns the polynomial of a term made by `spell`, if it fits in the term's width; else the term."""
     number, width = spelled.get(x.number, (-1, 0)) if isinstance(x, Node) else (-1, 0)
     return number if is_natural(number) and is_natural(minus(ones(width), number)) else x
 
 
 def copy(to, source, n, may_overlap):
-    """memcpy, or memmove where they may overlap, from one address to another."""
+    """Performs memcpy, or memmove with `may_overlap`."""
     if is_same(n, 0):
         return
     (memory, at), (source, first) = place_of(to), place_of(source)
@@ -163,7 +163,7 @@ def copy(to, source, n, may_overlap):
 
 
 def fill(to, byte, n):
-    """memset, of a number of words."""
+    """Performs memset of a whole number of 8-byte words."""
     memory, at = place_of(to)
     if not isinstance(byte, int) or not isinstance(n, int) or n % 8:
         raise Unsupported(f"{n} bytes of {byte}")
@@ -176,7 +176,7 @@ def is_apart(a, b, n):
 
 
 def taken(source, first, n):
-    """The bytes, by words where each byte of one is known: (offset, size, value). What was never stored is left out."""
+    """Yields the bytes by 8, or by 1 if some of 8 are unset: (offset, size, value). Omits bytes never stored."""
     for k in range(0, n, 8):
         size = min(8, n - k)
         try:

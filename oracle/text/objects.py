@@ -1,8 +1,8 @@
-"""An assembled object in the form that the verifier runs: instructions by section and address, and constants.
+"""Reads an assembled object in the form that the verifier runs: instructions by section and address, and constants.
 
-The instructions are those that objdump decodes from the object's bytes; the assembler's input isn't used. Each byte
-of a section belongs to one instruction. The contents of the object are listed (listed.py), and a relocation leads to
-a place that no linker moves or takes from another library."""
+The instructions are those that objdump decodes from the object's bytes; the assembler's input isn't used. Each byte of
+a section belongs to one instruction. listed.py checks the object's other contents. A relocation's target is one that no
+linker moves or takes from another library."""
 import collections
 import functools
 import re
@@ -14,23 +14,23 @@ from terms.refusals import Unsupported
 from .decoded import expect_bytes
 from .listed import CODE, RELA, Loaded
 
-# An instruction: `end` is the address of the next one; `target` is (section or outer name, offset), where it names one.
+# An instruction: `end` is the next one's address; `target` is (section or external function, offset), or None.
 Instruction = collections.namedtuple("Instruction", "section at end mnemonic operands target")
 Register = collections.namedtuple("Register", "name")
 Immediate = collections.namedtuple("Immediate", "value")
-Place = collections.namedtuple("Place", "displacement base index scale")     # what is in memory
+Place = collections.namedtuple("Place", "displacement base index scale")     # memory operand
 
-PC32, PLT32 = 2, 4                            # relocations: a distance from the next instruction
-PREFIXES = "data16", "cs"                     # of an instruction that does nothing
-RELOCATED = Place(0, "rip", None, 1)          # what a relocation at an instruction's end says
+PC32, PLT32 = 2, 4                            # relocation types: distances from the next instruction
+PREFIXES = "data16", "cs"                     # prefixes of an instruction that does nothing
+RELOCATED = Place(0, "rip", None, 1)          # operand that a relocation at the end of an instruction fills
 LINE = re.compile(r" *([0-9a-f]+):\t((?:[0-9a-f]{2} )+) *(?:\t(.*))?")
 MEMORY = re.compile(r"(-?0x[0-9a-f]+|-?[0-9]+)?\((%\w+)?(?:,(%\w+),([1248]))?\)")
-TEXT = ".text."                               # how a section of a function begins
+TEXT = ".text."                               # prefix of a function's section
 TARGET = re.compile(r"([0-9a-f]+)(?: <.*>)?")
 
 
 class Program(Loaded):
-    """The loaded sections of instructions: name -> address -> Instruction."""
+    """The instructions of a program: section -> address -> Instruction."""
 
     def __init__(self, path):
         super().__init__(path)
@@ -48,7 +48,7 @@ class Program(Loaded):
 
     @staticmethod
     def title_of(section):
-        """The section's name, as it is in other versions too."""
+        """Returns the section's name without the version."""
         return section
 
     # ---- relocations
@@ -57,7 +57,7 @@ class Program(Loaded):
         return any(first <= place < end for place in self.relocations[section])
 
     def relocations_of(self, section):
-        """A dictionary: place -> (symbol, addend)."""
+        """Maps each place to its relocation: (symbol, addend)."""
         found = {}
         for head in self.object.heads:
             if head.kind != RELA or self.object.heads[head.info] is not section:
@@ -71,7 +71,7 @@ class Program(Loaded):
     # ---- instructions
 
     def read(self, section, lines):
-        """The instructions of a section, which cover all of its bytes and relocations."""
+        """Returns the instructions of a section. They must cover all of its bytes and relocations."""
         found, at, body, used = {}, 0, self.object.body(self.heads[section]), set()
         for address, raw, text in lines:
             end = at + len(raw)
@@ -109,7 +109,7 @@ class Program(Loaded):
 
 
 def listing(path):
-    """A dictionary: section -> (address, bytes, text) of each instruction, as objdump prints them."""
+    """Maps each section to (address, bytes, text) of each instruction, as printed by objdump."""
     out = subprocess.run(["objdump", "-d", "-z", "-w", path], check=True, capture_output=True, text=True).stdout
     found, lines = {}, None
     for line in out.splitlines():
@@ -121,7 +121,7 @@ def listing(path):
 
 
 def split(text):
-    """The mnemonic and the operands, without objdump's comments, and without the prefixes of a `nop`."""
+    """Returns the mnemonic and the operands, without objdump's comments, and without the prefixes of a `nop`."""
     words = text.split("#")[0].split(None, 1)
     while words[0] in PREFIXES and len(words) > 1 and re.match(r"(\w+ )*nop", words[1]):
         words = words[1].split(None, 1)
@@ -129,7 +129,7 @@ def split(text):
 
 
 def with_broadcast(mnemonic, rest):
-    """Where memory has one word for all lanes, the mnemonic says so."""
+    """Moves a broadcast such as {1to8} from the memory operand to the mnemonic."""
     found = re.search(r"\{1to\d+\}", rest)
     return (mnemonic + found[0], rest.replace(found[0], "")) if found else (mnemonic, rest)
 

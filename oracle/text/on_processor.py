@@ -1,9 +1,8 @@
-"""Compares the table of instructions with this processor, on inputs with edge cases: all registers, memory, and
-the flags that the table has. If the processor isn't x86-64-v4, the instructions that came with that level are left
-out.
+"""Compares the table of instructions with this processor on inputs with edge cases: all registers, memory, and the
+flags that the table defines. Instructions of x86-64-v4 are left out if the processor lacks that level.
 
 Each instruction is in its own function, which loads all registers, runs it, and stores them. The processor runs that
-function; the same object is also read like the sources, and the instruction is run over numbers."""
+function. The same object is also read like the sources, and the instruction runs on concrete numbers."""
 import ctypes
 import functools
 import os
@@ -21,24 +20,24 @@ from .processor import KEPT, LANES, VECTORS_COUNT, Processor
 from .scalar import CONDITIONS
 from .values import address
 
-ROUNDS = 40                       # inputs of an instruction
-EDGES = bytes((0, 1, 127, 128, 255)[byte % 5] for byte in range(256))      # of a random byte, one of these
+ROUNDS = 40                       # inputs per instruction
+EDGES = bytes((0, 1, 127, 128, 255)[byte % 5] for byte in range(256))      # maps a random byte to one of these
 MOSTLY = bytes(255 if byte < 180 else 0 for byte in range(256))
 FEATURES = {V3: {"avx2", "bmi2", "movbe"}, V4: {"avx512f", "avx512bw", "avx512cd", "avx512dq", "avx512vl"}}
-BEHIND = "jmp", "call", "ret", "push", "pop", "nop", "ud2", "vzeroupper", "j"      # those without operands, and stacks
+BEHIND = "jmp", "call", "ret", "push", "pop", "nop", "ud2", "vzeroupper", "j"      # mnemonics that SNIPPETS tests
 LOADED = [name for name in WIDE if name != "rsp"]
-# Where in the memory that a function gets: registers, vectors, the word that sets the flags, what an instruction
-# reads and writes, and then the registers and the flags afterwards.
+# Offsets in a function's buffer: registers, vectors, the word that sets the flags, the instruction's memory operand,
+# and then the registers, vectors and flags afterwards.
 REGISTERS, VECTORS, COMPARED, ROOM, AFTER, VECTORS_AFTER, FLAGS_AFTER, SIZE = 0, 128, 2176, 2240, 2368, 2496, 4544, 4608
 WHOLE = 8 * LANES                 # bytes of a vector
 FLAGS = "b", "e", "a"
-SOME_FLAGS = {**dict.fromkeys(("imul", "mul", "div", "shld", "shrd", "rol"), ()),      # which are set, if not all
+SOME_FLAGS = {**dict.fromkeys(("imul", "mul", "div", "shld", "shrd", "rol"), ()),      # the flags that are set
               **dict.fromkeys(("shl", "shr", "vptest"), "e")}
 BASES = "rdi", "rsi", "r9", "r10"
 SAMPLE = {"b": ["al", "cl", "dl"], "h": ["ah"], "w": ["ax", "cx", "dx"], "l": ["eax", "ecx", "ebx"],
           "q": ["rax", "rcx", "rbx"], "x": ["xmm1", "xmm2", "xmm3"], "y": ["ymm1", "ymm2", "ymm3"],
           "z": ["zmm1", "zmm2", "zmm31"]}
-NUMBERS = {"vpternlogq": 0x96, "vpalignr": 8}     # those that the table has
+NUMBERS = {"vpternlogq": 0x96, "vpalignr": 8}     # the only values that the table has
 # Branches, calls and the stack.
 SNIPPETS = [*([f"cmp %{other},%rax", f"j{name} 1f", "not %rax", "1: not %rcx"] for name in CONDITIONS
               for other in ("rax", "rbx")),
@@ -50,8 +49,8 @@ SNIPPETS = [*([f"cmp %{other},%rax", f"j{name} 1f", "not %rax", "1: not %rcx"] f
 # ---- the instructions
 
 def asked(programs, each):
-    """Text -> form: each instruction of the programs, or one of each form; and one of each form of the table that
-    no program has. Those that this processor hasn't are left out."""
+    """Maps text to form: each instruction of the programs, or one of each form; and one of each form of the table that
+    no program has. Omits instructions that this processor lacks."""
     out, forms, sets = {}, set(), SETS[processor_here()]
     for program in programs:
         for code in program.sections.values():
@@ -69,7 +68,7 @@ def asked(programs, each):
 
 
 def sampled(mnemonic, form):
-    """An instruction of a form."""
+    """Returns an instruction of a form, as text."""
     return written(mnemonic, sample(mnemonic, form))
 
 
@@ -89,7 +88,7 @@ def sample(mnemonic, form):
 
 
 def written(mnemonic, operands):
-    """An instruction for the assembler, with another register for the stack pointer, and its memory in the buffer."""
+    """Returns an instruction as text, with rbx for the stack pointer, and its memory operand in the buffer."""
     operands = [Register("rbx") if x == Register("rsp") else x for x in operands]
     names = {PARTS[x.name][0] for x in operands if isinstance(x, Register) and x.name in PARTS}
     base = next(name for name in BASES if name not in names)
@@ -100,7 +99,7 @@ def written(mnemonic, operands):
 
 
 def bases_of(lines):
-    """The registers that hold the address of the memory."""
+    """Returns the registers that hold the buffer's address."""
     is_lea = lines[0].startswith("lea ")
     return [name for name in BASES if not is_lea and f"{ROOM:#x}(%{name})" in lines[0]]
 
@@ -120,8 +119,8 @@ def operand_written(x, base, is_lea):
 # ---- the functions
 
 def function(number, lines):
-    """A function that loads all registers, runs some lines and stores all registers and flags. A register that the
-    lines have as a base is the address of the memory."""
+    """Yields a function that loads all registers, runs the lines, and stores all registers and flags. A base register
+    of the lines holds the buffer's address."""
     bases = bases_of(lines)
     rest = [name for name in LOADED if name not in (*bases, "rdi")]
     yield from (f".globl t{number}", f".type t{number},@function", f"t{number}:")
@@ -143,21 +142,21 @@ def function(number, lines):
 
 
 def moves(operands, first):
-    """All vectors from or to memory: of a processor without x86-64-v4 the half that it has of the older ones."""
+    """Yields loads or stores of all vectors. Without x86-64-v4 these are the lower halves of the 16 older ones."""
     word, letter, count = ("vmovdqu64", "z", VECTORS_COUNT) if is_v4() else ("vmovdqu", "y", OLDER)
     for k in range(count):
         yield f"{word} " + operands.format(place=f"{first + WHOLE * k}(%rdi)", vector=f"%{letter}mm{k}")
 
 
 class Snippets(Program):
-    """A program of functions that no library has."""
+    """A program of test functions: its contents aren't checked against the list."""
 
     def expect_listed(self):
         pass
 
 
 def assembled(snippets, room):
-    """The functions as a library that runs, and as a program that is read."""
+    """Returns the functions as a shared library to run, and as a program to read."""
     with open(f"{room}/snippets.s", "w", encoding="utf-8") as file:
         print('.section .note.GNU-stack,"",@progbits', ".text", sep="\n", file=file)
         for number, lines in enumerate(snippets):
@@ -167,7 +166,7 @@ def assembled(snippets, room):
     return ctypes.CDLL(f"{room}/snippets.so"), Snippets(f"{room}/snippets.o")
 
 
-# ---- both sides
+# ---- both runs
 
 def inputs(mnemonic, lines, draw):
     data = bytearray(draw.randbytes(SIZE))
@@ -177,7 +176,7 @@ def inputs(mnemonic, lines, draw):
     if draw.random() < 0.2:
         rax, rbx = (8 * LOADED.index(name) for name in ("rax", "rbx"))
         data[rbx:rbx + 8] = data[rax:rax + 8]
-    if mnemonic == "div":     # of one word, and not by 0
+    if mnemonic == "div":     # a dividend of one word, and an odd divisor
         at, name = 8 * LOADED.index("rdx"), PARTS[lines[0].split("%")[1]][0]
         data[at:at + 8] = bytes(8)
         data[8 * LOADED.index(name)] |= 1
@@ -185,7 +184,7 @@ def inputs(mnemonic, lines, draw):
 
 
 def with_edges(data, draw):
-    """The bytes, most of which are edge cases instead."""
+    """Replaces most bytes by edge cases."""
     old, edges, mask = (int.from_bytes(x, "little") for x in (
         data, draw.randbytes(SIZE).translate(EDGES), draw.randbytes(SIZE).translate(MOSTLY)))
     return bytearray((old & ~mask | edges & mask).to_bytes(SIZE, "little"))
@@ -196,7 +195,7 @@ def word(data, at):
 
 
 def by_table(cpu, number, lines, data):
-    """The expected contents of the memory afterwards, by the table."""
+    """Returns the expected contents of the buffer afterwards, by the table."""
     room = Words("state", SIZE, [(at, 8, word(data, at)) for at in range(ROOM, AFTER, 8)], alignment=64)
     cpu.registers = {name: word(data, REGISTERS + 8 * k) for k, name in enumerate(LOADED)}
     bases = bases_of(lines)
@@ -219,7 +218,7 @@ def by_table(cpu, number, lines, data):
 
 
 def put_vectors(out, vectors):
-    """Of each vector as much as is stored."""
+    """Writes the part of each vector that the function stores."""
     count, lanes_count = (VECTORS_COUNT, LANES) if is_v4() else (OLDER, LANES // 2)
     for k, lanes in enumerate(vectors[:count]):
         at = VECTORS_AFTER + WHOLE * k
@@ -233,15 +232,15 @@ def run_to(cpu, place, end):
 
 
 def own_bytes(programs):
-    """Text -> bytes, of the programs' instructions of registers and numbers: those of memory are asked at another place."""
+    """Maps text to bytes, of the programs' instructions without memory operands, which the tests change."""
     return {written(x.mnemonic, x.operands): program.object.body(program.heads[section])[at:x.end]
             for program in programs for section, code in program.sections.items() for at, x in code.items()
             if x.operands and not any(isinstance(y, Place) or y == Register("rsp") for y in x.operands)}
 
 
 def compare(texts, room, own=None):
-    """Of instructions, each with its form, and of SNIPPETS: (how many there are, what differs). `own` are bytes that some of
-    them have to have."""
+    """Tests instructions, each with its form, and SNIPPETS. Returns their number and the differences. `own` maps
+    instructions to the bytes that they must have."""
     snippets = [*([text] for text in texts), *SNIPPETS]
     library, program = assembled(snippets, room)
     cpu, draw, wrong = Processor(program, processor_here()), random.Random(1), []

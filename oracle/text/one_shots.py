@@ -1,4 +1,4 @@
-"""One-shots of a source: a request by the names of the C library, and the source's result as a term."""
+"""Runs the one-shots of a source: calls an export for a request and returns the result as a term."""
 from terms.nodes import Node
 
 from .values import address, joined, low
@@ -16,20 +16,20 @@ def name_of(hash_name, kind):
 
 
 def of_seed(request):
-    """A request's seed as an argument, if it has one."""
+    """Returns a request's seed as a list of one argument, or an empty list."""
     if not request.has_seed():
         return []
     return [(request.seed(), 32) if request.hash_name == "32" else request.seed()]
 
 
 def suppose_seed(cpu, request):
-    """A seed that isn't a number is assumed not to be 0 if the request has a twin with 0, and only then."""
+    """Assumes that a symbolic seed is nonzero if, and only if, the request has a twin with the seed 0."""
     seed = request.seed()
     cpu.not_zero = [seed] if isinstance(seed, Node) and request.with_seed_0() else []
 
 
 def value_of(hash_name, answer):
-    """The hash that a call returns in rax and rdx."""
+    """Returns the hash from rax and rdx."""
     rax, rdx = answer
     if hash_name == "3-128":
         return joined((rax, 64), (rdx, 64))

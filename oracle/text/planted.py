@@ -1,5 +1,5 @@
-"""Wrong sources that must be refused: one for each way in which a check of this kind was seen to miss an error. Each
-is the committed source with lines inserted in a function, and must be refused for the named reason."""
+"""Planted faults in sources, which must be detected: one for each way in which such a check missed an error. Each is
+the committed source with inserted lines, and must be refused for the named reason."""
 import collections
 import os
 import re
@@ -21,19 +21,19 @@ from .processor import Processor
 from .sources import by_gnu
 
 SOURCE = os.path.join(TOP, "c", "asm", f"{V2}.s")
-# A wrong text: what it is, how it is made of the text, what is asked, and words of the refusal.
+# A planted fault: its title, the change of the source, the test, and a pattern of the refusal's message.
 Wrong = collections.namedtuple("Wrong", "what change ask words")
 
 
-# ---- how a text is changed
+# ---- changes of a source
 
 def begun(name, *lines):
-    """A function with lines inserted at its start."""
+    """Returns a change that inserts lines at the start of a function."""
     return lambda text: with_lines(text, rf"^{re.escape(name)}:\n\t.cfi_startproc\n", "", lines)
 
 
 def with_lines(text, place, before, lines):
-    """A source with lines after the one place that matches a pattern, and with other text before it."""
+    """Inserts lines after the one match of a pattern, and `before` ahead of the match."""
     found = list(re.finditer(place, text, re.M))
     if len(found) != 1:
         raise NotShown(f"{len(found)} places like {place}")
@@ -42,8 +42,8 @@ def with_lines(text, place, before, lines):
 
 
 def in_loop(text):
-    """XXH64's loop over stripes, where an accumulator is another one 2 ^ 40 bytes behind the beginning and before the
-    end: the first turns and the last one are correct."""
+    """Changes an accumulator in XXH64's loop over stripes in iterations at least 2 ^ 40 bytes after the start and
+    before the end. The first iterations and the last one are correct."""
     name = "twox_plain.xxhash64.rounds.impl_long"
     function = text[text.index(f"\n{name}:"):]
     head = re.search(r"^\.L\w+:\n", function, re.M)[0]
@@ -53,7 +53,7 @@ def in_loop(text):
 
 
 def hidden_register(text):
-    """XXH64's streams, where reset and digest read what the caller left in a register."""
+    """Changes XXH64's reset and digest to read a caller's register."""
     text = begun("XXH64_reset", "xor %r11,%rsi")(text)
     function = text.index("\nXXH64_digest:")
     old = "\tmov 0x8(%rdi),%r8\n"
@@ -61,7 +61,7 @@ def hidden_register(text):
 
 
 def other_constant(text):
-    """The place after a constant, instead of the constant."""
+    """Replaces the address of a constant by the address 16 bytes behind it."""
     return re.sub(r"(\.L\w+)\(%rip\)", r"\1+16(%rip)", text, count=1)
 
 
@@ -70,15 +70,15 @@ def ended(*lines):
 
 
 def function(name, *more):
-    """The lines of a function that returns, with further ones before its name."""
+    """Returns the lines of a function that only returns, with `more` directives before its name."""
     return (f'.section .text.{name},"ax",@progbits', *more, f".type {name},@function", f"{name}:", "ret",
             f".size {name},.-{name}")
 
 
-# ---- what is asked
+# ---- tests
 
 def request(*words, **more):
-    """A request and its twin, compared with the definition."""
+    """Returns a test that compares a request and its twin with the definition."""
     def ask(cpu):
         entries, one = definition.program().run(), Request(*words, **more)
         for each in [one, *one.with_seed_0()]:
@@ -88,7 +88,7 @@ def request(*words, **more):
 
 
 def raising_limit(cpu):
-    """The version, in fewer instructions than a call may have otherwise."""
+    """Runs the version's call with a lower limit of instructions."""
     cpu.limit = 1000
     calls.version(cpu)
 
@@ -102,24 +102,24 @@ def exported(cpu):
 
 
 def far_case(cpu):
-    """One-shots with whole blocks out of line, from 31,744 bytes on."""
+    """Proves a case of one-shots whose whole blocks have a separate function, from 31,744 bytes on."""
     every_length.EveryLength(cpu, "3-64:seed").show(every_length.cases("3-64:seed")[1])
 
 
 def any_update(cpu):
-    """An update of an XXH3 stream that fits in the buffer."""
+    """Proves an update of an XXH3 stream that fits in the buffer."""
     proof = xxh3_updates.Xxh3Updates(cpu)
     proof.update(*list(proof.small_pieces())[-1])
 
 
 def adds_where(word, register):
-    """Lines that add 1 to a register if a word in rax is one of 2 ^ 64."""
+    """Returns lines that add 1 to a register if rax equals `word`."""
     return (f"movabs ${word:#x},%r10", "xor %r10,%rax", "mov %rax,%r10", "neg %r10", "or %r10,%rax", "shr $0x3f,%rax",
             "xor $0x1,%eax", f"add %rax,{register}")
 
 
 def adds_to(place):
-    """Lines that add rax to a word in memory."""
+    """Returns lines that add rax to a word in memory."""
     return f"mov {place},%r10", "add %rax,%r10", f"mov %r10,{place}"
 
 
@@ -127,7 +127,7 @@ SEED_0 = begun("XXH3_64bits_withSeed", "test %rdx,%rdx", "jne 1f", "xor %eax,%ea
 VERSION = "XXH_versionNumber"
 FUNCTION = '.section .text.elsewhere,"ax",@progbits', ".type elsewhere,@function", "elsewhere:"
 END = ".size elsewhere,.-elsewhere",
-NEAR = "mov %rdi,%rax", "sub %rdx,%rax", "cmp $0x8,%rax", "jae 1f"      # whether an address lies just behind another
+NEAR = "mov %rdi,%rax", "sub %rdx,%rax", "cmp $0x8,%rax", "jae 1f"      # tests if one address is just behind another
 SAVED = "mov %rdi,-0x40(%rsp)", "mov %rsi,-0x48(%rsp)"
 TAKEN = "mov -0x40(%rsp),%rdi", "mov -0x48(%rsp),%rsi"
 
@@ -203,13 +203,13 @@ TEXTS = [
 
 
 class Asked:
-    """A wrong source made of another one, whose grammar isn't checked; `read` makes a processor of an object."""
+    """Tests a planted fault in a source, without checking the grammar; `read` makes a processor of an object."""
 
     def __init__(self, wrong, source, read, kind=V1):
         self.title, self.words, self.wrong, self.source, self.read, self.kind = wrong.what, wrong.words, wrong, source, read, kind
 
     def ask(self):
-        """Raises what refuses it."""
+        """Applies the change and runs the test. Raises the refusal."""
         with open(self.source, encoding="utf-8") as file:
             text = self.wrong.change(file.read())
         with tempfile.TemporaryDirectory(prefix="machine-text-") as room:
@@ -219,7 +219,7 @@ class Asked:
 
 
 def complaints(asked):
-    """The messages on wrong sources that aren't refused, or not for the expected reason."""
+    """Yields a message for each planted fault that isn't refused, or not for the expected reason."""
     for one in asked:
         try:
             one.ask()
@@ -230,15 +230,15 @@ def complaints(asked):
 
 
 def refused(asked):
-    """(number of refusals, the messages on the others)."""
+    """Returns the number of refusals, and the messages on the other planted faults."""
     bad = list(complaints(asked))
     return len(asked) - len(bad), bad
 
 
-# ---- what of the check itself is wrong
+# ---- planted faults in the check itself
 
 def lacks_a_case(room):
-    """A case of the induction that is left out, and an update's, and one of XXH3's streams."""
+    """Checks that a missing case is detected: of every length, of updates, and of XXH3's streams."""
     cases = every_length.cases("3-64:seed")
     updates = list(any_updates.updates("64"))
     with unittest.mock.patch.object(any_updates, "updates", lambda name: updates[:99] + updates[100:]):
@@ -250,13 +250,13 @@ def lacks_a_case(room):
 
 
 def processor(room):
-    """A processor of the unchanged source."""
+    """Returns a processor of the unchanged source."""
     subprocess.run(["gcc", "-c", SOURCE, "-o", f"{room}/right.o"], check=True)
     return Processor(Program(f"{room}/right.o"), V2)
 
 
 def has_a_wrong_sum(_):
-    """A polynomial as a word that is greater by one."""
+    """Plants a polynomial's word that is greater by one."""
     def one_more(x, width):
         return operations.add_at(width, (1, word(x, width)), (1, 1))
     word = values.as_word
@@ -265,14 +265,14 @@ def has_a_wrong_sum(_):
 
 
 def has_a_wrong_join(_):
-    """Adjacent bits in the other order."""
+    """Plants a `joined` with the parts in the wrong order."""
     parts = operations.from_segments
     with unittest.mock.patch.object(operations, "from_segments", lambda segments: parts(segments[::-1])):
         return raises(WrongRule, lambda: values.joined((nodes.symbol("a", 32), 32), (nodes.symbol("b", 32), 32)))
 
 
 def has_a_wrong_table(room):
-    """A form of the table with another form's function."""
+    """Plants another form's function in the table."""
     form = "shr", "iq"
     with unittest.mock.patch.dict(TABLE, {form: TABLE["shl", "iq"]}):
         return len(on_processor.compare({on_processor.sampled(*form): form}, room)[1]) == 1
@@ -291,7 +291,7 @@ ASKED = [Asked(wrong, SOURCE, lambda path: Processor(Program(path), V2)) for wro
 
 
 def noticed():
-    """(faults of the check itself that are detected, those that aren't)."""
+    """Returns the number of detected faults in the check itself, and the messages on the others."""
     with tempfile.TemporaryDirectory(prefix="machine-text-") as room:
         bad = [f"{check.__name__}: not noticed" for check in CHECKS if not check(room)]
     return len(CHECKS) - len(bad), bad

@@ -1,4 +1,4 @@
-"""Wrong sources for checks that no other wrong source reaches: one for each, of x86-64 and of 64-bit ARM."""
+"""Planted faults for checks that no other planted fault reaches: one for each, of x86-64 and of 64-bit ARM."""
 import os
 import re
 
@@ -18,13 +18,13 @@ from .sources import assembled
 
 V4_SOURCE = os.path.join(TOP, "c", "asm", f"{V4}.s")
 SAVED, TAKEN = ("push %rdi", "push %rsi", "push %rdx"), ("pop %rdx", "pop %rsi", "pop %rdi")
-FLIPPED = "sub $0x8,%rsp", "call 1f", "add $0x8,%rsp", "xor $0x1,%rax", "ret", "1:"      # another value of the function
-BEHIND = "push %rdi", "call 1f", "pop %rdx"           # the function, and then lines behind it
+FLIPPED = "sub $0x8,%rsp", "call 1f", "add $0x8,%rsp", "xor $0x1,%rax", "ret", "1:"      # inverts bit 0 of the result
+BEHIND = "push %rdi", "call 1f", "pop %rdx"           # calls the function; the next lines run afterwards
 UPDATE = "twox_c.xxh3_state.Xxh3State.update"
 
 
 def in_function(name, old, new):
-    """A function with its last such part replaced by another one."""
+    """Returns a change that replaces the last match of a text in a function."""
     def change(text):
         first = text.index(f"\n{name}:\n")
         end = text.index("\t.cfi_endproc", first)
@@ -37,7 +37,7 @@ def with_names(pattern, new):
     return lambda text: re.sub(pattern, new, text)
 
 
-# ---- what is asked
+# ---- tests
 
 def plain_update(cpu):
     any_updates.AnyUpdates(cpu, "64").update(next(one for one in any_updates.updates("64") if one.more))
@@ -76,7 +76,7 @@ def two_widths(cpu):
 
 
 def many_stripes(cpu):
-    """Proves one case of a function that processes many stripes."""
+    """Proves one case of a function that takes many stripes."""
     proof = xxh3_updates.Xxh3Updates(cpu)
     proof.taken_of(*next(x for x in proof.all_taken() if x[1][0].name == xxh3_updates.TAKE_MANY.name))
 

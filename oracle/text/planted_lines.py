@@ -1,4 +1,4 @@
-"""Wrong sources that only the grammar refuses: each is a committed source with other lines, which GNU as assembles."""
+"""Planted faults that only the grammar refuses: each is a committed source with other lines that GNU as assembles."""
 import os
 import re
 import tempfile
@@ -16,7 +16,7 @@ GUARD = r"\t\.ifndef .*\n"
 
 
 def put(*lines, place=BODY, behind="\t"):
-    """Inserts lines at the first place that matches a pattern."""
+    """Returns a change that replaces the first match of a pattern by lines."""
     return lambda text: re.sub(place, lambda _: "".join(f"{behind}{line}\n" for line in lines), text, count=1)
 
 
@@ -90,7 +90,7 @@ IN_ARM = [
     ("code that GNU as leaves out and others don't", put(".ifndef .gasversion.", "mov x2, #0", ".endif")),
     ("a comment behind an instruction", put("mov x2, #0 // nothing")),
 ]
-# What GNU as makes other code of than clang and rustc.
+# Lines that GNU as assembles otherwise than clang and rustc.
 OTHERWISE = [("what other assemblers refuse", put(".nolist", ".list")),
              ("code that GNU as leaves out", put(".ifndef .gasversion.", "nop", ".endif")),
              ("code that GNU as alone has", put(".ifdef .gasversion.", "nop", ".endif"))]
@@ -98,14 +98,14 @@ NOT_ASSEMBLED = {"an instruction behind a sign of another system", "a way by the
 
 
 class AskedLines:
-    """A wrong source that its grammar must refuse, or with `is_alike` the comparison of objects."""
+    """Tests a planted fault that the grammar must refuse, or with `is_alike` the comparison of objects."""
 
     def __init__(self, source, kind, what, change, is_alike=False):
         self.title, self.source, self.kind, self.change, self.is_alike = what, source, kind, change, is_alike
         self.words = "by GNU as and by|refuses the text" if is_alike else r"^wrong\.s:\d+: not of the grammar"
 
     def ask(self):
-        """Raises what refuses it, or what is wrong with it."""
+        """Applies the change and runs the test. Raises the refusal, or NotShown if the change changes nothing."""
         with open(self.source, encoding="utf-8") as file:
             text = file.read()
         with tempfile.TemporaryDirectory(prefix="machine-text-") as room:

@@ -1,5 +1,5 @@
-"""Wrong sources that only the list of an object's contents (listed.py) refuses, or the rows of exports, twins and
-frames: each is a committed source with other lines, and the instructions that are run stay unchanged."""
+"""Planted faults that only the list of an object's contents (listed.py) refuses, or the rows of exports, twins and
+frames: each is a committed source with other lines, and its executed instructions are unchanged."""
 import os
 import re
 
@@ -20,7 +20,7 @@ PROPERTY = "\t.long 4,16,5\n", "\t.long 0xc0000002,4,2,0\n"
 
 
 def exchanged(old, new):
-    """A text with one part, which must be there, replaced by another one."""
+    """Returns a change that replaces all matches of a text, which must occur."""
     def change(text):
         if old not in text:
             raise NotShown(f"the text has no {old}")
@@ -37,20 +37,20 @@ def local(name):
 
 
 def with_property(length, *words):
-    """The note with other properties, of that many bytes."""
+    """Returns a change that gives the note other properties of `length` bytes."""
     return lambda text: exchanged(PROPERTY[1], "".join(f"\t.long {word}\n" for word in words))(
         exchanged(PROPERTY[0], f"\t.long 4,{length},5\n")(text))
 
 
 def with_frame(pattern, new):
-    """A line of the first function that has such a one, in another form."""
+    """Returns a change of the first line that matches a pattern."""
     return lambda text: re.sub(pattern, new, text, count=1, flags=re.M)
 
 
-# ---- what is asked
+# ---- tests
 
 def of_object(cpu):
-    """The first step of every row: the object is read."""
+    """Reads the object, as every row does first, and runs the version's call."""
     calls.version(cpu)
 
 

@@ -1,10 +1,9 @@
-"""Runs instructions of x86-64 over terms, from a function's first one to its return.
+"""Runs an x86-64 program symbolically, from a function's first instruction to its return.
 
-Branches, addresses and lengths are numbers, or polynomials that the facts decide; words are terms. Whatever isn't
-known at the beginning is a separate symbol for each call: the registers that hold no argument, the upper half of one
-that holds a number of 32 bits. The flags are unset. A place in memory outside of the objects that were passed, a
-byte that was never stored, a store to read-only memory, a branch on a symbol and a form of an instruction that isn't
-in the table are errors."""
+Branches, addresses and lengths are numbers, or polynomials that the facts decide; words are terms. Everything unknown
+at the start is a fresh symbol for each call: registers without an argument, and the upper half of a 32-bit argument.
+The flags are unset. Errors are: an address outside of the passed objects, a load of a byte that was never stored, a
+store to read-only memory, a branch on a symbol, and a form of an instruction that the table lacks."""
 import functools
 
 from terms.refusals import Unsupported
@@ -20,26 +19,26 @@ from .memory import ENTRY, RED, Constants, ReturnTo, Stack, Words, copy, fill
 from .objects import Immediate, Register
 from .values import WORD, Address, address, arithmetic, bits, joined, low, place_of
 
-KEPT = "rbx", "rbp", "r12", "r13", "r14", "r15"          # of the caller, which gets them back
+KEPT = "rbx", "rbp", "r12", "r13", "r14", "r15"          # callee-saved registers
 ARGUMENTS = "rdi", "rsi", "rdx", "rcx", "r8", "r9"
 OUT = "return"
-LANES = 8                         # of 64 bits, which a vector has
+LANES = 8                         # lanes of a vector, 64 bits each
 VECTORS_COUNT = 32
 NO_LIMIT = 1 << 24                # instructions of a call
 
 
 class Processor:
-    """A program, by a processor of a name. `not_zero` has terms that are supposed not to be 0; `loops` is asked
-    wherever a loop may begin, and `live` has the objects that calls may write to then; `used` has the instructions that
-    ran, and `limit` how many may in a call. `replaced` has functions in the place of some of the text's, by where these
-    begin."""
+    """Runs a program on a processor with an instruction set's name. `not_zero` has terms assumed to be nonzero; `loops`
+    is called at each possible loop head, and `live` has the objects that calls may write to then; `used` has the
+    executed instructions; `limit` is the maximum per call. `replaced` maps a function's place to a Python function that
+    runs instead."""
 
     ARGUMENTS = ARGUMENTS
-    TAKES_STRIPES = ARGUMENTS     # of a function that takes stripes
-    TOGETHER = 1                  # accumulators of 32 bits that one-shots have in a cell
-    library = ForC                # how its exports are called
+    TAKES_STRIPES = ARGUMENTS     # argument registers of a function that takes stripes
+    TOGETHER = 1                  # 32-bit accumulators of one-shots in a cell
+    library = ForC                # calls the exports
 
-    known = staticmethod(known)       # the function of an instruction
+    known = staticmethod(known)       # returns an instruction's function
 
     def __init__(self, program, name):
         self.program, self.name = program, name
@@ -52,7 +51,7 @@ class Processor:
         self.used, self.made, self.limit, self.count = set(), 0, NO_LIMIT, 0
 
     def change(self, instruction):
-        """Replaces the instruction at a place."""
+        """Replaces the instruction at its place."""
         self.code[instruction.section][instruction.at] = self.known(instruction, self.name), instruction
 
     def new_name(self, prefix):
@@ -60,14 +59,14 @@ class Processor:
         return f"{prefix}#{self.made}"
 
     def fresh(self, prefix, width=WORD):
-        """A symbol of a new name, which other processors may have for another one of the same width."""
+        """Returns a fresh symbol. Other processors may use the same name with the same width."""
         return symbol(f"{self.new_name(prefix)}:{width}", width)
 
     # ---- calls
 
     def call(self, name, *arguments, into=ARGUMENTS):
-        """Calls a function like C does, and returns the values of rax and rdx. An argument is a number, a term or an
-        address; or (value, 32), if the upper half of its register may be anything."""
+        """Calls a function with the C calling convention. Returns rax and rdx. An argument is a number, a term or an
+        address, or (value, 32) with an unconstrained upper half of the register."""
         self.registers = {name: self.fresh(name) for name in WIDE}
         self.forget_vectors()
         self.flags = self.carry = None
@@ -85,13 +84,13 @@ class Processor:
         return self.registers["rax"], self.registers["rdx"]
 
     def expect_kept(self, kept):
-        """A return finds its address only at one place of the stack, so the stack pointer is the caller's."""
+        """Checks the callee-saved registers. A return checks the stack pointer: its address is at one place only."""
         for register, x in kept.items():
             if self.registers[register] is not x:
                 raise Unsupported(f"{register} isn't the caller's at the end")
 
     def argument(self, where):
-        """The value of a register at the first instruction of a function."""
+        """Returns a register's value at a function's first instruction."""
         return self.registers[where]
 
     @staticmethod
@@ -99,19 +98,18 @@ class Processor:
         return None
 
     def forget_vectors(self):
-        """No lane may be read before it is written."""
+        """Makes all lanes unset: a lane must be written before it is read."""
         self.vectors = [[None] * LANES for _ in range(VECTORS_COUNT)]
 
     def run(self, place):
-        """Runs from a place to the return out of the first call."""
+        """Runs from a place to the return from the first function."""
         while place is not None:
             if self.loops:
                 place = self.loops.pass_by(self, place)
             place = self.step(place)
 
     def step(self, place):
-        """Runs from a place to where it goes elsewhere than to the next instruction, or where a loop may begin: the
-        place, or None at the end."""
+        """Runs from a place to the next jump or possible loop head. Returns the place reached, or None at the end."""
         section, at = place
         if place in self.replaced:
             to = self.replaced[place]()
@@ -138,13 +136,12 @@ class Processor:
         return self.registers["rsp"].place()[1]
 
     def frame(self):
-        """The stack, and where the caller's part of it begins, at a function's first instruction."""
+        """Returns the stack, and the offset of the caller's frame, at a function's first instruction."""
         memory, at = self.registers["rsp"].place()
         return memory, at + 8
 
     def return_from_another(self):
-        """Returns from a function that may leave the registers that aren't kept, and all below the stack pointer, as
-        anything."""
+        """Returns from an external function. Clobbers caller-saved registers and everything below the stack pointer."""
         memory, at = self.registers["rsp"].place()
         memory.forget_below(at)
         for register in WIDE:
@@ -166,18 +163,17 @@ class Processor:
         return x
 
     def move_stack(self, to):
-        """Sets the stack pointer. What lies below a function's own bytes may be anything from then on, as a signal leaves
-        it."""
+        """Sets the stack pointer, and forgets the memory below the red zone: a signal handler may write there."""
         memory, at = place_of(to)
         if memory is not self.stack or not isinstance(at, int):
             raise Unsupported("another stack")
         memory.forget_below(at - RED)
         self.registers["rsp"] = to
 
-    # ---- places in memory
+    # ---- addresses
 
     def effective(self, place, instruction):
-        """The address of an operand."""
+        """Returns the address of a memory operand."""
         if place.base == "rip":
             name, at = instruction.target
             if name not in self.constants:
@@ -193,7 +189,7 @@ class Processor:
         return out
 
     def place(self, operand, instruction, alignment=1):
-        """The object and the offset of an operand."""
+        """Returns the object and the offset of a memory operand. Checks the alignment."""
         memory, at = place_of(self.effective(operand, instruction))
         if memory is self.stack and not (isinstance(at, int) and at >= self.registers["rsp"].place()[1] - RED):
             raise Unsupported("a place below the stack")
@@ -209,7 +205,7 @@ class Processor:
         return x
 
     def expect_writable(self, memory):
-        """Checks that what is written while loops are proved is among the cells that are watched."""
+        """Checks a store's object: writable, and during a loop's proof the stack or an object of `live`."""
         is_known = not self.loops or memory is self.stack or any(memory is other for other in self.live)
         if not isinstance(memory, Words) or not is_known:
             raise Unsupported(f"a store to {memory.name}")
@@ -221,7 +217,7 @@ class Processor:
     # ---- operands
 
     def width(self, instruction):
-        """The width of the operands: that of the last register among them, or that of the mnemonic."""
+        """Returns the operands' width in bits: the last register operand's, or the mnemonic's."""
         for operand in reversed(instruction.operands):
             if isinstance(operand, Register) and operand.name in PARTS:
                 return PARTS[operand.name][2]
@@ -236,7 +232,7 @@ class Processor:
         return self.load(*self.place(operand, instruction), width // 8)
 
     def whole(self, operand):
-        """The register that an operand begins, or None."""
+        """Returns the value of the register whose low bits an operand is, or None."""
         name, first, _ = PARTS[operand.name] if isinstance(operand, Register) else (None, 1, 0)
         return None if first else self.registers[name]
 
@@ -247,7 +243,7 @@ class Processor:
             self.store(*self.place(operand, instruction), width // 8, x)
 
     def put_register(self, name, first, width, x):
-        """Writing 32 bits clears the upper half, and a narrower part keeps everything above it."""
+        """Writes a register. A write of 32 bits clears the upper half; a narrower one keeps the bits above it."""
         old = self.registers[name]
         if first:
             raise Unsupported("a store to a second byte")
@@ -260,7 +256,7 @@ class Processor:
         self.registers[name] = x
 
     def lanes(self, operand, count=1, first=0):
-        """Some lanes of a vector, which must be set."""
+        """Returns lanes of a vector. Raises if one is unset."""
         found = self.vectors[VECTORS[operand.name]][first:first + count]
         if any(x is None for x in found):
             raise Unsupported(f"%{operand.name}, which isn't set")
@@ -279,7 +275,7 @@ class Processor:
 
 
 def call_of_outer(name, cpu, _):
-    """Calls of memcpy, memmove or memset, which are external."""
+    """Runs a call of memcpy, memmove or memset of another library."""
     to, source, n = (cpu.registers[name] for name in ARGUMENTS[:3])
     memory, at = cpu.registers["rsp"].place()
     if (at + 8) % 16:

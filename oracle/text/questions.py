@@ -1,8 +1,8 @@
-"""The requests for a changed source, and whether they detect the change.
+"""Requests that test a changed source, and functions that report if one detects the change.
 
-A request is first made with random numbers in place of symbols, which is cheap: bytes, a secret and a seed. If its
-value differs from the definition's, it is made again over symbols, and the comparison must detect the change there.
-The other calls compare by themselves. With --all, a change that no request detects is also tested by induction: some
+A request first runs on random numbers instead of symbols, which is cheap: message, secret and seed. If its value
+differs from the definition's, it runs again on symbols, and the comparison must detect the change there. The other
+calls compare their results themselves. With --all, a change that no request detects is also tested by induction: some
 cases of updates of any lengths and of one-shots of every length."""
 import collections
 import functools
@@ -18,7 +18,7 @@ from . import any_secret, any_updates, calls, every_length, long_seeds, one_shot
 from .memory import Numbers
 
 ANOTHER_VALUE, ANOTHER_TERM = "another value", "another term"
-CASES = 8                         # cases of an induction that a change is asked
+CASES = 8                         # cases of an induction that are tried for a change
 EDGES = [0, 1, 2, 3, 4, 7, 8, 9, 15, 16, 17, 31, 32, 33, 64, 65, 96, 97, 128, 129, 144, 145, 240, 241, 256, 257, 320,
          640, 1025, 1088]
 ONE_SHOTS = [*range(34), 36, 40, 45, 52, 63, 70, 80, 112, 113, 127, 130, 160, 177, 192, 208, 224, 255, 300, 319, 321,
@@ -29,14 +29,14 @@ STREAMS = [(5, 2), (16, 7), (33, 1), (40, 20, 39), (64, 32), (70, 33, 64), (100,
 BY_SECRETS = [(300, 137), (700, 143), (900, 192), (700, 195), (1100, 195), (1025, 192), (1300, 200), (2000, 256),
               (600, 1000), (1100, 144)]
 LEFT_OUT = ("3-64", "both", 136), ("3-128", "secret", 136)
-# With --all, of XXH3: bytes for which the texts have loops of their own, and long chunks from each place in a block.
+# With --all, for XXH3: lengths with separate loops, and long chunks from each position in a block.
 FAR = [("3-64", "default", None, 31_744), ("3-64", "secret", 136, 31_800), ("3-128", "secret", 192, 31_744),
        ("3-128", "seed", None, 32_700)]
 LONG_STREAMS = [(2700 + 131 * k, 600 + 64 * k) for k in range(16)]
-OF_BLOCKS = 3146, 600             # bytes of a stream, whose second chunk has two whole blocks and ends with the second
-# Bytes from which on a request takes longer than an induction, and has no others near to it.
+OF_BLOCKS = 3146, 600             # bytes of a stream whose second chunk has two whole blocks and ends with the second
+# Bytes from which on a request takes longer than an induction. No requests near to it are generated.
 LONG = 10_000
-# Further requests, of changes that these don't detect: each short length, and each number of stripes of two blocks.
+# Further requests, for changes still undetected: each short length, and each number of stripes of two blocks.
 BUFFERED, LENGTHS = 512, [*range(300), *range(300, 2400, 61)]
 OTHER_SECRETS = [(2200, 195), (3300, 193), (5000, 140), (16_000, 184), (32_000, 195)]
 
@@ -44,7 +44,7 @@ OTHER_SECRETS = [(2200, 195), (3300, 193), (5000, 140), (16_000, 184), (32_000, 
 # ---- requests
 
 def requests(is_all):
-    """With lengths at both sides of each edge; without `is_all` fewer of them, and fewer kinds of call."""
+    """Yields requests with lengths on both sides of each edge; without `is_all` fewer lengths and functions."""
     kinds = [("32", "seed", None), ("64", "seed", None)]
     kinds += [(name, kind, 136 if kind in ("secret", "both") else None) for name in ("3-64", "3-128")
               for kind in one_shots.WAYS]
@@ -73,7 +73,7 @@ def with_twins(request):
 
 
 def in_numbers(request, is_extreme):
-    """The same request with numbers; for extreme ones, most bytes are 0 or 255."""
+    """Returns the same request with concrete inputs; if `is_extreme`, most bytes are 0 or 255."""
     draw = random.Random(request.length)
     message, secret, own = (draw.randbytes(n) for n in (request.length, request.secret_length or 0, 8))
     if is_extreme:
@@ -89,7 +89,7 @@ def in_numbers(request, is_extreme):
 # ---- questions
 
 def noticed_by(ask):
-    """The name of what is detected, or None. Terms that it makes are forgotten."""
+    """Returns the detection's name or None. Drops the terms that `ask` makes."""
     known = nodes.mark()
     try:
         return ask()
@@ -102,7 +102,7 @@ def noticed_by(ask):
 
 
 class Call:
-    """A call that compares its result itself."""
+    """Question: a call that compares its result itself."""
     request = None
 
     def __init__(self, call):
@@ -116,7 +116,7 @@ class Call:
 
 
 class OfRequest:
-    """A request, with the definition's value of it, and its term as soon as it is needed."""
+    """Question: a request, with the definition's value and its term, each computed when first needed."""
 
     def __init__(self, request, entries, is_extreme=False):
         self.title, self.request, self.entries, self.term = repr(request), request, entries, None
@@ -137,7 +137,7 @@ class OfRequest:
         return noticed_by(lambda: None if is_same(self.term, self.answer(cpu, self.request)) else ANOTHER_TERM)
 
     def twice(self, cpu):
-        """Runs with numbers, and if that detects something over symbols, which must detect another value."""
+        """Runs on numbers. If that detects something, runs on symbols, which must detect it too."""
         found = self.with_numbers(cpu)
         told = self.over_symbols(cpu) if found else None
         if found == ANOTHER_VALUE and not told:
@@ -146,19 +146,19 @@ class OfRequest:
 
 
 def questions(entries, is_all, others, library):
-    """The requests for which a library has a call, the shortest first, and the other calls."""
+    """Returns the requests that a library can run, the shortest first, and the other calls."""
     asked = [twin for request in requests(is_all) if library.has(request) for twin in with_twins(request)]
     asked.sort(key=lambda request: request.length)
     return [*(OfRequest(request, entries) for request in asked), *map(Call, others)]
 
 
 def are_long(asked):
-    """True if some requests take longer than an induction."""
+    """True if all requests take longer than an induction."""
     return all(question.request.length >= LONG for question in asked)
 
 
 def near(asked, entries, draw, count):
-    """Requests of lengths beside those of some others, and streams that are cut elsewhere, of extreme numbers."""
+    """Yields requests with lengths and cuts near to the given ones, with mostly extreme bytes."""
     requests = [question.request for question in asked if question.request.length < LONG]
     for one in draw.choices(requests, k=count if requests else 0):
         n = max(0, one.length + draw.randrange(-2, 3))
@@ -168,8 +168,8 @@ def near(asked, entries, draw, count):
 
 
 def further(asked, entries):
-    """Of each hash of some requests one-shots of LENGTHS and with other secrets, and streams that fill the buffer by each
-    number of bytes, and leave each number in it."""
+    """Yields further requests of the same hashes: one-shots of LENGTHS and with other secrets, and streams that add
+    each number of bytes to the buffer and leave each number in it."""
     kinds = {(one.hash_name, one.cuts is None): one for one in (question.request for question in asked)}
     for (hash_name, is_once), one in kinds.items():
         for n, *cuts in [(n,) for n in LENGTHS] if is_once else further_streams(one_shots.is_plain(hash_name)):
@@ -188,8 +188,8 @@ def further_streams(is_plain):
 
 
 def reaching(cpu, asked):
-    """Place -> the questions that run the instruction there, as bits of a number. Each must have the result that it
-    should be: else the text itself is wrong."""
+    """Maps each place to the questions that run its instruction, as a bit set. Raises if a question detects something
+    in the unchanged source."""
     found = collections.defaultdict(int)
     for k, question in enumerate(asked):
         cpu.used = set()
@@ -201,16 +201,16 @@ def reaching(cpu, asked):
     return {place: bits for place, bits in found.items() if place[0] in cpu.program.sections}
 
 
-# What a library's texts are asked beside one-shots and cut streams: other calls, and what shows any updates of XXH3.
+# Questions of a library besides requests: other calls, and the class that proves updates of XXH3.
 Beside = collections.namedtuple("Beside", "calls updates")
 FOR_C = Beside([call for _, _, call in calls.OTHERS], xxh3_updates.Xxh3Updates)
 
 
-# ---- by induction
+# ---- questions by induction
 
 def by_induction(program, asked, section, updates):
-    """Some cases of updates of any lengths and of one-shots of every length, by the requests that run a section, and of a
-    function that takes stripes. `updates` shows those of XXH3."""
+    """Returns questions that prove some cases of updates and one-shots, chosen by the requests that run a section, and
+    of the section if it takes stripes. `updates` proves the streams of XXH3."""
     found = {}
     for one in (question.request for question in asked):
         if one_shots.is_plain(one.hash_name):
@@ -230,7 +230,7 @@ def by_induction(program, asked, section, updates):
 
 
 def takes_stripes(program, section):
-    """True if a section is a function that processes many stripes."""
+    """True if a section is a function that takes stripes."""
     return any(program.functions.get(summary.name, (None,))[0] == section for summary in TAKING)
 
 
@@ -238,7 +238,7 @@ TAKING = xxh3_updates.TAKE, xxh3_updates.TAKE_MANY, xxh3_updates.TAKE_BLOCKS, xx
 
 
 def case_of(cases, k):
-    """One of CASES that are spread over all, from the first to the last."""
+    """Returns case k of CASES, spread evenly over all cases."""
     cases = list(cases)
     return cases[k * (len(cases) - 1) // (CASES - 1)]
 
@@ -261,7 +261,7 @@ def any_secret_of(name, way, k, cpu):
 
 
 def own_secret(name, way, k, cpu):
-    """With a secret of 192 to 199 bytes: of x86-64-v4 those cases that its row has."""
+    """Proves a case with a secret of 192 to 199 bytes; for x86-64-v4 one of the cases in its row."""
     is_widened = xxh3_updates.TAKE_WIDENED.name in cpu.program.functions
     cases = every_length.of_secret_by_turns() if is_widened else every_length.of_secret()
     every_length.EveryLength(cpu, f"{name}:{way}").show(case_of(cases, k))

@@ -1,4 +1,4 @@
-"""The rows of oracle/machine-text: the requests of the sources, and the least number of cases of each."""
+"""Chooses the rows of oracle/machine-text on c/asm: their requests and their minimum numbers of cases."""
 import functools
 import itertools
 import os
@@ -21,24 +21,24 @@ from .unwinding import expect_frames
 
 NAMES = V2, V3, V4
 FOLDER = os.path.join(TOP, "c", "asm")
-ONE_BY_ONE, MORE = range(301), range(301, 1101)     # lengths asked one by one: always, and with --all
+ONE_BY_ONE, MORE = range(301), range(301, 1101)     # lengths tested one by one: always, and with --all
 EDGES_OF_BLOCKS = [1023, 1024, 1025, 1088, 1089, 2048, 2049, 2112]
 SECRETS, STREAM_SECRETS = (136,), (136, 193, 256)
-# Streams: their lengths, with how each is cut.
+# Streams: the length, and the offsets at which the input is cut.
 FEW_STREAMS = [(0,), (5, 2), (33, 1), (70, 33, 64), (200, 31, 160), (240, 239), (257, 256), (300, 64, 192),
                (600, 512, 599), (1100, 64), (1500, 40, 1100)]
-SOME_UPDATES, UPDATE_PARTS = 97, 4                  # updates of streams, in a sample and in parts
-# Cases of XXH3's streams: how many are a sample, and in how many parts all are.
+SOME_UPDATES, UPDATE_PARTS = 97, 4                  # step of the sample of updates, and the number of parts of all
+# Cases of XXH3's streams: size of a sample, and the number of parts of all.
 XXH3_CASES = {xxh3_updates.UPDATES: (4, 6), xxh3_updates.DIGESTS: (4, 1), xxh3_updates.STRIPES: (2, 2)}
-COVERED = 300, 3000                                 # points that the cases of XXH3's updates have, and with --all
+COVERED = 300, 3000                                 # points tested for completeness of XXH3's cases, and with --all
 SOME_SECRETS = [*range(136, 144), *range(190, 202), 256, 257, 576, 999, 1000]
 ANY_SECRET = [f"{name}:{way}" for name in ("3-64", "3-128") for way in ("secret", "both")]
-MOST_NODES = 400_000                                # of the cases of a proof
-SOME_LENGTHS = 5                                   # each so many of the cases of a secret of any length, without --all
-OF_LONG_SEEDS = 137,                                # bytes of secrets that are made of 2^32 bytes and more
-FEWEST_FRAMED = 9000                                # instructions of a text
+MOST_NODES = 400_000                                # terms kept between the cases of a proof
+SOME_LENGTHS = 5                                   # step between cases of a secret of any length, without --all
+OF_LONG_SEEDS = 137,                                # bytes of secrets generated from 2^32 bytes and more
+FEWEST_FRAMED = 9000                                # minimum number of instructions of a source
 SMALL = [0, 1, 3, 4, 8, 9, 16, 17, 128, 129, 240, 241, 1000]
-assert scalar and lanes                             # which fill the table
+assert scalar and lanes                             # imported because they fill the table
 
 
 def programs():
@@ -46,7 +46,7 @@ def programs():
 
 
 def makers(texts):
-    """A dictionary: name -> a function that makes a processor of that source."""
+    """Maps each name to a function that makes a processor of its source."""
     return {name: functools.partial(CargoProcessor, program) if isinstance(program, CargoProgram) else
             functools.partial(Processor, program, name) for name, program in texts.items()}
 
@@ -56,7 +56,7 @@ def processors(texts):
 
 
 def counted(title, least, ask):
-    """A row that has at least so many cases: `ask` returns their number, and the messages on others."""
+    """Returns a row with a minimum number of cases: `ask` returns the number that passed, and the failures."""
     def outcome():
         count, bad = ask()
         few = [f"{count} cases, and {least} at least are wanted"] if count < least and not bad else []
@@ -65,7 +65,7 @@ def counted(title, least, ask):
 
 
 def choose(options, texts):
-    """The rows on c/asm."""
+    """Returns the rows on c/asm."""
     rows = one_shot_rows(texts, options.all) + secret_rows(texts, options.all) + every_length_rows(texts, options.all)
     rows += stream_rows(texts, options.all) + call_rows(texts, options.all)
     rows += [assembler_row([(f"{FOLDER}/{name}.s", V1) for name in texts])]
@@ -83,18 +83,18 @@ def before_v4(texts):
 
 
 def texts_of(texts, hash_name):
-    """Of XXH32 and XXH64, as of all that takes no message, x86-64-v4's code is x86-64-v3's: a row of its own shows it."""
+    """Returns the sources with separate rows of a hash. For XXH32 and XXH64 x86-64-v4's code equals x86-64-v3's."""
     return before_v4(texts) if one_shots.is_plain(hash_name) else texts
 
 
-# ---- one-shots and streams, by comparison with the definition's terms
+# ---- one-shots and streams, compared with the definition's terms
 
 def title_of(hash_name, kind, secret):
     return f"XXH{hash_name}, {kind}" + (f" of {secret} bytes" if secret else "")
 
 
 def compared(texts, title, requests, side=one_shots):
-    """A row of requests, each for all sources: the definition's term is computed once."""
+    """Returns a row of requests, each for all sources: the definition's term is computed once."""
     requests = list(requests)
     texts = texts_of(texts, requests[0].hash_name)
     lengths = [request.length for request in requests]
@@ -110,7 +110,7 @@ def one_by_one(texts, kind, lengths, more=""):
 
 
 def one_shot_rows(texts, is_all):
-    """Secrets of other lengths have rows of every length. With one of 136 bytes x86-64-v4 runs x86-64-v3's code."""
+    """Returns the rows of one-shots. With a secret of 136 bytes x86-64-v4 runs x86-64-v3's code."""
     out = [one_by_one(texts if is_all or kind[2] is None else before_v4(texts), kind, ONE_BY_ONE)
            for kind in comparison.kinds(SECRETS)]
     for kind in [("3-64", "default", None), ("3-128", "seed", None), ("3-64", "secret", 192)]:
@@ -123,7 +123,7 @@ def one_shot_rows(texts, is_all):
 
 
 def secret_rows(texts, is_all):
-    """Rows of secrets that are too short, and of others by their lengths."""
+    """Returns the rows of secrets that are too short, and of secrets of several lengths."""
     out, lengths = [], SMALL if is_all else [0, 17, 241]
     for hash_name in ("3-64", "3-128"):
         out.append(of_each(texts, f"XXH{hash_name}, secrets that are too short", 2 * calls.SHORTEST * len(lengths),
@@ -142,7 +142,7 @@ def stream_rows(texts, is_all):
 
 
 def plain_stream_rows(made, is_all, some=SOME_UPDATES):
-    """Rows of streams of XXH32 and XXH64 with any updates: all cases, in parts, or some."""
+    """Returns the rows of streams of XXH32 and XXH64 with any updates: all cases, in parts, or a sample."""
     out = [counted("each update of XXH32 and XXH64 has its row", 2, updates_left_out)]
     for hash_name in any_updates.LAYOUTS:
         count = len(list(any_updates.updates(hash_name)))
@@ -156,7 +156,7 @@ def plain_stream_rows(made, is_all, some=SOME_UPDATES):
 
 
 def xxh3_rows(made, is_all, kind=xxh3_updates.Xxh3Updates):
-    """Streams of XXH3 of any updates: all that is to be shown, in parts, or some cases of each kind."""
+    """Returns the rows of streams of XXH3 with any updates: all cases, in parts, or a sample."""
     out = [counted("each update of XXH3 has its row", COVERED[is_all] * len(made),
                    functools.partial(points_left_out, made, is_all, kind))]
     for name, make in made.items():
@@ -170,7 +170,7 @@ def xxh3_rows(made, is_all, kind=xxh3_updates.Xxh3Updates):
 
 
 def points_left_out(made, is_all, kind):
-    """(number of points, those that are in no case)."""
+    """Returns the number of points, and messages for those that no case contains."""
     count = COVERED[is_all] // 3
     bad = [f"{name}: no case has {point}" for name, make in made.items()
            for point in covered.left_out(kind(make()), count)]
@@ -195,7 +195,7 @@ def updates_left_out():
 
 
 def any_streams(make, hash_name, part, some):
-    """Reset, digests, and the updates of a part, or a sample of them."""
+    """Proves updates: a part, or a sample. The sample and the first part include the reset and digests."""
     proof = any_updates.AnyUpdates(make(), hash_name)
     cases = list(any_updates.updates(hash_name))
     asked = [functools.partial(proof.update, one) for one in
@@ -206,7 +206,7 @@ def any_streams(make, hash_name, part, some):
 
 
 def count_shown(proof, asked):
-    """(number of proved cases, the messages on the others)."""
+    """Returns the number of proved cases, and the messages on the others."""
     bad = []
     for ask in asked:
         if len(nodes.NODES) > MOST_NODES:
@@ -233,7 +233,7 @@ def every_length_rows(texts, is_all):
 
 
 def long_rows(made, is_all):
-    """XXH3 of every length: all cases, or some with a secret."""
+    """Returns the rows of XXH3 of every length: all cases, or some with a secret."""
     out = [counted("every length with any secret has its row", COVERED[is_all],
                    functools.partial(secrets_left_out, made, is_all))]
     for hash_name, way in itertools.product(("3-64", "3-128"), ("default", "seed")) if is_all else ():
@@ -256,7 +256,7 @@ def long_rows(made, is_all):
 
 
 def short_rows_of_v4(texts):
-    """With a secret of 192 bytes, which x86-64-v4 asks for: the lengths that its row of every length leaves out."""
+    """Returns rows of secrets of 192 bytes for x86-64-v4: the lengths missing in its rows of every length."""
     return [one_by_one({V4: texts[V4]}, (*kind.split(":"), 192), [*range(241, MORE.stop), every_length.PREFETCHED], f", {V4}")
             for kind in ANY_SECRET]
 
@@ -273,7 +273,7 @@ def plain_left_out():
 
 
 def xxh3_left_out():
-    """Of the default secret and a derived one a row of its own has the one length that no case has."""
+    """Returns the lengths without a case. The length PREFETCHED of a default or derived secret has a separate row."""
     derived = every_length.left_out(every_length.cases("3-64:seed"), MORE.stop, 64 * every_length.DERIVED)
     own = every_length.left_out(every_length.of_secret(), 241, 64 * every_length.DERIVED)
     return told_left_out({"a secret of 192 bytes": own,
@@ -290,7 +290,7 @@ def shown(make, kind, asked, seed):
 
 
 def secrets_left_out(made, is_all):
-    """The same of lengths and secrets."""
+    """The same for lengths with secrets of any length."""
     proof = any_secret.AnySecret(next(iter(made.values()))())
     found = covered.without_one_shot(proof.cases(), proof.facts_of_any(), COVERED[is_all])
     return COVERED[is_all], [f"no case has {point}" for point in found[:5]]
@@ -310,7 +310,7 @@ def up_to_240(make, kind):
 # ---- the other calls
 
 def of_each(texts, title, least, call):
-    """A row of a function of a processor, which returns the number of its cases, or raises."""
+    """Returns a row that calls a function on each processor. The function returns its number of cases, or raises."""
     return counted(title, least * len(texts), lambda: (sum(call(cpu) for cpu in processors(texts).values()), []))
 
 
@@ -332,7 +332,7 @@ def twin_row(texts):
 
 
 def frames_row(texts, least=FEWEST_FRAMED):
-    """The unwinding tables: at least so many instructions of each source."""
+    """Returns the row of unwinding tables: a minimum number of instructions per source."""
     return counted("the frame at each instruction", least * len(texts),
                    lambda: (sum(map(expect_frames, texts.values())), []))
 
@@ -342,5 +342,5 @@ def made_secrets(cpu, asked):
 
 
 def assembler_row(sources):
-    """Objects of each source by three assemblers."""
+    """Returns the row that compares each source's objects by three assemblers."""
     return counted("one object by GNU as, clang and rustc", 2 * len(sources), lambda: (expect_alike(sources), []))

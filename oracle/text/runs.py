@@ -1,5 +1,5 @@
-"""A state of XXH3 in memory, parts of which are runs: bytes of a message or a secret, at a place or of a length that
-isn't a number."""
+"""A state of XXH3 in memory, parts of which are runs: bytes of a message or a secret at a symbolic offset or of a
+symbolic length."""
 import contextlib
 
 from terms.refusals import Unsupported
@@ -9,11 +9,11 @@ from terms.polynomials import is_natural, is_same, minus, plus
 
 from .memory import Words
 
-windows = {}                      # the name of a window's symbol -> the input, and the place of the window's byte 0
+windows = {}                      # name of a window's symbol -> (input, offset of the window's byte 0)
 
 
 class Source(Input):
-    """An input whose bytes are known again where they are stored."""
+    """Input whose windows are recorded, so that `source_of` recognises stored bytes."""
 
     def window(self, at, n):
         whole, first = super().window(at, n)
@@ -22,7 +22,7 @@ class Source(Input):
 
 
 def source_of(value, n):
-    """The input and the place in it whose n bytes a value is."""
+    """Returns the input and the offset whose n bytes a value is."""
     segments = value.segments if isinstance(value, Node) else ()
     if len(segments) == 1:
         (length, constant, atoms), = segments
@@ -35,8 +35,7 @@ def source_of(value, n):
 
 
 class State(Words):
-    """What is stored to `buffer`, (first, end), is kept as runs; elsewhere what is copied with a length that isn't a
-    number."""
+    """State that keeps stores to `buffer`, (first, end), as runs, and elsewhere copies of symbolic length."""
 
     def __init__(self, name, length, cells, runs, buffer, alignment=8):
         super().__init__(name, length, cells, alignment=alignment)
@@ -61,7 +60,7 @@ class State(Words):
         self.put_run(at, n, *source.origin(first))
 
     def put_run(self, at, n, source, place):
-        """As terms/memory.py has it, except parts of one run whose order isn't known yet: they are all kept."""
+        """Stores a run like terms/memory.py, and also keeps all parts of a run whose order isn't decided yet."""
         self.check(at, n)
         end, shift, parts, others = plus(at, n), minus(place, at), [], []
         for run in self.runs():
@@ -75,7 +74,7 @@ class State(Words):
 
 
 def united(spans):
-    """Spans of which those are one that are known to meet."""
+    """Merges spans that are known to touch or overlap."""
     done = []
     for span in spans:
         while (near := next((one for one in done if union(one, span)), None)):
@@ -86,7 +85,7 @@ def united(spans):
 
 
 def union(a, b):
-    """Two spans as one, or None where that isn't known."""
+    """Returns the union of two spans, or None if they aren't known to touch or overlap."""
     with contextlib.suppress(Unsupported):
         if is_natural(minus(a[1], b[0])) and is_natural(minus(b[1], a[0])):
             return in_order(a[0], b[0])[0], in_order(a[1], b[1])[1]

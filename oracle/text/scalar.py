@@ -1,4 +1,4 @@
-"""The semantics of instructions on words."""
+"""Semantics of instructions on words."""
 from terms import operations
 from terms.refusals import Unsupported
 from terms.words import BINARY
@@ -12,7 +12,7 @@ from .objects import Register
 from .values import WORD, arithmetic, bits, high_and_low, is_term, joined, low
 
 CONDITIONS = "e", "ne", "b", "ae", "a", "be", "l", "ge", "g", "le"
-TWO = "il iq ml mq ll qq"          # operands of sums and comparisons
+TWO = "il iq ml mq ll qq"          # operands of additions and comparisons
 
 
 # ---- moves
@@ -68,7 +68,7 @@ def turn(cpu, x):
 
 
 def turned(x, width):
-    """The bytes in the other order."""
+    """Returns the bytes in reverse order."""
     return joined(*((bits(x, k, 8), 8) for k in range(width - 8, -8, -8)))
 
 
@@ -126,7 +126,7 @@ def set_where(name):
 
 
 def move_where(name):
-    """A place in memory is read in either case."""
+    """Returns a conditional move. A memory operand is read in either case."""
     def move(cpu, x):
         source, to = x.operands
         width = cpu.width(x)
@@ -141,20 +141,20 @@ for condition in CONDITIONS:
     form(V1, "cmov" + condition, "qq mq ll ml")(move_where(condition))
 
 
-# ---- sums, differences, bits
+# ---- addition, subtraction, logic
 
 def binary(word, kind):
     def operation(cpu, x):
         source, to = x.operands
         width = cpu.width(x)
-        if word in ("xor", "sub") and source == to:     # whatever it was
+        if word in ("xor", "sub") and source == to:     # 0 for any content
             cpu.set_flags("logic", width, 0, 0, 0)
             return cpu.put(to, width, 0, x)
         a, b = cpu.get(to, width, x), cpu.get(source, width, x)
         if word == "or" and source == to:
             result = a
         elif word == "and" and isinstance(b, int) and isinstance(cpu.whole(to), Poly):
-            result = arithmetic(word, WORD, cpu.whole(to), b)     # no bit above the width is in the mask
+            result = arithmetic(word, WORD, cpu.whole(to), b)     # the mask has no bit above the width
         else:
             result = arithmetic(word, width, a, b)
         cpu.set_flags(kind, width, a, b, result)
@@ -222,7 +222,7 @@ def complement(cpu, x):
     cpu.put(to, width, arithmetic("xor", width, cpu.get(to, width, x), ones(width)), x)
 
 
-# ---- products and quotients
+# ---- multiplication and division
 
 @form(V1, "imul", "qq ll mq ml iml imq ill iqq")
 def product(cpu, x):
@@ -278,7 +278,7 @@ form(V1, "shr", "il iq l q")(shift("lshr"))
 
 
 def side_shifted(width, a, b, k):
-    """a shifted left by k bits, with the upper bits of b below."""
+    """Returns a shifted left by k bits, with the upper bits of b below."""
     if not k:
         return a
     return operations.either(BINARY["shl"](width, lifted(a), k), bits(b, width - k, k))

@@ -1,5 +1,5 @@
-"""The rows on the verifier itself: wrong sources, disabled checks, changes of instructions, and the table compared
-with the processor. They can only fail: no proof of a source depends on them."""
+"""Chooses the rows on the verifier itself: planted faults, disabled checks, changes of instructions, and the table
+compared with the processor. They can only fail: no proof of a source depends on them."""
 import functools
 import tempfile
 
@@ -10,7 +10,7 @@ from .instructions import SETS, TABLE, V1, V4
 from .questions import CASES, Beside, plain_update, xxh3_update
 from .rows import counted, makers
 
-SOME_CHECKS, SWITCHED_OFF = 9, (4, 100)      # each so manieth wrong text without --all, and checks that are switched off
+SOME_CHECKS, SWITCHED_OFF = 9, (4, 100)      # step of planted faults without --all; minimum of disabled checks
 
 
 def planted_row(title, asked):
@@ -18,7 +18,7 @@ def planted_row(title, asked):
 
 
 def choose(texts, others, is_all):
-    """The rows on c/asm's sources and on cargo's, which are `others`."""
+    """Returns the rows on c/asm's sources and on cargo's, which are `others`."""
     forms = sum(kind in SETS[on_processor.processor_here()] for kind, _ in TABLE.values())
     without = "" if on_processor.is_v4() else ", without what it lacks of x86-64-v4"
     return [counted(f"the table of instructions beside the processor{without}", forms - 40,
@@ -34,8 +34,8 @@ def choose(texts, others, is_all):
 
 
 def change_rows(texts, others, is_all):
-    """Changes of one instruction; of x86-64-v4 in the functions that it has by itself, and of cargo's texts of the one that
-    has no function of c/asm's."""
+    """Yields rows of single-instruction changes: for x86-64-v4 in its own functions, and of cargo's sources only for
+    the one that shares no function with c/asm."""
     for name, make in makers(texts).items():
         if name == V4:
             yield change_row(f"in the widened functions of {name}", (20, 100), is_all, name, make, is_drawn=is_widened)
@@ -49,7 +49,7 @@ def change_rows(texts, others, is_all):
 
 
 def pieces():
-    """Chunks that are taken: a changed text below cargo is asked these too, since it has no whole streams."""
+    """Yields questions that prove cases of chunks: a changed cargo source has no requests of whole streams."""
     for k in range(CASES):
         yield functools.partial(plain_update, "32", k)
         yield functools.partial(xxh3_update, cargo_streams.CargoUpdates, k)
@@ -60,14 +60,14 @@ def is_widened(section):
 
 
 def change_row(where, counts, is_all, *asked, **more):
-    """That many changes of one draw, or with --all of each draw."""
+    """Returns a row of `count` changes of one random seed, or with --all of each seed."""
     count, draws = counts[is_all], changes.DRAWS if is_all else 1
     return counted(f"changes of one instruction, {where}", count * draws,
                    functools.partial(changes.noticed, *asked, count, is_all, **more))
 
 
 def parts_of_changes(title, asked, program, is_all):
-    """Few of the changes that a module asks, or with --all a row of each part of them."""
+    """Yields a row with a few of a module's changes, or with --all a row for each part of them."""
     for part in range(changes.ROWS) if is_all else [None]:
         words = f", part {part + 1} of {changes.ROWS}" if is_all else ""
         yield counted(title + words, asked.MANY // changes.ROWS if is_all else asked.FEW,

@@ -1,5 +1,5 @@
-"""The assembly sources as objects. A source has the form of the grammar. GNU as (called by gcc), clang and rustc,
-with which users assemble it, make the same object of it; the one by GNU as is read."""
+"""Assembles the sources. A source must follow the grammar. GNU as, clang and rustc, with which users assemble it, must
+make the same object of it. The verifier reads GNU as's object."""
 import os
 import struct
 import subprocess
@@ -13,7 +13,7 @@ from .listed import Object, difference, differences
 GNU = {"x86-64": "as", "aarch64": "aarch64-linux-gnu-as"}
 TARGETS = {"x86-64": ("x86_64-linux-gnu", "x86_64-unknown-linux-gnu", "att_syntax, raw"),
            "aarch64": ("aarch64-linux-gnu", "aarch64-unknown-linux-gnu", "raw")}
-# The crate has these macros from `core`, which a machine has only for its own processor.
+# The crate declares these macros itself: a machine has `core` only for its own processor.
 CRATE = """#![feature(no_core, rustc_attrs)]
 #![no_core]
 #![allow(internal_features)]
@@ -27,7 +27,7 @@ ASSEMBLERS = "GNU as", "clang", "rustc"
 
 
 def assembled(source, kind, read):
-    """The result of `read` for the object's path."""
+    """Assembles a source and returns `read`'s result for the object's path."""
     expect_grammar(source, kind)
     with tempfile.TemporaryDirectory(prefix="machine-text-") as room:
         return read(by_gnu(source, kind, room))
@@ -61,8 +61,8 @@ def run(words, **more):
 
 
 def expect_alike(sources):
-    """How many objects are alike: of each text, (path, kind), those of the three assemblers. Bytes, relocations, names, notes
-    and frames are compared."""
+    """Compares each source's objects by the three assemblers: bytes, relocations, names, notes and frames. `sources`
+    are (path, kind). Returns the number of equal objects."""
     for source, kind in sources:
         with tempfile.TemporaryDirectory(prefix="machine-text-") as room:
             first, *others = [parts_of(by(source, kind, room)) for by in (by_gnu, by_clang, by_rustc)]

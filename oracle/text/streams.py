@@ -1,5 +1,5 @@
-"""Streams of a source: reset, updates that end at given cuts, digest. A state holds anything before its reset, each
-update gets only its chunk, as its own object, and no digest changes the state."""
+"""Runs the streams of a source: reset, updates that end at given offsets, digest. A state has any content before its
+reset. Each update gets its chunk as a separate memory object. No digest changes the state."""
 import os
 import re
 
@@ -14,11 +14,11 @@ from .one_shots import NAMES, WAYS, is_plain, of_seed, suppose_seed
 from .values import address, low
 
 OK, ERROR = 0, 1
-ALIGNMENT = {"32": 4}             # of a state, as the header says; of all others 8
+ALIGNMENT = {"32": 4}             # of a state, by the header; 8 for the others
 
 
 def sizes():
-    """The sizes of the states, which the library's C files allocate."""
+    """Returns the sizes of the states that the library's C files allocate."""
     with open(os.path.join(TOP, "c", "asm", "state_sizes.h"), encoding="utf-8") as file:
         return {name: int(size) for name, size in re.findall(r"#define XXH(\d+)_STATE_BYTES (\d+)", file.read())}
 
@@ -31,7 +31,7 @@ def state_name(hash_name):
 
 
 def new_state(cpu, hash_name):
-    """Memory of a state's size, with any contents."""
+    """Returns memory of a state's size, with any content."""
     size = cpu.library.SIZES[state_name(hash_name)]
     cells = [(at, 8, cpu.fresh("a state's word")) for at in range(0, size, 8)]
     return Words("state", size, cells, alignment=ALIGNMENT.get(hash_name, 8))
@@ -53,7 +53,7 @@ def expect_answer(answer, code):
 
 
 def reset_name(hash_name, kind):
-    """Those of XXH3 are called by the tests for null of c/guards.c."""
+    """Returns the name of a reset. For XXH3 it is the function behind c/guards.c, which tests for null."""
     return f"{NAMES[hash_name]}_reset" if is_plain(hash_name) else f"proved_{NAMES[hash_name]}_reset{WAYS[kind]}"
 
 
@@ -70,7 +70,7 @@ def update(cpu, hash_name, state, piece):
 
 
 def digest(cpu, hash_name, state):
-    """The hash of what was written to a state, which stays unchanged."""
+    """Returns the hash of everything written to a state. Checks that the state stays unchanged."""
     before = contents(state)
     value = cpu.library.digest(cpu, hash_name, state)
     expect_same("a digest", before, state)

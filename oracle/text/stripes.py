@@ -1,9 +1,9 @@
-"""The loops of XXH3 over stripes that begin and end anywhere in a block, proved by induction, and the functions that
-process stripes, each proved once and then assumed where it is called.
+"""Proves by induction the loops of XXH3 over stripes that begin and end anywhere in a block. Functions that take
+stripes are proved once, then assumed at their calls.
 
 A place is (b, j): b blocks and j stripes of the next one. A loop advances a place by one, four or more stripes per
-iteration. Its counter of a block's stripes restarts where a block ends. Whether a cell advances or restarts is
-guessed from an iteration that ends a block, and then proved with everything else."""
+iteration. Its counter of a block's stripes restarts at a block's end. Which cells advance and which restart is guessed
+from an iteration that ends a block, and then proved with everything else."""
 import collections
 import functools
 
@@ -19,17 +19,17 @@ from .induction import Family, Proof
 from .memory import ENTRY
 from .values import Address
 
-# Stripes that are taken one after another: from a place on, how many, and where that leads.
+# Consecutive stripes: the first place, their number, and the place behind them.
 Part = collections.namedtuple("Part", "start turns end")
-WORDS, PLACE, TAKEN = 64, 64, 72        # bytes of accumulators; where a record of them has the place in a block; its size
-# Where turns are guessed: stripes that are left, and till the block's end, and whether that is two turns.
+WORDS, PLACE, TAKEN = 64, 64, 72        # bytes of accumulators; offset of the position in a block; bytes of both
+# For guessed iterations: stripes left, stripes to the block's end, and whether to run two iterations.
 GUESSES = (4, 2, True), (64, 8, True), (64, 4, False)
-DEEP = 2048                              # bytes of stack that a function of the summaries uses by itself
+DEEP = 2048                              # bytes of stack that a summarised function uses, at most
 LEAST_ENTRY = ENTRY - 2 * DEEP
 
 
 class Stripes(Family):
-    """The definition's words, and the parts that a call takes, q stripes a block."""
+    """The definition's words, and the parts that a call takes, with q stripes per block."""
 
     def __init__(self, name, q, parts, after, suppose):
         super().__init__(name, 64, 0, 8, after, suppose)
@@ -39,7 +39,7 @@ class Stripes(Family):
         return plus(times(self.q, place[0]), place[1])
 
     def supposed(self):
-        """The assumed values of the words, to be restored."""
+        """Returns the assumed values of the words, for `restore`."""
         return dict(suppositions.values)
 
     def restore(self, known):
@@ -48,7 +48,7 @@ class Stripes(Family):
         self.known.clear()
 
     def before(self, place, n):
-        """The place n stripes before another."""
+        """Returns the place n stripes before another."""
         b, j = place
         return (minus(b, 1), minus(self.q, n)) if is_same_number(j, 0) else (b, minus(j, n))
 
@@ -58,7 +58,7 @@ class Stripes(Family):
 
 
 class StripesProof(Proof):
-    """A loop over stripes. Its head may be before the first stripe or after it."""
+    """Proof of a loop over stripes. Its head may be before the first stripe or after it."""
 
     HAS_INNER = True
 
@@ -86,7 +86,7 @@ class StripesProof(Proof):
         if not self.guess_of_some(first):
             return False
         left, over = divided(minus(family.total, first), self.step)
-        if isinstance(left, int) and over:           # so few turns are run one by one
+        if isinstance(left, int) and over:           # so few iterations run one by one
             return False
         self.find_counters(left)
         left = minus(left, self.left_at_end(left, part.end))
@@ -98,11 +98,11 @@ class StripesProof(Proof):
         return True
 
     def is_run(self, part):
-        """True if this number of turns is run: 0 or 1, or if the distance to the block's end is known."""
+        """True if the part runs turn by turn: 0 or 1 stripes, or a concrete distance to the block's end."""
         return part.turns in (0, 1) or isinstance(minus(self.family.q, part.start[1]), int)
 
     def holds(self, first):
-        """True if the words after so many stripes are there."""
+        """True if the words after `first` stripes are in some cells."""
         numbers = {x for x in self.start.values() if isinstance(x, int)}
         terms = {x.number for x in self.start.values() if isinstance(x, Node)}
         try:
@@ -112,7 +112,7 @@ class StripesProof(Proof):
             return False
 
     def guess_of_some(self, first):
-        """Where so many stripes are left, and so many till the block's end."""
+        """Guesses the loop's cells, with the numbers of stripes in GUESSES left, in total and to the block's end."""
         for left, more, is_twice in GUESSES:
             facts = minus(self.family.q, plus(self.first_place[1], more, 1)), minus(self.family.total, plus(first, left))
             if any(is_natural(minus(-1, fact)) for fact in facts):
@@ -125,13 +125,13 @@ class StripesProof(Proof):
                 self.loops.refused.append(f"a guess from {first}: {error}")
         return False
 
-    # ---- places in turns: k from the loop's beginning, and i from the block's
+    # ---- iterations: k counts from the loop's beginning, i from the block's
 
     def in_turns(self):
         return divided(self.first_place[1], self.step)[0], divided(self.family.q, self.step)[0]
 
     def find_counters(self, left):
-        """Which cells begin again at a block's end: `counts` has what each is at its beginning, and its step."""
+        """Finds the cells that restart at a block's end. `counts` maps each to its first value and its step."""
         at, whole = self.in_turns()
         k = minus(minus(whole, at), 1)
         more = [n for n in (2, 1) if not is_natural(minus(plus(k, n - 1), left))]
@@ -141,7 +141,7 @@ class StripesProof(Proof):
             self.enter(k, self.supposed(k))
             try:
                 self.turn()
-            except NotShown:          # with this turn the loop is left
+            except NotShown:          # this iteration leaves the loop
                 return
             now = self.state()
             for cell, (x, step) in list(self.places.items()):
@@ -152,8 +152,8 @@ class StripesProof(Proof):
                     del self.places[cell]
 
     def left_at_end(self, left, end):
-        """How many turns are left where the head is come to for the last time: 0, or 1 where the loop is left behind
-        its end."""
+        """Returns the number of iterations left when control reaches the head for the last time: 0, or 1 if the last
+        iteration doesn't return to it."""
         self.ends_with = 0
         if is_natural(minus(0, left)):
             return 0
@@ -167,7 +167,7 @@ class StripesProof(Proof):
         return self.ends_with
 
     def kinds_of_turns(self):
-        """(k, i, facts): within the first block, at its end, within another one, at its end."""
+        """Yields (k, i, facts) of iterations: within the first block, at its end, within a later block, at its end."""
         at, whole = self.in_turns()
         t, i, c = (variable(self.cpu.new_name(name)) for name in "tic")
         behind = minus(whole, at)
@@ -180,7 +180,7 @@ class StripesProof(Proof):
     def show_turns(self, left):
         for k, i, facts in self.kinds_of_turns():
             facts = [*facts, minus(minus(left, 1), k)]
-            if any(is_natural(minus(-1, fact)) for fact in facts):      # there is no such turn
+            if any(is_natural(minus(-1, fact)) for fact in facts):      # no such iteration exists
                 continue
             with given(*facts):
                 self.enter(k, self.supposed(k), i)
@@ -191,21 +191,21 @@ class StripesProof(Proof):
 # ---- functions that take stripes
 
 class Summary:
-    """The effect of a function that processes the stripes of a part: it reads a record of accumulators, with the
-    place in the block if `has_place`, stripes and secret, and writes such a record, another one or the same. `taken`
-    of xxh3_updates.py proves that of the function; `put_into` makes it the effect of its calls."""
+    """The effect of a function that takes the stripes of a part. It reads a record of accumulators, with the position
+    in the block if `has_place`, and the stripes and the secret. It writes another such record, or the same one. `taken`
+    of xxh3_updates.py proves this of the function; `put_into` assumes it at its calls."""
 
     def __init__(self, name, has_place=True, least=0, has_length=True, is_in_place=False):
         self.name, self.size, self.has_place, self.least = name, TAKEN if has_place else WORDS, has_place, least
-        self.has_length = has_length     # whether it is given how long the secret is
-        self.is_in_place = is_in_place   # whether it writes the record that it reads
+        self.has_length = has_length     # whether the secret's length is an argument
+        self.is_in_place = is_in_place   # whether it updates the record in place
 
     def registers(self, cpu):
-        """The places of its arguments."""
+        """Returns the argument registers."""
         return cpu.TAKES_STRIPES[:5] if self.is_in_place else cpu.TAKES_STRIPES
 
     def put_into(self, cpu, family, source, secret):
-        """Calls of the function take parts of the family, of a message and under a secret, each an input."""
+        """Replaces the function: its calls take parts of the family, from the inputs `source` and `secret`."""
         cpu.replaced[cpu.program.functions[self.name]] = functools.partial(self.call, cpu, family, source, secret)
 
     def call(self, cpu, family, source, secret):
@@ -216,7 +216,7 @@ class Summary:
         return cpu.return_from_another()
 
     def take(self, cpu, family, source, secret, arguments, stack, floor):
-        """Takes what a call gets; its caller's part of the stack begins at a place."""
+        """Checks a call's arguments and applies the effect. The caller's frame begins at `floor`."""
         *records, stripes, length, own, own_length = arguments
         self.expect("the places", all(isinstance(x, Address) for x in (*records, stripes, own)))
         (room, first), (memory, place) = records[0].place(), records[-1].place()
@@ -254,7 +254,7 @@ class Summary:
 
 
 def is_at(place, source, at, n):
-    """True if the n bytes at an address are those of an input at a place."""
+    """True if the n bytes at an address are an input's bytes at offset `at`."""
     memory, offset = place.place()
     if isinstance(memory, Input):
         found, first = memory.origin(offset)

@@ -1,10 +1,10 @@
-"""Disables the verifier's checks one after another, and requires that a wrong source detects it: the source that
-this check refuses is then accepted, or refused for another reason.
+"""Disables the verifier's checks one by one, and requires that a planted fault detects it: the faulty source that the
+check refuses is then accepted, or refused for another reason.
 
-A check is a statement that only raises under an `if`, a `want`, or a line that the grammar accepts. Which check
-refuses a wrong source is recorded when it does. A check that no wrong source detects needs a line in unplanted.txt
-with the reason. A line whose check a wrong source detects fails too. The result without a check is computed in its
-own process, where the module is compiled without that statement."""
+A check is a statement that only raises under an `if`, a `want`, or a line that the grammar accepts. The traceback of a
+refusal shows the check. A check that no planted fault reaches or detects needs a line in unplanted.txt with the reason.
+A line whose check a planted fault detects fails too. Each result without a check is computed in a separate process,
+which compiles the module without that statement."""
 import ast
 import concurrent.futures
 import importlib.abc
@@ -24,8 +24,8 @@ MODULES = ("grammar", "listed", "objects", "decoded", "sources", "unwinding", "p
            "aarch64.processor", "../terms/memory")
 TAKING = {"take": "lines.number += 1", "take_exactly": "lines.number += {count}", "refuse": "pass", "want": "pass"}
 THEMSELVES = "want", "refuse", "take", "take_exactly", "has"
-FEW = 24                          # each so manieth text, without --all
-LONGEST = 20                      # seconds of a processor; a check without which a text has no end takes them all
+FEW = 24                          # step of planted faults, without --all
+LONGEST = 20                      # CPU seconds; a source that doesn't end without a check uses them all
 
 
 def path_of(module):
@@ -39,7 +39,7 @@ def name_of(module):
 # ---- the checks
 
 def checks_of(module):
-    """Key -> (first line, last line) of each check of a module. A key says the module, the function and the statement."""
+    """Maps a key to the lines (first, last) of each check of a module. A key has the module, function and statement."""
     with open(path_of(module), encoding="utf-8") as file:
         source = file.read()
     out = {}
@@ -54,7 +54,7 @@ def checks_of(module):
 
 
 def statements(tree, function=""):
-    """(function, statement) of each statement, in order."""
+    """Yields (function, statement) of each statement, in order."""
     for node in ast.iter_child_nodes(tree):
         name = node.name if isinstance(node, ast.FunctionDef) else function
         if isinstance(node, ast.stmt) and function not in THEMSELVES:
@@ -69,13 +69,13 @@ def is_check(node):
 
 
 def called(call):
-    """`want`, or what is called of the grammar's lines."""
+    """Returns the name of a called function, or of a called method of `lines`."""
     of_lines = isinstance(call.func, ast.Attribute) and getattr(call.func.value, "id", None) == "lines"
     return call.func.attr if of_lines else getattr(call.func, "id", None)
 
 
 def without(tree, line):
-    """The module's tree without the check that begins at a line."""
+    """Returns the module's tree without the check at a line."""
     class Off(ast.NodeTransformer):
         def generic_visit(self, node):
             super().generic_visit(node)
@@ -107,10 +107,10 @@ class Loader(importlib.abc.MetaPathFinder, importlib.abc.SourceLoader):
         return compile(without(ast.parse(data), self.line), path, "exec")
 
 
-# ---- the wrong texts
+# ---- planted faults
 
 def every_text():
-    """All wrong sources, in one order."""
+    """Returns all planted faults, in a fixed order."""
     from text import cargo_planted, planted, planted_checks, planted_lines, planted_objects, rows
     assert rows
     return [*planted_lines.X86_ASKED, *planted_lines.ARM_ASKED, *planted_lines.X86_ALIKE, *planted_objects.X86_ASKED,
@@ -118,7 +118,7 @@ def every_text():
 
 
 def refusal(one):
-    """The refusal of a wrong source, or None."""
+    """Returns the refusal of a planted fault, or None."""
     from terms.refusals import REFUSALS
     try:
         one.ask()
@@ -128,7 +128,7 @@ def refusal(one):
 
 
 def place_of(error, known):
-    """The known check that raised a refusal: the innermost, or None."""
+    """Returns the innermost of the known checks in a refusal's traceback, or None."""
     for frame in reversed(traceback.extract_tb((error.__cause__ or error).__traceback__)):
         for key, (path, first, last) in known.items():
             if path == frame.filename and first <= frame.lineno <= last:
@@ -137,7 +137,7 @@ def place_of(error, known):
 
 
 def told_without(module, line, number):
-    """Runs a wrong source in a separate process, with the check at a line disabled, if there is one: its output."""
+    """Tests a planted fault in a separate process with the check at a line disabled. Returns its output."""
     words = [sys.executable, "-B", os.path.abspath(__file__), module, str(line), str(number)]
     done = subprocess.run(words, capture_output=True, text=True)
     return "no end" if done.returncode == -signal.SIGXCPU else done.stdout
@@ -152,20 +152,20 @@ def of_process(module, line, number):
 
 
 def plain(text):
-    """A refusal without the names of folders and symbols."""
+    """Returns a refusal without temporary names of folders and symbols."""
     return re.sub(r"machine-text-\w+|#\d+", "", text)
 
 
 # ---- the row
 
 def unplanted():
-    """A dictionary: check -> why no wrong source is refused by it."""
+    """Maps each check of unplanted.txt to the reason why no planted fault detects it."""
     with open(UNPLANTED, encoding="utf-8") as file:
         return dict(line.rstrip("\n").split(" | ") for line in file if line.strip() and not line.startswith("#"))
 
 
 def tell(is_all, jobs=1):
-    """(checks that were disabled and detected, the messages on others): all, or those of a few sources."""
+    """Returns the number of tested checks, and the messages on the undetected ones. Without `is_all` tests a few."""
     where = {module: checks_of(module) for module in MODULES}
     known = {key: (path_of(module), *lines) for module, found in where.items() for key, lines in found.items()}
     refused, listed, bad = {}, unplanted(), []

@@ -1,4 +1,4 @@
-"""Compares a source's unwinding table with the frames of its instructions, at each instruction that is reached."""
+"""Compares a source's unwinding table with the frames computed from its instructions, at each reachable one."""
 import re
 import struct
 
@@ -6,12 +6,12 @@ from terms.refusals import NotShown
 
 from .listed import CODE, X86_64, Table, frames
 
-RETURN_ADDRESS = {X86_64: {16: -8}}      # its number and its place, which the table says of x86-64
+RETURN_ADDRESS = {X86_64: {16: -8}}      # its register number and offset, which x86-64's table contains
 REMARK = re.compile(r"\s*(#(?!\w|-)|//).*")
 
 
 def expect_frames(program):
-    """The number of instructions for which the table has the right frame, if they are reached."""
+    """Checks the table at each reachable instruction. Returns their number."""
     processor, count = frames.BY_MACHINE[program.object.machine], 0
     code = {name for name, head in program.heads.items() if head.flags == CODE}
     try:
@@ -35,7 +35,7 @@ def wanted(program, frame):
 
 
 def steps(program, processor, section, rows):
-    """A section's instructions as frames are found of them."""
+    """Yields a section's instructions as steps from which frames are computed."""
     numbers = {at: number for number, (at, _, _) in enumerate(rows)}
     for at, _, text in rows:
         text, target = " ".join(REMARK.sub("", text).split()), program.sections[section][at].target

@@ -1,8 +1,8 @@
-"""The value of a register or a place in memory: an int, a term, a polynomial below 2 ^ 64, or an Address.
+"""Values of registers and memory cells: an int, a term, a polynomial below 2 ^ 64, or an Address.
 
-An Address is a sum of objects' unknown places and an offset, so that the difference of two places in one object is a
-number. All that is known of an object's place is that it isn't 0 and what it is a multiple of. Values that are
-computed here and not by operations.py are compared at the points as well."""
+An Address is a sum of objects' unknown addresses and an offset, so that the difference of two addresses in one object
+is a number. An object's address is only known to be nonzero and aligned. Values that are computed here and not by
+operations.py are also compared at the points."""
 import contextlib
 
 from terms import nodes, operations
@@ -17,7 +17,7 @@ HALF, WHOLE = 1 << 63, 1 << 64
 
 
 class Address:
-    __slots__ = "bases", "offset"    # bases: ((object, how often), ..), in the order of their names
+    __slots__ = "bases", "offset"    # bases: ((object, count), ..), sorted by name
 
     def __init__(self, bases, offset):
         self.bases, self.offset = bases, offset
@@ -26,15 +26,15 @@ class Address:
         return " + ".join(f"{count}*{base.name}" for base, count in self.bases) + f" + {self.offset}"
 
     def place(self):
-        """(object, offset), if it is a place in an object."""
+        """Returns (object, offset) of an address in an object, or raises."""
         if len(self.bases) != 1 or self.bases[0][1] != 1:
             raise Undecided(f"{self} as an address")
         return self.bases[0][0], self.offset
 
 
 class Either:
-    """The bits of two numbers, united, under a mask, and moved down by some places. All that is asked of it is whether
-    there is one: a text asks that before a division that has a shorter way for narrow numbers."""
+    """The bitwise or of numbers, masked, then shifted right. Only a comparison with 0 is defined: sources test that
+    before a division, which is faster for narrow numbers."""
     __slots__ = "numbers", "mask", "moved"
 
     def __init__(self, numbers, mask, moved=0):
@@ -66,16 +66,16 @@ def address(memory, at=0):
 
 
 def place_of(x):
-    """(object, offset) of an address, which a number is not."""
+    """Returns (object, offset) of an address. Raises if x is a number."""
     if not isinstance(x, Address):
         raise Undecided(f"{x} as an address")
     return x.place()
 
 
-# ---- sums and differences of addresses
+# ---- addition and subtraction of addresses
 
 def combined(a, b, sign):
-    """a + sign * b, if one is an address."""
+    """Returns a + sign * b, if one is an address."""
     if isinstance(b, int):
         return Address(a.bases, near_zero(plus(a.offset, sign * b)))
     bases, offset = sum_of(a, b, sign)
@@ -83,7 +83,7 @@ def combined(a, b, sign):
 
 
 def sum_of(a, b, sign):
-    """The bases and the offset of a + sign * b."""
+    """Returns the bases and the offset of a + sign * b."""
     bases = {}
     for x, count in ((a, 1), (b, sign)):
         for base, often in x.bases if isinstance(x, Address) else ():
@@ -96,13 +96,13 @@ def sum_of(a, b, sign):
 
 
 def near_zero(offset):
-    """An address' offset counts only mod 2 ^ 64: here the one whose constant lies from -2 ^ 63 to 2 ^ 63 - 1."""
+    """Returns an equal offset modulo 2 ^ 64 whose constant is from -2 ^ 63 to 2 ^ 63 - 1."""
     c = constant_of(offset)
     return plus(offset, (c + HALF) % WHOLE - HALF - c)
 
 
 def low_bits(a, mask):
-    """The bits of an address under a mask, known from its object's alignment."""
+    """Returns the address's known low bits under a mask, from its object's alignment."""
     memory, at = a.place()
     if mask & mask + 1 or memory.alignment % (mask + 1):
         raise Undecided(f"the bits {mask:#x} of a place in {memory.name}")
@@ -111,12 +111,12 @@ def low_bits(a, mask):
 
 # ---- words
 
-quotients = nodes.memo()     # the number of a term that is a polynomial moved down -> that, and by how much
-halves = nodes.memo()        # the number of a term of 64 bits -> its lowest bits, which were worked out by themselves; how many
+quotients = nodes.memo()     # number of a term that is a shifted polynomial -> (polynomial, shift)
+halves = nodes.memo()        # number of a 64-bit term -> (its low bits, computed separately; their number)
 
 
 def arithmetic(word, width, a, b):
-    """An operation of a width on two values."""
+    """Returns an operation's result on two values, modulo 2 ^ width."""
     kinds = {a.__class__, b.__class__}
     if word in ("xor", "and") and isinstance(a, int):
         a, b = b, a
@@ -135,20 +135,20 @@ def arithmetic(word, width, a, b):
 
 
 def with_half(x, half, width=WORD // 2):
-    """A term whose lowest bits are known."""
+    """Returns x, and records its separately computed low bits if it is a term."""
     if isinstance(x, Node):
         halves[x.number] = half, width
     return x
 
 
 def half_of(x):
-    """The lower 32 bits of a value, if they were computed separately, or None."""
+    """Returns the lower 32 bits of a value, if they were computed separately, or None."""
     half, width = halves.get(x.number, (None, 0)) if isinstance(x, Node) else (None, 0)
     return half if width == WORD // 2 else None
 
 
 def masked(word, a, b):
-    """United bits, of which fewer count."""
+    """Applies a mask or a right shift to an Either."""
     if word == "lshr" and isinstance(b, int):
         return a.moved_down(b)
     a, b = (a, b) if isinstance(a, Either) else (b, a)
@@ -168,14 +168,14 @@ def with_address(word, width, a, b):
 
 
 def with_number(word, width, a, b):
-    """A polynomial xor or and a number."""
+    """Returns a polynomial xor a number, or a polynomial and a number."""
     if word == "xor":
         return BINARY["sub"](width, b, a) if b == ones(width) else BINARY["xor"](width, a, b)
     below, _, known = split(a)
     if b < 1 << known:
         return below & b
     low_bit = b & -b
-    if b and not b + low_bit & b + low_bit - 1:      # a run of bits: what lies above and below it is taken away
+    if b and not b + low_bit & b + low_bit - 1:      # a run of bits: subtracts the bits above and below
         with contextlib.suppress(Undecided):
             inside = a if is_natural(minus(b + low_bit - 1, a)) else divided(a, b + low_bit)[1]
             return minus(inside, divided(inside, low_bit)[1])
@@ -183,14 +183,14 @@ def with_number(word, width, a, b):
 
 
 def split(x):
-    """(low bits, rest, how many) of a polynomial: those bits are a number, since all else is a multiple of 2 ^ z."""
+    """Returns (low bits, rest, z) of a polynomial. The z low bits are concrete: the rest is multiplied by 2 ^ z."""
     z = min(zeros_below(c) for names, c in x.parts.items() if names)
     below = constant_of(x) & ones(z)
     return below, Poly({names: c >> z for names, c in minus(x, below).parts.items()}), z
 
 
 def term_of(x, width):
-    """A polynomial mod 2 ^ width as a term."""
+    """Returns a polynomial modulo 2 ^ width as a term."""
     below, rest, z = split(x)
     answer = below & ones(width) if z >= width else joined((below, z), (as_word(rest, width - z), width - z))
     for k in range(nodes.POINTS):
@@ -201,7 +201,7 @@ def term_of(x, width):
 
 
 def low(x, width):
-    """A value mod 2 ^ width."""
+    """Returns a value modulo 2 ^ width."""
     if isinstance(x, int):
         return x & ones(width)
     if width == WORD and not isinstance(x, Either):
@@ -219,14 +219,14 @@ def low(x, width):
 
 
 def bits(x, first, n):
-    """Bits first .. first + n - 1 of a value that is no address, as a number or a term."""
+    """Returns bits first .. first + n - 1 of a value, as a number or a term. Raises for an address."""
     if isinstance(x, (Address, Either)):
         raise Undecided(f"bits of {x}")
     return operations.bits(lifted(x), first, n)
 
 
 def high_and_low(a, b):
-    """The product of two words."""
+    """Returns the upper and the lower word of a product of two words."""
     if not all(isinstance(x, (int, Poly, Node)) for x in (a, b)):
         raise Undecided(f"the product of {a} and {b}")
     product = a * b if isinstance(a, int) and isinstance(b, int) else operations.multiply(lifted(a), lifted(b))
@@ -234,7 +234,7 @@ def high_and_low(a, b):
 
 
 def joined(*parts):
-    """(value, width) side by side, the first the lowest bits."""
+    """Concatenates values, each as (value, width), the lowest bits first."""
     parts = [part for part in parts if part[1]]
     if len(parts) == 1 or not all(isinstance(x, (int, Poly, Node)) for x, _ in parts):
         return only(parts)
@@ -242,7 +242,7 @@ def joined(*parts):
 
 
 def only(parts):
-    """The value of the only part."""
+    """Returns the value of the only part, or raises."""
     (x, width), *others = parts
     if others:
         raise Undecided(f"{x} beside other bits")

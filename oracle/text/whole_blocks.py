@@ -1,19 +1,19 @@
-"""Splits a case of any number of whole blocks in two: with none and with some.
+"""Splits a case with any number of whole blocks in two: none, and some.
 
-Loops over stripes that end at a place in memory test after the first stripe whether there is another one. So they
-take another path if there is no whole block."""
+Loops over stripes that end at an address test after the first stripe if there is another one. So they take another path
+if there is no whole block."""
 import functools
 import itertools
 
 from terms.polynomials import Poly, is_sum_of_facts, minus, names_of, parts_of, plus, times, variable
 
-BLOCKS = "D"                      # the variable that has them
-TRIED = 2                         # other facts by which one can't hold
-FOURTHS = {"a": range(3), "e": range(1, 4)}          # of a block, which such cases begin and end with
+BLOCKS = "D"                      # the variable for the number of blocks
+TRIED = 2                         # number of facts combined to refute another one
+FOURTHS = {"a": range(3), "e": range(1, 4)}          # of a block: where such cases begin and end
 
 
 def parted(case, at):
-    """A case whose facts are about a place in it: one, or two."""
+    """Splits a case, whose facts are at index `at`, by whether there are whole blocks."""
     if BLOCKS not in names_in(case):
         yield case
         return
@@ -23,7 +23,7 @@ def parted(case, at):
 
 
 def in_few(case):
-    """A case of a block of 16 stripes by the fourths that it begins and ends with, which are few."""
+    """Splits a case of blocks of 16 stripes by the fourths in which it begins and ends."""
     names = sorted(FOURTHS.keys() & names_in(case)) if "a" in names_in(case) else []
     for values in itertools.product(*(FOURTHS[name] for name in names)):
         out = case
@@ -39,15 +39,15 @@ def names_in(x):
 
 
 def may_hold(facts):
-    """True if none of some facts is known to be false where all hold."""
+    """True if no fact is refuted by the others."""
     known = list(map(parts_of, facts))
     return not any(is_sum_of_facts(parts_of(minus(-1, fact)), known, TRIED) for fact in facts)
 
 
-# ---- a value in the place of a variable
+# ---- substitution
 
 def in_numbers(x, name, value):
-    """Polynomials with a number in the place of a variable, wherever they are."""
+    """Replaces a variable by a number in all polynomials of a structure."""
     if isinstance(x, Poly):
         return with_value(x, name, value)
     if isinstance(x, functools.partial):
@@ -59,7 +59,7 @@ def in_numbers(x, name, value):
 
 
 def with_value(x, name, value):
-    """A polynomial with another one in the place of a variable."""
+    """Replaces a variable in a polynomial by another polynomial."""
     out = 0
     for names, c in parts_of(x).items():
         for one in names:

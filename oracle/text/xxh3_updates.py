@@ -1,14 +1,14 @@
-"""The streams of XXH3 of an assembly source: reset, any number of updates of any lengths, digests of 64 and 128
-bits, by induction over the updates, like terms/xxh3_streams.py for the reference.
+"""Proves the streams of XXH3 of an assembly source by induction over the updates: reset, any number of updates of any
+lengths, digests of 64 and 128 bits. terms/xxh3_streams.py does this for the reference.
 
-A state represents the first N = 64 K + f bytes of a message, K = q b + j stripes, j < q: q is the number of stripes in
-a block, f <= 512 the bytes in the buffer, f = 0 only where N = 0, and K is 0 or at least 4. Its accumulators are the
-definition's after K stripes; it has j, K, f, N, the mark and the secret, of 64 + 8 q + u bytes; its buffer begins with
-the f bytes behind the stripes, and where K > 0 and f < 64 the last stripe lies in a place of its own. All else may be
-anything. The secret's bytes are symbols: the default one and those that a seed derives are cases of these.
+A state represents the first N = 64 K + f bytes of a message, K = q b + j stripes, j < q. q is the number of stripes in
+a block, f <= 512 the number of buffered bytes, f = 0 only if N = 0, and K is 0 or at least 4. Its accumulators are the
+definition's after K stripes. It has j, K, f, N, the mark and the secret, of 64 + 8 q + u bytes. Its buffer begins with
+the last f bytes. If K > 0 and f < 64, it also has the last stripe. All else is unconstrained. The secret's bytes are
+symbols: the default secret and derived ones are instances.
 
-What is written at a place or of a length that isn't a number is a run (runs.py). The functions that process stripes
-out of line are proved separately, from any place in a block (stripes.py)."""
+Bytes written at a symbolic offset or of a symbolic length are runs (runs.py). The separate functions that take stripes
+are proved on their own, from any place in a block (stripes.py)."""
 import collections
 import functools
 import itertools
@@ -31,41 +31,41 @@ from .runs import Source, State
 from .stripes import DEEP, Part, Stripes, StripesProof, Summary
 from .values import address
 
-# Where the parts of a state lie, and its mark.
+# Offsets in a state, and its mark.
 ACCUMULATORS, PLACE, LAST, COUNT, BUFFER, WAITING, TOTAL = 0, 64, 72, 136, 144, 656, 664
 MARKED, HAS_SEED, SEED, SECRET_LENGTH, SECRET = 672, 680, 688, 696, 704
 ROOM, DERIVED, MARK = 512, 192, int.from_bytes(b"twoxXXH3", "little")
-LONG_PIECE = 2048                 # bytes from which on stripes are taken out of line
-FIRST = 7                         # stripes that are taken at least where a chunk isn't kept
-BLOCK = 16                        # stripes of a block that have ways of their own
-MANY = 29                         # stripes that such a chunk has at least, behind the first and before the last
-WIDTHS, LEAST, LONGEST_KEPT = ("64", "128"), 9, 256    # the least number of stripes of a block, and bytes of a secret
+LONG_PIECE = 2048                 # bytes from which on a separate function takes the stripes
+FIRST = 7                         # minimum number of stripes taken if a chunk doesn't fit in the buffer
+BLOCK = 16                        # stripes of a block with separate paths
+MANY = 29                         # minimum number of stripes of a long chunk, between the first ones and the last
+WIDTHS, LEAST, LONGEST_KEPT = ("64", "128"), 9, 256    # stripes of a block, at least; bytes of a stored secret, at most
 UPDATES, DIGESTS, STRIPES = "any updates", "resets and digests", "functions that take stripes"
 # The functions that take stripes.
 TAKE = Summary("twox_core.xxhash3.stripes.take_stripes")
 TAKE_MANY = Summary("twox_core.xxhash3.stripes.take_many_stripes", least=MANY, is_in_place=True)
 TAKE_BLOCKS = Summary("twox_core.xxhash3.stripes.blocks.take_many_blocks", has_place=False, least=1)
-# That of x86-64-v4, for which no compiler is trusted, under a secret as long as the default one.
+# x86-64-v4's, compiled without a trusted compiler, for a secret of the default length.
 TAKE_WIDENED = Summary("twox_core.xxhash3.stripes.take_widened", least=BLOCK, has_length=False, is_in_place=True)
 
-# The stripes of a block, and how many bytes the secret has more than these ask for.
+# The stripes of a block, and the bytes of the secret beyond those that they need.
 ANY, OF_16, OF_DEFAULT = (None, None), (BLOCK, None), (BLOCK, 0)
 
-# Where an update begins that takes stripes: r bytes fill the buffer's last one, which has g of them then.
+# State before an update that takes stripes: r bytes complete the buffer's g stripes, which end at `behind`.
 Start = collections.namedtuple("Start", "place g r behind facts")
-# Lengths by which a text copies in other ways: from, to.
+# Lengths (from, to) for which a source has separate code to copy.
 SHORT_COPIES = (1, 1), (2, 3), (4, 7), (8, 16), (17, 32), (33, 63)
 
 
 def lengths(name, spans):
-    """A variable for each span, or a number: (length, facts)."""
+    """Yields (length, facts) for each span: a variable, or a number if the span has one length."""
     for low, high in spans:
         x = variable(name)
         yield (low, []) if low == high else (x, [minus(x, low), at_most(x, high)])
 
 
 def starts(is_split, gs=None):
-    """The empty state, and all others: g stripes in the buffer that end within the block, with it, or behind it."""
+    """Yields the nonempty states: g stripes in the buffer that end within the block, at its end, or behind it."""
     b, j, i, y, q = (variable(name) for name in "bjiyq")
     for r, of_r in [(0, []), *lengths("r", SHORT_COPIES)]:
         for g in gs or [variable("g")]:
@@ -94,9 +94,9 @@ EMPTY = Start((0, 0), 0, 0, (0, 0), [])
 
 
 class Xxh3Updates:
-    CORE = 0                      # where in a state the accumulators lie, and behind them all but what `own` has
-    HAS_SEED = 0, 1               # whether a stream was made with a seed
-    KINDS = UPDATES, DIGESTS, STRIPES                 # what a text has
+    CORE = 0                      # offset of the accumulators in a state, and of the fields except `own`
+    HAS_SEED = 0, 1               # whether a stream was created with a seed
+    KINDS = UPDATES, DIGESTS, STRIPES                 # the kinds of rows of a source
     longest_secret, longest_piece = LONGEST_KEPT, LONGEST
 
     def __init__(self, cpu):
@@ -105,18 +105,18 @@ class Xxh3Updates:
 
     @property
     def library(self):
-        """How the exports are called."""
+        """The library that calls the exports."""
         return self.cpu.library
 
     def use(self, q, u=None):
-        """From here on a block has q stripes, and the secret u bytes more than these ask for, below 8."""
+        """Sets q stripes per block, and a secret u bytes, u < 8, longer than these need."""
         u = variable("u") if u is None else u
         self.q, self.secret_length = q, plus(64, times(8, q), u)
         self.facts = [minus(7, u), minus(q, LEAST), at_most(self.secret_length, self.longest_secret)]
         self.read()
 
     def facts_of_any(self):
-        """The same, with a secret that no state has to store."""
+        """Returns the same facts for a secret that no state stores."""
         return [*self.facts[:2], at_most(self.secret_length, LONGEST_SECRET)]
 
     def forget(self):
@@ -124,14 +124,14 @@ class Xxh3Updates:
         self.read()
 
     def read(self):
-        """The definition's texts, and a secret."""
+        """Runs the definition's program on symbols, with a symbolic secret."""
         suppositions.clear()
         self.texts = definition.program().run(traced=suppositions)
         self.secret_source = Source("s", self.secret_length)
         self.secret = Bytes(self.secret_source, 0, self.secret_length)
 
     def questions(self, what):
-        """All rows to be proved, by the words of a row."""
+        """Returns all proofs of a row, by its title."""
         if what == UPDATES:
             return [functools.partial(self.update, *case) for case in self.all_updates()]
         if what == DIGESTS:
@@ -141,7 +141,7 @@ class Xxh3Updates:
         return [self.one_update, *(functools.partial(self.taken_of, *case) for case in self.all_taken())]
 
     def one_update(self):
-        """An update has the same code for both widths."""
+        """Checks that an update has the same code for both widths."""
         names = [f"XXH3_{width}bits_update" for width in WIDTHS]
         if len({str(exports.code_of(self.cpu.program, name)) for name in names}) > 1:
             raise NotShown("two updates")
@@ -149,7 +149,7 @@ class Xxh3Updates:
     # ---- the definition
 
     def begin(self, n):
-        """A message of n bytes."""
+        """Sets a symbolic message of n bytes."""
         suppositions.clear()
         self.source = Source("m", n)
         self.message = Bytes(self.source, 0, n)
@@ -164,7 +164,7 @@ class Xxh3Updates:
         return Stripes("XXH3", self.q, parts, self.after, lambda k, values: suppositions.suppose(self.after(k), values))
 
     def accumulators(self, place):
-        """The words after the stripes before a place, as symbols."""
+        """Returns the words after the stripes before a place, as symbols."""
         k = self.stripes(place)
         if is_same_number(k, 0):
             return [self.after(0)(i) for i in range(8)]
@@ -175,17 +175,17 @@ class Xxh3Updates:
     # ---- states
 
     def numbers(self, place, f):
-        """The contents of a state except accumulators, last stripe and buffer: (offset, value), of eight bytes each."""
+        """Returns the numbers in a state, except accumulators, last stripe and buffer: (offset, value) of 8 bytes."""
         k = self.stripes(place)
         core = (PLACE, place[1]), (COUNT, k), (WAITING, f), (TOTAL, plus(times(64, k), f))
         return [*((self.CORE + at, x) for at, x in core), *self.own()]
 
     def own(self):
-        """The fields that only a state of the library for C has."""
+        """Returns the fields that only a state of the C library has."""
         return [(MARKED, MARK), (SECRET_LENGTH, self.secret_length)]
 
     def seeds(self):
-        """How a state was made, and with which seed."""
+        """Returns the fields for the seed: whether there is one, and its value."""
         return [(HAS_SEED, self.has_seed), (SEED, self.seed)]
 
     def buffered(self, place, f):
@@ -194,11 +194,11 @@ class Xxh3Updates:
                                                  minus(times(64, self.stripes(place)), at))]
 
     def secret_runs(self):
-        """The secret, if a state stores it."""
+        """Returns the runs of the secret, if a state stores it."""
         return [(SECRET, plus(SECRET, self.secret_length), self.secret_source, -SECRET)]
 
     def words(self, at, values):
-        """Cells of eight bytes each, one after another: (offset, value)."""
+        """Returns consecutive cells of eight bytes: (offset, value)."""
         return [(self.CORE + at + 8 * k, x) for k, x in enumerate(values)]
 
     def last_stripe(self, place):
@@ -231,7 +231,7 @@ class Xxh3Updates:
     # ---- updates
 
     def update(self, start, end, length, facts, parts=(), last=None, summaries=()):
-        """From a state (place, f) by a chunk to another. `last` says what the last stripe is then, or it stays."""
+        """Proves an update of a state (place, f) by a chunk. `last` returns the new last stripe; None keeps it."""
         begun, ended = (plus(times(64, self.stripes(place)), f) for place, f in (start, end))
         self.begin(plus(ended, variable("rest")))
         with given(*self.facts, *facts, at_most(self.source.length, LONGEST)):
@@ -245,7 +245,7 @@ class Xxh3Updates:
                 raise NotShown("fewer than four stripes are taken")
 
     def run(self, live, what, parts, *arguments, summaries=(), not_zero=(), **more):
-        """A call, of a function of a name or by the library, with loops over stripes shown, and with summaries of other
+        """Calls a function by its name, or `what`, with the proofs of loops over stripes, and with summaries of other
         functions."""
         cpu, family, limit = self.cpu, self.family(*parts), self.cpu.limit
         cpu.not_zero, cpu.live, cpu.loops, cpu.limit = not_zero, live, Loops(cpu.program, family, StripesProof), LIMIT
@@ -260,7 +260,7 @@ class Xxh3Updates:
             cpu.loops, cpu.limit, cpu.replaced = None, limit, {}
 
     def small_pieces(self):
-        """Chunks that fit in the buffer: as arguments of `update`."""
+        """Yields chunks that fit in the buffer, as arguments of `update`."""
         b, j, f, more = (variable(name) for name in ("b", "j", "f", "more"))
         sizes = [*((n, []) for n in range(33)), *((plus(33, more), facts) for facts in self.ways_from_33(more))]
         for place, of_place, buffered in (((0, 0), [], 0), ((b, j), [minus(minus(self.q, 1), j), minus(f, 1)], f)):
@@ -270,11 +270,11 @@ class Xxh3Updates:
 
     @staticmethod
     def ways_from_33(more):
-        """Of chunks of 33 + more bytes: facts, for each way of its own that a text has for them."""
+        """Yields facts for chunks of 33 + more bytes, one list for each separate path of a source."""
         yield []
 
     def end_of(self, place, to, least):
-        """Ways to take n stripes from a place, at least so many: (turns, place behind them, facts)."""
+        """Yields the ways to take at least `least` stripes from a place: (stripes, place behind them, facts)."""
         n, D, e = (variable(name) for name in "nDe")
         b, j = place
         if to == "none":
@@ -292,16 +292,16 @@ class Xxh3Updates:
             yield self.within_block(place)
 
     def has_long_blocks(self):
-        """True if many stripes may lie within a block."""
+        """True if a block may contain many stripes."""
         return self.longest_secret >= 64 + 8 * (MANY + 1)
 
     def within_block(self, place):
-        """Many stripes, from a place on: (turns, place after them, facts)."""
+        """Returns many stripes within a block: (stripes, place behind them, facts)."""
         n, (b, j) = variable("n"), place
         return n, (b, plus(j, n)), [minus(n, MANY), minus(minus(self.q, 1), plus(j, n))]
 
     def pieces(self, to, begin, lefts):
-        """Chunks that are taken through: as arguments of `update`."""
+        """Yields chunks that don't fit in the buffer, as arguments of `update`."""
         for start in begin:
             for left, of_left in lefts:
                 for n, place, of_n in self.end_of(start.behind, to, FIRST - start.g if isinstance(start.g, int) else 1):
@@ -316,7 +316,7 @@ class Xxh3Updates:
                     yield (start.place, f), (place, left), length, facts, parts, last, more
 
     def all_updates(self):
-        """As arguments of `update`."""
+        """Yields all cases of updates, as arguments of `update`."""
         yield from self.small_pieces()
         whole = [(64, []), *lengths("left", [(65, 127)])]
         yield from self.pieces("none", self.starts(False, [8]), [*lengths("left", SHORT_COPIES), *whole])
@@ -325,14 +325,14 @@ class Xxh3Updates:
         yield from self.pieces("many", [EMPTY, *self.starts(False)], whole)
 
     def starts(self, is_split, gs=None):
-        """Where updates begin that take stripes."""
+        """Yields the states before updates that take stripes."""
         return starts(is_split, gs)
 
 
     # ---- reset
 
     def resets(self):
-        """Each way to reset, of both widths: as arguments of `reset`."""
+        """Yields the resets of both widths, as arguments of `reset`."""
         for width in WIDTHS:
             name = f"proved_XXH3_{width}bits_reset"
             yield from ((name, False, 0), (f"{name}_withSecret", True, None))
@@ -340,8 +340,8 @@ class Xxh3Updates:
                 yield from ((f"{name}_withSeed", False, seed), (f"{name}_withSecretandSeed", True, seed))
 
     def reset(self, name, is_own, seed):
-        """Resets memory that holds anything: an empty state, with the given secret, or one of the default secret's
-        length, derived from the seed. If one is derived, the sources test whether the seed is 0."""
+        """Proves a reset of memory with any content: it becomes an empty state, with the given secret or one derived
+        from the seed. Before a derivation the sources test if the seed is 0."""
         seed = nodes.symbol("seed64", 64) if seed == "seed" else seed
         arguments = [address(self.secret_source), self.secret_length] if is_own else []
         arguments += [seed] if "Seed" in name else []
@@ -369,7 +369,7 @@ class Xxh3Updates:
     # ---- digest
 
     def digests(self):
-        """Arguments of `digest`, except the way and the width."""
+        """Yields arguments of `digest`, without `has_seed` and `width`."""
         for f in range(241):
             yield (0, 0), f, [], ()
         g, h, b, j = (variable(name) for name in "ghbj")
@@ -385,7 +385,7 @@ class Xxh3Updates:
                        [Part(start.place, start.g, start.behind)])
 
     def digest(self, place, f, facts, parts, has_seed, width):
-        """Digests a state of a stream that was made with a seed or without one; the state stays unchanged."""
+        """Proves the digest of a state, whose stream has a seed or none. The state stays unchanged."""
         n = plus(times(64, self.stripes(place)), f)
         self.begin(n)
         seed = nodes.symbol("seed64", 64)
@@ -405,7 +405,7 @@ class Xxh3Updates:
     # ---- the functions that take stripes
 
     def taken_of(self, secret, case):
-        """A case of `taken`, where a block has so many stripes, and the secret so many bytes more, or any number."""
+        """Proves a case of `taken`, with q stripes per block and u further bytes of the secret. None is any number."""
         q, u = secret
         self.use(variable("q") if q is None else q, u)
         try:
@@ -414,7 +414,7 @@ class Xxh3Updates:
             self.use(variable("q"))
 
     def taken(self, summary, parts, facts, summaries=()):
-        """Proves that a function does what its summary states that some parts do together."""
+        """Proves that a function has its summary's effect on the stripes of some consecutive parts."""
         place, turns, end = parts[0].start, plus(*(part.turns for part in parts)), parts[-1].end
         self.begin(plus(times(64, self.stripes(end)), variable("rest")))
         with given(*self.facts_of_any(), *facts, at_most(self.source.length, LONGEST)):
@@ -436,17 +436,17 @@ class Xxh3Updates:
             self.expect_stack(summary)
 
     def taker(self, summary):
-        """Calls a function that processes stripes."""
+        """Returns a function that calls a function which takes stripes."""
         return functools.partial(self.cpu.call, summary.name, into=summary.registers(self.cpu))
 
     def expect_stack(self, summary):
-        """Checks that a function has used no more of the stack than its summary claims."""
+        """Checks that a function used no more stack than its summary claims."""
         if self.cpu.stack.lowest < ENTRY - DEEP:
             raise NotShown(f"{summary.name}: more than {DEEP} bytes of stack")
 
     def all_taken(self):
-        """As arguments of `taken`, with the stripes of a block and the secret's further bytes, or None where these are any
-        number."""
+        """Yields the stripes of a block and the secret's further bytes, or None for any number, and arguments of
+        `taken`."""
         for part, facts in self.of_any_blocks():
             yield ANY, (TAKE, [part], facts)
         for of_q in (at_most(self.q, BLOCK - 1), minus(self.q, BLOCK + 1)):
@@ -471,13 +471,13 @@ class Xxh3Updates:
 
     @staticmethod
     def to_another_block(q):
-        """Many stripes, from any place to any one of a later block."""
+        """Returns a part of many stripes, from any place to any place of a later block, and its facts."""
         b, j, D, e = (variable(name) for name in "bjDe")
         turns = plus(minus(q, j), times(q, D), e)
         return Part((b, j), turns, (plus(b, 1, D), e)), [minus(minus(q, 1), j), minus(minus(q, 1), e), minus(turns, MANY)]
 
     def of_any_blocks(self):
-        """How stripes are taken from any place."""
+        """Yields parts of any number of stripes from any place, with facts."""
         b, j, n, D, e, last = *(variable(name) for name in "bjnDe"), minus(self.q, 1)
         yield Part((b, j), 0, (b, j)), [minus(last, j)]
         yield Part((b, j), n, (b, plus(j, n))), [minus(n, 1), minus(last, plus(j, n))]
@@ -488,7 +488,7 @@ class Xxh3Updates:
 
     @staticmethod
     def by_fours():
-        """Of 16 stripes a block: those before a fourth one, fours, and fewer than four."""
+        """Yields parts for blocks of 16 stripes: stripes up to a multiple of four, fours, and the remaining ones."""
         b, a, D, e = (variable(name) for name in "baDe")
         for c in range(4):
             front = -c % 4
@@ -507,8 +507,8 @@ class Xxh3Updates:
 
     @staticmethod
     def by_blocks():
-        """The same, of FAR stripes and more: those to a block's end, whole blocks, and the stripes of another one. From a
-        block's beginning so many blocks are whole."""
+        """Yields parts of FAR stripes and more: to a block's end, whole blocks, and the stripes of a last block. From a
+        block's beginning there are FAR / BLOCK whole blocks at least."""
         b, j, D, e = (variable(name) for name in "bjDe")
         for start, turns, at, facts in (((b, 0), 0, (b, 0), [minus(D, FAR // BLOCK - 1)]),
                                         ((b, j), minus(16, j), (plus(b, 1), 0), [minus(j, 1), at_most(j, 15)])):
@@ -519,7 +519,7 @@ class Xxh3Updates:
 
     @staticmethod
     def widened():
-        """From each place to each: the stripes to a block's end, whole blocks or none, and those of another one."""
+        """Yields parts from each place in a block to each: to its end, whole blocks or none, a last block."""
         b, D = variable("b"), variable("D")
         for start, rest in itertools.product(range(BLOCK), range(BLOCK)):
             front, at = -start % BLOCK, (plus(b, int(start > 0)), 0)
@@ -530,6 +530,6 @@ class Xxh3Updates:
 
 
 def of_many(parts, least=None):
-    """The facts of how many stripes there are, from FAR on or below."""
+    """Returns the facts for the number of stripes: `least` or more, or from MANY to FAR - 1."""
     turns = plus(*(part.turns for part in parts))
     return [minus(turns, least)] if least else [minus(turns, MANY), at_most(turns, FAR - 1)]

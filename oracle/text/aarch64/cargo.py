@@ -1,4 +1,4 @@
-"""The assembly source of the cargo crate for 64-bit ARM."""
+"""Reads the assembly source of the cargo crate for 64-bit ARM."""
 import os
 
 from ..cargo import FOLDER, ForCargo, plain
@@ -12,12 +12,12 @@ SOURCE = os.path.join(FOLDER, f"{NAME}.s")
 
 
 def program():
-    """The assembly source as an object."""
+    """Returns the program of the assembled source."""
     return assembled(SOURCE, NAME, CargoProgram)
 
 
 class CargoProgram(objects.Program):
-    """A text, whose names have the number of the interface in them: here they are without."""
+    """The program of the source. Its names here omit the interface's number."""
 
     EXPORT = WEAK, HIDDEN
 
@@ -25,7 +25,7 @@ class CargoProgram(objects.Program):
         return ({plain(name): place for name, place in found.items()} for found in super().names())
 
     def all_names(self):
-        """The names in the source."""
+        """Returns all symbol names in the source."""
         return {symbol.name for symbol in self.object.symbols}
 
 

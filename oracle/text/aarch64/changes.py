@@ -1,8 +1,8 @@
-"""Changes of single instructions of the source for 64-bit ARM, each of which must be detected (../changes.py).
+"""Tests that single-instruction changes of the source for 64-bit ARM are detected (../changes.py).
 
-A change is one of an instruction's 32 bits, whatever that bit means: a register, a number, a condition, a shift, a
-width, the operation. objdump decodes the changed bytes, like those of the source. Bytes that are no instruction, or
-one that the table lacks, aren't a change: the table's refusal would prove nothing."""
+A change inverts one of an instruction's 32 bits: of a register, a number, a condition, a shift, a width, or the
+operation. objdump decodes the changed bytes, like the source's. Bytes that are no instruction, or one that the table
+lacks, aren't a change: the table's refusal would prove nothing."""
 import functools
 import os
 import tempfile
@@ -15,12 +15,12 @@ from .objects import SIZE, Shift, listing
 from .table import TABLE, Processor
 
 EQUAL = os.path.join(os.path.dirname(os.path.abspath(__file__)), "equal_changes.txt")
-MANY, FEW = 1000, 40              # changes with --all and without
+MANY, FEW = 1000, 40              # changes of a random seed, with --all and without
 BITS = 8 * SIZE
 
 
 class Changed:
-    """A program's object as a file in which one instruction at a time has another bit."""
+    """A program's object as a file in which one bit of one instruction at a time is inverted."""
 
     def __init__(self, program, path):
         self.program, self.path, self.relocations = program, path, {}
@@ -28,7 +28,7 @@ class Changed:
             file.write(program.object.data)
 
     def instruction(self, place, bit):
-        """The instruction at a place with this bit inverted, or None if that is no instruction."""
+        """Returns the instruction at a place with this bit inverted, or None if the table lacks it."""
         section, at = place
         head = self.program.heads[section]
         offset, one = head.offset + at + bit // 8, 1 << bit % 8
@@ -60,8 +60,8 @@ class Changed:
 
 
 def drawn(changed, places, draw):
-    """Yields random changes without end: (place, text, instructions). Instructions that compute nothing aren't
-    changed, and a shift by 0 is no change."""
+    """Yields an endless sequence of random changes: (place, text, instructions). Skips instructions that compute
+    nothing, and shifts by 0."""
     while True:
         section, at = place = draw.choice(places)
         x, bit = changed.program.sections[section][at], draw.randrange(BITS)
@@ -71,7 +71,7 @@ def drawn(changed, places, draw):
 
 
 def written(x):
-    """An instruction, with its operands in the form of the table."""
+    """Returns an instruction as text, with its operands in the table's form."""
     target = [f"{x.target[1]:#x}" if x.target[0] == x.section else x.target[0]] if x.target else []
     return " ".join([x.mnemonic, x.form, *map(str, map(plain, x.operands)), *target])
 
@@ -81,7 +81,7 @@ def plain(operand):
 
 
 def noticed(program, part):
-    """(number of changes, those that are undetected without a reason): one part of all, or a few of them."""
+    """Returns the number of changes, and the undetected ones without a reason: one part of all, or a few."""
     is_all = part is not None
     with tempfile.TemporaryDirectory(prefix="arm-text-") as room:
         changed = Changed(program, os.path.join(room, "text.o"))

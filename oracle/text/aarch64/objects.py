@@ -1,4 +1,4 @@
-"""An assembled object for 64-bit ARM in the form that the verifier runs, like ../objects.py for x86-64."""
+"""Reads an assembled object for 64-bit ARM in the form that the verifier runs, like ../objects.py for x86-64."""
 import collections
 import re
 import struct
@@ -9,7 +9,7 @@ from terms.refusals import Unsupported
 from ..decoded import expect_bytes
 from ..listed import AARCH64, CODE, RELA, Loaded
 
-# An instruction: `form` has a word for each operand; `target` is (section or constant, offset), where it names one
+# An instruction: `form` has a word per operand; `target` is (section or constant, offset), or None.
 Instruction = collections.namedtuple("Instruction", "section at end mnemonic form operands target")
 Register = collections.namedtuple("Register", "name width")            # x0 and w0, xzr, sp
 Vector = collections.namedtuple("Vector", "number arrangement lane")   # q0 is (0, "q", None), v0.d[1] is (0, "d", 1)
@@ -17,9 +17,9 @@ Immediate = collections.namedtuple("Immediate", "value")
 Shift = collections.namedtuple("Shift", "kind amount")
 Place = collections.namedtuple("Place", "base index offset mode")      # mode: offset, before or after
 
-PAGE, LOW_ADD, JUMP, CALL, LOW_64, LOW_128 = 275, 277, 282, 283, 286, 299      # relocations
+PAGE, LOW_ADD, JUMP, CALL, LOW_64, LOW_128 = 275, 277, 282, 283, 286, 299      # relocation types
 OF_RELOCATION = {PAGE: "adrp", LOW_ADD: "add", JUMP: "b", CALL: "bl", LOW_64: "ldr", LOW_128: "ldr"}
-MULTIPLES = {LOW_64: 8, LOW_128: 16}          # of which the rest of an address has to be one
+MULTIPLES = {LOW_64: 8, LOW_128: 16}          # required alignment of the target
 SIZE = 4
 LINE = re.compile(r" *([0-9a-f]+):\t([0-9a-f]{8}) +\t(.*)")
 CONDITIONS = "eq", "ne", "cs", "cc", "hi", "ls", "ge", "lt", "gt", "le"
@@ -27,7 +27,7 @@ JUMPS = re.compile(r"b|bl|b\.\w\w|t?cbn?z|tbn?z")
 
 
 class Program(Loaded):
-    """The loaded sections of instructions: name -> address -> Instruction."""
+    """The instructions of a program: section -> address -> Instruction."""
 
     MACHINE = AARCH64
 
@@ -45,7 +45,7 @@ class Program(Loaded):
         return any(first <= place < end for place in self.relocated[section])
 
     def relocations_of(self, section):
-        """A dictionary: place -> (kind, target)."""
+        """Maps each place to its relocation: (type, target)."""
         found = {}
         for head in self.object.heads:
             if head.kind == RELA and self.object.heads[head.info] is section:
@@ -59,7 +59,7 @@ class Program(Loaded):
     # ---- instructions
 
     def read(self, section, lines):
-        """The instructions of a section, which cover all of its bytes and relocations."""
+        """Yields the instructions of a section. They must cover all of its bytes and relocations."""
         head, at = self.heads[section], 0
         body, relocations = self.object.body(head), self.relocations_of(head)
         self.relocated[section] = set(relocations)
@@ -92,14 +92,14 @@ class Program(Loaded):
         return Instruction(section, at, at + SIZE, mnemonic, form, tuple(found), target)
 
     def expect_multiple(self, target, size):
-        """A load has the rest of an address without the bits that a multiple lacks."""
+        """Checks a constant's alignment: a load encodes the low bits of its address in units of `size`."""
         _, alignment = self.constants.get(target[0], (b"", 1))
         if target[0] not in self.constants or alignment % size or target[1] % size:
             raise Unsupported(f"{target[1]:#x} of {target[0]}, which may be no multiple of {size}")
 
 
 def without_offset(found):
-    """The operands of an instruction whose offset the linker inserts: it is 0 here."""
+    """Returns the operands of an instruction whose offset the linker inserts. The offset must be 0."""
     last = found[-1]
     if last == Place(last.base, None, 0, "offset") if isinstance(last, Place) else last == Immediate(0):
         return found if isinstance(last, Place) else found[:-1]
@@ -107,7 +107,7 @@ def without_offset(found):
 
 
 def listing(path, objdump, *words):
-    """Section -> (address, bytes, text) of each instruction, as objdump prints them; of all, or of the chosen ones."""
+    """Maps each section to (address, bytes, text) of the instructions that objdump prints; `words` are its options."""
     out = subprocess.run([objdump, "-d", "-z", "-w", *words, path], check=True, capture_output=True, text=True).stdout
     found, lines = {}, None
     for line in out.splitlines():
@@ -119,13 +119,13 @@ def listing(path, objdump, *words):
 
 
 def split(text):
-    """The operands: commas within brackets belong to one."""
+    """Splits the operands at commas outside of brackets."""
     return [part.strip() for part in re.split(r",(?![^\[]*\])(?![^{]*\})", text)] if "[" not in text else \
         parts_with_place(text)
 
 
 def parts_with_place(text):
-    """The same if there is a place in memory, with what follows it."""
+    """The same for operands with a memory operand and the step after it."""
     match = re.fullmatch(r"(?:(.*), )?(\[[^\]]*\](?:!|, #-?\w+)?)", text) if not re.search(r"v\d+\.\w\[", text) else None
     if match and not (match[1] or "").startswith("{"):
         return [*([part.strip() for part in match[1].split(",")] if match[1] else []), match[2]]
@@ -166,7 +166,7 @@ def place(text):
 
 
 def word_of(x):
-    """An operand's word in the form of an instruction."""
+    """Returns the word of an operand in an instruction's form."""
     if isinstance(x, Register):
         return "x" if x.width == 64 else "w"
     if isinstance(x, Vector):

@@ -1,5 +1,5 @@
-"""Compares the table of instructions with qemu's processor: each form on edge cases and random numbers, in
-registers, vectors, flags and memory."""
+"""Compares the table of instructions with qemu's processor: each form on edge cases and random numbers, in registers,
+vectors, flags and memory."""
 import random
 import re
 import struct
@@ -11,10 +11,10 @@ from ..values import Address, address
 from .objects import CONDITIONS, Program
 from .table import TABLE, Processor
 
-SETS = 24                              # inputs of each test
-REGISTERS = range(3, 8)                # x3 .. x7, and x8, the place in memory
+SETS = 24                              # inputs per test
+REGISTERS = range(3, 8)                # x3 .. x7; x8 is the address
 LANES = range(1, 5)                    # v1 .. v4
-MEMORY, BASE = 96, 24                  # bytes of memory, and where x8 leads to
+MEMORY, BASE = 96, 24                  # bytes of memory, and x8's offset in it
 INPUT = 8 * 6 + 16 * 4 + MEMORY
 OUTPUT = 8 * 8 + 16 * 4 + MEMORY
 NZCV = {"eq": lambda n: n >> 30 & 1, "cs": lambda n: n >> 29 & 1, "hi": lambda n: (n >> 29 & 1) & ~(n >> 30) & 1,
@@ -101,7 +101,7 @@ def immediates(mnemonic, word):
 
 
 def operand(word, number, mnemonic):
-    """An operand's text; the first is the destination."""
+    """Returns an operand's text; operand 0 is the destination."""
     if word in ("x", "w"):
         return f"{word}{3 + number}"
     if word in ("q", "d", "s"):
@@ -112,7 +112,7 @@ def operand(word, number, mnemonic):
 
 
 def texts(mnemonic, form):
-    """The tests of a form."""
+    """Returns the tests of a form."""
     if mnemonic == "ccmp":
         return [f"cmp x3, x4; ccmp x5, x6, #0x0, {condition}; cset x7, eq" for condition in ("eq", "ne")]
     if mnemonic == "sbcs":
@@ -134,7 +134,7 @@ def texts(mnemonic, form):
 
 
 def filled(mnemonic, form, parts):
-    """The operands, with numbers, shifts and conditions."""
+    """Returns the lists of operands with all choices of numbers, shifts and conditions."""
     choices = {"i": [f"#{n}" for n in immediates(mnemonic, None)], "c": CONDITIONS,
                "lsl": ["lsl #16", "lsl #48"][:1 + (form[0] == "x")] if mnemonic == "movk" else ["lsl #3", "lsl #17"],
                "lsr": ["lsr #5", "lsr #31"],
@@ -164,10 +164,10 @@ def all_tests():
     return [(key, text) for key in sorted(TABLE) if key not in UNTRIED for text in texts(*key)]
 
 
-# ---- both sides
+# ---- both runs
 
 def inputs(draw):
-    """Values at the edges and random ones: x3 .. x7, a zero, v1 .. v4, the memory."""
+    """Yields edge cases and random numbers for x3 .. x7, v1 .. v4 and the memory."""
     edges = [0, 1, 2, 63, 64, 1 << 31, (1 << 32) - 1, 1 << 32, 1 << 63, (1 << 64) - 1]
     for _ in range(SETS):
         numbers = [draw.choice([*edges, draw.getrandbits(64), draw.getrandbits(64), draw.getrandbits(32)]) for _ in range(5)]
@@ -205,14 +205,14 @@ def by_qemu(tests, sets, room):
 
 
 class Tests(Program):
-    """A program that no library has."""
+    """A program of tests: its contents aren't checked against the list."""
 
     def expect_listed(self):
         pass
 
 
 def by_table(tests, sets, room):
-    """The same by the table: the tests follow one another in an object."""
+    """Yields the results by the table: the tests follow one another in an object."""
     text = "\t.text\n" + "".join(f"t{k}:\n{lines(text)}\n" for k, (_, text) in enumerate(tests)) + "end:\n\tnop\n"
     program = Tests(assembled(text, f"{room}/tests"))
     begins = [symbol.value for symbol in program.object.symbols if re.fullmatch(r"t\d+|end", symbol.name)]
@@ -236,17 +236,17 @@ def run(program, place, end, numbers, lanes, memory):
 
 
 def same_flags(cpu, nzcv):
-    """If the flags are set, checks that the conditions hold as they do on qemu."""
+    """True if the flags are unset, or each condition has the same value on qemu."""
     if cpu.flags is None:
         return True
     names = ["eq", "cs"] if cpu.flags[0] in ("add", "borrow") else list(NZCV)
-    if cpu.flags[2:4] == (0, 1):        # what ccmp leaves, of which only eq is used
+    if cpu.flags[2:4] == (0, 1):        # after ccmp, only eq is used
         names = ["eq"]
     return all(bool(NZCV[name](nzcv)) == cpu.test(name) and cpu.test(name) != cpu.test(NOT[name]) for name in names)
 
 
 def tell():
-    """Compares each form of the table with qemu."""
+    """Compares each form of the table with qemu. Returns the counts and the failures."""
     tests, sets = all_tests(), list(inputs(random.Random(5)))
     with tempfile.TemporaryDirectory(prefix="on-qemu-") as room:
         told = zip(by_qemu(tests, sets, room), by_table(tests, sets, room), strict=True)

@@ -1,4 +1,4 @@
-"""The processor of 64-bit ARM: its registers, places in memory and conditions. linked.py runs it."""
+"""Models the processor of 64-bit ARM: its registers, memory operands and conditions. linked.py runs it."""
 import operator
 
 from terms.refusals import Undecided, Unsupported
@@ -20,18 +20,18 @@ class Processor(linked.Processor):
     TABLE = TABLE
     REGISTERS = [f"x{k}" for k in range(31)]
     ARGUMENTS = REGISTERS[:8]
-    KEPT = REGISTERS[19:30]                       # of the caller, which gets them back
+    KEPT = REGISTERS[19:30]                       # callee-saved registers
     SCRATCH = REGISTERS[:19]
     LINK, ZERO = "x30", "xzr"
     VECTORS, KEPT_LANES = 32, range(8, 16)
-    TAKES_STRIPES = ARGUMENTS[:6]                 # where the arguments lie of a function that gives a record in memory
+    TAKES_STRIPES = ARGUMENTS[:6]                 # of a function that takes stripes and returns a record
     TOGETHER = 2
-    library = ForC                                # how its exports are called
+    library = ForC                                # calls the exports
 
     # ---- memory
 
     def place(self, operand, instruction):
-        """(object, offset) that an operand says; a base that goes on does so."""
+        """Returns (object, offset) of a memory operand, and updates its base in the modes "before" and "after"."""
         base = self.registers[operand.base.name]
         if isinstance(base, Page):
             if instruction.target != base.target:
@@ -50,15 +50,15 @@ class Processor(linked.Processor):
     # ---- flags
 
     def test(self, name):
-        """The value of a condition, by the last comparison's (kind, width, a, b, result). With a borrow, b is one
-        more."""
+        """Returns the value of a condition, by the last comparison's (kind, width, a, b, result). With a borrow, b is
+        one more."""
         if self.flags is None:
             raise Unsupported("flags that aren't set")
         kind, width, a, b, answer = self.flags
         if name in SIGNED:
             return SIGNED[name](*self.signed_operands())
         if name in ("eq", "ne"):
-            if kind == "sub" and is_term(a) and is_term(b):                   # they are equal where no bit differs
+            if kind == "sub" and is_term(a) and is_term(b):                   # they are equal if no bit differs
                 kind, answer = "xor", arithmetic("xor", width, a, b)
             return (is_equal(self, a, b) if kind == "sub" else is_equal(self, answer, 0)) == (name == "eq")
         if kind == "and":                                   # there is no carry
@@ -72,7 +72,7 @@ class Processor(linked.Processor):
         return is_below(self, a, plus(b, 1) if is_number(b) else b) == (name == "ls")
 
     def signed_operands(self):
-        """The operands of the last comparison, as signed numbers."""
+        """Returns the operands of the last comparison, as signed numbers."""
         kind, width, a, b, answer = self.flags
         if kind not in ("sub", "and"):
             raise Unsupported("a signed comparison of another result")

@@ -1,4 +1,4 @@
-"""The rows of oracle/arm-text, for the assembly sources for 64-bit ARM: the C library's and the cargo crate's."""
+"""Chooses the rows of oracle/arm-text, on the sources for 64-bit ARM: the C library's and the cargo crate's."""
 import functools
 import os
 
@@ -54,13 +54,13 @@ def choose(given, found):
 
 
 def cargo_text_rows(is_all):
-    """The rows of the cargo crate's source."""
+    """Returns the rows on the cargo crate's source."""
     made = functools.partial(cargo.CargoProcessor, cargo.program())
     return cargo_whole.named(f"cargo's {cargo.NAME}", cargo_whole.choose(cargo.NAME, made, is_all))
 
 
 def every_length_rows(made, is_all):
-    """Rows of all hashes of every length, and streams of any updates, by induction; some cases, or all."""
+    """Returns the rows of every length and of streams of any updates, by induction: some cases, or all."""
     out = [row for kind in every_length.UNROLLED for row in
            shared.of_every_length(made, kind, f"XXH{kind}: every length to 2^64 - 1", every_length.cases(kind))]
     return [*out, *shared.long_rows(made, is_all), *shared.plain_stream_rows(made, is_all),
@@ -77,7 +77,7 @@ def compared(title, found, kind, lengths, is_stream=False):
 
 
 def in_table(programs):
-    """(instructions in the table, missing ones)."""
+    """Returns the number of instructions in the table, and the first missing ones."""
     code = [x for program in programs for section in program.sections.values() for x in section.values()]
     bad = [f"{x.section} {x.at:#x}: {x.mnemonic} {x.form}" for x in code if (x.mnemonic, x.form) not in TABLE]
     return len(code) - len(bad), bad[:5]

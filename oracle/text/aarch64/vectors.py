@@ -1,4 +1,4 @@
-"""The semantics of instructions on vectors. A vector is two lanes of 64 bits."""
+"""Semantics of vector instructions. A vector is two lanes of 64 bits."""
 from terms.refusals import Undecided, Unsupported
 
 from ..values import WORD, arithmetic, bits, joined, low
@@ -8,12 +8,12 @@ HALF = 32
 
 
 def words_of(lanes):
-    """The four words of 32 bits."""
+    """Returns the four 32-bit words of a vector."""
     return [part for lane in lanes for part in (low(lane, HALF), arithmetic("lshr", WORD, lane, HALF))]
 
 
 def of_words(words):
-    """A vector of four words, or of two and zeros above."""
+    """Returns a vector of four words, or of fewer with zeros above."""
     words = [*words, 0, 0, 0][:4]
     return [joined((words[k], HALF), (words[k + 1], HALF)) for k in (0, 2)]
 
@@ -76,7 +76,7 @@ def shift_and_narrow(cpu, x):
 
 @form("shll", "2d 2s i")
 def shift_and_widen(cpu, x):
-    """Shifts by the width of a word, the only possible shift."""
+    """Shifts left by the width of a word, the only possible amount."""
     to, a, _ = x.operands
     write(cpu, to, [joined((0, HALF), (word, HALF)) for word in read(cpu, a, "2s")])
 
@@ -205,7 +205,7 @@ def even_words(cpu, x):
 
 @form("uzp1", "8h 8h 8h, 16b 16b 16b")
 def even_parts(cpu, x):
-    """Each second part of both, of 16 or of 8 bits."""
+    """Concatenates the even-numbered parts of both, of 16 or 8 bits."""
     to, a, b = x.operands
     width = 16 if to.arrangement == "8h" else 8
     lanes = [*cpu.vectors[a.number], *cpu.vectors[b.number]]

@@ -1,4 +1,4 @@
-"""The semantics of instructions on words, control and memory."""
+"""Semantics of instructions on words, control flow and memory."""
 from terms.refusals import Unsupported
 from terms.words import rotated
 from terms.polynomials import lifted, plus
@@ -11,7 +11,7 @@ from .objects import Register, Shift, Vector
 from .processor import form
 from .vectors import of_words, words_of
 
-SIZES = {"b": 1, "h": 2}          # of ldrb, strh ..
+SIZES = {"b": 1, "h": 2}          # suffixes of ldrb, strh and others
 OPERATIONS = {"add": "add", "sub": "sub", "adds": "add", "subs": "sub", "cmp": "sub", "cmn": "add", "mul": "mul", "and": "and",
               "ands": "and", "orr": "or", "eor": "xor", "udiv": "udiv"}
 
@@ -28,7 +28,7 @@ def shifted(x, width, shift):
 
 
 def rotation(x, width, k):
-    """Rotates to the right."""
+    """Rotates right by k bits."""
     k = -k % width
     if isinstance(x, int):
         return (x << k | x >> width - k) & ones(width)
@@ -36,7 +36,7 @@ def rotation(x, width, k):
 
 
 def operands(cpu, x):
-    """(width, first, second) of an instruction on two values, the last of which may be shifted."""
+    """Returns (width, first, second) of an instruction on two values, of which the last may be shifted."""
     *found, last = x.operands
     if not isinstance(last, Shift):
         found, last = x.operands, None
@@ -45,7 +45,7 @@ def operands(cpu, x):
     return width, a, shifted(b, width, last) if last else b
 
 
-# ---- sums, products, bits
+# ---- arithmetic and logic
 
 @form("add sub", "x x x, x x i, x x x lsl, x x x lsr, w w w, w w w lsl, w w i")
 @form("eor orr", "x x x, x x x lsl, x x x lsr, x x x ror, w w w, w w w lsl, w w w lsr, w w w ror")
@@ -61,7 +61,7 @@ def binary(cpu, x):
 
 @form("add", "x x")
 def add_low(cpu, x):
-    """The rest of an address whose page is there."""
+    """Completes the address of a page."""
     page = cpu.registers[x.operands[1].name]
     if not isinstance(page, Page) or page.target != x.target:
         raise Unsupported("the rest of another address than the page's")
@@ -166,7 +166,7 @@ def set_by(cpu, x):
 # ---- memory
 
 def width_of(x):
-    """Bytes of each register that is loaded or stored."""
+    """Returns the bytes of each loaded or stored register."""
     register = x.operands[0]
     if isinstance(register, Vector):
         return {"q": 16, "d": 8, "s": 4}[register.arrangement]
@@ -227,7 +227,7 @@ def subtract_with_borrow(cpu, x):
 
 @form("ccmp", "x x i c")
 def compare_if(cpu, x):
-    """A comparison where a condition holds, and else flags that are given: 0, which is unequal."""
+    """Compares if a condition holds. Otherwise sets the given flags: only 0, "unequal", is supported."""
     a, b, given, condition = x.operands
     if cpu.test(condition):
         a, b = cpu.get(a), cpu.get(b)

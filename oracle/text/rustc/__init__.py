@@ -1,2 +1,2 @@
-"""The erased source of the cargo crate as this machine's rustc compiles it: an object whose instructions are run over
-symbols, as those of the assembly source are."""
+"""Verifies the erased source of the cargo crate, compiled by this machine's rustc: the object's instructions run on
+symbols, like the assembly source's."""

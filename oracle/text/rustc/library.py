@@ -1,13 +1,13 @@
-"""How the exports of rustc's object are called: exports.rs.in has them.
+"""Calls the exports of rustc's object, as defined by exports.rs.in.
 
-Each call of a stream of XXH3 is given its secret: the default one, one of 192 bytes derived from a seed, or its own."""
+Each call of an XXH3 stream takes the secret: the default one, one of 192 bytes derived from a seed, or a custom one."""
 from ..cargo import DONE, LONGEST_WITHOUT, SHORTEST, TOO_SHORT, call_into, expect_code, export_name
 from ..memory import OnlyRead, Words
 from ..one_shots import is_plain
 from ..values import address, joined, low
 
 WAYS = {"default": "", "seed": "_with_seed", "secret": "_with_secret", "both": "_with_seed_and_secret"}
-DERIVED = 192                     # bytes of a secret that a seed derives
+DERIVED = 192                     # bytes of a secret derived from a seed
 
 
 class ForRust:
@@ -15,7 +15,7 @@ class ForRust:
 
     @staticmethod
     def one_shot(cpu, hash_name, kind, *arguments):
-        """The hash; or 0, if a secret must be refused, and is."""
+        """Returns the hash, or 0 if the secret is too short and the call refuses it."""
         name = export_name(hash_name) + ("" if is_plain(hash_name) else WAYS[kind])
         if kind not in ("secret", "both"):
             rax, rdx = cpu.call(name, *arguments)
@@ -31,7 +31,7 @@ class ForRust:
 
     @staticmethod
     def reset(cpu, request, state):
-        """A stream of no bytes yet. `state.secret` has its secret, and `state.is_of_192` is True if that is one of
+        """Starts an empty stream. Sets `state.secret`, and `state.is_of_192` if it is a default or derived secret of
         192 bytes, for which there is a separate call."""
         name, seed = export_name(request.hash_name), request.seed()
         if is_plain(request.hash_name):
@@ -53,7 +53,7 @@ class ForRust:
 
     @staticmethod
     def digest(cpu, hash_name, state):
-        """The hash of what was written to a stream."""
+        """Returns the hash of everything written to a stream."""
         name = f"{export_name(hash_name)}_finish"
         secret = () if is_plain(hash_name) else (address(state.secret), state.secret.length)
         code, value = call_into(cpu, hash_name, name, address(state), *secret)
@@ -62,7 +62,7 @@ class ForRust:
 
 
 def derived(cpu, seed):
-    """The secret derived from a seed, as a call writes it. Other calls only read it."""
+    """Returns the secret that a call derives from a seed, as a read-only object."""
     secret = Words("secret", DERIVED, [(k, 8, cpu.fresh("a word")) for k in range(0, DERIVED, 8)], alignment=1)
     cpu.call("derive_secret", address(secret), seed)
     return OnlyRead("secret", DERIVED, [(at, n, x) for at, (n, x) in secret.cells.items()], alignment=1)

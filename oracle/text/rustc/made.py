@@ -1,4 +1,4 @@
-"""Compiles the erased source, for each processor that is verified."""
+"""Compiles the erased source for each verified processor."""
 import collections
 import functools
 import os
@@ -22,7 +22,7 @@ class Compiler(collections.namedtuple("Compiler", "name words program processor"
     """A rustc with the options for its target, the reader of its object, and the processor that runs it."""
 
     def program_of(self, source=SOURCE):
-        """The object of a copy of the source, with the exports in it."""
+        """Compiles a copy of the source with the exports added, and returns the program."""
         with tempfile.TemporaryDirectory(prefix="rust-object-") as room:
             folder, made = os.path.join(room, "src"), os.path.join(room, "made.o")
             shutil.copytree(source, folder)
@@ -32,13 +32,13 @@ class Compiler(collections.namedtuple("Compiler", "name words program processor"
 
 
 def for_x86():
-    """The machine's own rustc, for two instruction sets."""
+    """Returns the machine's own rustc for two instruction sets."""
     return [Compiler(name, ("rustc", "-C", f"target-cpu={name}"), functools.partial(objects.RustProgram, name),
                      objects.RustProcessor) for name in (V1, V3)]
 
 
 def for_arm(root, room):
-    """Debian's rustc, over Debian's `core` for 64-bit ARM, which is unpacked below `root`."""
+    """Returns Debian's rustc with Debian's `core` for 64-bit ARM, unpacked below `root`."""
     libraries = os.path.join("lib", "rustlib")
     os.makedirs(os.path.join(room, libraries))
     os.symlink(os.path.join(root, "usr", libraries, ARM), os.path.join(room, libraries, ARM))

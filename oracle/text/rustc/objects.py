@@ -1,10 +1,9 @@
-"""The object that rustc makes of the erased source. It has what the reader of the assembly source refuses:
+"""Reads the object that rustc makes of the erased source. It accepts more than the reader of assembly sources:
 
-- on x86-64 a call by the global offset table, directly or through a register, leads where its relocation says;
-- a function of `core` that panics, a `ud2` and a `brk` end a run with a refusal, so a run that comes to an end reaches none;
-- a section that only panics read, of strings and of addresses, is left out: a read of it is refused;
-- a constant of a mergeable section is named by the section and a distance, which is the constant's first byte and a place
-  in it."""
+- on x86-64 a call through the global offset table, directly or by a register, leads to the target of its relocation;
+- a function of `core` that panics, `ud2` and `brk` end a run with a refusal, so a finished run reaches none;
+- sections that only panics read, of strings and addresses, are left out: a read of them is refused;
+- a place in a mergeable section is a constant, named by its section and offset, and an offset in the constant."""
 import collections
 import re
 import struct
@@ -19,17 +18,17 @@ from ..objects import PC32, PLT32, Instruction, Program, Register, split
 from ..processor import Processor
 from .library import ForRust
 
-TABLES = lanes, scalar            # they fill the table of instructions
+TABLES = lanes, scalar            # imported because they fill the table of instructions
 BY_TABLE = 9, 41, 42              # relocations by the global offset table
-STRINGS = 0x20                    # a section's flag
+STRINGS = 0x20                    # section flag
 NOWHERE = "nowhere", 0
-Function = collections.namedtuple("Function", "place")      # the value of a register that the global offset table filled
-LOAD, CALL = "load of a function", "call by a register"     # instructions that only this reader has
+Function = collections.namedtuple("Function", "place")      # value of a register loaded from the global offset table
+LOAD, CALL = "load of a function", "call by a register"     # instructions that only this reader creates
 LOADED_FUNCTION, BY_REGISTER = re.compile(r"mov +0x0\(%rip\),%(r\w+)"), re.compile(r"\*%(r\w+)")
 
 
 class OfRustc:
-    """What differs from the reader of an object, for either processor."""
+    """Overrides for the reader of an object, for either processor."""
 
     def expect_listed(self):
         pass
@@ -112,7 +111,7 @@ def call_function(cpu, x):
 
 
 def known_where_reached(instruction, name):
-    """The function of an instruction. One that isn't in the table is refused when a run reaches it: rustc's object
+    """Returns the function of an instruction. One that the table lacks is refused when a run reaches it: rustc's object
     has functions that no call reaches."""
     if instruction.mnemonic in (LOAD, CALL):
         return load_function if instruction.mnemonic == LOAD else call_function

@@ -1,4 +1,4 @@
-"""The rows of oracle/rust-object: one-shots and streams of rustc's object, compared with the definition."""
+"""Chooses the rows of oracle/rust-object: one-shots and streams of rustc's object, compared with the definition."""
 import functools
 import os
 import shutil
@@ -16,7 +16,7 @@ ONE_BY_ONE = range(301)
 SOME = [*range(0, 33), 48, 63, 64, 65, 96, 128, 129, 160, 192, 240, 241, 255, 256, 257, 300]
 STREAMED = [3, 8, 17, 33, 70]
 LONGER = {"32": range(301, 2001), "64": range(301, 2001), "3-64": range(301, 1101), "3-128": range(301, 1101)}
-# Wrong sources: the file, the old and the new text, and a request that detects it.
+# Planted faults: the file, the old and the new text, and requests that detect them.
 WRONG = (
     ("twox_plain/xxhash64/rounds.rs", "rotate_left(27)", "rotate_left(26)", ("64", "seed", None), [9]),
     ("twox_plain/xxhash32/rounds.rs", "rotate_left(13)", "rotate_left(14)", ("32", "seed", None), [16]),
@@ -41,7 +41,7 @@ def one_shot_rows(name, cpu, is_all):
 
 
 def stream_rows(name, cpu, is_all):
-    """A stream of XXH3 has a seed, and its own secret or one derived from the seed."""
+    """Yields the rows of streams. An XXH3 stream has a seed, and a custom secret or one derived from the seed."""
     for kind in comparison.kinds(SECRETS):
         if kind[1] != "secret":
             yield compared(f"{name}: {title_of(*kind)}, streams", cpu, kind, comparison.STREAMED if is_all else STREAMED, True)
@@ -59,7 +59,7 @@ def compared(title, of, kind, lengths, is_stream=False):
 
 
 def is_noticed(compiler, file, old, new, kind, lengths):
-    """A wrong source, compiled, has another term."""
+    """Compiles a planted fault, and checks that a term differs."""
     with tempfile.TemporaryDirectory(prefix="rust-object-") as room:
         source = os.path.join(room, "src")
         shutil.copytree(SOURCE, source)

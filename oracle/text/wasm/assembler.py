@@ -1,6 +1,5 @@
-"""Assembles small modules for the comparison with an engine: instructions as text, `i32.const 5; local.set 0`,
-by the codes of the table. Each module has the memory, the globals and the constants that the stack machine
-expects."""
+"""Assembles small modules to compare with an engine: instructions as text, `i32.const 5; local.set 0`, by the codes of
+the table. Each module has the memory, globals and constants that the stack machine expects."""
 from .opcodes import BY_NAME, TYPES
 
 CODES = {f"{'v' if width == 128 else 'i'}{width}": code for code, width in TYPES.items()}
@@ -40,13 +39,13 @@ def with_sign(n, width):
 
 
 def given(behind, words):
-    """The immediates of an instruction."""
+    """Returns the immediates of an instruction, encoded."""
     numbers = [int(word, 0) for word in words if word not in CODES]
     if behind == "block":
         return bytes([CODES[words[0]] if words else 0x40])
     if behind in ("i32", "i64"):
         return signed(with_sign(numbers[0], int(behind[1:])))
-    if behind.startswith("bytes"):          # an offset
+    if behind.startswith("bytes"):          # an alignment and an offset
         return unsigned(0) + unsigned(numbers[0])
     if behind == "labels":
         return vector([unsigned(n) for n in numbers[:-1]]) + unsigned(numbers[-1])
@@ -67,7 +66,7 @@ def assembled(text):
     return out
 
 
-# A function that others call: it takes two numbers, and gives their difference
+# A function that the others call: it returns the difference of two numbers.
 HELPER = "local.get 0; local.get 1; i64.sub"
 LOCALS = ("i32", 2), ("i64", 3), ("v128", 2)
 
@@ -78,7 +77,7 @@ def function(text, locals_=LOCALS):
 
 
 def module(texts):
-    """A module with the functions f0, f1, .., without parameters and results, after the one that they call, 0."""
+    """Returns a module with the functions f0, f1, .., without parameters and results, after HELPER, function 0."""
     word = bytes([CODES["i64"]])
     types = [b"\x60" + vector([word, word]) + vector([word]), b"\x60\0\0"]
     globals_ = [word + b"\1\x42" + signed(STACK_END) + END, bytes([CODES["i32"]]) + b"\1\x41\0" + END]

@@ -1,5 +1,5 @@
-"""The values of a module for a request, called as web/twox_hash.js calls it: one-shots, and streams whose record is
-saved and restored on the way. A call that succeeds must write its value, and one that is refused must write nothing."""
+"""Calls a module for a request like web/twox_hash.js: one-shots, and streams whose record is saved and restored after
+an update. A call that succeeds must write its value; a refused one must write nothing."""
 from terms.refusals import Unsupported
 from terms.memory import Memory, Piece
 from terms.nodes import Node
@@ -7,11 +7,11 @@ from terms.nodes import Node
 from .values import address
 
 DONE, SECRET_TOO_SHORT, NOT_A_STREAM = 0, 1, 2
-BYTES = {"32": 4, "64": 8, "3-64": 8, "3-128": 16}          # of a value
+BYTES = {"32": 4, "64": 8, "3-64": 8, "3-128": 16}          # of a hash
 WAYS = {"default": "", "seed": "_with_seed", "secret": "_with_secret", "both": "_with_seed_and_secret"}
-RECORDS = {"xxh32": 56, "xxh64": 88, "xxh3": 688}           # bytes, as docs name them
-PADDING = {"xxh32": range(44, 48)}                          # which the JavaScript makes zeros in a saved state
-DERIVED = 192                                               # bytes of the secret that a seed derives
+RECORDS = {"xxh32": 56, "xxh64": 88, "xxh3": 688}           # bytes of a stream's record, as documented
+PADDING = {"xxh32": range(44, 48)}                          # bytes that the JavaScript sets to 0 in a saved state
+DERIVED = 192                                               # bytes of the secret derived from a seed
 
 
 def is_plain(hash_name):
@@ -31,7 +31,7 @@ def name_of_one_shot(request):
 
 
 def begin(vm, request):
-    """The seed of a request. If it isn't a number, the machine records whether the module tested it for 0."""
+    """Returns a request's seed. If it is a symbol, the machine records if the module tests it for 0."""
     seed = request.seed()
     vm.seed, vm.has_asked = seed if isinstance(seed, Node) else None, False
     return seed
@@ -56,7 +56,7 @@ def call_one_shot(vm, request, out):
 
 
 def one_shot(vm, request):
-    """The value of a one-shot. With a secret, and for 128 bits, it is written to memory."""
+    """Returns the hash of a one-shot. With a secret, and for 128 bits, the call writes it to memory."""
     size = BYTES[request.hash_name]
     out = Memory("the value", size) if request.secret or size == 16 else None
     results = call_one_shot(vm, request, out)
@@ -68,19 +68,19 @@ def one_shot(vm, request):
 
 
 def refused_one_shot(vm, request):
-    """A one-shot whose secret is too short."""
+    """Tests a one-shot whose secret is too short."""
     out = Memory("the value", BYTES[request.hash_name])
     answered(call_one_shot(vm, request, out), SECRET_TOO_SHORT)
     expect_kept("the value", out, {})
 
 
 def refused_start(vm, request):
-    """A start of a stream whose secret is too short."""
+    """Tests the start of a stream whose secret is too short."""
     Stream(vm, request).refused_start()
 
 
 def expect_kept(what, memory, cells):
-    """Checks that a call has written nothing there."""
+    """Checks that the memory is unchanged."""
     if memory.cells != cells:
         raise Unsupported(f"{what} isn't as it was")
 
@@ -88,12 +88,12 @@ def expect_kept(what, memory, cells):
 # ---- streams
 
 def anything(vm, name, size):
-    """Memory that holds anything."""
+    """Returns memory with any content."""
     return Memory(name, size, [(at, 8, vm.fresh(name)) for at in range(0, size, 8)])
 
 
 class Stream:
-    """A record in the module's memory, with the secret that is passed to each call."""
+    """A stream's record in the module's memory, with the secret that each call takes."""
 
     def __init__(self, vm, request):
         self.vm, self.request, self.family = vm, request, family(request.hash_name)
@@ -117,7 +117,7 @@ class Stream:
             self.vm.call(name, [record, seed])
 
     def refused_start(self):
-        """A start whose secret is too short."""
+        """Tests a start whose secret is too short."""
         before, seeds = dict(self.record.cells), [begin(self.vm, self.request)] if self.request.kind == "both" else []
         name = "twox_xxh3_start" + WAYS[self.request.kind]
         answered(self.vm.call(name, [address(self.record), *seeds, *self.secret]), SECRET_TOO_SHORT)
@@ -133,8 +133,8 @@ class Stream:
                             [address(self.record), *self.secret, address(out)])
 
     def save_and_restore(self):
-        """Continues in another record, as the JavaScript does: that of a stream started again, of which all bytes become
-        those of this one, with zeros where it has padding."""
+        """Continues in another record, as the JavaScript does: copies all bytes to a newly started stream's record,
+        with zeros as padding."""
         saved = dict(self.record.cells)
         self.record = Memory("the restored record", self.record.length)
         self.record.cells = saved
@@ -143,7 +143,7 @@ class Stream:
 
 
 def stream(vm, request):
-    """The value of a stream. After its first update it is saved and restored. A digest changes only its value."""
+    """Returns the hash of a stream, saved and restored after its first update. A digest must write only its value."""
     it, at = Stream(vm, request), 0
     it.start()
     for end in [*request.cuts, request.length]:

@@ -1,11 +1,10 @@
-"""Changes in the bytes of a module, each of which must be detected: a comparison that passes with every change would
-prove nothing.
+"""Tests that changes in the bytes of a module are detected: otherwise a passing comparison would prove nothing.
 
-A change is one instruction in place of another of the same types, or one bit of an instruction. Changes that the
-reader or the validator refuses are counted separately. The others are tested by requests that run the instruction. A
-change is detected if a value differs at a point, or there is no value. If the terms differ and no such point is
-found, it is refused. Changes that break no promise are in equal_changes.txt, each with its reason. A crash of this
-program counts as neither."""
+A change is one instruction replaced by another of the same types, or one inverted bit of an instruction. Changes that
+the reader or the validator refuses are counted separately. The others are tested by requests that run the instruction.
+A change is detected if a value differs at a point, or there is no value. If the terms differ but no such point is
+found, it counts as refused. Changes that break no guarantee are in equal_changes.txt, each with its reason. A crash of
+this program counts as neither."""
 import collections
 import copy
 import itertools
@@ -28,7 +27,7 @@ from .xxh3_streams import ModuleUpdates
 
 EQUAL = os.path.join(os.path.dirname(os.path.abspath(__file__)), "equal_changes.txt")
 LENGTHS = [*range(10), *range(14, 36, 3), 63, 64, 65, 96, 97, 120, 128, 129, 145, 200, 240, 241, 256, 257, 300, 1030]
-# Where those detect nothing: edges first, then each length, or of streams each ninth
+# If those detect nothing: edges first, then each length, or for streams each ninth.
 EDGES = [16, 17, 8, 9, 3, 4, 5, 128, 129, 240, 241, 31, 32, 33, 64, 65, 96, 97, 256, 257, 0, 1, 512, 513, 576, 1024,
          1025, 1088, 1089]
 EACH_STREAM = 9
@@ -38,13 +37,13 @@ MORE_PIECES = [(70, 30), (1500, 300, 1000), (1100, 600, 900), (1100, 500, 1090),
                (700, 505), (970, 500, 520)]
 STREAM_LENGTHS = 3, 0, 5, 33, 70, 12, 257, 1500, 520, 700, 200, 600
 STREAM_CUTS = [], [1], [33], [64, 65], [255, 256], [300, 1000], [500]
-STEPS = 100_000               # instructions of a call, with a change
+STEPS = 100_000               # maximum number of instructions of a changed module's call
 SECRETS = 136, 192
 TOO_SHORT = 0, 135
 NOTICED, NO_VALUE, REFUSED = "another value", "no value", "another term, no point found"
 NOT_VALID, BY_INDUCTION = "not valid", "not shown by induction"
-# Changes by hand: what, the instruction, what follows it and which instruction follows (None: anything), which of
-# its bytes, counted from its end where that is negative, and the bits that change there
+# Changes by hand: title, instruction, its immediate and the next instruction (None: any), the byte to change, counted
+# from its end if negative, and the inverted bits.
 BY_HAND = [
     ("a prime of XXH64, another bit 62", "i64.const", 0xC2B2AE3D27D4EB4F, None, 9, 0x40),
     ("a prime of XXH32, another bit 27", "i32.const", 0x85EBCA77, None, 4, 0x40),
@@ -54,14 +53,14 @@ BY_HAND = [
     ("a load, as of bytes 8 further", "i64.load", None, None, -1, 8),
     ("a store, as of bytes 8 further", "i64.store", None, None, -1, 8),
 ]
-EACH_BY_HAND = 3              # places at which each is tried
-# Streams with chunks that are taken out of line, and each so manieth case of the functions that do so
+EACH_BY_HAND = 3              # number of places for each
+# Streams whose chunks separate functions take, and the step between cases of these functions.
 LONG_STREAMS, EACH_TAKEN = [(2300,), *((2300, 64 - r) for r in (1, 2, 5, 9, 20, 40)), (5300, 129)], 25
 CRASHES = AttributeError, IndexError, KeyError, TypeError, ValueError, RecursionError
 
 
 class Taken:
-    """A case of the functions that take stripes of long chunks (xxh3_streams.py), as a request."""
+    """A case of functions that take the stripes of long chunks (xxh3_streams.py), in the form of a request."""
     hash_name, kind, secret_length, what = "3-64", "seed", None, "stripes of long pieces"
 
     def __init__(self, case):
@@ -73,13 +72,13 @@ def take(vm, request):
     ModuleUpdates(vm).taken_of(*request.case)
 
 
-# What has no value: a call is refused, or a case shown.
+# Tests without a value: of a refused call, or the proof of a case.
 REFUSING = (calls.refused_one_shot, calls.refused_start, refusals.refuse_short_secret, refusals.refuse_record,
             refusals.keep_counters, take)
 
 
 def long_pieces(vm, is_all):
-    """The requests that cover the functions for long chunks of streams."""
+    """Yields the requests that run the functions for long chunks of streams."""
     for n, *cuts in LONG_STREAMS if is_all else LONG_STREAMS[:2]:
         yield Request("3-64", "seed", n, cuts=cuts), calls.stream
         yield Request("3-128", "both", n, SECRETS[0], cuts=cuts), calls.stream
@@ -91,7 +90,7 @@ def long_pieces(vm, is_all):
 
 
 def asked(is_all=True):
-    """The requests that cover the modules: (request, its machine)."""
+    """Yields the requests that cover the modules: (request, function that runs it)."""
     for kind in comparison.kinds(SECRETS if is_all else SECRETS[:1]):
         for n in LENGTHS[::1 if is_all else 3]:
             yield Request(*kind[:2], n, kind[2]), calls.one_shot
@@ -103,7 +102,7 @@ def asked(is_all=True):
 
 
 def refused():
-    """Calls whose secret is too short, and of records that are no stream's."""
+    """Yields calls whose secret is too short, and calls with invalid records."""
     for hash_name, way, size in itertools.product(("3-64", "3-128"), ("secret", "both"), TOO_SHORT):
         for answer in (calls.refused_one_shot, calls.refused_start, refusals.refuse_short_secret):
             yield Request(hash_name, way, 300, size), answer
@@ -118,7 +117,7 @@ def kind_of(question):
 
 
 class Covered:
-    """The requests that run an instruction, by (function, place in its code): KEPT per kind of call, drawn evenly."""
+    """Maps (function, index in its code) to KEPT random requests per kind of call that run the instruction."""
 
     def __init__(self, vm, is_all):
         by_kind, seen, draw = collections.defaultdict(dict), collections.Counter(), random.Random(5)
@@ -144,13 +143,13 @@ class Covered:
 # ---- changes
 
 def same_types(opcode):
-    """The instructions that may replace one, with the same number of bytes."""
+    """Returns the instructions that may replace one: same types, same number of bytes."""
     return [x for x in OPCODES if x is not opcode and x.takes is not None and x[3:] == opcode[3:]
             and x.prefix == opcode.prefix and (x.code < 128) == (opcode.code < 128)]
 
 
 def change_of(x, whole, draw):
-    """(what, the changed bytes) of an instruction."""
+    """Returns (description, changed bytes) of a random change of an instruction."""
     out, others = bytearray(whole), same_types(x.opcode)
     if others and draw.random() < 0.5:
         other = draw.choice(others)
@@ -165,14 +164,14 @@ def change_of(x, whole, draw):
 
 
 def places_of(x):
-    """The bytes of an instruction except an alignment, which is a hint."""
+    """Returns the bytes of an instruction without its alignment, which is only a hint."""
     has_alignment = x.opcode.behind.startswith("bytes")
     alignment = x.at + 1 + (x.opcode.prefix is not None)
     return [place for place in range(x.at, x.end) if not (has_alignment and place == alignment)]
 
 
 def with_change(vm, function, whole):
-    """The machine of a module in which the bytes of one function are replaced, maybe by more, or an error."""
+    """Returns the machine of a module with one function's bytes replaced. Raises if it isn't valid."""
     module = copy.copy(vm.module)
     module.whole, module.functions = whole, list(module.functions)
     other = module.read_function(Reader(whole, function.at), function.index)
@@ -188,10 +187,10 @@ def with_change(vm, function, whole):
     return changed
 
 
-# ---- what is detected
+# ---- detection
 
 def outcome(vm, texts, questions):
-    """The result of some requests on a changed module."""
+    """Returns the outcome of some requests on a changed module."""
     found = UNNOTICED
     for request, answer in questions:
         texts.make_room()
@@ -226,9 +225,9 @@ def differs(request, a, b):
 
 
 def more(questions):
-    """The edges by the same kinds of call, and by one of one-shots and one of streams each length or each ninth."""
+    """Yields requests of the same kinds with EDGES, and for one one-shot and one stream with many short lengths."""
     found = dict.fromkeys(kind_of(question)[:4] for question in questions)
-    # What only refused calls run is asked by streams too.
+    # Instructions that only refused calls run are tested by streams too.
     kinds = [kind for kind in found if kind[3] not in REFUSING] or [(*kind[:3], calls.stream) for kind in found][:1]
     for kind in kinds:
         yield from of_lengths(kind, EDGES)
@@ -249,7 +248,7 @@ def of_lengths(kind, lengths):
 
 
 def of_many_bytes(vm):
-    """Proves some one-shots of XXH3 of many bytes and with other secrets, by induction."""
+    """Proves some one-shots of XXH3 of long inputs and with custom secrets, by induction."""
     own = every_length.OWN_CASES
     try:
         for hash_name in ("3-64", "3-128"):
@@ -264,8 +263,8 @@ def of_many_bytes(vm):
 
 
 def drawn(vm, covered, count, seed):
-    """So many changes that are valid, of instructions that are run, as (the instruction's text, what, the machine or
-    None where it isn't valid, the requests). Which changes come doesn't depend on the requests."""
+    """Yields `count` valid random changes of executed instructions, and the invalid ones between: (text, machine or
+    None if invalid, requests). The changes don't depend on the requests."""
     places, valid = [(f.index, pc) for f in vm.module.functions for pc in range(len(f.code))], 0
     for number in itertools.count():
         draw = random.Random(f"{seed} {number}")
@@ -289,7 +288,7 @@ def drawn(vm, covered, count, seed):
 
 
 def is_same_amount(function, other, pc):
-    """True if a number became another one by which the next instruction shifts or rotates as far."""
+    """True if the change replaces the amount of a shift or rotation by an equal one modulo the width."""
     x, y, then = function.code[pc], other.code[pc], function.code[pc + 1:pc + 2]
     word, _, name = then[0].opcode.name.partition(".") if then else ("", "", "")
     if x.opcode is not y.opcode or x.opcode.name not in ("i32.const", "i64.const"):
@@ -298,7 +297,7 @@ def is_same_amount(function, other, pc):
 
 
 def drawn_by_hand(vm, covered):
-    """The changes by hand, each at some places that are run; those of drawn."""
+    """Yields the changes by hand, each at some executed places, in the form of `drawn`."""
     draw = random.Random(7)
     for what, *where, byte, bits in BY_HAND:
         places = [place for place in covered.places if is_there(vm.module.functions[place[0]].code, place[1], *where)]
@@ -320,7 +319,7 @@ def shown(given):
 
 
 def tell(name, vm, count, seed, is_all):
-    """The results of this many changes and of those by hand, and those that weren't detected without a reason."""
+    """Tests `count` random changes and those by hand. Returns the counts of outcomes, and the failures."""
     covered, texts, known = Covered(vm, is_all), Texts(), Reasons(EQUAL)
     counts, bad = collections.Counter(), []
     for text, changed, questions in (*drawn_by_hand(vm, covered), *drawn(vm, covered, count, seed)):

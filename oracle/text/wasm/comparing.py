@@ -1,4 +1,4 @@
-"""Compares the modules with the definition: for each request both must compute one term."""
+"""Compares the modules with the definition: for each request both must compute the same term."""
 from terms import comparison, definition, nodes
 from terms.requests import Request
 
@@ -27,8 +27,8 @@ class Texts:
 
 
 def requests(kind, lengths, is_stream):
-    """The requests of a kind, (hash, kind of call, length of the secret), with a seed that is any but 0 where a module
-    asks for that."""
+    """Yields the requests of a kind, (hash, function, length of the secret). A symbolic seed is nonzero if a module
+    tests it."""
     for length in lengths:
         for cuts in comparison.cuts_of(length) if is_stream else [None]:
             yield Request(*kind[:2], length, kind[2], cuts=cuts)
@@ -39,8 +39,8 @@ def with_seed_0(request):
 
 
 def compare(machines, asked, answer):
-    """Compares the values of each machine: how many have the definition's term, and the messages on the others. If a
-    module tested whether the seed is 0, that is a separate request."""
+    """Compares each machine's values with the definition. Returns the number of equal terms, and the messages on the
+    others. If a module tests the seed for 0, the request is repeated with the seed 0."""
     texts, equal, complaints = Texts(), 0, []
     for request in asked:
         texts.make_room()
@@ -55,5 +55,5 @@ def compare(machines, asked, answer):
 
 
 def told_of(texts, name, vm, request, answer):
-    """The message on a machine's value, or None."""
+    """Returns the message on a machine's value, or None."""
     return comparison.difference(request, name, texts.value(request), lambda asked: answer(vm, asked))

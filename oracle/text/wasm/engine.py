@@ -1,5 +1,5 @@
-"""Compares the table of instructions with an engine, Node's: each on edge cases and random numbers, those of memory
-and control in small functions, and what the reader and the validator accept or refuse."""
+"""Compares the table of instructions with Node's engine: instructions on edge cases and random numbers, memory and
+control flow in small functions, and which modules the reader and the validator accept or refuse."""
 import json
 import os
 import random
@@ -16,8 +16,8 @@ from .values import Trap
 
 HERE = os.path.dirname(os.path.abspath(__file__))
 STACK_BEGIN = STACK_END - STACK
-RESULT, PATTERN = STACK_BEGIN + 2048, STACK_BEGIN + 4096      # places in the memory
-RANDOM = 24                       # times that an instruction is tried on random numbers
+RESULT, PATTERN = STACK_BEGIN + 2048, STACK_BEGIN + 4096      # addresses
+RANDOM = 24                       # runs of an instruction on random numbers
 ANSWER = f"i32.const {RESULT}; v128.const 0 0; v128.store 0; i32.const {RESULT}; "
 STORES = {32: "i32.store 0", 64: "i64.store 0", 128: "v128.store 0"}
 
@@ -37,7 +37,7 @@ def pushed(width, draw):
 
 
 def behind(opcode, draw):
-    """The possible immediates of an instruction that takes values and leaves one."""
+    """Returns random immediates of an instruction that takes values and leaves one."""
     if opcode.behind == "lanes":
         first = draw.randrange(32)
         in_order = [str((first + k) % 32) for k in range(16)]
@@ -46,7 +46,7 @@ def behind(opcode, draw):
 
 
 def of_values(opcode, draw):
-    """Functions that run an instruction on numbers: words with all edge cases, and random ones."""
+    """Yields functions that run an instruction on all edge cases of words, and on random numbers."""
     widths = opcode.takes
     drawn = [[pushed(width, draw) for width in widths] for _ in range(RANDOM * (3 if 128 in widths else 1))]
     if 128 not in widths:
@@ -61,7 +61,7 @@ def pattern(draw):
 
 
 def of_memory(opcode, draw):
-    """Functions that load from, or store to, a pattern in the memory, at any alignment; and past the memory's end."""
+    """Yields functions that load from, or store to, a pattern in memory at any alignment, and past the memory's end."""
     size, is_load = int(opcode.behind[len("bytes"):]), opcode.leaves
     for _ in range(RANDOM):
         at, offset = draw.randrange(16), draw.choice((0, 0, 1, 7, 300))
@@ -89,7 +89,7 @@ def of_constant(opcode, draw):
 NUMBERS = "0", "1", "2", "3", "7", "0xffffffff"
 SHOW = f"{ANSWER}local.get 2; i64.store 0"
 COUNT = "local.get 2; i64.const {}; i64.add; local.set 2"
-# Functions of control and variables, for an i32 %: what they leave in variable 2, an i64, is reported.
+# Functions with control flow and variables, for an i32 %. They report local variable 2, an i64.
 BODIES = {
     "block": f"block i64; i64.const 4; i64.const 9; i32.const %; br_if 0; i64.add; end; local.set 2; {SHOW}",
     "br": f"i64.const 40; block i64; i64.const 1; i64.const 2; br 0; end; i64.sub; local.set 2; {SHOW}",
@@ -130,7 +130,7 @@ def functions(opcode, draw):
     return list(of_values(opcode, draw) if opcode.takes else of_constant(opcode, draw))
 
 
-# ---- both sides
+# ---- both runs
 
 def by_machine(whole, calls):
     vm, out = Machine(Module(whole)), []
@@ -144,7 +144,7 @@ def by_machine(whole, calls):
 
 
 def by_engine(asked):
-    """The engine's output for (module, number of calls): the words of its line for each."""
+    """Runs (module, number of calls) on the engine. Returns the words of its output line for each."""
     lines = "\n".join(json.dumps({"module": whole.hex(), "calls": calls, "place": RESULT}) for whole, calls in asked)
     done = subprocess.run([shutil.which("node"), os.path.join(HERE, "engine.mjs")], input=lines, text=True, check=True,
                           stdout=subprocess.PIPE)
@@ -170,7 +170,7 @@ def compare_instructions(machines):
 
 
 def verdict(whole):
-    """The result of the reader and the validator: true (valid), false (invalid), or None for anything else."""
+    """Returns "true" if the module is valid, "false" if it is invalid, and None if it isn't read."""
     try:
         validate(Module(whole))
     except Invalid:
@@ -181,8 +181,8 @@ def verdict(whole):
 
 
 def compare_validity(machines, count):
-    """That many changed modules of each: the engine accepts those that are accepted here, and refuses those that are
-    refused as invalid here."""
+    """Compares the validity of `count` changed modules of each machine: the engine must accept modules that are valid
+    here, and refuse those that are invalid here."""
     draw, asked = random.Random(4), []
     for vm in machines.values():
         for _ in range(count):

@@ -1,8 +1,8 @@
-"""The one-shots of every length that fits in the module's memory, by induction over its loops.
+"""Proves the one-shots for every length that fits in the module's memory, by induction over its loops.
 
-A length is a polynomial: stripe * a + r of XXH32 and XXH64, r a number; above 240 bytes 64 q B + 64 J + t + 1 of XXH3,
-B blocks of q stripes, J < q more, and t < 64. Under the default secret, a derived one and one of 192 to 199 bytes q is 16
-and J a number; under the others, of 64 + 8 q + u bytes, u < 8, J is any number, and q one below 16, or 17 or more."""
+XXH32 and XXH64: stripe * a + r bytes, r a number. XXH3 above 240 bytes: 64 q B + 64 J + t + 1, B blocks of q stripes, J
+< q, t < 64. With the default secret, a derived one and one of 192 to 199 bytes, q is 16 and J a number. With other
+secrets, of 64 + 8 q + u bytes, u < 8, J is symbolic, and q is a number below 16, or symbolic and at least 17."""
 import collections
 
 import table
@@ -19,20 +19,20 @@ from .induction import Family, Loops
 from .values import LEAST_PLACE, SPACE
 
 LONGEST = SPACE - 1 - LEAST_PLACE
-LEAST_STRIPES = 9                 # of a block: a secret has at least 136 bytes
+LEAST_STRIPES = 9                 # of a block, with a secret of 136 bytes
 OWN_SECRET = "secret", "both"
-LONG = 241                        # the least length of XXH3 that has loops
-BLOCK = 1024                      # bytes of a block under the default secret and a derived one
-FAR = 31_744                      # from here on the modules take a block in another way
+LONG = 241                        # minimum length of XXH3 with loops
+BLOCK = 1024                      # bytes of a block with a secret of 192 to 199 bytes
+FAR = 31_744                      # from this length on the modules have separate code for blocks
 KINDS = [("32", "seed"), ("64", "seed"), *((name, way) for name in ("3-64", "3-128") for way in WAYS)]
 
 
-# Lengths 1024 B + 64 J + t + 1 with least_blocks <= B <= most_blocks, of which there may be no most, least <= t <= most
+# Lengths 1024 B + 64 J + t + 1 with least_blocks <= B <= most_blocks (None: no maximum) and least <= t <= most.
 Case = collections.namedtuple("Case", "J least_blocks most_blocks least most")
 
 
 def cases():
-    """The cases of XXH3: no block, some, and many. FAR bytes are 30 blocks, 15 stripes and t = 63."""
+    """Yields the cases of XXH3: no block, some, and many. FAR bytes are 30 blocks, 15 stripes and t = 63."""
     some, last = FAR // BLOCK - 1, BLOCK // 64 - 1
     for J in range(BLOCK // 64):
         if 64 * J + 64 >= LONG:
@@ -44,7 +44,7 @@ def cases():
 
 
 def missing(found):
-    """The lengths that are in no case, or in two: of so many blocks that all others are like those."""
+    """Returns the lengths that are not in exactly one case. Checks enough blocks: further ones are alike."""
     count = collections.Counter(
         BLOCK * B + 64 * case.J + t + 1 for case in found for t in range(case.least, case.most + 1)
         for B in range(case.least_blocks, (FAR // BLOCK + 1 if case.most_blocks is None else case.most_blocks) + 1))
@@ -52,8 +52,8 @@ def missing(found):
 
 
 CASES = list(cases())
-# With a secret of its own: q stripes a block, a number or None, which is 17 or more; whether there is a whole block, and
-# a stripe behind the whole blocks; and whether there are FAR bytes
+# Cases with a custom secret: q, the stripes of a block, or None for 17 and more; whether there are whole blocks;
+# whether there are stripes behind them; whether there are FAR bytes.
 OwnCase = collections.namedtuple("OwnCase", "q has_blocks has_more is_far")
 
 
@@ -61,7 +61,7 @@ def own_cases():
     for q in [*range(LEAST_STRIPES, BLOCK // 64), None]:
         for has_blocks, has_more in ((True, False), (True, True), (False, True)):
             yield OwnCase(q, has_blocks, has_more, False)
-            if q is None or has_blocks:         # fewer than 16 stripes aren't FAR bytes
+            if q is None or has_blocks:         # with q < 16 and no block, there are fewer than FAR bytes
                 yield OwnCase(q, has_blocks, has_more, True)
 
 
@@ -69,7 +69,7 @@ OWN_CASES = list(own_cases())
 
 
 def missing_own(found):
-    """The (q, length) that are in no case, or in two: up to some blocks, and around FAR bytes."""
+    """Returns the (q, length) that are not in exactly one case: some blocks, and lengths near FAR."""
     out = []
     for q in [*range(LEAST_STRIPES, 20), 494, 495, 496, 497]:
         for n in [*range(LONG, 64 * 20 * 2), *range(FAR - 70, FAR + 70)]:
@@ -83,17 +83,17 @@ def missing_own(found):
 def facts_of(case, q, B, J):
     out = [] if case.q else [minus(q, 17)]
     if case.has_blocks:
-        least = -(-FAR // (64 * case.q)) - 1 if case.q and case.is_far else 1      # what the length says of B
+        least = -(-FAR // (64 * case.q)) - 1 if case.q and case.is_far else 1      # minimum of B, by the length
         out.append(minus(B, least))
     if case.has_more:
         out += [minus(J, 1), at_most(J, minus(q, 1))]
-    if case.is_far and not case.has_blocks:     # then there are as many stripes as that
+    if case.is_far and not case.has_blocks:     # implied by the length
         out += [minus(J, FAR // 64 - 1), minus(q, FAR // 64)]
     return out
 
 
 class Proof:
-    """Runs the induction over a machine: its report on the loops, and the number of its cases."""
+    """Proves one-shots of a module by induction. Keeps a report on the loops, and the number of cases."""
 
     def __init__(self, vm):
         nodes.forget()
@@ -102,7 +102,7 @@ class Proof:
         self.texts = definition.program().run(traced=suppositions)
 
     def call(self, families, hash_name, way, seed, message, secret=None):
-        """The result of a one-shot, with the loops of these families by induction."""
+        """Returns the result of a one-shot. Proves the loops of these families by induction."""
         vm, plain = self.vm, is_plain(hash_name)
         vm.seed, vm.has_asked = seed if isinstance(seed, Node) else None, False
         size = BYTES[hash_name]
@@ -117,7 +117,7 @@ class Proof:
         return out.load(0, size) if out else results[0]
 
     def with_loops(self, name, arguments, families, live):
-        """The result of an export, with the loops of these families by induction; it may write to `live`."""
+        """Returns an export's results. Proves the loops of these families. The call may write to `live`."""
         loops = self.vm.loops = Loops(families, live)
         try:
             results = self.vm.call(name, arguments)
@@ -165,7 +165,7 @@ class Proof:
                 self.short(hash_name, way, n)
 
     def long(self, hash_name, way, case):
-        """1024 B + 64 J + t + 1 bytes, with a secret of 192 to 199 bytes, where it isn't the default one or derived."""
+        """Proves 1024 B + 64 J + t + 1 bytes, with the default secret, a derived one or one of 192 to 199 bytes."""
         is_number = case.least_blocks == case.most_blocks and case.least == case.most
         B, t = (variable(name) for name in "Bt")
         B, t = (case.least_blocks, case.least) if is_number else (B if case.least_blocks else 0, t)
@@ -178,7 +178,7 @@ class Proof:
                 Family(f"XXH{hash_name}, {way}, of {n} bytes", times(BLOCK // 64, B), 8, 64, after, suppose)])
 
     def of_blocks(self, hash_name, way, n, size, families):
-        """n bytes above 240, with a secret of its own of that size, or none; `families` reports the loops."""
+        """Proves n > 240 bytes, with a custom secret of `size` bytes, or none. `families` makes the loops' families."""
         seed = seed_symbol(hash_name) if way in ("seed", "both") else 0
         source, own = Input("m", n), Input("s", size) if way in OWN_SECRET else None
         message = Bytes(source, 0, n)
@@ -194,7 +194,7 @@ class Proof:
                     self.texts[table.HASHES[hash_name]](seed, secret, message))
 
     def short(self, hash_name, way, n):
-        """n bytes, at most 240, with a secret of any length."""
+        """Proves n bytes, n <= 240, with a secret of any length."""
         q, u, seed = variable("q"), variable("u"), seed_symbol(hash_name) if way == "both" else 0
         size = plus(64, times(8, q), u)
         with given(minus(q, LEAST_STRIPES), at_most(u, 7), at_most(size, LONGEST)):
@@ -204,7 +204,7 @@ class Proof:
             self.expect(f"XXH{hash_name}, {way}, of {n} bytes", ours, theirs)
 
     def own_secret(self, hash_name, way, case):
-        """64 q B + 64 J + t + 1 bytes, with a secret of 64 + 8 q + u bytes, u < 8, and q not 16."""
+        """Proves 64 q B + 64 J + t + 1 bytes, with a secret of 64 + 8 q + u bytes, u < 8, q not 16."""
         t, u = variable("t"), variable("u")
         q = case.q or variable("q")
         B, J = (variable(name) if there else 0 for name, there in (("B", case.has_blocks), ("J", case.has_more)))
@@ -219,12 +219,12 @@ class Proof:
 
 
 def shortest(hash_name, way):
-    """The shortest length that is proved here; those below are compared one by one."""
+    """Returns the shortest length that is proved here; shorter ones are compared one by one."""
     return int(hash_name) // 2 if is_plain(hash_name) else 0 if way in OWN_SECRET else LONG
 
 
 def show(vm, hash_name, way, each=1, rests=None):
-    """Shows one kind, or of XXH3 each so manieth case, of the others those of these rests; or raises. Gives the proof."""
+    """Proves a kind: of XXH3 each `each`-th case, of the others the given remainders. Returns the proof."""
     proof = Proof(vm)
     if is_plain(hash_name):
         for r in range(int(hash_name) // 2) if rests is None else rests:

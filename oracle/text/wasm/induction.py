@@ -1,7 +1,7 @@
-"""Loops of a module, shown by induction (terms/induction.py).
+"""Proves loops of a module by induction (terms/induction.py).
 
-A cell is a variable, a lane of one, a value on the stack below, a global, or a cell of a memory that lives, with its size.
-Two first turns show which cells have words and which advance. These are never let go."""
+A cell is a variable, a lane of one, a value on the operand stack, a global, or a cell of the stack's or a live object's
+memory. Two first iterations determine which cells hold words and which advance. These are never dropped."""
 from terms.induction import Induction, same
 from terms.refusals import REFUSALS, NotShown
 from terms.memory import RUNS
@@ -9,14 +9,14 @@ from terms.polynomials import divided, given, is_natural, minus, plus, times, va
 
 from .values import WORD
 
-STEPS = 1, 2, 4, 8, 16       # stripes that a turn may take
-TURNS_LEFT = 64, 4           # stripes that are left where the first turns are tried
+STEPS = 1, 2, 4, 8, 16       # possible numbers of stripes per iteration
+TURNS_LEFT = 64, 4           # numbers of stripes left, at which the first iterations are tried
 
 
 class Family:
-    """The definition's words for a loop over stripes `first` .. `total` - 1: after(k)(j) is word j of `count` words
-    of a width after k stripes. suppose(k, values) makes values these. With `block`, that many stripes are a block,
-    of which there are `blocks`."""
+    """The definition's words for a loop over stripes `first` .. `total` - 1: after(k)(j) is word j of `count` words of
+    `width` bits after k stripes. suppose(k, values) assumes values for these. With `block`, a block has that many
+    stripes, and there are `blocks` blocks."""
 
     def __init__(self, name, total, count, width, after, suppose, first=0, block=None, blocks=None):
         self.name, self.total, self.count, self.width, self.first = name, total, count, width, first
@@ -26,7 +26,7 @@ class Family:
         return [self.after(k)(j) for j in range(self.count)]
 
     def supposed(self, k, fresh):
-        """The definition's words after k stripes: new symbols, if k isn't a number."""
+        """Returns the definition's words after k stripes, as fresh symbols if k isn't a number."""
         if isinstance(k, int):
             return self.words(k)
         values = [fresh("word", self.width) for _ in range(self.count)]
@@ -35,8 +35,8 @@ class Family:
 
 
 class Loops:
-    """Asked at each loop. The families are of loops that are shown, in this order; all others run turn by turn. `live`
-    are the memories that a call may change, beside the stack."""
+    """Called at each loop. Proves the loops of the families in this order; all others run iteration by iteration.
+    `live` has the memories, besides the stack, that a call may write to."""
 
     def __init__(self, families, live):
         self.families, self.live, self.told, self.passed, self.is_busy = list(families), list(live), [], set(), False
@@ -59,11 +59,11 @@ class Loops:
 
 
 class NotOfFamily(Exception):
-    """A loop that doesn't seem to be the one over the stripes."""
+    """Raised if a loop doesn't look like the one over the stripes."""
 
 
 class Head:
-    """The head of a loop that a call has reached, with the state there, and the paths from it."""
+    """A loop head that a call has reached, with the state there, and the paths from it."""
 
     def __init__(self, vm, frame):
         self.vm, self.frame, self.code = vm, frame, vm.prepared(frame.function)
@@ -72,7 +72,7 @@ class Head:
         self.memories = [vm.stack, *vm.loops.live]
 
     def state(self):
-        """The state, as cells."""
+        """Returns the state as cells."""
         out = {}
         for k, x in enumerate(self.frame.variables):
             out.update({("lane", k, lane): part for lane, part in enumerate(x)} if isinstance(x, tuple)
@@ -84,7 +84,7 @@ class Head:
         return out
 
     def put(self, state):
-        """Restores the state of the head."""
+        """Sets the state at the head."""
         variables, stack = self.frame.variables, []
         for memory in self.memories:
             memory.cells = {}
@@ -104,11 +104,11 @@ class Head:
         self.frame.stack[:], self.frame.pc = stack, self.head + 1
 
     def anything(self, cell):
-        """A new symbol for a cell that may hold anything."""
+        """Returns a fresh symbol for a cell that may hold anything."""
         return self.vm.fresh("anything", self.widths[cell[1]] if cell[0] == "variable" else WORD)
 
     def turn(self):
-        """Runs from the head to the head."""
+        """Runs one iteration, from the head to the head."""
         while True:
             self.vm.step(self.frame, self.code)
             if self.frame.pc == self.head:
@@ -144,14 +144,14 @@ class Proof(Induction, Head):
         return self.family.supposed(self.stripes_after(k), self.vm.fresh)
 
     def may_hold_anything(self, cell):
-        """True if a cell is the function's own, and neither has a word nor advances."""
+        """True if a cell belongs to the function, and neither holds a word nor advances."""
         is_own = cell[0] in ("variable", "lane") or cell[0] == "memory" and cell[1] is self.vm.stack and cell[2] != RUNS
         return is_own and not any(cell in cells for cells in (self.words, self.places, self.counts))
 
     # ---- the proof
 
     def behind(self):
-        """Proves the loop and runs out of it; returns a line that reports it."""
+        """Proves the loop and runs out of it. Returns a line for the report."""
         family = self.family
         self.guess()
         turns, _ = divided(minus(family.total, family.first), self.step)
@@ -163,17 +163,17 @@ class Proof(Induction, Head):
         self.leave()
         return f"{family.name}: {self.step} stripes a turn, k = 0 .. {last}, {len(self.places)} places go on"
 
-    # ---- the guess
+    # ---- guesses
 
     def guess(self):
-        """Two first turns show which cells have the words, and which advance."""
+        """Guesses from two first iterations which cells hold the words, and which advance."""
         once, twice = self.first_turns()
         changed = self.changed(once)
         self.find_words(changed, once)
         self.guess_places(changed, once, twice)
 
     def first_turns(self):
-        """The states after each of two turns, where many are left, or else some."""
+        """Returns the states after each of two iterations, with many stripes left, or else a few."""
         family, why = self.family, None
         for left in TURNS_LEFT:
             self.enter(0)
@@ -201,8 +201,8 @@ class Proof(Induction, Head):
 
 
 class ProofByBlocks(Proof):
-    """A loop over the stripes of all blocks, one a turn, which counts those of a block: its turns go from j to j + 1
-    within block b, and from the last stripe of one block to the first of the next."""
+    """Proof of a loop over the stripes of all blocks, one per iteration, with a counter within a block. An iteration
+    goes from j to j + 1 within block b, or from the last stripe of a block to the first of the next."""
 
     def behind(self):
         family = self.family
@@ -225,7 +225,7 @@ class ProofByBlocks(Proof):
         self.enter(k, self.supposed(k), j)
 
     def show_turns(self, b, j):
-        """The turns from any stripe of any block."""
+        """Proves the iterations from any stripe of any block."""
         q, last = self.family.block, minus(self.family.blocks, 1)
         with given(minus(last, b), minus(minus(q, 2), j)):
             self.turn_to(b, j, (b, plus(j, 1)))
@@ -233,13 +233,13 @@ class ProofByBlocks(Proof):
             self.turn_to(b, minus(q, 1), (plus(b, 1), 0))
 
     def turn_to(self, b, j, then):
-        """A turn from stripe j of block b."""
+        """Proves an iteration from stripe j of block b."""
         self.enter_at(b, j)
         self.turn()
         self.compare(self.stripes(*then), then[1])
 
     def find_counts(self):
-        """The places that are unchanged after the first block."""
+        """Finds the cells that restart with each block."""
         q = self.family.block
         with given(minus(self.family.blocks, 2)):
             self.enter_at(0, minus(q, 1))

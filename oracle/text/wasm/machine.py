@@ -1,8 +1,8 @@
-"""The stack machine: runs the exports of a module over terms. A branch, the amount of a shift and a place in memory
-are numbers, or what facts decide; what is loaded from an input is a term.
+"""The stack machine: runs the exports of a module symbolically. Branches, shift amounts and addresses are numbers, or
+decided by facts; bytes of an input are terms.
 
-Memory is objects: the stack and the constants of the module, at places that are numbers, and the arguments of a
-call, at unknown places (Address). Each access must be proved to lie inside one object."""
+Memory consists of objects: the stack and the module's constants at concrete addresses, and a call's arguments at
+unknown addresses (Address). Each access must be provably inside one object."""
 from terms.refusals import Unsupported
 from terms.machine import copy
 from terms.memory import Memory, is_inside
@@ -15,13 +15,13 @@ from .opcodes import BY_NAME
 from .validator import ends_of, validate
 from .values import WORD, Address, Trap, condition, decided, low
 
-STACK_POINTER = 0        # the global that it is
-STACK = 1 << 16          # bytes of the stack that a call may use
-MOST_STEPS = 1_000_000   # instructions of a call
+STACK_POINTER = 0        # index of the global
+STACK = 1 << 16          # bytes of stack that a call may use
+MOST_STEPS = 1_000_000   # maximum number of instructions of a call
 
 
 class TooLong(Unsupported):
-    """Raised by a call of too many instructions."""
+    """Raised if a call runs too many instructions."""
 
 
 class Constants:
@@ -40,7 +40,7 @@ class Constants:
 
 
 class Frame:
-    """A call of a function: its stack, its variables, and the place of the next instruction."""
+    """A call of a function: its stack, its variables, and the index of the next instruction."""
     __slots__ = "function", "stack", "variables", "pc"
 
     def __init__(self, function, variables):
@@ -51,11 +51,11 @@ class Frame:
 class Machine:
     """Runs a module.
 
-    seed        the symbol that isn't 0 where the module asks whether it is, if there is one
-    has_asked   whether it was asked: then 0 is another case
-    used        the instructions that were run, as (function, place), where they are wanted
-    loops       asked at each loop whether it is shown by induction (induction.py)
-    replaced    replacements of some of the module's functions, by their numbers
+    seed        the symbol that is assumed to be nonzero if the module tests it for 0, or None
+    has_asked   whether it was tested: then the seed 0 is a separate case
+    used        the executed instructions as (function, index), or None if not recorded
+    loops       called at each loop; may prove it by induction (induction.py)
+    replaced    Python functions that run instead of the module's functions, by index
     """
 
     def __init__(self, module):
@@ -67,12 +67,12 @@ class Machine:
         self.most_steps, self.steps, self.stack, self.globals, self.objects = MOST_STEPS, 0, None, [], []
 
     def new_name(self, prefix):
-        """A name that no other symbol has."""
+        """Returns a symbol name not used before."""
         self.made += 1
         return f"{prefix}#{self.made}"
 
     def fresh(self, prefix, width=WORD):
-        """A symbol of a new name."""
+        """Returns a symbol with a fresh name."""
         return symbol(f"{self.new_name(prefix)}:{width}", width)
 
     # ---- calls
@@ -82,7 +82,7 @@ class Machine:
         return self.call_function(self.module.exported(name), arguments, [x.value for x in self.module.globals])
 
     def call_function(self, function, arguments, globals_):
-        """Calls a function where the globals have these values, which have to come back. The stack holds nothing at
+        """Calls a function with these values of the globals, which must be unchanged afterwards. The stack is empty at
         first."""
         if len(arguments) != len(function.signature.takes):
             raise Unsupported(f"{len(arguments)} arguments of function {function.index}")
@@ -113,7 +113,7 @@ class Machine:
         does(self, frame, given)
 
     def prepared(self, function):
-        """The function and the immediates of each instruction of a function."""
+        """Returns the Python function and the immediates of each instruction of a function."""
         if function.index not in self.code:
             branches = self.branches[function.index]
             self.code[function.index] = [
@@ -124,7 +124,7 @@ class Machine:
     # ---- tests
 
     def test(self, name, given, operands):
-        """A test, in which a seed that isn't a number is assumed not to be 0."""
+        """Runs a test. Assumes that a symbolic seed is nonzero."""
         if name == "i64.eqz":
             name, operands = "i64.eq", [*operands, 0]
         a, b = operands
@@ -136,7 +136,7 @@ class Machine:
     # ---- memory
 
     def place(self, at, offset, n):
-        """The object that contains n bytes, and their place in it."""
+        """Returns the object that contains n bytes, and their offset in it."""
         if at.__class__ is Address:
             memory, at = at.near().place()
             return memory, plus(at, offset)
@@ -149,7 +149,7 @@ class Machine:
         raise Unsupported(f"{n} bytes at {at}, which are in no object")
 
 
-# ---- what the instructions do
+# ---- semantics of the instructions
 
 DOES = {}
 
@@ -162,7 +162,7 @@ def does(*names):
 
 
 def of_stack(meaning, count):
-    """Pops that many values from the stack, and pushes one."""
+    """Returns an instruction that pops `count` values from the stack, and pushes one."""
     def run(vm, frame, given):
         stack = frame.stack
         first = len(stack) - count
@@ -180,7 +180,7 @@ def of_test(name, count):
 
 for name, meaning in PURE.items():
     takes = BY_NAME[name].takes
-    DOES[name] = of_stack(meaning, 3 if takes is None else len(takes))     # select has no types in the table
+    DOES[name] = of_stack(meaning, 3 if takes is None else len(takes))     # the table has no types for select
 for name in ("i64.eq", "i64.ne", "i64.eqz"):
     DOES[name] = of_test(name, len(BY_NAME[name].takes))
 
@@ -275,7 +275,7 @@ def drop(vm, frame, given):
     frame.stack.pop()
 
 
-# ---- control
+# ---- control flow
 
 @does("block", "end")
 def nothing(vm, frame, given):

@@ -1,5 +1,5 @@
-"""The semantics of the instructions that only take values from the stack and leave one: PURE has a function of the
-instruction's immediates and of these values."""
+"""Semantics of the instructions that only pop values and push one: PURE maps each to a function of its immediates and
+these values."""
 from terms.rules import ones
 
 from . import values
@@ -81,7 +81,7 @@ def halves_of(lane):
 
 
 def of_halves(words):
-    """Four words of 32 bits as a vector."""
+    """Returns a vector of four 32-bit words."""
     return tuple(side_by_side([(words[k], HALF), (words[k + 1], HALF)]) for k in (0, 2))
 
 
@@ -151,7 +151,7 @@ def shuffle(order, a, b):
 
 
 def bytes_side_by_side(picked):
-    """A lane of eight bytes, each (lane, which of its bytes): runs of a lane's bytes are taken together."""
+    """Returns a lane of eight bytes, each (lane, byte's index). Joins runs of consecutive bytes of a lane."""
     runs = []
     for x, k in picked:
         if runs and runs[-1][0] is x and runs[-1][1] + runs[-1][2] == k:

@@ -1,24 +1,24 @@
-"""Reads the parts of WebAssembly's binary format that the two modules use: anything else is refused."""
+"""Reads the parts of WebAssembly's binary format that the two modules use. Refuses everything else."""
 import collections
 
 from .opcodes import BY_CODE, PREFIXES, TYPES
 
-FUNCTION, MEMORY, GLOBAL = 0, 2, 3            # kinds of exports
+FUNCTION, MEMORY, GLOBAL = 0, 2, 3            # types of exports
 PAGE = 65536
 MOST_LOCALS = 1000
 Signature = collections.namedtuple("Signature", "takes leaves")
 Global = collections.namedtuple("Global", "width is_mutable value")
-# `at` and `end` are places in the file
+# `at` and `end` are offsets in the file.
 Function = collections.namedtuple("Function", "index signature locals code at end")
 Instruction = collections.namedtuple("Instruction", "opcode given at end")
 
 
 class Malformed(Exception):
-    """Raised if it is no module, or uses what the two modules don't."""
+    """Raised if the bytes are no module, or use a feature that the two modules don't."""
 
 
 class Reader:
-    """The bytes of a part of the file, read one after the other."""
+    """Reads the bytes of a part of the file in order."""
 
     def __init__(self, whole, at=0, end=None):
         self.whole, self.at, self.end = whole, at, len(whole) if end is None else end
@@ -33,7 +33,7 @@ class Reader:
         return self.take(1)[0]
 
     def groups(self, most):
-        """The groups of seven bits of a number of so many bits at most, and how many bits they have."""
+        """Reads the 7-bit groups of a number of at most `most` bits. Returns the number and the groups' bits."""
         value = size = 0
         while True:
             b = self.byte()
@@ -68,7 +68,7 @@ class Reader:
             raise Malformed(f"a name: {error}") from None
 
     def one_of(self, known, what):
-        """Reads a byte, and returns what it represents."""
+        """Reads a byte, and returns the value that `known` maps it to."""
         b = self.byte()
         if b not in known:
             raise Malformed(f"{what} {b:#x}")
@@ -78,7 +78,7 @@ class Reader:
         return self.one_of(TYPES, "the type")
 
     def constant(self):
-        """An initial value: (its bits, the value)."""
+        """Reads an initial value: (width, value)."""
         width = self.one_of({0x41: 32, 0x42: 64}, "an initial value by")
         value = self.signed(width) % (1 << width)
         self.one_of({0x0B: None}, "an initial value goes on with")
@@ -86,7 +86,7 @@ class Reader:
 
 
 class Module:
-    """Types, functions, globals, exports, the size of the memory and its initial contents."""
+    """A module: types, functions, globals, exports, size of the memory and its initial contents."""
 
     def __init__(self, whole):
         self.whole = whole
@@ -109,8 +109,8 @@ class Module:
             raise Malformed("functions without a body")
 
     def sections(self):
-        """The kind of a section -> its place among the others, and what reads it. There are no others: no imports, tables
-        and their elements, no function that starts, and no section of an own name."""
+        """Maps a section's type to its position in the order, and its reader. Other sections are refused: imports,
+        tables, elements, start functions and custom sections."""
         return {1: (1, self.read_types), 3: (2, self.read_signatures), 5: (3, self.read_memory),
                 6: (4, self.read_globals), 7: (5, self.read_exports), 12: (6, self.read_count_of_segments),
                 10: (7, self.read_functions), 11: (8, self.read_segments)}
@@ -161,7 +161,7 @@ class Module:
         self.count_of_segments = part.unsigned()
 
     def read_segments(self, part):
-        """The initial contents of the memory: (place, bytes)."""
+        """Reads the initial contents of the memory: (address, bytes)."""
         def one():
             part.one_of({0: None}, "a segment of the kind")
             width, place = part.constant()
@@ -202,7 +202,7 @@ class Module:
             yield Instruction(opcode, given, at, body.at)
 
     def instruction(self, body):
-        """An instruction, and its immediates."""
+        """Reads an instruction: its opcode and its immediates."""
         prefix, code = None, body.byte()
         if code in PREFIXES:
             prefix, code = code, body.unsigned()
@@ -217,7 +217,7 @@ class Module:
         if behind in ("i32", "i64"):
             width = int(behind[1:])
             return body.signed(width) % (1 << width)
-        if behind.startswith("bytes"):          # how much is loaded or stored: (alignment, offset)
+        if behind.startswith("bytes"):          # bytes loaded or stored: (alignment, offset)
             return body.unsigned(), body.unsigned()
         return {"": lambda: None, "block": lambda: self.block_type(body), "v128": lambda: body.take(16),
                 "labels": lambda: [*body.many(body.unsigned), body.unsigned()], "lanes": lambda: body.take(16),
@@ -232,7 +232,7 @@ class Module:
         return self.type(body.signed(33))
 
     def exported(self, name):
-        """The function that is exported by a name."""
+        """Returns an exported function by its name."""
         kind, index = self.exports[name]
         if kind != FUNCTION:
             raise Malformed(f"{name} is no function")

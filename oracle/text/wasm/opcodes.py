@@ -1,9 +1,8 @@
-"""The one table of WebAssembly's instructions: those that the two modules use, as in the specification (release
-2.0). Any other is an error.
+"""The table of WebAssembly's instructions that the two modules use, as in the specification (release 2.0). All others
+are refused.
 
-A line has an instruction's code, its name, its immediates in the file, and the types that it takes from the stack
-and leaves there. Those of control and variables have no types here, since theirs depend on more: validator.py has
-them."""
+A line has an instruction's code, its name, its immediates in the file, and the types that it pops and pushes.
+Instructions of control flow and variables have no types here, since these depend on the context: see validator.py."""
 import collections
 
 TABLE = """
@@ -96,9 +95,9 @@ fd.df i64x2.extmul_high_i32x4_u    .        v128 v128 -> v128
 """
 
 WIDTHS = {"i32": 32, "i64": 64, "v128": 128}
-TYPES = {0x7F: 32, 0x7E: 64, 0x7B: 128}       # a type's code -> its bits
+TYPES = {0x7F: 32, 0x7E: 64, 0x7B: 128}       # code of a type -> its bits
 
-# `prefix` is None where the code is one byte; `takes` and `leaves` are None where the types depend on more
+# `prefix` is None if the code is one byte; `takes` and `leaves` are None if the types depend on the context.
 Opcode = collections.namedtuple("Opcode", "name prefix code behind takes leaves")
 
 

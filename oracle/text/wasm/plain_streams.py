@@ -1,10 +1,10 @@
-"""The streams of XXH32 and XXH64: a start, any number of updates of any lengths, a digest, by induction over the
-updates.
+"""Proves the streams of XXH32 and XXH64 by induction over the updates: a start, any number of updates of any lengths, a
+digest.
 
-A record represents the first N = stripe * a + r bytes of a message when it has N, the seed, the definition's
-accumulators after a stripes, r as the bytes that wait, and these bytes; the rest of its buffer is anything. A start
-gives a record that represents no byte; each update leads from one that represents stripe * a + r bytes to one for
-stripe * b + s, for all numbers r and s; and a digest of one is the definition's value, and changes nothing."""
+A record represents the first N = stripe * a + r bytes of a message if it has N, the seed, the definition's accumulators
+after a stripes, the number r of buffered bytes, and these bytes. The rest of its buffer is unconstrained. A start
+creates a record of 0 bytes. An update leads from a record of stripe * a + r bytes to one of stripe * b + s, for all
+numbers r and s. A digest returns the definition's value and changes nothing."""
 from terms.definition import Bytes, suppositions
 from terms.induction import same
 from terms.refusals import NotShown
@@ -16,8 +16,8 @@ from . import every_length
 from .calls import RECORDS, address, answered, anything, expect_kept
 from .induction import Family
 
-LONGEST = (1 << 64) - 2       # bytes of a stream: its length is exact to there
-# offsets of a record's fields: total and seed are first
+LONGEST = (1 << 64) - 2       # bytes of a stream, up to which its length is exact
+# Offsets of a record's fields. The total is first.
 FIELDS = {32: {"seed": 8, "accumulators": 12, "buffer": 28, "waiting": 48},
           64: {"seed": 8, "accumulators": 16, "buffer": 48, "waiting": 80}}
 
@@ -29,7 +29,7 @@ class PlainStreams(every_length.Proof):
         self.seed, self.source, self.message = seed_symbol(str(width)), None, None
 
     def message_of(self, n):
-        """Makes the message one of n bytes; the fact that a stream may have so many."""
+        """Sets a message of n bytes. Returns the fact that a stream may have that many."""
         self.source = Input("m", n)
         self.message = Bytes(self.source, 0, n)
         return at_most(n, LONGEST)
@@ -47,13 +47,13 @@ class PlainStreams(every_length.Proof):
     # ---- records
 
     def numbers(self, a, r, accumulators):
-        """(offset, size, value) of a record's content that represents stripe * a + r bytes, except the buffer."""
+        """Returns the content of a record of stripe * a + r bytes, without the buffer: (offset, size, value)."""
         out = [(0, 8, plus(times(self.stripe, a), r)), (self.at["seed"], self.word, self.seed),
                (self.at["waiting"], 8, r)]
         return out + [(self.at["accumulators"] + self.word * j, self.word, x) for j, x in enumerate(accumulators)]
 
     def waiting(self, a, r):
-        """(offset, byte) of the bytes that wait."""
+        """Returns the buffered bytes: (offset, byte)."""
         return [(self.at["buffer"] + i, self.source.load(plus(times(self.stripe, a), i), 1)) for i in range(r)]
 
     def record(self, a, r):
@@ -76,7 +76,7 @@ class PlainStreams(every_length.Proof):
             if not same(record.load(at, size), x):
                 raise NotShown(f"{what}: the record at {at} isn't that of {self.stripe} * ({a}) + {r} bytes")
 
-    # ---- the three parts
+    # ---- the three steps of the induction
 
     def start(self):
         record = anything(self.vm, "the record", RECORDS[f"xxh{self.width}"])
@@ -85,8 +85,8 @@ class PlainStreams(every_length.Proof):
             self.expect_record("a start", record, 0, 0)
 
     def updates(self, each):
-        """From stripe * a + r bytes, for each so manieth r: chunks that complete no stripe, that complete one, and that
-        complete more."""
+        """Proves updates from stripe * a + r bytes, for every `each`-th r, by chunks that complete no stripe, one, or
+        more."""
         d = variable("d")
         for a in (0, variable("a")):
             for r in range(each - 1, self.stripe, each):
@@ -98,7 +98,7 @@ class PlainStreams(every_length.Proof):
                     self.update(a, r, plus(a, d), s, [minus(d, 2 if r else 1)])
 
     def update(self, a, r, b, s, facts):
-        """From stripe * a + r bytes by one chunk to stripe * b + s."""
+        """Proves an update by one chunk from stripe * a + r bytes to stripe * b + s."""
         begun, ended = plus(times(self.stripe, a), r), plus(times(self.stripe, b), s)
         length, first = minus(ended, begun), plus(a, int(r > 0))
         of_a = [] if isinstance(a, int) else [minus(a, 1)]
@@ -128,8 +128,8 @@ class PlainStreams(every_length.Proof):
 
 
 def show(vm, width, each=1):
-    """Shows the streams of XXH32 or XXH64, with updates from each so manieth number of bytes that wait, or raises;
-    gives the proof."""
+    """Proves the streams of XXH32 or XXH64, with updates from every `each`-th number of buffered bytes. Returns the
+    proof, or raises."""
     streams = PlainStreams(vm, width)
     streams.start()
     streams.updates(each)

@@ -1,4 +1,4 @@
-"""Planted wrong modules: instructions at the start of an export, each of which must be refused."""
+"""Planted faults in modules: instructions inserted at the start of an export, each of which must be refused."""
 import functools
 
 from terms.refusals import REFUSALS
@@ -17,10 +17,10 @@ from .module import Malformed, Reader
 from .stripes import Takers
 from .xxh3_streams import ModuleUpdates
 
-ONE_SHOT = "twox_xxh64"             # of a seed, the message's place and its length
+ONE_SHOT = "twox_xxh64"             # takes the seed, the message's address and its length
 OTHER_SEED = "local.get 0; {}; i64.extend_i32_u; i64.add; local.set 0"
 OF_ONE_LENGTH = "local.get 2; i32.const 0x2000000; i32.ne; i32.eqz; if; {}; end"
-# What, the export, and its first instruction
+# Title, export, and the inserted instructions.
 PLANTED = [
     ("a branch on a byte", ONE_SHOT, "local.get 1; i32.load8_u 0; if; end"),
     ("a place by a byte", ONE_SHOT, "local.get 1; local.get 1; i32.load8_u 0; i32.add; i32.load8_u 0; drop"),
@@ -47,7 +47,7 @@ PLANTED = [
 
 
 def with_inserted(module, function, text):
-    """The bytes of a module with instructions inserted at the start of a function."""
+    """Returns a module's bytes with instructions inserted at the start of a function."""
     whole, (first, end) = module.whole, module.place_of_functions
     begin, place = function.at + len(size_before(whole, function)), function.code[0].at
     body = whole[begin:place] + assembled(text) + whole[place:function.end]
@@ -59,14 +59,14 @@ def with_inserted(module, function, text):
 
 
 def size_before(whole, function):
-    """The bytes that have a function's size."""
+    """Returns the bytes that encode a function's size."""
     reader = Reader(whole, function.at)
     reader.unsigned()
     return whole[function.at:reader.at]
 
 
 def answers(vm):
-    """What each question says of a module: None where nothing is wrong, as by the rows of its kind."""
+    """Yields tests of a module, as functions: True if it passes. A test may also raise a refusal."""
     texts = Texts()
     for request, answer in ((Request("64", "seed", 40), calls.one_shot), (Request("3-128", "default", 5), calls.one_shot),
                             (Request("64", "seed", 40, cuts=[3]), calls.stream),
@@ -80,7 +80,7 @@ def answers(vm):
 
 
 def refusal(vm):
-    """The reason why a module is refused, or None."""
+    """Returns the reason why a module is refused, or None."""
     for ask in answers(vm):
         try:
             if not ask():
@@ -91,7 +91,7 @@ def refusal(vm):
 
 
 def tell(machines):
-    """Tests each module with each planted text: those that pass, and the correct ones, if they don't."""
+    """Tests each module with each planted fault. Returns faults that pass, and unchanged modules that fail."""
     bad = []
     for name, vm in machines.items():
         bad += [f"{name} is refused: {why}" for why in [refusal(vm)] if why]
@@ -113,7 +113,7 @@ def of_full_buffer(vm, takers):
 
 
 def with_other_byte(number, then, byte, bits):
-    """Of the function that takes many stripes: some bits of a number are others, before an instruction of a name."""
+    """Returns a change of the function for many stripes: inverts `bits` of a number before the instruction `then`."""
     def make(vm, takers):
         function, whole = takers.found[TAKE_MANY.name][0], bytearray(vm.module.whole)
         x = next(x for x, behind in zip(function.code, function.code[1:])
@@ -124,13 +124,13 @@ def with_other_byte(number, then, byte, bits):
 
 
 def long_update(proof):
-    """An update by a long chunk, where stripes wait in the buffer."""
+    """Proves an update by a long chunk, with stripes in the buffer."""
     return functools.partial(proof.update, *next(map(proof.with_room, proof.pieces(
         "many", proof.starts(False), [(64, [])]))))
 
 
 def taken(which):
-    """Proves a case of the function for many stripes."""
+    """Returns a test that proves a case of the function for many stripes."""
     def ask(proof):
         return functools.partial(proof.taken_of, *next(
             (secret, case) for secret, case in proof.all_taken() if case[0] is TAKE_MANY and which(*case[1])))
@@ -147,9 +147,9 @@ def has_blocks(first, *others):
     return bool(others) and isinstance(first.turns, Poly)
 
 
-POINTS = 20                         # of the cases of which one is left out
+POINTS = 20                         # points per test for a missing case
 CUT = [Request("3-64", "seed", 1088, cuts=[512, 1000])]
-# What is wrong where only long chunks of a stream come, how it is planted, what must detect it, words of the refusal
+# Faults in code that only long chunks of a stream run: title, change, test that must detect it, refusal's text.
 OF_STREAMS = [("another accumulator where the buffer is exactly full", of_full_buffer, long_update, "64*g == 512"),
               ("no scramble where a block ends before a fourth stripe", with_other_byte(16, "i64.ne", 1, 1),
                taken(ends_a_block), "192 of s, which has u + 192"),
@@ -158,7 +158,7 @@ OF_STREAMS = [("another accumulator where the buffer is exactly full", of_full_b
 
 
 def of_streams(vm, ask):
-    """Why a question of the streams of XXH3 is refused, or nothing."""
+    """Returns the refusal of a proof about the streams of XXH3, or an empty string."""
     try:
         ask(ModuleUpdates(vm))()
     except REFUSALS as error:
@@ -167,7 +167,7 @@ def of_streams(vm, ask):
 
 
 def tell_of_streams(machines):
-    """Each module with each of these: it passes what is asked elsewhere, and is refused by what is asked of streams."""
+    """Tests each module with each fault of streams: it must pass CUT, and be refused by its proof."""
     bad = []
     for what, make, ask, words in OF_STREAMS:
         wrong = {name: with_change(vm, *make(vm, Takers(vm))) for name, vm in machines.items()}
@@ -178,7 +178,7 @@ def tell_of_streams(machines):
 
 
 def lacks_a_case(proof):
-    """True if it is detected that an update, a digest and stripes are left out."""
+    """True if a missing update, a missing digest and missing stripes are detected."""
     updates, digests, takers = map(list, (proof.all_updates(), proof.digests(), proof.all_taken()))
     del updates[687], digests[310], takers[3]
     return all([covered.without_update(updates, proof, POINTS), covered.without_digest(digests, proof, POINTS),

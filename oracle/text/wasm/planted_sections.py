@@ -1,4 +1,4 @@
-"""Wrong modules that only the reader of sections refuses, or the row of exports: the code is unchanged."""
+"""Planted faults in modules that only the reader of sections or the row of exports refuses: the code is unchanged."""
 from . import rows
 from .assembler import section, signed, vector
 from .machine import Machine
@@ -8,7 +8,7 @@ TYPES, IMPORTS, SIGNATURES, TABLES, MEMORY, STARTS, ELEMENTS, CODE, DATA = 1, 2,
 
 
 def sections_of(whole):
-    """(kind, content) of each section."""
+    """Returns (type, content) of each section."""
     reader, out = Reader(whole, 8), []
     while reader.at < reader.end:
         kind = reader.byte()
@@ -25,15 +25,15 @@ def segment(place, content, kind=b"\0"):
 
 
 def with_segments(make):
-    """The module with other segments: those that `make` makes of (place, bytes) of the one that there is."""
+    """Returns a change that replaces the segments by those that `make` makes of the one segment's (address, bytes)."""
     def change(module, sections):
         return [(kind, vector(make(*module.segments[0])) if kind == DATA else content) for kind, content in sections
-                if kind != DATA + 1]      # nor their number
+                if kind != DATA + 1]      # without the number of segments
     return change
 
 
 def put(kind, content, behind):
-    """The module with another section after that of a kind."""
+    """Returns a change that inserts a section after the section of type `behind`."""
     return lambda module, sections: [x for one in sections for x in ([one, (kind, content)] if one[0] == behind else [one])]
 
 
@@ -64,7 +64,7 @@ WRONG = [
 
 
 def refusal(whole):
-    """The reason why its reader or the row of exports refuses a module, or None."""
+    """Returns the reason why the reader or the row of exports refuses a module, or None."""
     try:
         machine = Machine(Module(whole))
     except Malformed as error:
@@ -73,7 +73,7 @@ def refusal(whole):
 
 
 def tell(machines):
-    """Tests each module with each of these: those that pass, and the correct ones, if they don't."""
+    """Tests each module with each planted fault. Returns faults that pass, and unchanged modules that fail."""
     bad = []
     for name, vm in machines.items():
         whole = vm.module.whole

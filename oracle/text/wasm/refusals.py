@@ -1,5 +1,5 @@
-"""The requests that the modules refuse without writing anything: secrets of fewer than 136 bytes, and records that
-are no stream's. Also that a counter of 2^64 - 1 stays so."""
+"""Tests calls that the modules refuse without writing anything: with secrets of fewer than 136 bytes, or with invalid
+records. Also tests that a counter saturates at 2^64 - 1."""
 from terms.refusals import Unsupported
 from terms.requests import Request
 from terms.memory import Memory
@@ -9,12 +9,12 @@ from .calls import NOT_A_STREAM, SECRET_TOO_SHORT, Stream, answered, expect_kept
 from .comparing import compare
 
 LEAST_SECRET = 136
-SHORT, LONG = (240,), (241,)      # message lengths at which a seed and a secret need none, and where they do
+SHORT, LONG = (240,), (241,)      # message lengths at which a seeded call needs no secret, and needs it
 XXH3 = "3-64", "3-128"
-# Bytes taken, and fields that don't agree with that: (hash, bytes, what, (offset, size, value), ..)
+# Invalid records: hash, bytes of the stream, title, and fields that don't fit these: (offset, size, value), ..
 MOST = 2 ** 64 - 1
-LOST = 0, 8, MOST             # a length that is no longer counted
-# Where a record has its counters, of bytes and of stripes.
+LOST = 0, 8, MOST             # the saturated length
+# Offsets of a record's counters, of bytes and of stripes.
 COUNTERS = {"32": [0], "64": [0], "3-64": [680, 152], "3-128": [680, 152]}
 PIECES = 5, 40, 200, 600, 3000
 WRONG_RECORDS = [
@@ -43,8 +43,7 @@ WRONG_RECORDS = [
 
 
 def one_shots_with_short_secrets(machines):
-    """Each length of a secret that is too short: where the secret counts the call is refused, and else it is no
-    different."""
+    """Tests each length of a secret that is too short: a call that needs the secret is refused, others ignore it."""
     asked = [Request(name, way, n, size) for name in XXH3 for way in ("secret", "both") for n in (*SHORT, *LONG)
              for size in range(LEAST_SECRET)]
     is_served = [x for x in asked if x.kind == "both" and x.length in SHORT]
@@ -58,8 +57,8 @@ def one_shots_with_short_secrets(machines):
 
 
 def streams_with_short_secrets(machines):
-    """A start with such a secret leaves the record as it was, and so do an update and a digest of a stream that is
-    there."""
+    """Tests that a start with such a secret leaves the record unchanged, and an update and a digest of a started stream
+    do so too."""
     count = 0
     for vm in machines.values():
         for size in range(LEAST_SECRET):
@@ -72,8 +71,8 @@ def streams_with_short_secrets(machines):
 
 
 def refuse_short_secret(vm, request):
-    """An update and a digest of a stream that is there, which get another secret, that is too short; also where
-    the record is no stream's, since the secret comes first."""
+    """Tests that an update and a digest of a started stream refuse a secret that is too short, also with an invalid
+    record, since the secret is tested first."""
     it = started(vm, Request(request.hash_name, request.kind, request.length, LEAST_SECRET), request.length)
     it.secret = calls.of_secret(request)
     expect_refused(it, SECRET_TOO_SHORT)
@@ -82,7 +81,7 @@ def refuse_short_secret(vm, request):
 
 
 def expect_not_asked(vm):
-    """Checks that the call didn't depend on whether the seed is 0, which would be another case."""
+    """Checks that the call didn't test the seed for 0, which would be a separate case."""
     if vm.has_asked:
         raise Unsupported("whether the seed is 0 was asked")
 
@@ -95,7 +94,7 @@ def started(vm, request, taken):
 
 
 def names_of(it):
-    """The hashes of a stream's family."""
+    """Returns the hashes of a stream's family."""
     return XXH3 if it.family == "xxh3" else [it.request.hash_name]
 
 
@@ -111,7 +110,7 @@ def expect_refused(it, code):
 
 
 class WrongRecord(Request):
-    """A stream of which some fields are then changed."""
+    """A stream of `taken` bytes with some fields changed afterwards."""
 
     def __init__(self, hash_name, taken, what, *fields):
         super().__init__(hash_name, "seed", taken, seed=7)
@@ -139,7 +138,7 @@ def of_counters():
 
 
 def keep_counters(vm, request):
-    """An update of a stream whose counters are 2^64 - 1, which stay so; and it still has a digest."""
+    """Tests an update of a stream whose counters are 2^64 - 1. They must stay so, and a digest must succeed."""
     it, places = started(vm, request, PIECES[0]), COUNTERS[request.hash_name]
     for at in places:
         it.record.store(at, 8, MOST)

@@ -1,4 +1,4 @@
-"""The rows of oracle/modules: the requests of the two modules, and which row proves which of their exports."""
+"""Chooses the rows of oracle/modules: the requests of the two modules, and the row that proves each export."""
 import functools
 import hashlib
 import os
@@ -17,14 +17,14 @@ from .module import FUNCTION, GLOBAL, MEMORY, Module
 WEB = os.path.join(os.path.dirname(os.path.abspath(__file__)), "..", "..", "..", "web")
 NAMES = "twox_hash.wasm", "twox_hash_simd.wasm"
 SECRETS, GATE_SECRETS = (136, 137, 143, 144, 192, 256), (136,)
-GATE_EACH, GATE_STREAMS = 8, (33, 300)      # each so manieth length of the one-shots, and the lengths of streams
+GATE_EACH, GATE_STREAMS = 8, (33, 300)      # step between the lengths of one-shots, and the lengths of streams
 GATE_KINDS, GATE_CASES = [("32", "seed"), ("64", "seed"), ("3-64", "seed"), ("3-128", "both")], 24
-# Cases of XXH3's streams: how many are a sample, and in how many parts all are.
+# Cases of XXH3's streams: size of a sample, and the number of parts of all.
 XXH3_CASES = {UPDATES: (8, 4), DIGESTS: (12, 2), STRIPES: (2, 2)}
 GATE_CHANGES, CHANGES = 30, 1000     # of a module
-PARTS = 4                            # the changes of a module are tried in so many rows
+PARTS = 4                            # rows into which the changes of a module are split
 
-# Every export, and the words of the titles of the rows that show it
+# Every export, with words of the titles of rows that prove it.
 XXH3_ONE_SHOTS = {f"twox_xxh3_{bits}{calls.WAYS[way]}": [f"XXH3-{bits}, {way}", "one-shots"]
                   for bits in (64, 128) for way in calls.WAYS}
 EXPORTS = {
@@ -39,7 +39,7 @@ EXPORTS = {
 
 
 def machines():
-    """Each module's name and its machine."""
+    """Maps each module's name to its machine."""
     out = {}
     for name in NAMES:
         with open(os.path.join(WEB, name), "rb") as file:
@@ -55,7 +55,7 @@ def checksums():
 
 
 def choose(given, machines):
-    """The rows. The machines are made once, and each row has its own copies, since it is a process."""
+    """Returns the rows. The machines are made once; each row has its own copies, since it runs as a process."""
     out = lengths(given.all) + of_refusals() + induction(given.all) + streams_by_induction(given.all)
     out += xxh3_streams_by_induction(given.all) + of_engine(given.all) + of_changes(given.all)
     titles = [title for title, _ in out]
@@ -66,8 +66,8 @@ def choose(given, machines):
 # ---- the exports
 
 def exports(machines, titles):
-    """Checks that each module has exactly the exports of the table, and that the rows are there; and where the
-    caller's memory begins."""
+    """Checks that each module has exactly the exports of the table, that their rows exist, and where the caller's
+    memory begins."""
     bad = [f"no row shows {name}" for name, words in EXPORTS.items()
            if words != ["the exports"] and not any(all(word in title for word in words) for title in titles)]
     for module, vm in machines.items():
@@ -79,7 +79,7 @@ def exports(machines, titles):
 
 
 def of_memory(vm, found):
-    """The memory is the one that there is, and __heap_base is behind the stack and the constants."""
+    """Checks that the module exports its memory, and that __heap_base is behind the stack and the constants."""
     kinds = {name: kind for name, (kind, _) in found.items()}
     wanted = {name: FUNCTION for name in found} | {"memory": MEMORY, "__heap_base": GLOBAL}
     if kinds != wanted:
@@ -90,7 +90,7 @@ def of_memory(vm, found):
     return bad + [f"constants at {place}, on the stack" for place, _ in vm.module.segments if place < vm.end_of_stack]
 
 
-# ---- lengths one by one
+# ---- single lengths
 
 def lengths(is_all):
     out, each, streamed = [], 1 if is_all else GATE_EACH, comparison.STREAMED if is_all else GATE_STREAMS
@@ -103,7 +103,7 @@ def lengths(is_all):
 
 
 def one_by_one(each):
-    """Each so manieth length up to 300, and those at which a hash begins another way."""
+    """Returns every `each`-th length up to 300, and the lengths at which a hash takes another path."""
     edges = {n + d for n in (32, 64, 96, 128, 240, 256) for d in (0, 1)}
     return sorted({*range(0, 301, each), *range(33), *edges, 300})
 
@@ -168,7 +168,7 @@ def xxh3_streams_by_induction(is_all):
 
 
 def xxh3_cases_are_all(machines, count):
-    """Tests that many points of each sort. The cases are those of both modules."""
+    """Tests `count` points of each kind. The cases are the same for both modules."""
     proof = xxh3_streams.ModuleUpdates(machines[NAMES[0]])
     found = covered.left_out(proof, count)
     bad = [f"no case has {point}" for point in found[:5]]
@@ -176,7 +176,7 @@ def xxh3_cases_are_all(machines, count):
 
 
 def xxh3_streams_shown(machines, module, what, first, some):
-    """The cases of a part, or that many as a sample."""
+    """Proves the cases of a part, or a sample of `some` cases."""
     proof = xxh3_streams.ModuleUpdates(machines[module])
     asked = proof.questions(what)
     each = len(asked) // some if some else XXH3_CASES[what][1]

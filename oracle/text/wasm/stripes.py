@@ -1,7 +1,7 @@
-"""The loops of a module over stripes that begin and end anywhere in a block, like ../stripes.py for an assembly
-source, and the module's functions that process stripes, each of which is assumed where it is called.
+"""Proves the loops of a module over stripes that begin and end anywhere in a block, like ../stripes.py for an assembly
+source, and models its functions that take stripes, whose effects are assumed at their calls.
 
-The functions have no names: they are found by who calls whom, and get the names of an assembly source."""
+The functions have no names: the call graph identifies them. They get the names of an assembly source."""
 import functools
 
 from terms.refusals import NotShown
@@ -15,12 +15,12 @@ from .machine import STACK, STACK_POINTER
 from .values import Address, address
 
 UPDATE = "twox_xxh3_update"
-FRAME = "global.get", "i64.const", "i64.sub"      # how a function begins that takes room on the stack
+FRAME = "global.get", "i64.const", "i64.sub"      # beginning of a function that reserves stack
 
 
 class Loops:
-    """Asked at each head of a loop: from where it is one over stripes of the family's parts it is shown, and passed;
-    else a turn is run. `live` are the memories that a call may change, beside the stack."""
+    """Called at each loop head. Proves a loop over stripes of the family's parts, and runs out of it; otherwise runs an
+    iteration. `live` has the memories, besides the stack, that a call may write to."""
 
     def __init__(self, family, live):
         self.family, self.live, self.refused = family, live, []
@@ -38,7 +38,7 @@ class Loops:
 
 
 class Proof(StripesProof):
-    """A loop over stripes."""
+    """Proof of a loop over stripes."""
 
     def __init__(self, loops, vm, frame):
         self.place = Head(vm, frame)
@@ -75,18 +75,18 @@ class Proof(StripesProof):
 # ---- functions that take stripes
 
 def called(function):
-    """The numbers of the functions that one calls."""
+    """Returns the indices of the functions that a function calls."""
     return sorted({x.given for x in function.code if x.opcode.name == "call"})
 
 
 def room_of(function):
-    """The bytes of the stack that a function reserves at its start."""
+    """Returns the bytes of the stack that a function reserves at its start."""
     first = function.code[:len(FRAME)]
     return first[1].given if tuple(x.opcode.name for x in first) == FRAME else 0
 
 
 class Takers:
-    """The functions by which an update processes stripes: name -> (function, the stack's end at the call)."""
+    """The functions with which an update takes stripes: name -> (function, stack pointer at its call)."""
 
     def __init__(self, vm):
         functions, self.vm = vm.module.functions, vm
@@ -99,24 +99,24 @@ class Takers:
                       TAKE_BLOCKS.name: (blocks, end)}
 
     def place_of_end(self, name):
-        """The place of the stack's end in the stack, when such a function is called."""
+        """Returns the offset of the stack pointer in the stack when such a function is called."""
         return self.found[name][1] - (self.vm.end_of_stack - STACK)
 
     def call(self, name, *arguments):
-        """Calls such a function; all globals except the stack's end may be anything."""
+        """Calls such a function. All globals except the stack pointer are unconstrained."""
         function, end = self.found[name]
         others = [self.vm.fresh("a global", x.width) for x in self.vm.module.globals[STACK_POINTER + 1:]]
         self.vm.call_function(function, list(map(of_module, arguments)), [end, *others])
 
     def expect_stack(self, name):
-        """Checks that it has used some bytes below the stack's end, and none above it."""
+        """Checks that it used at most DEEP bytes below the stack pointer, and none above."""
         end, cells = self.place_of_end(name), self.vm.stack.cells
         if not all(at != RUNS and end - DEEP <= at and at + n <= end for at, (n, _) in cells.items()):
             raise NotShown(f"{name}: a place outside of {DEEP} bytes of stack")
 
     def replaced(self, summaries, family, source, secret):
-        """The replacements of functions, by their numbers: a call takes parts of the family, of a message and
-        under a secret."""
+        """Maps functions' indices to their replacements: a call takes parts of the family, from the inputs `source` and
+        `secret`."""
         return {self.found[summary.name][0].index: functools.partial(self.take, summary, family, source, secret)
                 for summary in summaries}
 
@@ -129,7 +129,7 @@ class Takers:
         return []
 
     def place_of(self, x):
-        """The address of a record, which may lie on the stack, whose place is a number."""
+        """Returns the address of a record. On the stack, whose address is a number, x is a number."""
         return address(self.vm.stack, x - (self.vm.end_of_stack - STACK)) if isinstance(x, int) else near(x)
 
 
@@ -142,5 +142,5 @@ def near(x):
 
 
 def of_module(x):
-    """An address of a text as one of a module."""
+    """Converts an address of the verifier for assembly sources to an address in a module."""
     return Address(x.bases, x.offset) if isinstance(x, of_text.Address) else x

@@ -1,17 +1,17 @@
-"""Validates a module's functions, by the algorithm of the WebAssembly specification's appendix, and computes for
-each branch what the stack machine does: where it goes, how many values it keeps, and above which height."""
+"""Validates a module's functions, by the algorithm in the appendix of the WebAssembly specification. Computes for each
+branch its target, how many values it keeps, and the height above which it drops others."""
 import collections
 
 from .module import PAGE, Malformed
 
-UNKNOWN = None           # a type that code that is never run may have
+UNKNOWN = None           # any type, of a value in unreachable code
 BOOLEAN = ADDRESS = 32
 Block = collections.namedtuple("Block", "opcode takes leaves height pc end")
 Branch = collections.namedtuple("Branch", "target keeps height")
 
 
 class Invalid(Malformed):
-    """Raised for a module that the specification refuses."""
+    """Raised for a module that the specification rejects."""
 
 
 def want(holds, why):
@@ -20,7 +20,7 @@ def want(holds, why):
 
 
 class Validator:
-    """Checks one function. `branches` has those of an instruction by its place in the code."""
+    """Checks one function. `branches` maps an instruction's index to its branches."""
 
     def __init__(self, module, function):
         self.module, self.function, self.code = module, function, function.code
@@ -69,7 +69,7 @@ class Validator:
         return self.blocks.pop()
 
     def cut_off(self):
-        """Marks the rest of the block as never run."""
+        """Marks the rest of the block as unreachable."""
         del self.types[self.blocks[-1].height:]
         self.is_unreachable[-1] = True
 
@@ -78,7 +78,7 @@ class Validator:
         return self.blocks[-1 - label]
 
     def taken_to(self, label):
-        """The types of the values that a branch keeps."""
+        """Returns the types of the values that a branch keeps."""
         block = self.block(label)
         return block.takes if block.opcode == "loop" else block.leaves
 
@@ -90,7 +90,7 @@ class Validator:
     # ---- instructions
 
     def check_given(self, x):
-        """Checks the immediates of an instruction that has its types in the table."""
+        """Checks the immediates of an instruction whose types are in the table."""
         behind = x.opcode.behind
         if behind.startswith("bytes"):
             want(self.module.pages is not None, "no memory")
@@ -112,7 +112,7 @@ class Validator:
     check_loop = check_block
 
     def check_if(self, given, pc):
-        """There is no `else` in the table: what is taken is left where the condition is 0."""
+        """Checks an `if`. The table has no `else`: if the condition is 0, the block's parameters are its results."""
         self.pop(BOOLEAN)
         want(given.takes == given.leaves, "an if that leaves other values than it takes")
         self.check_block(given, pc)
@@ -179,7 +179,7 @@ class Validator:
 
 
 def ends_of(code):
-    """A dictionary: a block's place in the code -> its end's; the function's own is -1."""
+    """Maps a block's index in the code to its end's index; the function's own index is -1."""
     open_ones, ends = [-1], {-1: len(code) - 1}
     for pc, x in enumerate(code):
         if x.opcode.behind == "block":
@@ -192,7 +192,7 @@ def ends_of(code):
 
 
 def validate(module):
-    """Checks a module, and returns the branches of each function."""
+    """Validates a module, and returns the branches of each function."""
     for place, content in module.segments:
         want(place + len(content) <= (module.pages or 0) * PAGE, "a segment outside of the memory")
     return [Validator(module, function).check() for function in module.functions]

@@ -1,5 +1,5 @@
-"""The values on the stack: numbers, polynomials and terms below 2 ^ width, addresses, and vectors as pairs of lanes
-of 64 bits."""
+"""Values on the operand stack: numbers, polynomials and terms below 2 ^ width, addresses, and vectors as pairs of
+64-bit lanes."""
 import contextlib
 
 from terms import halves, operations
@@ -14,16 +14,16 @@ from terms.rules import ones, zeros_below
 from .. import values as of_text
 
 WORD, HALF = 64, 32
-SPACE = 1 << 32          # what is passed to a call ends below
-LEAST_PLACE = 1024       # no object begins before
+SPACE = 1 << 32          # end of the address space for objects
+LEAST_PLACE = 1024       # lowest address of an object
 
 
 class Trap(Unsupported):
-    """Raised if a call ends with an error."""
+    """Raised if a call traps."""
 
 
 def low(x, width):
-    """The lowest bits of a value."""
+    """Returns the lowest bits of a value."""
     if isinstance(x, int):
         return x & ones(width)
     if x.__class__ is Address:
@@ -32,14 +32,14 @@ def low(x, width):
 
 
 def low_of_number(x, width):
-    """The same of a polynomial."""
+    """The same for a polynomial."""
     with contextlib.suppress(Undecided):
         return divided(x, 1 << width)[1]
     return remainder(nearest(x, width), 1 << width)
 
 
 def nearest(x, width):
-    """A number that is the same mod 2 ^ width, with coefficients as near to 0 as there are."""
+    """Returns an equal number modulo 2 ^ width, with coefficients as near to 0 as possible."""
     half = 1 << width - 1
     if isinstance(x, int):
         return (x + half) % (2 * half) - half
@@ -47,12 +47,12 @@ def nearest(x, width):
 
 
 def high(x, width):
-    """The rest of a word after so many bits."""
+    """Returns a word shifted right by `width` bits."""
     return BINARY["lshr"](WORD, x, width)
 
 
 def side_by_side(parts):
-    """(value, width) parts as one value, the first its lowest bits."""
+    """Concatenates values, each as (value, width), the lowest bits first."""
     if all(isinstance(x, int) for x, _ in parts):
         out = at = 0
         for x, width in parts:
@@ -62,30 +62,30 @@ def side_by_side(parts):
 
 
 def decided(x, what):
-    """A number on which a length, an amount or a place depends."""
+    """Returns x if it is a number. Raises if a length, an amount or an address depends on symbols."""
     if not isinstance(x, int):
         raise Undecided(f"{what} that depends on {x}")
     return x
 
 
 def condition(x, what):
-    """True if a number isn't 0, on which a branch depends."""
+    """True if a branch condition isn't 0."""
     return compare("ne", 32, x, 0) if isinstance(x, (Poly, Address)) else decided(x, what)
 
 
 # ---- addresses
 
 class Address(of_text.Address):
-    """A sum of places of objects, which aren't known, and an offset. The objects lie from LEAST_PLACE on and end below
-    2 ^ 32. None lies in another, be it empty."""
+    """A sum of objects' unknown addresses and an offset. The objects begin at LEAST_PLACE or above, end below 2 ^ 32,
+    and don't contain each other, even if empty."""
     __slots__ = ()
 
     def __getattr__(self, name):
-        """Refuses the attributes of terms that an address lacks: its bits are unknown."""
+        """Refuses attributes that only terms have: an address's bits are unknown."""
         raise Undecided(f"{self} as a term")
 
     def near(self):
-        """The same, shown to be a number of 32 bits: in its object, at its end, or not far before it."""
+        """Returns the same address, if it is a 32-bit number: in its object, at its end, or a little before it."""
         memory, offset = self.place()
         offset = nearest(offset, HALF)
         if not (is_natural(plus(offset, LEAST_PLACE - 1)) and is_natural(minus(memory.length, offset))):
@@ -98,7 +98,7 @@ def address(memory, at=0):
 
 
 def sum_of_addresses(width, a, b, sign):
-    """a + b or a - b, if one is an address."""
+    """Returns a + b or a - b, if one is an address."""
     bases, offset = of_text.sum_of(a, b, sign)
     if bases:
         return Address(bases, offset)
@@ -106,8 +106,8 @@ def sum_of_addresses(width, a, b, sign):
 
 
 def is_far(x, least):
-    """True if the difference of two objects' places, which lie apart, is `least` or more, or else negative: then it
-    is no less than that as a number of 64 bits. Objects that are only read may be the same bytes."""
+    """True if the difference of the addresses of two disjoint objects is `least` or more, or negative: then it is at
+    least that as an unsigned 64-bit number. Two read-only objects may overlap."""
     places = {count: memory for memory, count in x.bases}
     if len(x.bases) != 2 or set(places) != {1, -1} or not any(isinstance(memory, Memory) for memory in places.values()):
         return False
@@ -118,7 +118,7 @@ def is_far(x, least):
 
 
 def compare_addresses(test, width, a, b):
-    if b.__class__ is int and b == 0 and test in ("eq", "ne"):       # no object lies at 0
+    if b.__class__ is int and b == 0 and test in ("eq", "ne"):       # no object begins at 0
         a.near()
         return int(test == "ne")
     if width == WORD and is_number(b) and test in ("lt_u", "ge_u") and is_far(a, b):
@@ -128,8 +128,8 @@ def compare_addresses(test, width, a, b):
 
 # ---- operations
 
-NAMES = {"shr_u": "lshr", "rem_u": "urem"}       # those that have another name in terms/machine.py
-KEPT = "add", "mul", "and", "or", "shl", "lshr"  # which may be steps of a product by halves
+NAMES = {"shr_u": "lshr", "rem_u": "urem"}       # names of the same operations in terms/machine.py
+KEPT = "add", "mul", "and", "or", "shl", "lshr"  # operations in a product by halves
 
 
 def binary(name, width, a, b):
@@ -153,7 +153,7 @@ def binary(name, width, a, b):
 
 
 def masked(x, mask, width):
-    """A polynomial's bits under a run of ones."""
+    """Returns a polynomial's bits under a mask."""
     k = zeros_below(mask) if mask else 0
     run = mask >> k
     if run & run + 1:
@@ -171,7 +171,7 @@ def rotation(name, width, a, k):
 
 
 def compare(test, width, a, b):
-    """The value of a test, if the values or the facts decide it."""
+    """Returns the value of a test, if the values or the facts decide it."""
     if a.__class__ is Address:
         return compare_addresses(test, width, a, b)
     if is_number(a) and is_number(b):

@@ -1,9 +1,9 @@
-"""The streams of XXH3 of a module: a start, any number of updates of any lengths, digests of 64 and 128 bits, by
-induction over the updates, like ../xxh3_updates.py for an assembly source.
+"""Proves the streams of XXH3 of a module by induction over the updates: a start, any number of updates of any lengths,
+digests of 64 and 128 bits. ../xxh3_updates.py does this for an assembly source.
 
-A record has how many seeds it was started with, none or one, the seed, and what a state has of the bytes, with no mark
-and no secret: each call is given that, which may be any that the memory has room for. A call looks whether the record's
-numbers agree: so a record of no stripe, whose accumulators are known, is a case of its own."""
+A record has the number of seeds it was started with, 0 or 1, the seed, and a state's fields, without mark and secret.
+Each call takes the secret, of any length that fits in memory. Calls test if the record's numbers are consistent, so a
+record without stripes, whose accumulators are known, is a separate case."""
 import functools
 
 from terms.induction import same
@@ -21,11 +21,11 @@ from . import calls, every_length
 from .stripes import UPDATE, Loops, Takers
 from .values import address
 
-LONGEST = every_length.LONGEST    # bytes of a chunk, and of a secret: as many as the memory can hold
+LONGEST = every_length.LONGEST    # bytes of a chunk and of a secret, by the size of the memory
 
 
 class Page:
-    """How the JavaScript of a page calls the exports."""
+    """Calls the exports like a page's JavaScript."""
     SIZES = {"3": calls.RECORDS["xxh3"]}
 
     @staticmethod
@@ -56,7 +56,7 @@ class ModuleUpdates(CargoUpdates):
         return self.facts
 
     def questions(self, what):
-        """Both widths have one update."""
+        """Omits the comparison of two updates: both widths have one update."""
         found = super().questions(what)
         return found[1:] if what == STRIPES else found
 
@@ -70,12 +70,12 @@ class ModuleUpdates(CargoUpdates):
         return [(0, self.has_seed), (8, self.seed)]
 
     def resets(self):
-        """As arguments of `reset`: the way, and the seed, since a module may ask whether that is 0."""
+        """Yields arguments of `reset`: the way, and the seed, which a module may test for 0."""
         seed = symbol("seed64", 64)
         yield from (("seed", seed), ("seed", 0), ("both", seed), ("both", 0), ("secret", None))
 
     def reset(self, way, seed):
-        """Starts in memory that holds anything."""
+        """Proves a start in memory with any content."""
         self.begin(0)
         with given(*self.facts):
             length = None if way == "seed" else self.secret_length
@@ -96,14 +96,14 @@ class ModuleUpdates(CargoUpdates):
             if not same(memory.load(at, 8), x):
                 raise NotShown(f"{what}: {memory.name} at {at} is {memory.load(at, 8)} and not {x}")
 
-    # ---- what is shown
+    # ---- cases
 
     def all_updates(self):
         yield from map(self.with_room, super().all_updates())
 
     @staticmethod
     def with_room(case):
-        """Updates by a chunk that fits in the memory."""
+        """Adds the fact that an update's chunk fits in memory."""
         start, end, length, facts, *rest = case
         return start, end, length, [*facts, at_most(length, LONGEST)], *rest
 
@@ -113,18 +113,18 @@ class ModuleUpdates(CargoUpdates):
             yield from self.by_stripes(case, place)
 
     def starts(self, is_split, gs=None):
-        """In the modules' loops a block's last stripe is none of its own."""
+        """Yields the states before updates. In the modules' loops a block's last stripe is not a separate case."""
         for start in super().starts(False, gs):
             yield from (Start(*case) for case in self.by_stripes(start, start.place))
 
     def by_stripes(self, case, place):
-        """A case, of which the facts are the last: where a stripe was taken before, and where none was."""
+        """Splits a case, whose last item is its facts: stripes were taken before, or none."""
         *others, facts = case
         if is_same_number(self.stripes(place), 0):
             yield case
             return
         yield *others, [*facts, minus(self.stripes(place), 1)]
-        if is_same_number(place[1], variable("j")):           # at its other places a block has some stripe
+        if is_same_number(place[1], variable("j")):           # other places in a block have a stripe before them
             yield in_numbers(in_numbers((*others, facts), "b", 0), "j", 0)
 
     def update(self, start, end, length, facts, *rest):
@@ -134,11 +134,11 @@ class ModuleUpdates(CargoUpdates):
         super().digest(place, f, [*facts, self.of_stripes(place)], *rest)
 
     def of_stripes(self, place):
-        """How many there are at most, which follows from the number of bytes, but not as a sum of facts."""
+        """Returns the maximum of stripes as a fact. It follows from the bytes, but not as a sum of facts."""
         return at_most(self.stripes(place), MOST_BYTES // 64)
 
     def all_taken(self):
-        """From a block's last stripe to the end of a block a loop asks whether there is a whole block behind."""
+        """Splits cases from a block's last stripe to a block's end: the loop tests for another whole block."""
         for secret, case in super().all_taken():
             turns = plus(0, 0, *(part.turns for part in case[1]))
             case = *case[:2], [*case[2], at_most(times(64, turns), LONGEST)], *case[3:]
