@@ -4,7 +4,8 @@ use Rattle.xxhsum_program.specs.Prelude.{Options, OutOfMemory, Report, SinkRules
 use Rattle.xxh_io.proofs.WriteFacts.{Refused-join, Refused-more, Took-join}
 use Rattle.xxhsum_program.specs.Lines.{PrintsLine}
 use Rattle.xxhsum_program.specs.ListEnd.{FailedRead}
-use Rattle.xxhsum_program.specs.Said.{count_text, printed_summary, told_break, told_of_line, told_summary, unverified_line, unverified_text}
+use Rattle.xxhsum_program.specs.Order.{Event, Printed, Reported}
+use Rattle.xxhsum_program.specs.Said.{break_events, count_text, printed_summary, summary_events, summary_text, told_break, told_of_line, told_summary, unverified_line, unverified_text}
 use Rattle.xxhsum_program.specs.Report.{is_unverified}
 
 -- the first part was refused
@@ -20,27 +21,40 @@ line-join writing a b old mid new (Ok x) took only prints = Took-join writing a 
 line-join writing a b old mid new (Err WriteFailed) took only prints = Refused-join writing a b old mid new took prints
 line-join writing a b old mid new (Err OutOfMemory) took only prints = cc
 
-one-of : (count : ℕ) (silent : Bool) (text : List ℕ) → count ≢ 0 → silent ≡ false → (if nat_eq count 0 || silent then [] else text) ≡ text
-one-of count silent text some speaks = rw speaks (grind arith)
+-- ---- the end of a list
 
-pub summary-is : (options : Options) (report : Report) → report.proper ≢ 0 → options.is_status_only ≡ false → printed_summary options report ≡ count_text report.improper (codes " line is improperly formatted\n") (codes " lines are improperly formatted\n") ++ (count_text report.unread (codes " listed file could not be read\n") (codes " listed files could not be read\n") ++ count_text report.different (codes " computed checksum did NOT match\n") (codes " computed checksums did NOT match\n"))
-summary-is options report some speaks =
+else-of : {T : Type 0} (count : ℕ) (items : List T) → count ≢ 0 → (if nat_eq count 0 then [] else items) ≡ items
+else-of count items some = grind arith
+
+one-of : (count : ℕ) (silent : Bool) (text : List ℕ) → (nat_eq count 0 || silent) ≡ false → (if nat_eq count 0 || silent then [] else text) ≡ text
+one-of count silent text speaks = rw speaks refl
+
+pub summary-is : (options : Options) (report : Report) → (nat_eq report.proper 0 || options.is_status_only) ≡ false → printed_summary options report ≡ count_text report.improper (codes " line is improperly formatted\n") (codes " lines are improperly formatted\n") ++ (count_text report.unread (codes " listed file could not be read\n") (codes " listed files could not be read\n") ++ count_text report.different (codes " computed checksum did NOT match\n") (codes " computed checksums did NOT match\n"))
+summary-is options report speaks =
     let improper = count_text report.improper (codes " line is improperly formatted\n") (codes " lines are improperly formatted\n") in
     let unread = count_text report.unread (codes " listed file could not be read\n") (codes " listed files could not be read\n") in
     let different = count_text report.different (codes " computed checksum did NOT match\n") (codes " computed checksums did NOT match\n") in
-    one-of report.proper options.is_status_only (concat (improper ∷ unread ∷ different ∷ [])) some speaks ∙ ap (λ bytes. improper ++ (unread ++ bytes)) (append-nil different)
+    one-of report.proper options.is_status_only (concat (improper ∷ unread ∷ different ∷ [])) speaks ∙ ap (λ bytes. improper ++ (unread ++ bytes)) (append-nil different)
 
 pub none-is : (list : List ℕ) (report : Report) → report.proper ≡ 0 → told_summary list report ≡ one_line (concat (list ∷ codes ": no properly formatted xxHash checksum lines found" ∷ []))
 none-is list report none = rw none refl
 
-pub break-none : (list : List ℕ) (number : ℕ) (report : Report) → report.proper ≡ 0 → told_break list number report FailedRead ≡ []
-break-none list number report none = rw none refl
+pub no-break : (list : List ℕ) (number : ℕ) (report : Report) → report.proper ≡ 0 → break_events list number report FailedRead ≡ []
+no-break list number report none = rw none refl
 
-else-of : (count : ℕ) (text : List ℕ) → count ≢ 0 → (if nat_eq count 0 then [] else text) ≡ text
-else-of count text some = grind arith
+pub break-is : (list : List ℕ) (number : ℕ) (report : Report) → report.proper ≢ 0 → break_events list number report FailedRead ≡ Reported (told_of_line list number (codes "A failure occurred reading the list")) ∷ []
+break-is list number report some =
+    else-of report.proper (Reported (told_break list number report FailedRead) ∷ []) some ∙ ap (λ (text : List ℕ). Reported text ∷ []) (else-of report.proper _ some)
 
-pub break-some : (list : List ℕ) (number : ℕ) (report : Report) → report.proper ≢ 0 → told_break list number report FailedRead ≡ told_of_line list number (codes "A failure occurred reading the list")
-break-some list number report some = else-of report.proper _ some
+pub reported-summary : (options : Options) (list : List ℕ) (report : Report) → report.proper ≡ 0 → summary_events options list report ≡ Reported (told_summary list report) ∷ Printed (summary_text options list report) ∷ []
+reported-summary options list report none = rw none refl
+
+only-if : {T : Type 0} (count : ℕ) (items : List T) → count ≢ 0 → (if nat_eq count 0 then items else []) ≡ []
+only-if count items some = grind arith
+
+pub printed-summary-only : (options : Options) (list : List ℕ) (report : Report) → report.proper ≢ 0 → summary_events options list report ≡ Printed (summary_text options list report) ∷ []
+printed-summary-only options list report some =
+    ap (λ (events : List Event). events ++ Printed (summary_text options list report) ∷ []) (only-if report.proper (Reported (told_summary list report) ∷ []) some)
 
 pub unverified-is : (options : Options) (list : List ℕ) (report : Report) → is_unverified options.ignores_missing report ≡ true → unverified_text options list report ≡ unverified_line list
 unverified-is options list report is = rw is refl

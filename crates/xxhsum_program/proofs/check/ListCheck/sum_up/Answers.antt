@@ -1,12 +1,19 @@
-use Rattle.xxhsum_program.proofs.HashFacts.{is-err}
-use Rattle.xxhsum_program.proofs.LineEndFacts.{line-join, line-more}
+use Rattle.std.proofs.Common.{◌∷◌, [], refl}
+use Rattle.xxhsum_program.specs.Order.{Printed, Reported, rules_of, streams}
+use Rattle.xxhsum_program.specs.Said.{summary_text, told_summary}
+use Rattle.xxhsum_program.proofs.LineEndFacts.{none-is, printed-summary-only, reported-summary}
+use Rattle.xxhsum_program.proofs.OrderFacts.{emits-join, emits-line}
 use Rattle.xxhsum_program.proofs.check.ListCheck.sum_up.Goals as goal
+use Rattle.xxhsum_program.proofs.check.ListCheck.sum_up.Goals.{then-report-eq0, else-report-eq0}
 
-pub returns-in_err-say_counts-clause-prints : goal.returns-in_err-say_counts-clause-prints
-returns-in_err-say_counts-clause-prints g c =
-    let stop = c.in_err-say_counts.field-0.0 in
-    line-more g.W.Sink _ _ c.args.out.now c.say_counts.new.out c.from_residual.result stop (is-err c.from_residual.result stop c.from_residual.ensures.1) c.in_err-say_counts.ensures.only c.in_err-say_counts.ensures.prints
-
-pub returns-clause-prints : goal.returns-clause-prints
-returns-clause-prints g c =
-    line-join g.W.Sink _ _ c.args.out.now c.say_counts.new.out c.say_unverified.new.out c.say_unverified.result c.in_ok-say_counts.ensures.prints c.say_unverified.ensures.only c.say_unverified.ensures.prints
+pub returns-clause-emits : goal.returns-clause-emits
+returns-clause-emits g c =
+    let rules = rules_of g.W.Sink g.W.Output.held g.W.Output.has_lost g.E.Sink in
+    let options = c.args.self.now.options in
+    let list = c.args.self.now.name.now in
+    let report = c.args.report.now in
+    let summary = summary_text options list report in
+    elim c.if-report-eq0.branch [
+      | then-report-eq0 w ↦ w
+      | else-report-eq0 w ↦ w
+    ]
