@@ -73,7 +73,7 @@ line-or-message printed told kind shape name (Unread reason) =
 
 beginning : {W E : Type 0} (rules : StreamRules W E) (events : List Event) (old new : Streams W E) (stop : Stop) → EmitsTo {T = Bool} rules events old new (Err stop) → PrintsBeginning rules.writing (printed_of events) old.out new.out
 beginning rules events old new WriteFailed emits =
-    let (taken, met, pieces, refused, (rest, whole, some)) = (emits-refuses {T = Bool} rules events old new emits).0 in
+    let (taken, met, pieces, refused, (rest, whole, some)) = (emits-refuses Bool rules events old new emits).0 in
     (concat taken, rest, met, whole, (taken, pieces, refl), inr refused)
 beginning rules events old new OutOfMemory emits =
     (printed_of events, [], new.out, sym (append-nil (printed_of events)), emits-prints rules events old new emits, inl refl)

@@ -1,12 +1,13 @@
 -- A line that is written in two parts, of which either may be refused.
-use Rattle.std.proofs.Common.{◌≡◌, ◌≢◌, ℕ, List, [], ◌∷◌, ◌++◌, Bool, true, false, Ok, Err, IfErr, codes, nat_eq, ◌||◌, refl, if◌then◌else◌, arith, append-nil, ap, ◌∙◌, Result}
+use Rattle.std.proofs.Common.{◌≡◌, ◌≢◌, ℕ, ◌<◌, List, [], ◌∷◌, ◌++◌, Bool, true, false, Ok, Err, IfErr, codes, nat_eq, ◌||◌, refl, sym, subst, if◌then◌else◌, arith, append-nil, ap, ◌∙◌, Result}
 use Rattle.xxhsum_program.specs.Prelude.{Options, OutOfMemory, Report, SinkRules, Stop, Took, WriteFailed, concat, one_line}
 use Rattle.xxh_io.proofs.WriteFacts.{Refused-join, Refused-more, Took-join}
 use Rattle.xxhsum_program.specs.Lines.{PrintsLine}
 use Rattle.xxhsum_program.specs.ListEnd.{FailedRead}
-use Rattle.xxhsum_program.specs.Order.{Event, Printed, Reported}
+use Rattle.xxhsum_program.specs.Order.{Emits, EmitsTo, Event, Printed, Reported, StreamRules, Streams, streams}
 use Rattle.xxhsum_program.specs.Said.{break_events, count_text, printed_summary, summary_events, summary_text, told_break, told_of_line, told_summary, unverified_line, unverified_text}
 use Rattle.xxhsum_program.specs.Report.{is_unverified}
+use Rattle.xxhsum_program.proofs.OrderFacts.{emits-join, emits-line}
 
 -- the first part was refused
 pub line-more : {W T : Type 0} (writing : SinkRules W) (a b : List ℕ) (old new : W) (result : Result T Stop) (stop : Stop) → result ≡ Err stop → stop ≡ WriteFailed → PrintsLine {T = T} writing a old new (Err stop) → PrintsLine writing (a ++ b) old new result
@@ -26,15 +27,15 @@ line-join writing a b old mid new (Err OutOfMemory) took only prints = cc
 else-of : {T : Type 0} (count : ℕ) (items : List T) → count ≢ 0 → (if nat_eq count 0 then [] else items) ≡ items
 else-of count items some = grind arith
 
-one-of : (count : ℕ) (silent : Bool) (text : List ℕ) → (nat_eq count 0 || silent) ≡ false → (if nat_eq count 0 || silent then [] else text) ≡ text
-one-of count silent text speaks = rw speaks refl
+one-of : (count : ℕ) (silent : Bool) (text : List ℕ) → count ≢ 0 → silent ≡ false → (if nat_eq count 0 || silent then [] else text) ≡ text
+one-of count silent text some speaks = rw speaks (grind arith)
 
-pub summary-is : (options : Options) (report : Report) → (nat_eq report.proper 0 || options.is_status_only) ≡ false → printed_summary options report ≡ count_text report.improper (codes " line is improperly formatted\n") (codes " lines are improperly formatted\n") ++ (count_text report.unread (codes " listed file could not be read\n") (codes " listed files could not be read\n") ++ count_text report.different (codes " computed checksum did NOT match\n") (codes " computed checksums did NOT match\n"))
-summary-is options report speaks =
+pub summary-is : (options : Options) (report : Report) → report.proper ≢ 0 → options.is_status_only ≡ false → printed_summary options report ≡ count_text report.improper (codes " line is improperly formatted\n") (codes " lines are improperly formatted\n") ++ (count_text report.unread (codes " listed file could not be read\n") (codes " listed files could not be read\n") ++ count_text report.different (codes " computed checksum did NOT match\n") (codes " computed checksums did NOT match\n"))
+summary-is options report some speaks =
     let improper = count_text report.improper (codes " line is improperly formatted\n") (codes " lines are improperly formatted\n") in
     let unread = count_text report.unread (codes " listed file could not be read\n") (codes " listed files could not be read\n") in
     let different = count_text report.different (codes " computed checksum did NOT match\n") (codes " computed checksums did NOT match\n") in
-    one-of report.proper options.is_status_only (concat (improper ∷ unread ∷ different ∷ [])) speaks ∙ ap (λ bytes. improper ++ (unread ++ bytes)) (append-nil different)
+    one-of report.proper options.is_status_only (concat (improper ∷ unread ∷ different ∷ [])) some speaks ∙ ap (λ bytes. improper ++ (unread ++ bytes)) (append-nil different)
 
 pub none-is : (list : List ℕ) (report : Report) → report.proper ≡ 0 → told_summary list report ≡ one_line (concat (list ∷ codes ": no properly formatted xxHash checksum lines found" ∷ []))
 none-is list report none = rw none refl
@@ -42,19 +43,34 @@ none-is list report none = rw none refl
 pub no-break : (list : List ℕ) (number : ℕ) (report : Report) → report.proper ≡ 0 → break_events list number report FailedRead ≡ []
 no-break list number report none = rw none refl
 
-pub break-is : (list : List ℕ) (number : ℕ) (report : Report) → report.proper ≢ 0 → break_events list number report FailedRead ≡ Reported (told_of_line list number (codes "A failure occurred reading the list")) ∷ []
-break-is list number report some =
-    else-of report.proper (Reported (told_break list number report FailedRead) ∷ []) some ∙ ap (λ (text : List ℕ). Reported text ∷ []) (else-of report.proper _ some)
+not-zero : (n : ℕ) → 0 < n → n ≢ 0
+not-zero n some = λ is. omega (arith, some, is)
 
-pub reported-summary : (options : Options) (list : List ℕ) (report : Report) → report.proper ≡ 0 → summary_events options list report ≡ Reported (told_summary list report) ∷ Printed (summary_text options list report) ∷ []
-reported-summary options list report none = rw none refl
+pub break-is : (list : List ℕ) (number : ℕ) (report : Report) → 0 < report.proper → break_events list number report FailedRead ≡ Reported (told_of_line list number (codes "A failure occurred reading the list")) ∷ []
+break-is list number report some =
+    let proper = not-zero report.proper some in
+    else-of report.proper (Reported (told_break list number report FailedRead) ∷ []) proper ∙ ap (λ (text : List ℕ). Reported text ∷ []) (else-of report.proper (told_of_line list number (codes "A failure occurred reading the list")) proper)
+
+-- Lemma: a list without a well-formed line is reported, and then its summary is printed.
+pub summary-reported : {W E T : Type 0} (rules : StreamRules W E) (options : Options) (list : List ℕ) (report : Report) (old : Streams W E) (met out : W) (err : E) (result : Result T Stop)
+    → report.proper ≡ 0 → Emits rules (Reported (told_summary list report)) old (streams met err) → PrintsLine rules.writing (summary_text options list report) met out result → IfErr result (λ stop. stop ≡ WriteFailed)
+    → EmitsTo rules (summary_events options list report) old (streams out err) result
+summary-reported rules options list report old met out err result none emits prints only =
+    let events : summary_events options list report ≡ Reported (told_summary list report) ∷ Printed (summary_text options list report) ∷ [] = rw none refl in
+    subst (λ all. EmitsTo rules all old (streams out err) result) (sym events)
+    (emits-join rules (Reported (told_summary list report) ∷ []) (Printed (summary_text options list report) ∷ []) old (streams met err) (streams out err) result (streams met err, emits, (refl, refl)) (emits-line rules (summary_text options list report) (streams met err) out result prints only))
 
 only-if : {T : Type 0} (count : ℕ) (items : List T) → count ≢ 0 → (if nat_eq count 0 then items else []) ≡ []
 only-if count items some = grind arith
 
-pub printed-summary-only : (options : Options) (list : List ℕ) (report : Report) → report.proper ≢ 0 → summary_events options list report ≡ Printed (summary_text options list report) ∷ []
-printed-summary-only options list report some =
-    ap (λ (events : List Event). events ++ Printed (summary_text options list report) ∷ []) (only-if report.proper (Reported (told_summary list report) ∷ []) some)
+-- Lemma: the summary of any other list is printed.
+pub summary-printed : {W E T : Type 0} (rules : StreamRules W E) (options : Options) (list : List ℕ) (report : Report) (old : Streams W E) (out : W) (result : Result T Stop)
+    → report.proper ≢ 0 → PrintsLine rules.writing (summary_text options list report) old.out out result → IfErr result (λ stop. stop ≡ WriteFailed)
+    → EmitsTo rules (summary_events options list report) old (streams out old.err) result
+summary-printed rules options list report old out result some prints only =
+    let events : summary_events options list report ≡ Printed (summary_text options list report) ∷ [] =
+    ap (λ (all : List Event). all ++ Printed (summary_text options list report) ∷ []) (only-if report.proper (Reported (told_summary list report) ∷ []) some) in
+    subst (λ all. EmitsTo rules all old (streams out old.err) result) (sym events) (emits-line rules (summary_text options list report) old out result prints only)
 
 pub unverified-is : (options : Options) (list : List ℕ) (report : Report) → is_unverified options.ignores_missing report ≡ true → unverified_text options list report ≡ unverified_line list
 unverified-is options list report is = rw is refl

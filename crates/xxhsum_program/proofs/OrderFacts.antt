@@ -26,10 +26,10 @@ emits-join rules a b old mid new (Err WriteFailed) first (before, line, met, is,
 emits-join rules a b old mid new (Err OutOfMemory) first second = emits-append rules a b old mid new first second
 
 -- Lemma: no event follows a run that stops.
-pub emits-stop : {W E S T : Type 0} (rules : StreamRules W E) (events : List Event) (old new : Streams W E) (stop : Stop) → EmitsTo {T = S} rules events old new (Err stop) → EmitsTo {T = T} rules (events ++ []) old new (Err stop)
-emits-stop {W} {E} {S} {T} rules events old new WriteFailed emits =
+pub emits-stop : {W E : Type 0} (S T : Type 0) (rules : StreamRules W E) (events : List Event) (old new : Streams W E) (stop : Stop) → EmitsTo {T = S} rules events old new (Err stop) → EmitsTo {T = T} rules (events ++ []) old new (Err stop)
+emits-stop S T rules events old new WriteFailed emits =
     subst (λ all. EmitsTo {T = T} rules all old new (Err WriteFailed)) (sym (append-nil events)) emits
-emits-stop {W} {E} {S} {T} rules events old new OutOfMemory emits =
+emits-stop S T rules events old new OutOfMemory emits =
     subst (λ all. EmitsTo {T = T} rules all old new (Err OutOfMemory)) (sym (append-nil events)) emits
 
 -- ---- one event
@@ -70,8 +70,8 @@ reported-append (Printed bytes ∷ a) line = reported-append a line
 reported-append (Reported bytes ∷ a) line = ap (λ (rest : List ℕ). bytes ++ rest) (reported-append a line)
 
 -- Lemma: if a write failed, a prefix of the printed bytes is written, and all messages are.
-pub emits-refuses : {W E T : Type 0} (rules : StreamRules W E) (events : List Event) (old new : Streams W E) → EmitsTo {T = T} rules events old new (Err WriteFailed) → Refused rules.writing (printed_of events) old.out new.out × TellsOn rules.telling (reported_of events) old.err new.err
-emits-refuses rules events old new (before, line, mid, is, emits, refused, same) =
+pub emits-refuses : {W E : Type 0} (T : Type 0) (rules : StreamRules W E) (events : List Event) (old new : Streams W E) → EmitsTo {T = T} rules events old new (Err WriteFailed) → Refused rules.writing (printed_of events) old.out new.out × TellsOn rules.telling (reported_of events) old.err new.err
+emits-refuses T rules events old new (before, line, mid, is, emits, refused, same) =
     let printed : printed_of events ≡ printed_of before ++ line = ap printed_of is ∙ printed-append before line in
     let reported : reported_of events ≡ reported_of before = ap reported_of is ∙ reported-append before line in (
       subst (λ bytes. Refused rules.writing bytes old.out new.out) (sym printed) (Refused-join rules.writing (printed_of before) line old.out mid.out new.out (emits-prints rules before old mid emits) refused),

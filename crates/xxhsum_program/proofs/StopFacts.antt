@@ -65,7 +65,7 @@ lines-stop is_finding reading rules options list source old mid new before after
       None,
       (read ++ line ∷ [], EachHas-push is_finding read findings line finding each is, some-read reading source after (read ++ line ∷ []) stands),
       refl,
-      emits-stop {S = Unit {0}} {T = Report} rules (numbered events 1 (findings ++ finding ∷ [])) old new WriteFailed (subst (λ all. EmitsTo {T = Unit {0}} rules all old new (Err WriteFailed)) (sym all) (emits-join {T = Unit {0}} rules (numbered events 1 findings) (events number finding) old mid new (Err WriteFailed) emits refused)),
+      emits-stop (Unit {0}) Report rules (numbered events 1 (findings ++ finding ∷ [])) old new WriteFailed (subst (λ all. EmitsTo {T = Unit {0}} rules all old new (Err WriteFailed)) (sym all) (emits-join {T = Unit {0}} rules (numbered events 1 findings) (events number finding) old mid new (Err WriteFailed) emits refused)),
     )
 
 -- Lemma: the events of the end of a list, with equal numbers and reports.
@@ -86,7 +86,7 @@ pub check-stops : {R W E : Type 0} (is_finding : List ℕ → Finding → Type 0
     → LinesChecked is_finding reading rules options list source old new (Err stop)
     → ListChecked is_finding reading rules options list source old new (Err stop)
 check-stops is_finding reading rules options list source old new stop (findings, None, finds, is, emits) =
-    (findings, None, finds, tt, emits-stop {S = Report} {T = Bool} rules (lines_events options list findings None) old new stop emits)
+    (findings, None, finds, tt, emits-stop Report Bool rules (lines_events options list findings None) old new stop emits)
 check-stops is_finding reading rules options list source old new stop (findings, Some end, finds, is, emits) = cc
 
 -- Lemma: the check stops at the summary.

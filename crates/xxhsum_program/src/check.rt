@@ -10,7 +10,7 @@ ghost use Rattle.xxhsum_program.specs.LinesView.{IsGiven};
 ghost use Rattle.xxhsum_program.specs.ListEnd.{FailedRead, ListEnd};
 ghost use Rattle.xxhsum_program.specs.Order.{Emits, EmitsAll, EmitsTo, Reported, rules_of, streams};
 ghost use Rattle.xxhsum_program.specs.Report.{is_good, is_unverified, passes};
-ghost use Rattle.xxhsum_program.specs.Said.{break_events, count_text, finding_events, found_text, is_silent, lines_events, list_events, printed_summary, summary_events, told_of_line, told_summary, too_long_text, unread_text, unverified_line, unverified_text};
+ghost use Rattle.xxhsum_program.specs.Said.{break_events, count_text, finding_events, found_text, is_silent, lines_events, list_events, printed_summary, summary_events, summary_text, told_of_line, too_long_text, unread_text, unverified_line, unverified_text};
 ghost use Rattle.xxhsum_program.specs.Watched.{source_of};
 
 use crate::entry::{Found, compare};

@@ -9,5 +9,5 @@ returns g c = record {
       let rules = rules_of g.W.Sink held has_lost g.E.Sink in
       (emits-prints rules events old new emits, emits-reports rules events old new emits);
   stops = λ held has_lost events old new emits.
-      emits-refuses {T = Bool} (rules_of g.W.Sink held has_lost g.E.Sink) events old new emits;
+      emits-refuses Bool (rules_of g.W.Sink held has_lost g.E.Sink) events old new emits;
 }

@@ -4,8 +4,7 @@ use Rattle.xxhsum_program.proofs.check.ListCheck.count_improper.Goals as goal
 
 pub returns-then-self-clause-emits : goal.returns-then-self-clause-emits
 returns-then-self-clause-emits g c =
-    let tells = rw c.if-self.true c.tell_of_line_after.ensures in
-    rw c.if-self.true (streams c.release.new.out c.tell_of_line_after.new.err, (c.release.ensures.prints, c.release.ensures.written, tells), (refl, refl))
+    rw c.if-self.true (streams c.release.new.out c.tell_of_line_after.new.err, (c.release.ensures.prints, c.release.ensures.written, c.tell_of_line_after.ensures), (refl, refl))
 
-pub returns-clause-emits : goal.returns-clause-emits
-returns-clause-emits g c = rw c.if-self.false (refl, refl)
+pub returns-else-self-clause-emits : goal.returns-else-self-clause-emits
+returns-else-self-clause-emits g c = rw c.if-self.false (refl, refl)

@@ -1,8 +1,5 @@
-use Rattle.std.proofs.Common.{◌∷◌, [], refl}
-use Rattle.xxhsum_program.specs.Order.{Printed, Reported, rules_of, streams}
-use Rattle.xxhsum_program.specs.Said.{summary_text, told_summary}
-use Rattle.xxhsum_program.proofs.LineEndFacts.{none-is, printed-summary-only, reported-summary}
-use Rattle.xxhsum_program.proofs.OrderFacts.{emits-join, emits-line}
+use Rattle.xxhsum_program.specs.Order.{rules_of, streams}
+use Rattle.xxhsum_program.proofs.LineEndFacts.{none-is, summary-printed, summary-reported}
 use Rattle.xxhsum_program.proofs.check.ListCheck.sum_up.Goals as goal
 use Rattle.xxhsum_program.proofs.check.ListCheck.sum_up.Goals.{then-report-eq0, else-report-eq0}
 
@@ -12,8 +9,11 @@ returns-clause-emits g c =
     let options = c.args.self.now.options in
     let list = c.args.self.now.name.now in
     let report = c.args.report.now in
-    let summary = summary_text options list report in
+    let old = streams c.args.out.now c.args.err.now in
     elim c.if-report-eq0.branch [
-      | then-report-eq0 w ↦ w
-      | else-report-eq0 w ↦ w
+      | then-report-eq0 w ↦
+          let none = none-is list report w.if-report-eq0.true in
+          rw w.err-is (summary-reported rules options list report old w.release.new.out c.say_summary.new.out w.tell_line_after.new.err c.say_summary.result w.if-report-eq0.true (w.release.ensures.prints, w.release.ensures.written, rw none w.tell_line_after.ensures) (rw w.out-is at c.say_summary.ensures.prints) c.say_summary.ensures.only)
+      | else-report-eq0 w ↦
+          rw w.err-is (summary-printed rules options list report old c.say_summary.new.out c.say_summary.result w.if-report-eq0.false (rw w.out-is at c.say_summary.ensures.prints) c.say_summary.ensures.only)
     ]
