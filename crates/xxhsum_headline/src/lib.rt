@@ -5,9 +5,10 @@
 
 ghost use Rattle.std.specs.Prelude.{◌≡◌, ◌↔◌, ◌++◌, Bool, List, ℕ, Option, Result, true, codes, IsPermutation};
 ghost use Rattle.std.specs.List.{AllByRecursion, flat_map};
-ghost use Rattle.xxhsum_program.specs.Prelude.{EachHas, Kind, Options, Refused, Shape, Style, TellsOn, Took, WriteFailed};
+ghost use Rattle.xxhsum_program.specs.Prelude.{EachHas, Kind, Options, Refused, Shape, Style, TellsOn, Took};
 ghost use Rattle.xxhsum_program.specs.declared.outcome.Outcome.{Outcome};
 ghost use Rattle.xxhsum_program.specs.declared.stop.Stop.{Stop};
+ghost use Rattle.xxhsum_program.specs.declared.stop.Stop.TheVariants.{WriteFailed};
 ghost use Rattle.xxhsum_audit.specs.Audit.{IsAudit};
 ghost use Rattle.xxhsum_audit.specs.Item.{HasSameDigest, IsAmong, Item};
 ghost use Rattle.xxhsum_audit.specs.Laws.{IsKept, IsRight};
