@@ -65,8 +65,8 @@ WRONG = {
         'xxhsum_program/src/arguments.rt', 'for index in 0..usize::MAX {', 'for index in 0..20_000 {', 'many', 'many arguments'),
     'sum_up reports a list with no line before the output that waits': turned(
         CHECK, 'release(out);', TELLS_NONE, 12, 'pipes', 'output before messages about lists with no line'),
-    'check_lines reports a list that breaks off before the output that waits': turned(
-        CHECK, 'release(out);', 'self.tell_of_failure(number, &report, out, err);', 20, 'failing', DEEP),
+    'tell_of_failure reports a list that breaks off before the output that waits': turned(
+        CHECK, 'release(out);', 'tell_of_line_after(self.name, number, READ_FAILED, out, err);', 12, 'failing', DEEP),
     'count_improper reports a line before the output that waits': turned(
         CHECK, 'release(out);', TELLS_IMPROPER, 12, 'failing', DEEP),
     'digest_line has no memory past 16,000 bytes': Wrong(

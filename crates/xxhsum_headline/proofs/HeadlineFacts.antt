@@ -1,6 +1,6 @@
--- What a run over names and the check of a list come to.
+-- Lemmas on a run over names and on the check of a list.
 use Rattle.std.proofs.Common.{◌≡◌, ℕ, Bool, true, false, List, [], ◌∷◌, ◌++◌, Option, Some, None, inl, inr, refl, sym, ap, ◌∙◌, subst, append-nil, codes, ◌↔◌, Result, Ok, Err}
-use Rattle.xxhsum_program.specs.Prelude.{AllByRecursion, EachHas, Kind, Options, Shape, SinkRules, SourceRules, StoreRules, Style, TellsOn, Took, concat}
+use Rattle.xxhsum_program.specs.Prelude.{AllByRecursion, EachHas, Kind, Options, Shape, SourceRules, StoreRules, Style, TellsOn, Took, concat}
 use Rattle.xxhsum_program.specs.declared.outcome.Outcome.{Outcome}
 use Rattle.xxhsum_program.specs.declared.outcome.Outcome.TheVariants.{Digested, IsDirectory, Unread}
 use Rattle.xxhsum_program.specs.declared.stop.Stop.{Stop}
@@ -11,12 +11,14 @@ use Rattle.xxhsum_line.specs.Printed.{text_of}
 use Rattle.xxhsum_program.specs.CheckList.{EndsAs, SaysList}
 use Rattle.xxhsum_program.specs.Findings.{Finding}
 use Rattle.xxhsum_program.specs.GoodList.{GoodMeansEqual, IsWell}
-use Rattle.xxhsum_program.specs.HashNames.{SaysNames}
-use Rattle.xxhsum_program.specs.Lines.{PrintsLines, PrintsUnlessFailed, lines_of, step_text, told_line, written_line}
+use Rattle.xxhsum_program.specs.HashNames.{SaysNames, name_events}
+use Rattle.xxhsum_program.specs.Lines.{lines_of, step_text, told_line, written_line}
 use Rattle.xxhsum_program.specs.ListEnd.{ListEnd}
+use Rattle.xxhsum_program.specs.Order.{EmitsAll, EmitsTo, EmitsUnlessFailed, Event, StreamRules, Streams, printed_of, reported_of}
 use Rattle.xxhsum_program.specs.Outcomes.{Comes, are_digested, reason_text}
 use Rattle.xxhsum_program.specs.Run.{status_of}
-use Rattle.xxhsum_program.specs.Said.{printed_list}
+use Rattle.xxhsum_program.specs.Said.{list_events}
+use Rattle.xxhsum_program.proofs.OrderFacts.{emits-prints, emits-refuses, emits-reports}
 
 pub status : (done : Result Bool Stop) → (status_of done ≡ 0) ↔ (done ≡ Ok true)
 status (Ok true) = (λ _. refl, λ _. refl)
@@ -25,17 +27,35 @@ status (Err stop) = (λ is. let no : 1 ≡ 0 = is in cc, λ is. cc)
 
 -- ---- names
 
-pub each-name-once : {S F W E : Type 0} (opening : StoreRules S F) (reading : SourceRules F) (writing : SinkRules W) (telling : SinkRules E) (store : S) (kind : Kind) (style : Style) (names : List (List ℕ)) (w_old w_new : W) (e_old e_new : E) (all : Bool)
-    → SaysNames opening reading writing telling store kind style names w_old w_new e_old e_new (Ok all)
+printed-names : (kind : Kind) (style : Style) (names : List (List ℕ)) (outcomes : List Outcome) → printed_of (lines_of (name_events kind style) names outcomes) ≡ lines_of (written_line kind style) names outcomes
+printed-names kind style [] outcomes = refl
+printed-names kind style (name ∷ names) [] = refl
+printed-names kind style (name ∷ names) (Digested value ∷ outcomes) =
+    ap (λ (rest : List ℕ). written_line kind style name (Digested value) ++ rest) (printed-names kind style names outcomes)
+printed-names kind style (name ∷ names) (IsDirectory ∷ outcomes) = printed-names kind style names outcomes
+printed-names kind style (name ∷ names) (Unread reason ∷ outcomes) = printed-names kind style names outcomes
+
+reported-names : (kind : Kind) (style : Style) (names : List (List ℕ)) (outcomes : List Outcome) → reported_of (lines_of (name_events kind style) names outcomes) ≡ lines_of told_line names outcomes
+reported-names kind style [] outcomes = refl
+reported-names kind style (name ∷ names) [] = refl
+reported-names kind style (name ∷ names) (Digested value ∷ outcomes) = reported-names kind style names outcomes
+reported-names kind style (name ∷ names) (IsDirectory ∷ outcomes) =
+    ap (λ (rest : List ℕ). told_line name IsDirectory ++ rest) (reported-names kind style names outcomes)
+reported-names kind style (name ∷ names) (Unread reason ∷ outcomes) =
+    ap (λ (rest : List ℕ). told_line name (Unread reason) ++ rest) (reported-names kind style names outcomes)
+
+pub each-name-once : {S F W E : Type 0} (opening : StoreRules S F) (reading : SourceRules F) (rules : StreamRules W E) (store : S) (kind : Kind) (style : Style) (names : List (List ℕ)) (old new : Streams W E) (all : Bool)
+    → SaysNames opening reading rules store kind style names old new (Ok all)
     → (outcomes : List Outcome) × EachHas (Comes opening reading store kind) names outcomes
-    × Took writing (lines_of (written_line kind style) names outcomes) w_old w_new
-    × TellsOn telling (lines_of told_line names outcomes) e_old e_new × (all ≡ are_digested outcomes)
-each-name-once opening reading writing telling store kind style names w_old w_new e_old e_new all (outcomes, done, rest, (parts, each, (none, is)), took, told) =
-    let whole : done ≡ names = sym (append-nil done) ∙ ap (λ r. done ++ r) (sym none) ∙ sym parts in (
+    × Took rules.writing (lines_of (written_line kind style) names outcomes) old.out new.out
+    × TellsOn rules.telling (lines_of told_line names outcomes) old.err new.err × (all ≡ are_digested outcomes)
+each-name-once opening reading rules store kind style names old new all (outcomes, done, rest, (parts, each, (none, is)), emits) =
+    let whole : done ≡ names = sym (append-nil done) ∙ ap (λ r. done ++ r) (sym none) ∙ sym parts in
+    let events = subst (λ n. EmitsAll rules (lines_of (name_events kind style) n outcomes) old new) whole emits in (
       outcomes,
       subst (λ n. EachHas (Comes opening reading store kind) n outcomes) whole each,
-      subst (λ n. Took writing (lines_of (written_line kind style) n outcomes) w_old w_new) whole took,
-      subst (λ n. TellsOn telling (lines_of told_line n outcomes) e_old e_new) whole told,
+      subst (λ bytes. Took rules.writing bytes old.out new.out) (printed-names kind style names outcomes) (emits-prints rules _ old new events),
+      subst (λ bytes. TellsOn rules.telling bytes old.err new.err) (reported-names kind style names outcomes) (emits-reports rules _ old new events),
       is,
     )
 
@@ -51,37 +71,40 @@ line-or-message printed told kind shape name (Unread reason) =
 
 -- ---- a run that stops
 
-beginning : {W : Type 0} (writing : SinkRules W) (lines : List ℕ) (old new : W) (stop : Stop) → PrintsLines {T = Bool} writing lines old new (Err stop) → PrintsBeginning writing lines old new
-beginning writing lines old new WriteFailed (taken, met, pieces, refused, (rest, whole, some)) =
+beginning : {W E : Type 0} (rules : StreamRules W E) (events : List Event) (old new : Streams W E) (stop : Stop) → EmitsTo {T = Bool} rules events old new (Err stop) → PrintsBeginning rules.writing (printed_of events) old.out new.out
+beginning rules events old new WriteFailed emits =
+    let (taken, met, pieces, refused, (rest, whole, some)) = (emits-refuses Bool rules events old new emits).0 in
     (concat taken, rest, met, whole, (taken, pieces, refl), inr refused)
-beginning writing lines old new OutOfMemory took = (lines, [], new, sym (append-nil lines), took, inl refl)
+beginning rules events old new OutOfMemory emits =
+    (printed_of events, [], new.out, sym (append-nil (printed_of events)), emits-prints rules events old new emits, inl refl)
 
-unless-failed : {W : Type 0} (writing : SinkRules W) (lines : List ℕ) (old new : W) (stop : Stop) → PrintsUnlessFailed {T = Bool} writing lines old new (Err stop) → PrintsBeginning writing lines old new
-unless-failed writing lines old new stop (inl prints) = beginning writing lines old new stop prints
-unless-failed writing lines old new stop (inr (failed, same, is)) = ([], lines, old, refl, ([], refl, refl), inl same)
+unless-failed : {W E : Type 0} (rules : StreamRules W E) (events : List Event) (old new : Streams W E) (stop : Stop) → EmitsUnlessFailed {T = Bool} rules events old new (Err stop) → PrintsBeginning rules.writing (printed_of events) old.out new.out
+unless-failed rules events old new stop (inl emits) = beginning rules events old new stop emits
+unless-failed rules events old new stop (inr (failed, same, silent, is)) =
+    ([], printed_of events, old.out, refl, ([], refl, refl), inl same)
 
-pub names-stop : {S F W E : Type 0} (opening : StoreRules S F) (reading : SourceRules F) (writing : SinkRules W) (telling : SinkRules E) (store : S) (kind : Kind) (style : Style) (names : List (List ℕ)) (w_old w_new : W) (e_old e_new : E) (stop : Stop)
-    → SaysNames opening reading writing telling store kind style names w_old w_new e_old e_new (Err stop)
+pub names-stop : {S F W E : Type 0} (opening : StoreRules S F) (reading : SourceRules F) (rules : StreamRules W E) (store : S) (kind : Kind) (style : Style) (names : List (List ℕ)) (old new : Streams W E) (stop : Stop)
+    → SaysNames opening reading rules store kind style names old new (Err stop)
     → (done rest : List (List ℕ)) × (outcomes : List Outcome) × (names ≡ done ++ rest)
     × EachHas (Comes opening reading store kind) done outcomes
-    × PrintsBeginning writing (lines_of (written_line kind style) done outcomes) w_old w_new
-names-stop opening reading writing telling store kind style names w_old w_new e_old e_new stop (outcomes, done, rest, (parts, each, ends), prints, told) =
-    (done, rest, outcomes, parts, each, beginning writing _ w_old w_new stop prints)
+    × PrintsBeginning rules.writing (lines_of (written_line kind style) done outcomes) old.out new.out
+names-stop opening reading rules store kind style names old new stop (outcomes, done, rest, (parts, each, ends), emits) =
+    (done, rest, outcomes, parts, each, subst (λ bytes. PrintsBeginning rules.writing bytes old.out new.out) (printed-names kind style done outcomes) (beginning rules _ old new stop emits))
 
-pub list-stops : {S F R W E : Type 0} (opening : StoreRules S F) (reading : SourceRules F) (list_reading : SourceRules R) (writing : SinkRules W) (telling : SinkRules E) (store : S) (options : Options) (name : List ℕ) (source : R) (w_old w_new : W) (e_old e_new : E) (stop : Stop)
-    → SaysList opening reading list_reading writing telling store options name source w_old w_new e_old e_new (Err stop)
-    → (findings : List Finding) × (end : Option ListEnd) × PrintsBeginning writing (printed_list options name findings end) w_old w_new
-list-stops opening reading list_reading writing telling store options name source w_old w_new e_old e_new stop (findings, end, finds, answers, prints, told) =
-    (findings, end, unless-failed writing _ w_old w_new stop prints)
+pub list-stops : {S F R W E : Type 0} (opening : StoreRules S F) (reading : SourceRules F) (list_reading : SourceRules R) (rules : StreamRules W E) (store : S) (options : Options) (name : List ℕ) (source : R) (old new : Streams W E) (stop : Stop)
+    → SaysList opening reading list_reading rules store options name source old new (Err stop)
+    → (findings : List Finding) × (end : Option ListEnd) × PrintsBeginning rules.writing (printed_of (list_events options name findings end)) old.out new.out
+list-stops opening reading list_reading rules store options name source old new stop (findings, end, finds, answers, emits) =
+    (findings, end, unless-failed rules _ old new stop emits)
 
 -- ---- a good list
 
-pub good-means-equal : {S F R W E : Type 0} (opening : StoreRules S F) (reading : SourceRules F) (list_reading : SourceRules R) (writing : SinkRules W) (telling : SinkRules E)
+pub good-means-equal : {S F R W E : Type 0} (opening : StoreRules S F) (reading : SourceRules F) (list_reading : SourceRules R) (rules : StreamRules W E)
     → GoodMeansEqual opening reading list_reading
-    → (store : S) (options : Options) (name : List ℕ) (source : R) (w_old w_new : W) (e_old e_new : E)
-    → SaysList opening reading list_reading writing telling store options name source w_old w_new e_old e_new (Ok true)
+    → (store : S) (options : Options) (name : List ℕ) (source : R) (old new : Streams W E)
+    → SaysList opening reading list_reading rules store options name source old new (Ok true)
     → (lines : List (List ℕ)) × (end : ListEnd) × EndsAs list_reading source lines end
     × AllByRecursion (IsWell opening reading store options) lines
-good-means-equal opening reading list_reading writing telling law store options name source w_old w_new e_old e_new (findings, None, finds, (ended, good), prints, told) = absurd ended
-good-means-equal opening reading list_reading writing telling law store options name source w_old w_new e_old e_new (findings, Some end, finds, (ended, good), prints, told) =
+good-means-equal opening reading list_reading rules law store options name source old new (findings, None, finds, (ended, good), emits) = absurd ended
+good-means-equal opening reading list_reading rules law store options name source old new (findings, Some end, finds, (ended, good), emits) =
     let (lines, meets, well) = law store options source findings (Some end) finds (sym good) in (lines, end, meets, well)

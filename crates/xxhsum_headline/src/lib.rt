@@ -5,9 +5,10 @@
 
 ghost use Rattle.std.specs.Prelude.{◌≡◌, ◌↔◌, ◌++◌, Bool, List, ℕ, Option, Result, true, codes, IsPermutation};
 ghost use Rattle.std.specs.List.{AllByRecursion, flat_map};
-ghost use Rattle.xxhsum_program.specs.Prelude.{EachHas, Kind, Options, Shape, Style, TellsOn, Took};
+ghost use Rattle.xxhsum_program.specs.Prelude.{EachHas, Kind, Options, Refused, Shape, Style, TellsOn, Took};
 ghost use Rattle.xxhsum_program.specs.declared.outcome.Outcome.{Outcome};
 ghost use Rattle.xxhsum_program.specs.declared.stop.Stop.{Stop};
+ghost use Rattle.xxhsum_program.specs.declared.stop.Stop.TheVariants.{WriteFailed};
 ghost use Rattle.xxhsum_audit.specs.Audit.{IsAudit};
 ghost use Rattle.xxhsum_audit.specs.Item.{HasSameDigest, IsAmong, Item};
 ghost use Rattle.xxhsum_audit.specs.Laws.{IsKept, IsRight};
@@ -22,8 +23,9 @@ ghost use Rattle.xxhsum_program.specs.Lines.{lines_of, told_line, written_line};
 ghost use Rattle.xxhsum_program.specs.ListEnd.{ListEnd};
 ghost use Rattle.xxhsum_program.specs.Outcomes.{Comes, IsValueOf, are_digested};
 ghost use Rattle.xxhsum_program.specs.PrintedIsGood.{PrintedIsGood};
+ghost use Rattle.xxhsum_program.specs.Order.{EmitsAll, EmitsTo, Event, Streams, printed_of, reported_of, rules_of};
 ghost use Rattle.xxhsum_program.specs.Run.{status_of};
-ghost use Rattle.xxhsum_program.specs.Said.{named_text, printed_finding, printed_list};
+ghost use Rattle.xxhsum_program.specs.Said.{list_events, named_text, printed_finding};
 
 use xxh_io::ends::{Sink, Source};
 use xxhsum_audit::laws::laws_of_audits;
@@ -45,15 +47,29 @@ pub fn status()
 /// that the reads of its file returned, or the reason for none. Standard output has the lines of those with a value,
 /// standard error the messages of the others, and everything is well if and only if each has a value.
 pub fn each_name_once<S: Store, W: Sink, E: Sink>()
-    ensures { (store : S) (kind : Kind) (style : Style) (names : List (List ℕ)) (w_old w_new : W)
-        → (e_old e_new : E) (all : Bool)
-        → SaysNames S.Store S.File.Source W.Sink E.Sink store kind style names w_old w_new
-        e_old e_new (Ok all)
+    ensures { (held : W → List ℕ) (has_lost : W → Bool) (store : S) (kind : Kind) (style : Style)
+        → (names : List (List ℕ)) (old new : Streams W E) (all : Bool)
+        → SaysNames S.Store S.File.Source (rules_of W.Sink held has_lost E.Sink) store kind style
+        names old new (Ok all)
         → (outcomes : List Outcome)
         × EachHas (Comes S.Store S.File.Source store kind) names outcomes
-        × Took W.Sink (lines_of (written_line kind style) names outcomes) w_old w_new
-        × TellsOn E.Sink (lines_of told_line names outcomes) e_old e_new
+        × Took W.Sink (lines_of (written_line kind style) names outcomes) old.out new.out
+        × TellsOn E.Sink (lines_of told_line names outcomes) old.err new.err
         × (all ≡ are_digested outcomes) }
+{}
+
+/// Events are exactly the bytes of both streams: standard output takes what they print and standard error what they
+/// report. If a write failed, a prefix of the printed bytes is written.
+pub fn each_stream<W: Sink, E: Sink>()
+    ensures ends { (held : W → List ℕ) (has_lost : W → Bool) (events : List Event)
+        → (old new : Streams W E) → EmitsAll (rules_of W.Sink held has_lost E.Sink) events old new
+        → Took W.Sink (printed_of events) old.out new.out
+        × TellsOn E.Sink (reported_of events) old.err new.err }
+    ensures stops { (held : W → List ℕ) (has_lost : W → Bool) (events : List Event)
+        → (old new : Streams W E)
+        → EmitsTo {T = Bool} (rules_of W.Sink held has_lost E.Sink) events old new (Err WriteFailed)
+        → Refused W.Sink (printed_of events) old.out new.out
+        × TellsOn E.Sink (reported_of events) old.err new.err }
 {}
 
 /// Whatever bytes a name has, its outcome is one line and no message, or one message and no line.
@@ -66,19 +82,21 @@ pub fn one_line_a_name()
 
 /// A run that stops has printed a beginning of the lines of the names that it reached, or of the results of a list.
 pub fn stops_early<S: Store, R: Source, W: Sink, E: Sink>()
-    ensures names { (store : S) (kind : Kind) (style : Style) (names : List (List ℕ))
-        → (w_old w_new : W) (e_old e_new : E) (stop : Stop)
-        → SaysNames S.Store S.File.Source W.Sink E.Sink store kind style names w_old w_new
-        e_old e_new (Err stop)
+    ensures names { (held : W → List ℕ) (has_lost : W → Bool) (store : S) (kind : Kind)
+        → (style : Style) (names : List (List ℕ)) (old new : Streams W E) (stop : Stop)
+        → SaysNames S.Store S.File.Source (rules_of W.Sink held has_lost E.Sink) store kind style
+        names old new (Err stop)
         → (done rest : List (List ℕ)) × (outcomes : List Outcome) × (names ≡ done ++ rest)
         × EachHas (Comes S.Store S.File.Source store kind) done outcomes
-        × PrintsBeginning W.Sink (lines_of (written_line kind style) done outcomes) w_old w_new }
-    ensures list { (store : S) (options : Options) (name : List ℕ) (source : R)
-        → (w_old w_new : W) (e_old e_new : E) (stop : Stop)
-        → SaysList S.Store S.File.Source R.Source W.Sink E.Sink store options name source
-        w_old w_new e_old e_new (Err stop)
+        × PrintsBeginning W.Sink (lines_of (written_line kind style) done outcomes)
+        old.out new.out }
+    ensures list { (held : W → List ℕ) (has_lost : W → Bool) (store : S) (options : Options)
+        → (name : List ℕ) (source : R) (old new : Streams W E) (stop : Stop)
+        → SaysList S.Store S.File.Source R.Source (rules_of W.Sink held has_lost E.Sink) store
+        options name source old new (Err stop)
         → (findings : List Finding) × (end : Option ListEnd)
-        × PrintsBeginning W.Sink (printed_list options name findings end) w_old w_new }
+        × PrintsBeginning W.Sink (printed_of (list_events options name findings end))
+        old.out new.out }
 {}
 
 // ---- checks
@@ -99,10 +117,10 @@ pub fn ok_means_equal<S: Store>()
 /// A good list means equal files: if a check reaches its end and the list is good, the file of each well-formed line
 /// has the line's value, or is missing and was to be ignored.
 pub fn good_means_equal<S: Store, R: Source, W: Sink, E: Sink>()
-    ensures { (store : S) (options : Options) (name : List ℕ) (source : R) (w_old w_new : W)
-        → (e_old e_new : E)
-        → SaysList S.Store S.File.Source R.Source W.Sink E.Sink store options name source
-        w_old w_new e_old e_new (Ok true)
+    ensures { (held : W → List ℕ) (has_lost : W → Bool) (store : S) (options : Options)
+        → (name : List ℕ) (source : R) (old new : Streams W E)
+        → SaysList S.Store S.File.Source R.Source (rules_of W.Sink held has_lost E.Sink) store
+        options name source old new (Ok true)
         → (lines : List (List ℕ)) × (end : ListEnd) × EndsAs R.Source source lines end
         × AllByRecursion (IsWell S.Store S.File.Source store options) lines }
 {

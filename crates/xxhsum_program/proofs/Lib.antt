@@ -5,7 +5,7 @@ pub mod HashFacts
 mod LineEndFacts
 mod LineFacts
 mod OkFacts
-mod OrderFacts
+pub mod OrderFacts
 mod OutcomeFacts
 mod PrintedIsGoodFacts
 mod PrintedListFacts

@@ -1,11 +1,13 @@
 -- A line that is written in two parts, of which either may be refused.
-use Rattle.std.proofs.Common.{◌≡◌, ◌≢◌, ℕ, List, [], ◌∷◌, ◌++◌, Bool, true, false, Ok, Err, IfErr, codes, nat_eq, ◌||◌, refl, if◌then◌else◌, arith, append-nil, ap, ◌∙◌, Result}
+use Rattle.std.proofs.Common.{◌≡◌, ◌≢◌, ℕ, ◌<◌, List, [], ◌∷◌, ◌++◌, Bool, true, false, Ok, Err, IfErr, codes, nat_eq, ◌||◌, refl, sym, subst, if◌then◌else◌, arith, append-nil, ap, ◌∙◌, Result}
 use Rattle.xxhsum_program.specs.Prelude.{Options, OutOfMemory, Report, SinkRules, Stop, Took, WriteFailed, concat, one_line}
 use Rattle.xxh_io.proofs.WriteFacts.{Refused-join, Refused-more, Took-join}
 use Rattle.xxhsum_program.specs.Lines.{PrintsLine}
 use Rattle.xxhsum_program.specs.ListEnd.{FailedRead}
-use Rattle.xxhsum_program.specs.Said.{count_text, printed_summary, told_break, told_of_line, told_summary, unverified_line, unverified_text}
+use Rattle.xxhsum_program.specs.Order.{Emits, EmitsTo, Event, Printed, Reported, StreamRules, Streams, streams}
+use Rattle.xxhsum_program.specs.Said.{break_events, count_text, printed_summary, summary_events, summary_text, told_break, told_of_line, told_summary, unverified_line, unverified_text}
 use Rattle.xxhsum_program.specs.Report.{is_unverified}
+use Rattle.xxhsum_program.proofs.OrderFacts.{emits-join, emits-line}
 
 -- the first part was refused
 pub line-more : {W T : Type 0} (writing : SinkRules W) (a b : List ℕ) (old new : W) (result : Result T Stop) (stop : Stop) → result ≡ Err stop → stop ≡ WriteFailed → PrintsLine {T = T} writing a old new (Err stop) → PrintsLine writing (a ++ b) old new result
@@ -20,6 +22,11 @@ line-join writing a b old mid new (Ok x) took only prints = Took-join writing a 
 line-join writing a b old mid new (Err WriteFailed) took only prints = Refused-join writing a b old mid new took prints
 line-join writing a b old mid new (Err OutOfMemory) took only prints = cc
 
+-- ---- the end of a list
+
+else-of : {T : Type 0} (count : ℕ) (items : List T) → count ≢ 0 → (if nat_eq count 0 then [] else items) ≡ items
+else-of count items some = grind arith
+
 one-of : (count : ℕ) (silent : Bool) (text : List ℕ) → count ≢ 0 → silent ≡ false → (if nat_eq count 0 || silent then [] else text) ≡ text
 one-of count silent text some speaks = rw speaks (grind arith)
 
@@ -33,14 +40,37 @@ summary-is options report some speaks =
 pub none-is : (list : List ℕ) (report : Report) → report.proper ≡ 0 → told_summary list report ≡ one_line (concat (list ∷ codes ": no properly formatted xxHash checksum lines found" ∷ []))
 none-is list report none = rw none refl
 
-pub break-none : (list : List ℕ) (number : ℕ) (report : Report) → report.proper ≡ 0 → told_break list number report FailedRead ≡ []
-break-none list number report none = rw none refl
+pub no-break : (list : List ℕ) (number : ℕ) (report : Report) → report.proper ≡ 0 → break_events list number report FailedRead ≡ []
+no-break list number report none = rw none refl
 
-else-of : (count : ℕ) (text : List ℕ) → count ≢ 0 → (if nat_eq count 0 then [] else text) ≡ text
-else-of count text some = grind arith
+not-zero : (n : ℕ) → 0 < n → n ≢ 0
+not-zero n some = λ is. omega (arith, some, is)
 
-pub break-some : (list : List ℕ) (number : ℕ) (report : Report) → report.proper ≢ 0 → told_break list number report FailedRead ≡ told_of_line list number (codes "A failure occurred reading the list")
-break-some list number report some = else-of report.proper _ some
+pub break-is : (list : List ℕ) (number : ℕ) (report : Report) → 0 < report.proper → break_events list number report FailedRead ≡ Reported (told_of_line list number (codes "A failure occurred reading the list")) ∷ []
+break-is list number report some =
+    let proper = not-zero report.proper some in
+    else-of report.proper (Reported (told_break list number report FailedRead) ∷ []) proper ∙ ap (λ (text : List ℕ). Reported text ∷ []) (else-of report.proper (told_of_line list number (codes "A failure occurred reading the list")) proper)
+
+-- Lemma: a list without a well-formed line is reported, and then its summary is printed.
+pub summary-reported : {W E T : Type 0} (rules : StreamRules W E) (options : Options) (list : List ℕ) (report : Report) (old : Streams W E) (met out : W) (err : E) (result : Result T Stop)
+    → report.proper ≡ 0 → Emits rules (Reported (told_summary list report)) old (streams met err) → PrintsLine rules.writing (summary_text options list report) met out result → IfErr result (λ stop. stop ≡ WriteFailed)
+    → EmitsTo rules (summary_events options list report) old (streams out err) result
+summary-reported rules options list report old met out err result none emits prints only =
+    let events : summary_events options list report ≡ Reported (told_summary list report) ∷ Printed (summary_text options list report) ∷ [] = rw none refl in
+    subst (λ all. EmitsTo rules all old (streams out err) result) (sym events)
+    (emits-join rules (Reported (told_summary list report) ∷ []) (Printed (summary_text options list report) ∷ []) old (streams met err) (streams out err) result (streams met err, emits, (refl, refl)) (emits-line rules (summary_text options list report) (streams met err) out result prints only))
+
+only-if : {T : Type 0} (count : ℕ) (items : List T) → count ≢ 0 → (if nat_eq count 0 then items else []) ≡ []
+only-if count items some = grind arith
+
+-- Lemma: the summary of any other list is printed.
+pub summary-printed : {W E T : Type 0} (rules : StreamRules W E) (options : Options) (list : List ℕ) (report : Report) (old : Streams W E) (out : W) (result : Result T Stop)
+    → report.proper ≢ 0 → PrintsLine rules.writing (summary_text options list report) old.out out result → IfErr result (λ stop. stop ≡ WriteFailed)
+    → EmitsTo rules (summary_events options list report) old (streams out old.err) result
+summary-printed rules options list report old out result some prints only =
+    let events : summary_events options list report ≡ Printed (summary_text options list report) ∷ [] =
+    ap (λ (all : List Event). all ++ Printed (summary_text options list report) ∷ []) (only-if report.proper (Reported (told_summary list report) ∷ []) some) in
+    subst (λ all. EmitsTo rules all old (streams out old.err) result) (sym events) (emits-line rules (summary_text options list report) old out result prints only)
 
 pub unverified-is : (options : Options) (list : List ℕ) (report : Report) → is_unverified options.ignores_missing report ≡ true → unverified_text options list report ≡ unverified_line list
 unverified-is options list report is = rw is refl

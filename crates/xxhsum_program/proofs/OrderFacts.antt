@@ -1,56 +1,79 @@
--- What is written to both streams, where one event more comes.
-use Rattle.std.proofs.Common.{◌≡◌, ℕ, Bool, false, List, [], ◌∷◌, ◌++◌, refl, sym, ap, ◌∙◌, subst, append_assoc, Ok, Err}
-use Rattle.xxhsum_program.specs.Prelude.{Digested, EachHas, IsDirectory, Kind, OutOfMemory, Outcome, Stop, Style, TellsOn, Took, Unread, WriteFailed}
-use Rattle.xxhsum_line.specs.Printed.{styled_line}
-use Rattle.xxhsum_program.specs.Finish.{IsWritten}
-use Rattle.xxhsum_program.specs.HashNames.{EndsWith, event_of, events_of, input_events}
-use Rattle.xxhsum_program.specs.Lines.{PrintsLine, told_line, written_line}
-use Rattle.xxhsum_program.specs.Order.{Emits, EmitsAll, EmitsTo, Event, Printed, Reported, StreamRules, Streams}
-use Rattle.xxhsum_program.specs.Outcomes.{is_digested}
-use Rattle.xxhsum_program.proofs.EachFacts.{EachHas-push}
-use Rattle.xxhsum_program.proofs.HashFacts.{nothing-is-refused}
+-- Lemmas on events of both streams.
+use Rattle.std.proofs.Common.{◌≡◌, ℕ, List, [], ◌∷◌, ◌++◌, refl, sym, ap, ◌∙◌, subst, append-nil, append_assoc, Ok, Err, IfErr, Result}
+use Rattle.xxh_io.proofs.WriteFacts.{Refused-join, Took-join}
+use Rattle.xxhsum_program.specs.Prelude.{OutOfMemory, Refused, Stop, TellsOn, Took, WriteFailed}
+use Rattle.xxhsum_program.specs.Lines.{PrintsLine}
+use Rattle.xxhsum_program.specs.Order.{Emits, EmitsAll, EmitsTo, Event, Printed, Reported, StreamRules, Streams, printed_of, reported_of, streams}
+use Rattle.xxhsum_program.proofs.ToldFacts.{tells-more, tells-nothing}
 
 emits-from : {W E : Type 0} (rules : StreamRules W E) (event : Event) (old mid new : Streams W E) → mid.out ≡ old.out → mid.err ≡ old.err → Emits rules event mid new → Emits rules event old new
 emits-from rules (Printed bytes) old mid new out err emits = rw (sym out, sym err) emits
 emits-from rules (Reported bytes) old mid new out err emits = rw (sym out, sym err) emits
 
-pub emits-push : {W E : Type 0} (rules : StreamRules W E) (events : List Event) (event : Event) (old mid new : Streams W E) → EmitsAll rules events old mid → Emits rules event mid new → EmitsAll rules (events ++ event ∷ []) old new
-emits-push rules [] event old mid new so_far emits =
-    (new, emits-from rules event old mid new so_far.0 so_far.1 emits, (refl, refl))
-emits-push rules (e ∷ events) event old mid new (met, first, so_far) emits =
-    (met, first, emits-push rules events event met mid new so_far emits)
+-- ---- events after others
 
-pub events-push : (comes : List ℕ → Outcome → Type 0) (kind : Kind) (style : Style) (names : List (List ℕ)) (outcomes : List Outcome) (name : List ℕ) (outcome : Outcome) → EachHas comes names outcomes → events_of kind style (names ++ name ∷ []) (outcomes ++ outcome ∷ []) ≡ events_of kind style names outcomes ++ event_of kind style name outcome ∷ []
-events-push comes kind style [] [] name outcome each = refl
-events-push comes kind style [] (o ∷ os) name outcome each = absurd each
-events-push comes kind style (n ∷ ns) [] name outcome each = absurd each
-events-push comes kind style (n ∷ ns) (o ∷ os) name outcome each =
-    ap (λ events. event_of kind style n o ∷ events) (events-push comes kind style ns os name outcome each.1)
+pub emits-append : {W E : Type 0} (rules : StreamRules W E) (a b : List Event) (old mid new : Streams W E) → EmitsAll rules a old mid → EmitsAll rules b mid new → EmitsAll rules (a ++ b) old new
+emits-append rules [] [] old mid new first second = (second.0 ∙ first.0, second.1 ∙ first.1)
+emits-append rules [] (event ∷ events) old mid new first (met, emits, rest) =
+    (met, emits-from rules event old mid met first.0 first.1 emits, rest)
+emits-append rules (event ∷ events) b old mid new (met, emits, rest) second =
+    (met, emits, emits-append rules events b met mid new rest second)
 
--- the event of a name
-pub emits-outcome : {W E : Type 0} (rules : StreamRules W E) (kind : Kind) (style : Style) (name : List ℕ) (outcome : Outcome) (old new : Streams W E) → Took rules.writing (written_line kind style name outcome) old.out new.out → (is_digested outcome ≡ false → IsWritten rules.held rules.has_lost new.out) → TellsOn rules.telling (told_line name outcome) old.err new.err → Emits rules (event_of kind style name outcome) old new
-emits-outcome rules kind style name (Digested value) old new took written tells = (took, tells)
-emits-outcome rules kind style name IsDirectory old new took written tells = (took, written refl, tells)
-emits-outcome rules kind style name (Unread reason) old new took written tells = (took, written refl, tells)
+pub emits-join : {W E T : Type 0} (rules : StreamRules W E) (a b : List Event) (old mid new : Streams W E) (result : Result T Stop) → EmitsAll rules a old mid → EmitsTo rules b mid new result → EmitsTo rules (a ++ b) old new result
+emits-join rules a b old mid new (Ok x) first second = emits-append rules a b old mid new first second
+emits-join rules a b old mid new (Err WriteFailed) first (before, line, met, is, emits, refused, same) =
+    (a ++ before, line, met, ap (λ (events : List Event). a ++ events) is ∙ sym (append_assoc a before (Printed line ∷ [])), emits-append rules a before old mid met first emits, refused, same)
+emits-join rules a b old mid new (Err OutOfMemory) first second = emits-append rules a b old mid new first second
 
--- a run that stops
-pub stops-in-order : {W E : Type 0} (rules : StreamRules W E) (comes : List ℕ → Outcome → Type 0) (kind : Kind) (style : Style) (all names after : List (List ℕ)) (outcomes : List Outcome) (name : List ℕ) (outcome : Outcome) (old mid : Streams W E) (new : W) (stop : Stop)
-    → all ≡ names ++ name ∷ after → EachHas comes names outcomes → comes name outcome → EmitsAll rules (events_of kind style names outcomes) old mid → PrintsLine {T = Unit {0}} rules.writing (written_line kind style name outcome) mid.out new (Err stop)
-    → (done_outcomes : List Outcome) × (done rest : List (List ℕ)) × ((all ≡ done ++ rest) × EachHas comes done done_outcomes × EndsWith rest done_outcomes (Err stop)) × EmitsTo {T = Bool} rules (events_of kind style done done_outcomes) old (record { out = new; err = mid.err }) (Err stop)
-stops-in-order rules comes kind style all names after outcomes name outcome old mid new OutOfMemory parts each came emits prints =
-    (outcomes, names, name ∷ after, (parts, each, tt), subst (λ w. EmitsAll rules (events_of kind style names outcomes) old (record { out = w; err = mid.err })) (sym prints) emits)
-stops-in-order rules comes kind style all names after outcomes name (Digested value) old mid new WriteFailed parts each came emits prints = (
-  outcomes ++ Digested value ∷ [],
-  names ++ name ∷ [],
-  after,
-  (parts ∙ sym (append_assoc names (name ∷ []) after), EachHas-push comes names outcomes name (Digested value) each came, tt),
-  (events_of kind style names outcomes, written_line kind style name (Digested value), mid, events-push comes kind style names outcomes name (Digested value) each, emits, prints, refl),
-)
-stops-in-order rules comes kind style all names after outcomes name IsDirectory old mid new WriteFailed parts each came emits prints = absurd (nothing-is-refused rules.writing mid.out new prints)
-stops-in-order rules comes kind style all names after outcomes name (Unread reason) old mid new WriteFailed parts each came emits prints = absurd (nothing-is-refused rules.writing mid.out new prints)
+-- Lemma: no event follows a run that stops.
+pub emits-stop : {W E : Type 0} (S T : Type 0) (rules : StreamRules W E) (events : List Event) (old new : Streams W E) (stop : Stop) → EmitsTo {T = S} rules events old new (Err stop) → EmitsTo {T = T} rules (events ++ []) old new (Err stop)
+emits-stop S T rules events old new WriteFailed emits =
+    subst (λ all. EmitsTo {T = T} rules all old new (Err WriteFailed)) (sym (append-nil events)) emits
+emits-stop S T rules events old new OutOfMemory emits =
+    subst (λ all. EmitsTo {T = T} rules all old new (Err OutOfMemory)) (sym (append-nil events)) emits
 
--- the line of standard input could not be written
-pub input-stops : {W E : Type 0} (rules : StreamRules W E) (kind : Kind) (style : Style) (name : List ℕ) (value hash : ℕ) (old : Streams W E) (new : W) (stop : Stop) → PrintsLine {T = Unit {0}} rules.writing (styled_line kind style value name) old.out new (Err stop) → EmitsTo {T = Bool} rules (input_events kind style name value (Ok hash) (Err stop)) old (record { out = new; err = old.err }) (Err stop)
-input-stops rules kind style name value hash old new WriteFailed refused =
-    ([], styled_line kind style value name, old, refl, (refl, refl), refused, refl)
-input-stops rules kind style name value hash old new OutOfMemory same = (same, refl)
+-- ---- one event
+
+-- Lemma: a line that is printed is one event.
+pub emits-line : {W E T : Type 0} (rules : StreamRules W E) (line : List ℕ) (old : Streams W E) (out : W) (result : Result T Stop) → PrintsLine rules.writing line old.out out result → IfErr result (λ stop. stop ≡ WriteFailed) → EmitsTo rules (Printed line ∷ []) old (streams out old.err) result
+emits-line rules line old out (Ok x) prints only =
+    (streams out old.err, (prints, tells-nothing rules.telling old.err), (refl, refl))
+emits-line rules line old out (Err WriteFailed) prints only = ([], line, old, refl, (refl, refl), prints, refl)
+emits-line rules line old out (Err OutOfMemory) prints only = cc
+
+-- ---- each stream
+
+pub emits-prints : {W E : Type 0} (rules : StreamRules W E) (events : List Event) (old new : Streams W E) → EmitsAll rules events old new → Took rules.writing (printed_of events) old.out new.out
+emits-prints rules [] old new same = ([], same.0, refl)
+emits-prints rules (Printed bytes ∷ events) old new (mid, emits, rest) =
+    Took-join rules.writing bytes (printed_of events) old.out mid.out new.out emits.0 (emits-prints rules events mid new rest)
+emits-prints rules (Reported bytes ∷ events) old new (mid, emits, rest) =
+    Took-join rules.writing [] (printed_of events) old.out mid.out new.out emits.0 (emits-prints rules events mid new rest)
+
+pub emits-reports : {W E : Type 0} (rules : StreamRules W E) (events : List Event) (old new : Streams W E) → EmitsAll rules events old new → TellsOn rules.telling (reported_of events) old.err new.err
+emits-reports rules [] old new same =
+    subst (λ err. TellsOn rules.telling [] old.err err) (sym same.1) (tells-nothing rules.telling old.err)
+emits-reports rules (Printed bytes ∷ events) old new (mid, emits, rest) =
+    tells-more rules.telling [] (reported_of events) old.err mid.err new.err emits.1 (emits-reports rules events mid new rest)
+emits-reports rules (Reported bytes ∷ events) old new (mid, emits, rest) =
+    tells-more rules.telling bytes (reported_of events) old.err mid.err new.err emits.2 (emits-reports rules events mid new rest)
+
+printed-append : (a : List Event) (line : List ℕ) → printed_of (a ++ Printed line ∷ []) ≡ printed_of a ++ line
+printed-append [] line = append-nil line
+printed-append (Printed bytes ∷ a) line =
+    ap (λ (rest : List ℕ). bytes ++ rest) (printed-append a line) ∙ sym (append_assoc bytes (printed_of a) line)
+printed-append (Reported bytes ∷ a) line = printed-append a line
+
+reported-append : (a : List Event) (line : List ℕ) → reported_of (a ++ Printed line ∷ []) ≡ reported_of a
+reported-append [] line = refl
+reported-append (Printed bytes ∷ a) line = reported-append a line
+reported-append (Reported bytes ∷ a) line = ap (λ (rest : List ℕ). bytes ++ rest) (reported-append a line)
+
+-- Lemma: if a write failed, a prefix of the printed bytes is written, and all messages are.
+pub emits-refuses : {W E : Type 0} (T : Type 0) (rules : StreamRules W E) (events : List Event) (old new : Streams W E) → EmitsTo {T = T} rules events old new (Err WriteFailed) → Refused rules.writing (printed_of events) old.out new.out × TellsOn rules.telling (reported_of events) old.err new.err
+emits-refuses T rules events old new (before, line, mid, is, emits, refused, same) =
+    let printed : printed_of events ≡ printed_of before ++ line = ap printed_of is ∙ printed-append before line in
+    let reported : reported_of events ≡ reported_of before = ap reported_of is ∙ reported-append before line in (
+      subst (λ bytes. Refused rules.writing bytes old.out new.out) (sym printed) (Refused-join rules.writing (printed_of before) line old.out mid.out new.out (emits-prints rules before old mid emits) refused),
+      subst (λ err. TellsOn rules.telling (reported_of events) old.err err) (sym same) (subst (λ bytes. TellsOn rules.telling bytes old.err mid.err) (sym reported) (emits-reports rules before old mid emits)),
+    )

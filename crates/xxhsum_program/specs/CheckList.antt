@@ -1,46 +1,48 @@
--- The check of a list: each of its lines is found once, in their order.
+-- The check of a list: one finding for each of its lines, in their order.
 use Rattle.std.specs.Prelude.{◌≡◌, ◌⊎◌, ℕ, ◌-◌, ◌^◌, Bool, true, false, List, [], ◌∷◌, ◌++◌, Option, Some, None, length, Result, Ok, Err}
 use Rattle.std.specs.List.{list_all}
-use Rattle.xxhsum_program.specs.Prelude.{AllByRecursion, EachHas, Lacks, NoneEmpty, Options, OutOfMemory, Pieces, Refusal, Refused, Report, SinkRules, SourceRules, Stop, StoreRules, TellsOn, Took, WriteFailed, concat}
+use Rattle.xxhsum_program.specs.Prelude.{AllByRecursion, EachHas, Lacks, NoneEmpty, Options, OutOfMemory, Pieces, Refusal, Report, SourceRules, Stop, StoreRules, WriteFailed, concat}
 use Rattle.xxhsum_program.specs.Findings.{Finding, IsFinding, count_one}
-use Rattle.xxhsum_program.specs.Lines.{PrintsUnlessFailed, lines_of}
+use Rattle.xxhsum_program.specs.Lines.{lines_of}
 use Rattle.xxhsum_program.specs.ListEnd.{ListEnd, Whole, TooMany, Endless, FailedRead, report_at}
 use Rattle.xxhsum_program.specs.ListLines.{FailsAfter, IsEndless, IsLastLine, end_piece}
+use Rattle.xxhsum_program.specs.Order.{EmitsAll, EmitsTo, EmitsUnlessFailed, Event, Reported, StreamRules, Streams}
 use Rattle.xxhsum_program.specs.Report.{passes}
-use Rattle.xxhsum_program.specs.Said.{printed_finding, printed_list, told_finding, told_list, told_refusal}
+use Rattle.xxhsum_program.specs.Said.{finding_events, list_events, told_refusal}
 
--- lines, each with its line feed
+-- The lines, each with its line feed.
 abbrev pub with_line_feeds : List (List ℕ) → List ℕ
 with_line_feeds [] = []
 with_line_feeds (line ∷ lines) = line ++ 10 ∷ with_line_feeds lines
 
--- the text is a last line behind others, which have their line feeds
+-- The text is lines with line feeds, followed by a last line without one.
 abbrev pub EndsInLine : List ℕ → List (List ℕ) → Type 0
 EndsInLine text lines =
     (before : List (List ℕ)) × (last : List ℕ) × AllByRecursion (Lacks 10) before × IsLastLine last
     × (text ≡ with_line_feeds before ++ last) × (lines ≡ before ++ last ∷ [])
 
--- The text is these lines, each with its line feed, and then the rest; or the source has ended, and they are all of it.
+-- The text is these lines, each with its line feed, followed by the rest; or the source has ended, and they are the
+-- whole text.
 abbrev pub HasLines : Bool → List ℕ → List (List ℕ) → List ℕ → Type 0
 HasLines has_ended text lines rest =
     (AllByRecursion (Lacks 10) lines × (text ≡ with_line_feeds lines ++ rest))
     ⊎ ((has_ended ≡ true) × EndsInLine text lines × (rest ≡ []))
 
--- reads of the source, of which none but the last was empty, gave these lines and then the rest
+-- Reads of the source, of which only the last was empty, returned these lines and then the rest.
 abbrev pub ReadsLines : {R : Type 0} → SourceRules R → R → Bool → List (List ℕ) → List ℕ → Type 0
 ReadsLines {R} reading source has_ended lines rest =
     (pieces : List (List ℕ)) × (end : R) × NoneEmpty pieces
     × Pieces reading.gives source (pieces ++ end_piece has_ended) end × HasLines has_ended (concat pieces) lines rest
 
--- the source has ended, and these are its lines
+-- The source has ended, and these are its lines.
 abbrev pub EndsWell : {R : Type 0} → SourceRules R → R → List (List ℕ) → Type 0
 EndsWell reading source lines = ReadsLines reading source true lines []
 
--- reads of the source gave these lines, and perhaps more
+-- Reads of the source returned these lines, and perhaps more.
 abbrev pub ReadsSome : {R : Type 0} → SourceRules R → R → List (List ℕ) → Type 0
 ReadsSome reading source lines = (has_ended : Bool) × (rest : List ℕ) × ReadsLines reading source has_ended lines rest
 
--- how the lines of a source end
+-- The way in which the lines of a source end.
 abbrev pub EndsAs : {R : Type 0} → SourceRules R → R → List (List ℕ) → ListEnd → Type 0
 EndsAs reading source lines Whole = EndsWell reading source lines
 EndsAs reading source lines TooMany = ReadsSome reading source lines × (length lines ≡ 2 ^ 64 - 2)
@@ -50,38 +52,36 @@ EndsAs reading source lines FailedRead =
     (rest : List ℕ) × FailsAfter reading source (with_line_feeds lines ++ rest)
     × Lacks 10 rest × AllByRecursion (Lacks 10) lines
 
--- the first lines of a source, or all of them and how they end
+-- The first lines of a source, or all of them and the way in which they end.
 abbrev pub MeetsLines : {R : Type 0} → SourceRules R → R → List (List ℕ) → Option ListEnd → Type 0
 MeetsLines reading source lines None = ReadsSome reading source lines
 MeetsLines reading source lines (Some end) = EndsAs reading source lines end
 
--- each of the lines of a source, as far as its check has come, has a finding
+-- Each of the lines of a source that were checked so far has a finding.
 abbrev pub FindsLines : {R : Type 0} → (List ℕ → Finding → Type 0) → SourceRules R → R → List Finding → Option ListEnd
     → Type 0
 FindsLines is_finding reading source findings end =
     (lines : List (List ℕ)) × EachHas is_finding lines findings × MeetsLines reading source lines end
 
--- A line has a finding, which is counted and said. Where a write failed, it was counted, and a beginning of its line was
--- printed; where there was no memory, nothing was said.
-abbrev pub ChecksLine : {W E : Type 0} → (Finding → Type 0) → SinkRules W → SinkRules E → Options → List ℕ → ℕ → Report
-    → Report → W → W → E → E → Result (Unit {0}) Stop → Type 0
-ChecksLine is_finding writing telling options list number r_old r_new w_old w_new e_old e_new (Ok _) =
+-- A line has a finding, which is counted, and its events. If a write failed, a prefix of its line is printed; if out of
+-- memory, there are no events.
+abbrev pub ChecksLine : {W E : Type 0} → (Finding → Type 0) → StreamRules W E → Options → List ℕ → ℕ → Report → Report
+    → Streams W E → Streams W E → Result (Unit {0}) Stop → Type 0
+ChecksLine is_finding rules options list number r_old r_new old new (Ok _) =
     (finding : Finding) × is_finding finding × (r_new ≡ count_one options.ignores_missing r_old finding)
-    × Took writing (printed_finding options list number finding) w_old w_new
-    × TellsOn telling (told_finding options list number finding) e_old e_new
-ChecksLine is_finding writing telling options list number r_old r_new w_old w_new e_old e_new (Err WriteFailed) =
+    × EmitsAll rules (finding_events options list number finding) old new
+ChecksLine is_finding rules options list number r_old r_new old new (Err WriteFailed) =
     (finding : Finding) × is_finding finding
-    × Refused writing (printed_finding options list number finding) w_old w_new
-    × TellsOn telling (told_finding options list number finding) e_old e_new
-ChecksLine is_finding writing telling options list number r_old r_new w_old w_new e_old e_new (Err OutOfMemory) =
-    (w_new ≡ w_old) × (e_new ≡ e_old)
+    × EmitsTo {T = Unit {0}} rules (finding_events options list number finding) old new (Err WriteFailed)
+ChecksLine is_finding rules options list number r_old r_new old new (Err OutOfMemory) =
+    (new.out ≡ old.out) × (new.err ≡ old.err)
 
--- whether the list is good, once its end is known
+-- True if the list is good; false before its end is reached.
 abbrev pub is_good_list : Options → List Finding → Option ListEnd → Bool
 is_good_list options findings None = false
 is_good_list options findings (Some end) = passes options (report_at options.ignores_missing end findings)
 
--- the check has come to the end
+-- The check has reached the end of the list.
 abbrev pub HasEnded : Option ListEnd → Type 0
 HasEnded None = ⊥
 HasEnded (Some end) = Unit {0}
@@ -91,7 +91,7 @@ abbrev pub AnswersList : Options → List Finding → Option ListEnd → Result 
 AnswersList options findings end (Ok good) = HasEnded end × (good ≡ is_good_list options findings end)
 AnswersList options findings end (Err stop) = Unit {0}
 
--- a report is that of the whole list
+-- The report is that of the whole list.
 abbrev pub ReportsLines : Bool → List Finding → Option ListEnd → Result Report Stop → Type 0
 ReportsLines ignores findings None (Ok report) = ⊥
 ReportsLines ignores findings (Some end) (Ok report) = report ≡ report_at ignores end findings
@@ -99,7 +99,7 @@ ReportsLines ignores findings end (Err stop) = end ≡ None
 
 -- ---- lists by their names
 
--- what became of a name of a list: it was checked, as far as that has come, or can't be opened
+-- The outcome of the name of a list: the findings so far, or the reason why it can't be opened.
 pub data ListOutcome : Type 0 where
   Checked : List Finding → Option ListEnd → ListOutcome
   Unopened : Refusal → ListOutcome
@@ -110,16 +110,12 @@ IsListOutcome {S} {F} opening reading store is_little name (Checked findings end
     × FindsLines (IsFinding opening reading store is_little) reading file findings end
 IsListOutcome opening reading store is_little name (Unopened refusal) = opening.refuses store name refusal
 
--- what is printed and reported about it
-abbrev pub printed_outcome : Options → List ℕ → ListOutcome → List ℕ
-printed_outcome options list (Checked findings end) = printed_list options list findings end
-printed_outcome options list (Unopened refusal) = []
+-- The events of a list: those of its check, or the message that it can't be opened.
+abbrev pub outcome_events : Options → List ℕ → ListOutcome → List Event
+outcome_events options list (Checked findings end) = list_events options list findings end
+outcome_events options list (Unopened refusal) = Reported (told_refusal list refusal) ∷ []
 
-abbrev pub told_outcome : Options → List ℕ → ListOutcome → List ℕ
-told_outcome options list (Checked findings end) = told_list options list findings end
-told_outcome options list (Unopened refusal) = told_refusal list refusal
-
--- the list was checked to its end, or can't be opened
+-- The list was checked to its end, or can't be opened.
 abbrev pub IsDone : ListOutcome → Type 0
 IsDone (Checked findings end) = HasEnded end
 IsDone (Unopened refusal) = Unit {0}
@@ -127,7 +123,7 @@ IsDone (Unopened refusal) = Unit {0}
 abbrev pub AreAllDone : List ListOutcome → Type 0
 AreAllDone outcomes = AllByRecursion IsDone outcomes
 
--- all but the last, at which the run may have stopped
+-- All are done, except perhaps the last, at which the run stopped.
 abbrev pub AreDoneButLast : List ListOutcome → Type 0
 AreDoneButLast outcomes =
     AreAllDone outcomes
@@ -140,41 +136,39 @@ is_good_outcome options (Unopened refusal) = false
 abbrev pub are_good : Options → List ListOutcome → Bool
 are_good options outcomes = list_all (is_good_outcome options) outcomes
 
--- a result is that of this list; without one its check has stopped
+-- The result is that of this list; an error if its check stopped.
 abbrev pub AnswersOutcome : Options → ListOutcome → Result Bool Stop → Type 0
 AnswersOutcome options outcome (Ok good) = IsDone outcome × (good ≡ is_good_outcome options outcome)
 AnswersOutcome options outcome (Err stop) = Unit {0}
 
--- a result is that of all lists; without one the run has stopped at the last list that has an outcome
+-- The result is that of all lists; an error if the run stopped at the last list that has an outcome.
 abbrev pub AnswersLists : Options → List (List ℕ) → List ListOutcome → Result Bool Stop → Type 0
 AnswersLists options rest outcomes (Ok all) =
     (rest ≡ []) × AreAllDone outcomes × (all ≡ are_good options outcomes)
 AnswersLists options rest outcomes (Err stop) = AreDoneButLast outcomes
 
--- the lists that are done, each with its outcome, and then the rest
+-- The names are the lists that are done, each with its outcome, followed by the rest.
 abbrev pub ChecksLists : {S F : Type 0} → StoreRules S F → SourceRules F → S → Bool → Options → List (List ℕ)
     → List (List ℕ) → List (List ℕ) → List ListOutcome → Result Bool Stop → Type 0
 ChecksLists opening reading store is_little options names done rest outcomes result =
     (names ≡ done ++ rest) × EachHas (IsListOutcome opening reading store is_little) done outcomes
     × AnswersLists options rest outcomes result
 
--- ---- what is found, and what is said of it
+-- ---- findings and their events
 
--- the lines of a list have their findings, and both streams have exactly the texts of these
-abbrev pub SaysList : {S F R W E : Type 0} → StoreRules S F → SourceRules F → SourceRules R → SinkRules W → SinkRules E
-    → S → Options → List ℕ → R → W → W → E → E → Result Bool Stop → Type 0
-SaysList opening reading list_reading writing telling store options name source w_old w_new e_old e_new result =
+-- The lines of a list have their findings, and exactly the events of these happen, in their order.
+abbrev pub SaysList : {S F R W E : Type 0} → StoreRules S F → SourceRules F → SourceRules R → StreamRules W E → S → Options
+    → List ℕ → R → Streams W E → Streams W E → Result Bool Stop → Type 0
+SaysList opening reading list_reading rules store options name source old new result =
     (findings : List Finding) × (end : Option ListEnd)
     × FindsLines (IsFinding opening reading store options.is_little_endian) list_reading source findings end
     × AnswersList options findings end result
-    × PrintsUnlessFailed writing (printed_list options name findings end) w_old w_new result
-    × TellsOn telling (told_list options name findings end) e_old e_new
+    × EmitsUnlessFailed rules (list_events options name findings end) old new result
 
--- each list has its outcome, and both streams have exactly the texts of these
-abbrev pub SaysLists : {S F W E : Type 0} → StoreRules S F → SourceRules F → SinkRules W → SinkRules E → S → Options
-    → List (List ℕ) → W → W → E → E → Result Bool Stop → Type 0
-SaysLists opening reading writing telling store options names w_old w_new e_old e_new result =
+-- Each list has its outcome, and exactly the events of these happen, list after list.
+abbrev pub SaysLists : {S F W E : Type 0} → StoreRules S F → SourceRules F → StreamRules W E → S → Options
+    → List (List ℕ) → Streams W E → Streams W E → Result Bool Stop → Type 0
+SaysLists opening reading rules store options names old new result =
     (outcomes : List ListOutcome) × (done rest : List (List ℕ))
     × ChecksLists opening reading store options.is_little_endian options names done rest outcomes result
-    × PrintsUnlessFailed writing (lines_of (printed_outcome options) done outcomes) w_old w_new result
-    × TellsOn telling (lines_of (told_outcome options) done outcomes) e_old e_new
+    × EmitsUnlessFailed rules (lines_of (outcome_events options) done outcomes) old new result

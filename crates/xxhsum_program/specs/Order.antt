@@ -1,9 +1,9 @@
--- What is written to standard output and standard error, in one order.
-use Rattle.std.specs.Prelude.{◌≡◌, ℕ, Bool, List, [], ◌∷◌, ◌++◌, Result, Ok, Err}
+-- The bytes written to standard output and standard error, in one order.
+use Rattle.std.specs.Prelude.{◌≡◌, ◌⊎◌, ℕ, Bool, true, List, [], ◌∷◌, ◌++◌, Result, Ok, Err}
 use Rattle.xxhsum_program.specs.Prelude.{OutOfMemory, Refused, SinkRules, Stop, TellsOn, Took, WriteFailed}
 use Rattle.xxhsum_program.specs.Finish.{IsWritten}
 
--- both streams at one time
+-- Both streams at one time.
 pub record Streams (W E : Type 0) : Type 0 where
   pub out : W
   pub err : E
@@ -11,7 +11,7 @@ pub record Streams (W E : Type 0) : Type 0 where
 abbrev pub streams : {W E : Type 0} → W → E → Streams W E
 streams out err = record { out = out; err = err }
 
--- the rules of both; of standard output also which bytes it holds, and whether it has lost some
+-- The rules of both streams; and, of standard output, the bytes it holds and whether it has lost some.
 pub record StreamRules (W E : Type 0) : Type 1 where
   pub writing : SinkRules W
   pub held : W → List ℕ
@@ -21,12 +21,12 @@ pub record StreamRules (W E : Type 0) : Type 1 where
 abbrev pub rules_of : {W E : Type 0} → SinkRules W → (W → List ℕ) → (W → Bool) → SinkRules E → StreamRules W E
 rules_of writing held has_lost telling = record { writing = writing; held = held; has_lost = has_lost; telling = telling }
 
--- bytes are printed on standard output, or reported on standard error
+-- Bytes are printed on standard output, or reported on standard error.
 pub data Event : Type 0 where
   Printed : List ℕ → Event
   Reported : List ℕ → Event
 
--- One event. When a message is reported, all that was printed before it is written, or was lost.
+-- One event. When a message is reported, all bytes printed before it are written, or were lost.
 abbrev pub Emits : {W E : Type 0} → StreamRules W E → Event → Streams W E → Streams W E → Type 0
 Emits rules (Printed bytes) old new =
     Took rules.writing bytes old.out new.out × TellsOn rules.telling [] old.err new.err
@@ -34,16 +34,35 @@ Emits rules (Reported bytes) old new =
     Took rules.writing [] old.out new.out × IsWritten rules.held rules.has_lost new.out
     × TellsOn rules.telling bytes old.err new.err
 
--- one event after another
+-- One event after another.
 abbrev pub EmitsAll : {W E : Type 0} → StreamRules W E → List Event → Streams W E → Streams W E → Type 0
 EmitsAll rules [] old new = (new.out ≡ old.out) × (new.err ≡ old.err)
 EmitsAll {W} {E} rules (event ∷ events) old new =
     (mid : Streams W E) × Emits rules event old mid × EmitsAll rules events mid new
 
--- All events; or a write failed at the last, and a beginning of its line is printed.
+-- All events; or a write failed at the last, and a prefix of its line is printed.
 abbrev pub EmitsTo : {W E T : Type 0} → StreamRules W E → List Event → Streams W E → Streams W E → Result T Stop → Type 0
 EmitsTo rules events old new (Ok _) = EmitsAll rules events old new
 EmitsTo {W} {E} rules events old new (Err WriteFailed) =
     (before : List Event) × (line : List ℕ) × (mid : Streams W E) × (events ≡ before ++ Printed line ∷ [])
     × EmitsAll rules before old mid × Refused rules.writing line mid.out new.out × (new.err ≡ mid.err)
 EmitsTo rules events old new (Err OutOfMemory) = EmitsAll rules events old new
+
+-- The same; or a write to standard output had failed before, and nothing is written.
+abbrev pub EmitsUnlessFailed : {W E T : Type 0} → StreamRules W E → List Event → Streams W E → Streams W E
+    → Result T Stop → Type 0
+EmitsUnlessFailed rules events old new result =
+    EmitsTo rules events old new result
+    ⊎ ((rules.writing.has_failed old.out ≡ true) × (new.out ≡ old.out) × (new.err ≡ old.err) × (result ≡ Err WriteFailed))
+
+-- The bytes that the events print.
+abbrev pub printed_of : List Event → List ℕ
+printed_of [] = []
+printed_of (Printed bytes ∷ events) = bytes ++ printed_of events
+printed_of (Reported bytes ∷ events) = printed_of events
+
+-- The bytes that the events report.
+abbrev pub reported_of : List Event → List ℕ
+reported_of [] = []
+reported_of (Printed bytes ∷ events) = reported_of events
+reported_of (Reported bytes ∷ events) = bytes ++ reported_of events

@@ -1,5 +1,5 @@
--- The texts that the check of a list writes to both streams, by the options and the findings. Each is one line, whatever
--- names it has, and lines are numbered from 1.
+-- The lines and messages of the check of a list, by the options and the findings. Each is one line, whatever bytes the
+-- names have. Lines of a list are numbered from 1.
 use Rattle.std.specs.Prelude.{ℕ, ◌+◌, Bool, List, [], ◌∷◌, ◌++◌, Option, Some, None, ◌||◌, codes, decimal, length, nat_eq, if◌then◌else◌}
 use Rattle.xxhsum_program.specs.Prelude.{Found, Options, Refusal, Report, concat, one_line}
 use Rattle.xxhsum_files.specs.Refusal.{refusal_text}
@@ -7,37 +7,38 @@ use Rattle.xxhsum_program.specs.declared.entry.Found.TheVariants.{Same, Differen
 use Rattle.xxhsum_program.specs.Findings.{Finding, Ignored, Improper, Proper, TooLong, report_of}
 use Rattle.xxhsum_program.specs.ListEnd.{ListEnd, Whole, TooMany, Endless, FailedRead, report_at}
 use Rattle.xxhsum_program.specs.Found.{is_passed_over}
+use Rattle.xxhsum_program.specs.Order.{Event, Printed, Reported}
 use Rattle.xxhsum_program.specs.Outcomes.{reason_text}
 use Rattle.xxhsum_program.specs.Report.{is_unverified}
 
 -- ---- a line
 
--- what is wrong with the line of this number
+-- The message about an error in the line of this number.
 abbrev pub told_of_line : List ℕ → ℕ → List ℕ → List ℕ
 told_of_line list number what =
     one_line (concat (list ∷ codes ":" ∷ decimal number ∷ codes ": Error: " ∷ what ∷ codes "." ∷ []))
 
--- a word of the file of this name
+-- A name and a word after it, as one line.
 abbrev pub named_text : List ℕ → List ℕ → List ℕ
 named_text name word = one_line (concat (name ∷ word ∷ []))
 
--- why the file of a line could not be read
+-- The result of a line whose file could not be read, with the reason.
 abbrev pub unread_text : List ℕ → ℕ → List ℕ → List ℕ → List ℕ
 unread_text list number name why =
     one_line (concat (list ∷ codes ":" ∷ decimal number ∷ codes ": Could not open or read '" ∷ name ∷ codes "': " ∷ why
     ∷ codes "." ∷ []))
 
--- "OK" exactly where the file has the line's value
+-- The result of a line: "OK" if and only if the file has the line's value.
 abbrev pub found_text : Bool → List ℕ → ℕ → List ℕ → Found → List ℕ
 found_text is_quiet list number name Same = if is_quiet then [] else named_text name (codes ": OK")
 found_text is_quiet list number name Different = named_text name (codes ": FAILED")
 found_text is_quiet list number name (Unread reason) = unread_text list number name (reason_text reason)
 
--- nothing is said of how a file is under `--status`, and of one that is passed over
+-- True if nothing is printed about a file: with `--status`, and for missing files that are ignored.
 abbrev pub is_silent : Options → Found → Bool
 is_silent options found = options.is_status_only || is_passed_over options.ignores_missing found
 
--- what is printed of a line
+-- The bytes printed for a line.
 abbrev pub printed_finding : Options → List ℕ → ℕ → Finding → List ℕ
 printed_finding options list number Ignored = []
 printed_finding options list number Improper = []
@@ -48,7 +49,7 @@ printed_finding options list number (Proper name found) =
 abbrev pub too_long_text : List ℕ → ℕ → List ℕ
 too_long_text list number = told_of_line list number (codes "Line too long")
 
--- what is reported about a line: that it is too long, with any options
+-- The message about a line. A line that is too long is reported with all options.
 abbrev pub told_finding : Options → List ℕ → ℕ → Finding → List ℕ
 told_finding options list number Ignored = []
 told_finding options list number Improper =
@@ -56,19 +57,28 @@ told_finding options list number Improper =
 told_finding options list number TooLong = too_long_text list number
 told_finding options list number (Proper name found) = []
 
--- the texts of all lines, of which the first has this number
-abbrev pub numbered : (ℕ → Finding → List ℕ) → ℕ → List Finding → List ℕ
+-- The events of a line: its result is printed, or an error in it is reported.
+abbrev pub finding_events : Options → List ℕ → ℕ → Finding → List Event
+finding_events options list number Ignored = []
+finding_events options list number Improper =
+    if options.warns then Reported (told_finding options list number Improper) ∷ [] else []
+finding_events options list number TooLong = Reported (told_finding options list number TooLong) ∷ []
+finding_events options list number (Proper name found) =
+    Printed (printed_finding options list number (Proper name found)) ∷ []
+
+-- The lists of all lines, joined; the first line has this number.
+abbrev pub numbered : {T : Type 0} → (ℕ → Finding → List T) → ℕ → List Finding → List T
 numbered text number [] = []
 numbered text number (finding ∷ findings) = text number finding ++ numbered text (number + 1) findings
 
 -- ---- the end of a list
 
--- so many, in the singular or the plural, where there are any
+-- The count with its text in the singular or the plural; nothing for 0.
 abbrev pub count_text : ℕ → List ℕ → List ℕ → List ℕ
 count_text count one more =
     if nat_eq count 0 then [] else decimal count ++ (if nat_eq count 1 then one else more)
 
--- how many lines are not as they should be
+-- The numbers of malformed lines, unread files and mismatches.
 abbrev pub printed_summary : Options → Report → List ℕ
 printed_summary options report =
     if nat_eq report.proper 0 || options.is_status_only then [] else concat
@@ -78,28 +88,28 @@ printed_summary options report =
     (codes " computed checksums did NOT match\n")
     ∷ [])
 
--- that no file of the list was verified
+-- The line that reports that no file of the list was verified.
 abbrev pub unverified_line : List ℕ → List ℕ
 unverified_line list = one_line (concat (list ∷ codes ": no file was verified" ∷ []))
 
--- it is said where files that aren't there are passed over: whatever else is asked for
+-- That line, if missing files are ignored and no file matches; with all other options.
 abbrev pub unverified_text : Options → List ℕ → Report → List ℕ
 unverified_text options list report =
     if is_unverified options.ignores_missing report then unverified_line list else []
 
--- all that is printed behind the lines
+-- The bytes printed after the results of the lines.
 abbrev pub summary_text : Options → List ℕ → Report → List ℕ
 summary_text options list report = printed_summary options report ++ unverified_text options list report
 
--- whether the list is one at all
+-- The message about a list without a well-formed line.
 abbrev pub told_summary : List ℕ → Report → List ℕ
 told_summary list report =
     if nat_eq report.proper 0
     then one_line (concat (list ∷ codes ": no properly formatted xxHash checksum lines found" ∷ []))
     else []
 
--- Why the list breaks off at the line of this number. If a read failed and no line was well-formed, that is reported by the
--- summary.
+-- The message about a list that breaks off at the line of this number. If a read failed and no line was well-formed,
+-- only the summary reports it.
 abbrev pub told_break : List ℕ → ℕ → Report → ListEnd → List ℕ
 told_break list number report Whole = []
 told_break list number report TooMany = []
@@ -107,35 +117,40 @@ told_break list number report Endless = too_long_text list number
 told_break list number report FailedRead =
     if nat_eq report.proper 0 then [] else told_of_line list number (codes "A failure occurred reading the list")
 
--- ---- a list, as far as its check has come: to the end of its lines, or to the summary behind them
+-- ---- the events of a list, as far as its check has come: to the end of its lines, or to the summary after them
 
-abbrev pub printed_end : Options → List ℕ → List Finding → Option ListEnd → List ℕ
-printed_end options list findings None = []
-printed_end options list findings (Some end) =
-    summary_text options list (report_at options.ignores_missing end findings)
+abbrev pub break_events : List ℕ → ℕ → Report → ListEnd → List Event
+break_events list number report Whole = []
+break_events list number report TooMany = []
+break_events list number report Endless = Reported (told_break list number report Endless) ∷ []
+break_events list number report FailedRead =
+    if nat_eq report.proper 0 then [] else Reported (told_break list number report FailedRead) ∷ []
 
-abbrev pub told_stop : Options → List ℕ → List Finding → Option ListEnd → List ℕ
-told_stop options list findings None = []
-told_stop options list findings (Some end) =
-    told_break list (length findings + 1) (report_of options.ignores_missing findings) end
+-- A list without a well-formed line is reported; then the summary is printed.
+abbrev pub summary_events : Options → List ℕ → Report → List Event
+summary_events options list report =
+    (if nat_eq report.proper 0 then Reported (told_summary list report) ∷ [] else [])
+    ++ Printed (summary_text options list report) ∷ []
 
-abbrev pub told_end : Options → List ℕ → List Finding → Option ListEnd → List ℕ
-told_end options list findings None = []
-told_end options list findings (Some end) = told_summary list (report_at options.ignores_missing end findings)
+abbrev pub stop_events : Options → List ℕ → List Finding → Option ListEnd → List Event
+stop_events options list findings None = []
+stop_events options list findings (Some end) =
+    break_events list (length findings + 1) (report_of options.ignores_missing findings) end
 
--- what is reported before the summary
-abbrev pub told_lines : Options → List ℕ → List Finding → Option ListEnd → List ℕ
-told_lines options list findings end =
-    numbered (told_finding options list) 1 findings ++ told_stop options list findings end
+abbrev pub end_events : Options → List ℕ → List Finding → Option ListEnd → List Event
+end_events options list findings None = []
+end_events options list findings (Some end) =
+    summary_events options list (report_at options.ignores_missing end findings)
 
-abbrev pub printed_list : Options → List ℕ → List Finding → Option ListEnd → List ℕ
-printed_list options list findings end =
-    numbered (printed_finding options list) 1 findings ++ printed_end options list findings end
+-- The events before the summary.
+abbrev pub lines_events : Options → List ℕ → List Finding → Option ListEnd → List Event
+lines_events options list findings end =
+    numbered (finding_events options list) 1 findings ++ stop_events options list findings end
 
-abbrev pub told_list : Options → List ℕ → List Finding → Option ListEnd → List ℕ
-told_list options list findings end = told_lines options list findings end ++ told_end options list findings end
+abbrev pub list_events : Options → List ℕ → List Finding → Option ListEnd → List Event
+list_events options list findings end = lines_events options list findings end ++ end_events options list findings end
 
--- a list that can't be opened
+-- The message about a list that can't be opened.
 abbrev pub told_refusal : List ℕ → Refusal → List ℕ
 told_refusal list refusal =
     one_line (concat (codes "Error: Could not open '" ∷ list ∷ codes "': " ∷ refusal_text refusal ∷ []))

@@ -1,15 +1,16 @@
 //! Checks lists of checksum lines against the files that they name.
 
 ghost use Rattle.std.specs.Prelude.{◌≡◌, ◌<◌, ◌≤◌, [], true, List, ℕ, Option, false, length, map, nat_eq, IfErr, IfOk, if◌then◌else◌};
-ghost use Rattle.xxhsum_program.specs.Prelude.{TellsOn, Took};
-ghost use Rattle.xxhsum_program.specs.CheckList.{AnswersList, AnswersOutcome, ChecksLine, FindsLines, IsListOutcome, ListOutcome, ReportsLines, SaysList, SaysLists, printed_outcome, told_outcome};
+ghost use Rattle.xxhsum_program.specs.Prelude.{TellsOn};
+ghost use Rattle.xxhsum_program.specs.CheckList.{AnswersList, AnswersOutcome, ChecksLine, FindsLines, IsListOutcome, ListOutcome, ReportsLines, SaysList, SaysLists, outcome_events};
 ghost use Rattle.xxhsum_program.specs.Finish.{IsWritten};
 ghost use Rattle.xxhsum_program.specs.Findings.{Finding, Improper, IsFinding, TooLong, count_one, count_proper, no_findings, with_broken_end};
-ghost use Rattle.xxhsum_program.specs.Lines.{PrintsLine, PrintsLines};
+ghost use Rattle.xxhsum_program.specs.Lines.{PrintsLine};
 ghost use Rattle.xxhsum_program.specs.LinesView.{IsGiven};
 ghost use Rattle.xxhsum_program.specs.ListEnd.{FailedRead, ListEnd};
+ghost use Rattle.xxhsum_program.specs.Order.{Emits, EmitsAll, EmitsTo, Reported, rules_of, streams};
 ghost use Rattle.xxhsum_program.specs.Report.{is_good, is_unverified, passes};
-ghost use Rattle.xxhsum_program.specs.Said.{count_text, found_text, is_silent, numbered, printed_finding, printed_list, printed_summary, summary_text, told_break, told_finding, told_lines, told_list, told_of_line, told_summary, too_long_text, unread_text, unverified_line, unverified_text};
+ghost use Rattle.xxhsum_program.specs.Said.{break_events, count_text, finding_events, found_text, is_silent, lines_events, list_events, printed_summary, summary_events, summary_text, told_of_line, too_long_text, unread_text, unverified_line, unverified_text};
 ghost use Rattle.xxhsum_program.specs.Watched.{source_of};
 
 use crate::entry::{Found, compare};
@@ -116,6 +117,9 @@ impl Report {
     }
 }
 
+// The message about a list whose read failed.
+const READ_FAILED: &[u8] = b"A failure occurred reading the list";
+
 // A line of a list. Its text is `None` if it is too long.
 #[derive(Clone, Copy)]
 struct ListLine<'a> {
@@ -146,10 +150,9 @@ impl<S: Store, T: Ticks> ListCheck<'_, S, T> {
             × FindsLines (IsFinding S.Store S.File.Source self.now.store.now
             self.now.options.is_little_endian) R.Source (source_of source) findings end
             × AnswersList self.now.options findings end result
-            × PrintsLines W.Sink (printed_list self.now.options self.now.name.now findings end)
-            out.old out.new result
-            × TellsOn E.Sink (told_list self.now.options self.now.name.now findings end)
-            err.old err.new }
+            × EmitsTo (rules_of W.Sink W.held W.has_lost E.Sink)
+            (list_events self.now.options self.now.name.now findings end)
+            (streams out.old err.old) (streams out.new err.new) result }
         ensures works { IfOk result (λ _. W.has_failed out.new ≡ false) }
     {
         let unverified = self.unverified_line()?;
@@ -170,11 +173,9 @@ impl<S: Store, T: Ticks> ListCheck<'_, S, T> {
             × FindsLines (IsFinding S.Store S.File.Source self.now.store.now
             self.now.options.is_little_endian) R.Source (source_of source) findings end
             × ReportsLines self.now.options.ignores_missing findings end result
-            × PrintsLines W.Sink
-            (numbered (printed_finding self.now.options self.now.name.now) 1 findings)
-            out.old out.new result
-            × TellsOn E.Sink (told_lines self.now.options self.now.name.now findings end)
-            err.old err.new }
+            × EmitsTo (rules_of W.Sink W.held W.has_lost E.Sink)
+            (lines_events self.now.options self.now.name.now findings end)
+            (streams out.old err.old) (streams out.new err.new) result }
         ensures works { IfOk result (λ _. W.has_failed out.new ≡ false) }
     {
         let mut lines = Lines::new(source);
@@ -184,7 +185,6 @@ impl<S: Store, T: Ticks> ListCheck<'_, S, T> {
             match lines.next() {
                 Next::End => return Ok(report),
                 Next::Failed => {
-                    release(out);
                     self.tell_of_failure(number, &report, out, err);
                     return Ok(report.with_broken_end());
                 }
@@ -217,8 +217,9 @@ impl<S: Store, T: Ticks> ListCheck<'_, S, T> {
         requires writer { W.has_failed out.old ≡ false }
         ensures checks { (text : List ℕ) → IsGiven text line.entry.text → ChecksLine
             (IsFinding S.Store S.File.Source self.now.store.now self.now.options.is_little_endian
-            text) W.Sink E.Sink self.now.options self.now.name.now line.entry.number
-            report.old report.new out.old out.new err.old err.new result }
+            text) (rules_of W.Sink W.held W.has_lost E.Sink) self.now.options self.now.name.now
+            line.entry.number report.old report.new (streams out.old err.old)
+            (streams out.new err.new) result }
         ensures works { IfOk result (λ _. W.has_failed out.new ≡ false) }
     {
         let Some(text) = line.text else {
@@ -250,13 +251,12 @@ impl<S: Store, T: Ticks> ListCheck<'_, S, T> {
         err: &mut E,
     )
         requires { W.has_failed out.old ≡ false }
-        ensures prints { Took W.Sink [] out.old out.new }
-        ensures written { self.now.options.warns ≡ true → IsWritten W.held W.has_lost out.new }
+        ensures emits { EmitsAll (rules_of W.Sink W.held W.has_lost E.Sink)
+            (finding_events self.now.options self.now.name.now number Improper)
+            (streams out.old err.old) (streams out.new err.new) }
         ensures works { W.has_failed out.new ≡ false }
         ensures counts { report.new
             ≡ count_one self.now.options.ignores_missing report.old Improper }
-        ensures tells { TellsOn E.Sink
-            (told_finding self.now.options self.now.name.now number Improper) err.old err.new }
     {
         report.improper = report.improper.saturating_add(1);
         if self.options.warns {
@@ -280,12 +280,12 @@ impl<S: Store, T: Ticks> ListCheck<'_, S, T> {
         err: &mut E,
     )
         requires { W.has_failed out.old ≡ false }
-        ensures prints { Took W.Sink [] out.old out.new }
-        ensures written { IsWritten W.held W.has_lost out.new }
+        ensures emits { EmitsAll (rules_of W.Sink W.held W.has_lost E.Sink)
+            (finding_events self.now.options self.now.name.now number TooLong)
+            (streams out.old err.old) (streams out.new err.new) }
         ensures works { W.has_failed out.new ≡ false }
         ensures counts { report.new
             ≡ count_one self.now.options.ignores_missing report.old TooLong }
-        ensures tells { TellsOn E.Sink (too_long_text self.now.name.now number) err.old err.new }
     {
         *report = Report {
             improper: report.improper.saturating_add(1),
@@ -297,10 +297,10 @@ impl<S: Store, T: Ticks> ListCheck<'_, S, T> {
     // Reports that line `number` is too long.
     fn tell_too_long<W: Output, E: Sink>(&self, number: u64, out: &mut W, err: &mut E)
         requires { W.has_failed out.old ≡ false }
-        ensures prints { Took W.Sink [] out.old out.new }
-        ensures written { IsWritten W.held W.has_lost out.new }
+        ensures emits { Emits (rules_of W.Sink W.held W.has_lost E.Sink)
+            (Reported (too_long_text self.now.name.now number))
+            (streams out.old err.old) (streams out.new err.new) }
         ensures works { W.has_failed out.new ≡ false }
-        ensures tells { TellsOn E.Sink (too_long_text self.now.name.now number) err.old err.new }
     {
         release(out);
         tell_of_line_after(self.name, number, b"Line too long", out, err);
@@ -335,23 +335,19 @@ impl<S: Store, T: Ticks> ListCheck<'_, S, T> {
         &self,
         number: u64,
         report: &Report,
-        out: &W,
+        out: &mut W,
         err: &mut E,
     )
-        requires { IsWritten W.held W.has_lost out.now }
-        ensures { TellsOn E.Sink
-            (told_break self.now.name.now number report.now FailedRead) err.old err.new }
+        requires { W.has_failed out.old ≡ false }
+        ensures emits { EmitsAll (rules_of W.Sink W.held W.has_lost E.Sink)
+            (break_events self.now.name.now number report.now FailedRead)
+            (streams out.old err.old) (streams out.new err.new) }
+        ensures works { W.has_failed out.new ≡ false }
     {
-        if report.proper == 0 {
-            return;
+        if report.proper > 0 {
+            release(out);
+            tell_of_line_after(self.name, number, READ_FAILED, out, err);
         }
-        tell_of_line_after(
-            self.name,
-            number,
-            b"A failure occurred reading the list",
-            out,
-            err,
-        );
     }
 
     // Returns the line "no file was verified".
@@ -361,7 +357,7 @@ impl<S: Store, T: Ticks> ListCheck<'_, S, T> {
         line_of(self.alloc, &[self.name, b": no file was verified"])
     }
 
-    // Prints and reports the summary of a list.
+    // Reports a list without a well-formed line, and prints the summary of a list.
     fn sum_up<W: Output, E: Sink>(
         &self,
         report: &Report,
@@ -371,13 +367,40 @@ impl<S: Store, T: Ticks> ListCheck<'_, S, T> {
     ) -> Result<(), Stop>
         requires line { unverified.now ≡ unverified_line self.now.name.now }
         requires writer { W.has_failed out.old ≡ false }
+        ensures emits { EmitsTo (rules_of W.Sink W.held W.has_lost E.Sink)
+            (summary_events self.now.options self.now.name.now report.now)
+            (streams out.old err.old) (streams out.new err.new) result }
+        ensures works { IfOk result (λ _. W.has_failed out.new ≡ false) }
+    {
+        if report.proper == 0 {
+            release(out);
+            tell_line_after(
+                &[
+                    self.name,
+                    b": no properly formatted xxHash checksum lines found",
+                ],
+                out,
+                err,
+            );
+        }
+        self.say_summary(report, unverified, out)
+    }
+
+    // Prints the summary of a list.
+    fn say_summary<W: Output>(
+        &self,
+        report: &Report,
+        unverified: &[u8],
+        out: &mut W,
+    ) -> Result<(), Stop>
+        requires line { unverified.now ≡ unverified_line self.now.name.now }
+        requires writer { W.has_failed out.old ≡ false }
         ensures prints { PrintsLine W.Sink
             (summary_text self.now.options self.now.name.now report.now) out.old out.new result }
         ensures works { IfOk result (λ _. W.has_failed out.new ≡ false) }
         ensures only { IfErr result (λ stop. stop ≡ Stop.WriteFailed) }
-        ensures tells { TellsOn E.Sink (told_summary self.now.name.now report.now) err.old err.new }
     {
-        self.say_counts(report, out, err)?;
+        self.say_counts(report, out)?;
         self.say_unverified(report, unverified, out)
     }
 
@@ -401,34 +424,15 @@ impl<S: Store, T: Ticks> ListCheck<'_, S, T> {
         Ok(())
     }
 
-    // Prints the numbers of malformed lines, unread files and mismatches, or reports that no line is well-formed.
-    fn say_counts<W: Output, E: Sink>(
-        &self,
-        report: &Report,
-        out: &mut W,
-        err: &mut E,
-    ) -> Result<(), Stop>
+    // Prints the numbers of malformed lines, unread files and mismatches, unless no line is well-formed.
+    fn say_counts<W: Output>(&self, report: &Report, out: &mut W) -> Result<(), Stop>
         requires { W.has_failed out.old ≡ false }
         ensures prints { PrintsLine W.Sink (printed_summary self.now.options report.now)
             out.old out.new result }
-        ensures written { report.now.proper ≡ 0 → IsWritten W.held W.has_lost out.new }
         ensures works { IfOk result (λ _. W.has_failed out.new ≡ false) }
         ensures only { IfErr result (λ stop. stop ≡ Stop.WriteFailed) }
-        ensures tells { TellsOn E.Sink (told_summary self.now.name.now report.now) err.old err.new }
     {
-        if report.proper == 0 {
-            release(out);
-            tell_line_after(
-                &[
-                    self.name,
-                    b": no properly formatted xxHash checksum lines found",
-                ],
-                out,
-                err,
-            );
-            return Ok(());
-        }
-        if self.options.is_status_only {
+        if report.proper == 0 || self.options.is_status_only {
             return Ok(());
         }
         say_count(
@@ -566,8 +570,9 @@ pub fn check_list<S: Store, T: Ticks, R: Source + Drop, W: Output, E: Sink>(
     out: &mut W,
     err: &mut E,
 ) -> Result<bool, Stop>
-    ensures { SaysList S.Store S.File.Source R.Source W.Sink E.Sink job.now.store.now
-        job.now.options name.now source out.old out.new err.old err.new result }
+    ensures { SaysList S.Store S.File.Source R.Source (rules_of W.Sink W.held W.has_lost E.Sink)
+        job.now.store.now job.now.options name.now source (streams out.old err.old)
+        (streams out.new err.new) result }
 {
     if out.failed() {
         return Err(Stop::WriteFailed);
@@ -594,9 +599,9 @@ fn check_named<S: Store, T: Ticks, W: Output, E: Sink>(
         × IsListOutcome S.Store S.File.Source job.now.store.now job.now.options.is_little_endian
         name.now outcome
         × AnswersOutcome job.now.options outcome result
-        × PrintsLines W.Sink (printed_outcome job.now.options name.now outcome)
-        out.old out.new result
-        × TellsOn E.Sink (told_outcome job.now.options name.now outcome) err.old err.new }
+        × EmitsTo (rules_of W.Sink W.held W.has_lost E.Sink)
+        (outcome_events job.now.options name.now outcome)
+        (streams out.old err.old) (streams out.new err.new) result }
     ensures works { IfOk result (λ _. W.has_failed out.new ≡ false) }
 {
     match job.progress.open(job.store, name) {
@@ -633,8 +638,9 @@ pub fn check_lists<S: Store, T: Ticks, W: Output, E: Sink>(
     out: &mut W,
     err: &mut E,
 ) -> Result<bool, Stop>
-    ensures { SaysLists S.Store S.File.Source W.Sink E.Sink job.now.store.now job.now.options
-        (map (λ name. name.items) names.now) out.old out.new err.old err.new result }
+    ensures { SaysLists S.Store S.File.Source (rules_of W.Sink W.held W.has_lost E.Sink)
+        job.now.store.now job.now.options (map (λ name. name.items) names.now)
+        (streams out.old err.old) (streams out.new err.new) result }
 {
     if out.failed() {
         return Err(Stop::WriteFailed);

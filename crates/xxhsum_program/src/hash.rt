@@ -3,7 +3,7 @@
 ghost use Rattle.std.specs.Prelude.{◌≡◌, false, map, IfOk};
 ghost use Rattle.xxhsum_line.specs.Printed.{styled_line};
 ghost use Rattle.xxhsum_program.specs.Finish.{IsWritten};
-ghost use Rattle.xxhsum_program.specs.HashNames.{HashesInOrder, HashesInputInOrder, SaysInput, SaysNames};
+ghost use Rattle.xxhsum_program.specs.HashNames.{SaysInput, SaysNames};
 ghost use Rattle.xxhsum_program.specs.Lines.{PrintsLine, told_line, written_line};
 ghost use Rattle.xxhsum_program.specs.Order.{rules_of, streams};
 ghost use Rattle.xxhsum_program.specs.Outcomes.{is_digested};
@@ -43,17 +43,11 @@ pub fn hash_names<S: Store, T: Ticks, W: Output, E: Sink>(
     requires { W.has_failed out.old ≡ false }
 
     // Each name has one outcome, in order. Standard output has the lines of names with a value, and standard error the
-    // messages of the others.
-    ensures says { SaysNames S.Store S.File.Source W.Sink E.Sink job.now.store.now
-        job.now.options.kind (style_of job.now.options) (map (λ name. name.items) names.now)
-        out.old out.new err.old err.new result }
-
-    // Lines and messages are written in the order of the names. When a message is written, all lines before it are
-    // written, or were lost.
-    ensures order { HashesInOrder S.Store S.File.Source
-        (rules_of W.Sink W.held W.has_lost E.Sink) job.now.store.now job.now.options.kind
-        (style_of job.now.options) (map (λ name. name.items) names.now)
-        (streams out.old err.old) (streams out.new err.new) result }
+    // messages of the others, in one sequence: when a message is written, all lines before it are written, or were lost.
+    ensures { SaysNames S.Store S.File.Source (rules_of W.Sink W.held W.has_lost E.Sink)
+        job.now.store.now job.now.options.kind (style_of job.now.options)
+        (map (λ name. name.items) names.now) (streams out.old err.old) (streams out.new err.new)
+        result }
 {
     let mut buf = [0; OFFERED];
     let mut all = true;
@@ -84,9 +78,7 @@ pub fn hash_input<R: Source, T: Ticks, W: Output, E: Sink>(
 ) -> Result<bool, Stop>
     requires reader { R.has_failed (source_of input.old) ≡ false }
     requires writer { W.has_failed out.old ≡ false }
-    ensures says { SaysInput R.Source W.Sink E.Sink options.kind (style_of options) name.now
-        (source_of input.old) (source_of input.new) out.old out.new err.old err.new result }
-    ensures order { HashesInputInOrder R.Source (rules_of W.Sink W.held W.has_lost E.Sink)
+    ensures { SaysInput R.Source (rules_of W.Sink W.held W.has_lost E.Sink)
         options.kind (style_of options) name.now (source_of input.old) (source_of input.new)
         (streams out.old err.old) (streams out.new err.new) result }
 {

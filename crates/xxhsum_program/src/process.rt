@@ -3,6 +3,7 @@
 ghost use Rattle.std.specs.Prelude.{◌≡◌, false, Bool, List, ℕ, Option, Result, [], drop, get_or, map, IfSome};
 ghost use Rattle.xxhsum_program.specs.Finish.{Finishes, IsWritten};
 ghost use Rattle.xxhsum_program.specs.Joined.{joined};
+ghost use Rattle.xxhsum_program.specs.Order.{rules_of, streams};
 ghost use Rattle.xxhsum_program.specs.Run.{PerformsAs, end_text, status_of, stop_text};
 ghost use Rattle.xxhsum_program.specs.Task.{IsProgram, answer_text, has_none, is_tree, is_well, run_asked, shows_progress, usage_text, waits_for_terminal, wrong_text};
 ghost use Rattle.xxhsum_program.specs.Prelude.{Stop, TellsOn};
@@ -226,9 +227,9 @@ where
     requires reader { R.has_failed input ≡ false }
     requires writer { W.has_failed out.old ≡ false }
     ensures { let given = map (λ name. name.items) names.now in
-        PerformsAs S.Store S.File.Source R.Source W.Sink E.Sink job.now.store.now job.now.options
-        given input out.old out.new err.old err.new result job.now.options.checks
-        (has_none given) }
+        PerformsAs S.Store S.File.Source R.Source (rules_of W.Sink W.held W.has_lost E.Sink)
+        job.now.store.now job.now.options given input (streams out.old err.old)
+        (streams out.new err.new) result job.now.options.checks (has_none given) }
 {
     if job.options.checks {
         if has_none(names) {

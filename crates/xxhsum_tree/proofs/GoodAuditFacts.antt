@@ -1,7 +1,7 @@
 -- An audit that is good.
 use Rattle.std.proofs.Common.{◌≡◌, ℕ, true, List, [], ◌∷◌, Option, Some, None, refl, sym, ap, subst, ◌∙◌, inl, inr, Ok}
 use Rattle.std.proofs.lemmas.List.Sorted.{IsPermutation-sym}
-use Rattle.xxhsum_tree.specs.Prelude.{Digested, IsDirectory, Kind, Options, Outcome, SinkRules, SourceRules, StoreRules, Unread}
+use Rattle.xxhsum_tree.specs.Prelude.{Digested, IsDirectory, Kind, Options, Outcome, SinkRules, SourceRules, StoreRules, Streams, Unread}
 use Rattle.xxhsum_audit.proofs.AmongFacts.{among_permutation}
 use Rattle.xxhsum_audit.proofs.EqualFacts.{same_means_equal}
 use Rattle.xxhsum_audit.proofs.TurnFacts.{by_turns}
@@ -110,7 +110,7 @@ module _ {S F : Type 0} (opening : StoreRules S F) (reading : SourceRules F) (st
 -- ---- what a good audit comes to
 
 module _ {S F W E : Type 0} (opening : StoreRules S F) (reading : SourceRules F) (writing : SinkRules W) (telling : SinkRules E)
-    (store : S) (options : Options) (list : List ℕ) (w_old w_new : W) (e_old e_new : E) where
+    (store : S) (options : Options) (list : List ℕ) (old new : Streams W E) where
   abbrev Agree : List Item → List (List ℕ) → Type 0
   Agree lines names =
       ((line : Item) → IsAmong lines line → (name : List ℕ) × IsAmong names name × IsFileOf opening reading store line name)
@@ -124,7 +124,7 @@ module _ {S F W E : Type 0} (opening : StoreRules S F) (reading : SourceRules F)
         (subst (λ v. IsValueOf opening reading store (kind_of s) (name_of s) v) (sym value) is),
   )
 
-  sides-agree : (lines : List Item) (asked : List (List ℕ)) → AuditsSides opening reading writing telling store options lines asked w_old w_new e_old e_new (Ok true)
+  sides-agree : (lines : List Item) (asked : List (List ℕ)) → AuditsSides opening reading writing telling store options lines asked old new (Ok true)
       → Agree lines asked
   sides-agree lines asked (inr fails) = let no = fails.3 in let none : ⊥ = cc in absurd none
   sides-agree lines asked (inl (rows, found, are, told, audit, prints, answers)) =
@@ -146,12 +146,12 @@ module _ {S F W E : Type 0} (opening : StoreRules S F) (reading : SourceRules F)
       )
 
   unless-agree : (lines : List Item) (asked : List (List ℕ)) (first second : Option (List ℕ))
-      → AuditsUnlessTwice opening reading writing telling store options list lines asked w_old w_new e_old e_new (Ok true) first second → Agree lines asked
+      → AuditsUnlessTwice opening reading writing telling store options list lines asked old new (Ok true) first second → Agree lines asked
   unless-agree lines asked None None audits = sides-agree lines asked audits
   unless-agree lines asked None (Some name) tells = let no = tells.0 in let none : ⊥ = cc in absurd none
   unless-agree lines asked (Some name) second tells = let no = tells.0 in let none : ⊥ = cc in absurd none
 
-  items-agree : (said : List Item) (names : List (List ℕ)) → AuditsItems opening reading writing telling store options list said names w_old w_new e_old e_new (Ok true)
+  items-agree : (said : List Item) (names : List (List ℕ)) → AuditsItems opening reading writing telling store options list said names old new (Ok true)
       → Agree said names
   items-agree said names (inr fails) = let no = fails.0 in let none : ⊥ = cc in absurd none
   items-agree said names (inl (lines, asked, order, order', audits)) =
@@ -166,10 +166,10 @@ module _ {S F W E : Type 0} (opening : StoreRules S F) (reading : SourceRules F)
 
 pub audit-means-equal : {S F W E : Type 0} (opening : StoreRules S F) (reading : SourceRules F) (writing : SinkRules W) (telling : SinkRules E)
     → AuditMeansEqual opening reading writing telling
-audit-means-equal opening reading writing telling store options list names w_old w_new e_old e_new (inl (said, says, audits)) =
-    let agree = items-agree opening reading writing telling store options list w_old w_new e_old e_new said names audits in
+audit-means-equal opening reading writing telling store options list names old new (inl (said, says, audits)) =
+    let agree = items-agree opening reading writing telling store options list old new said names audits in
     (said, says, agree.0, agree.1)
-audit-means-equal opening reading writing telling store options list names w_old w_new e_old e_new (inr (inl (text, why, tells))) =
+audit-means-equal opening reading writing telling store options list names old new (inr (inl (text, why, tells))) =
     let no = tells.0 in let none : ⊥ = cc in absurd none
-audit-means-equal opening reading writing telling store options list names w_old w_new e_old e_new (inr (inr fails)) =
+audit-means-equal opening reading writing telling store options list names old new (inr (inr fails)) =
     let no = fails.0 in let none : ⊥ = cc in absurd none

@@ -1,21 +1,21 @@
--- What an audit means that is good.
+-- The meaning of a good audit.
 use Rattle.std.specs.Prelude.{◌≡◌, ℕ, true, List, Ok}
-use Rattle.xxhsum_tree.specs.Prelude.{Options, SinkRules, SourceRules, StoreRules}
+use Rattle.xxhsum_tree.specs.Prelude.{Options, SinkRules, SourceRules, StoreRules, Streams}
 use Rattle.xxhsum_audit.specs.Item.{IsAmong, Item, bare, kind_of, path_of, value_of}
 use Rattle.xxhsum_program.specs.Outcomes.{IsValueOf}
 use Rattle.xxhsum_tree.specs.Audits.{Audits}
 use Rattle.xxhsum_tree.specs.Said.{ListSays}
 
--- the name leads where the line's does, and reads of its file gave bytes with the line's value
+-- The name leads to the line's path, and reads of its file returned bytes with the line's value.
 abbrev pub IsFileOf : {S F : Type 0} → StoreRules S F → SourceRules F → S → Item → List ℕ → Type 0
 IsFileOf opening reading store line name =
     (path_of line ≡ bare name) × IsValueOf opening reading store (kind_of line) name (value_of line)
 
--- each line of the list has a file among the names, and each name is that of such a line
+-- Each line of the list has a file among the names, and each name is that of such a line.
 abbrev pub AuditMeansEqual : {S F W E : Type 0} → StoreRules S F → SourceRules F → SinkRules W → SinkRules E → Type 0
 AuditMeansEqual {S} {F} {W} {E} opening reading writing telling =
-    (store : S) (options : Options) (list : List ℕ) (names : List (List ℕ)) (w_old w_new : W) (e_old e_new : E)
-    → Audits opening reading writing telling store options list names w_old w_new e_old e_new (Ok true)
+    (store : S) (options : Options) (list : List ℕ) (names : List (List ℕ)) (old new : Streams W E)
+    → Audits opening reading writing telling store options list names old new (Ok true)
     → (lines : List Item) × ListSays opening reading store options.is_little_endian list lines
     × ((line : Item) → IsAmong lines line → (name : List ℕ) × IsAmong names name × IsFileOf opening reading store line name)
     × ((name : List ℕ) → IsAmong names name → (line : Item) × IsAmong lines line × IsFileOf opening reading store line name)

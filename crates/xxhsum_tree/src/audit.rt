@@ -4,6 +4,7 @@ ghost use Rattle.std.specs.Prelude.{◌≡◌, false, IfOk, map};
 ghost use Rattle.xxhsum_audit.specs.Item.{items_of, texts_of};
 ghost use Rattle.xxhsum_audit.specs.List.{said_by};
 ghost use Rattle.xxhsum_audit.specs.Order.{IsOrder, Rises, clash_in, compare_lines, compare_paths, rank_lines, rank_names};
+ghost use Rattle.xxhsum_program.specs.Order.{streams};
 ghost use Rattle.xxhsum_program.specs.Told.{TellsOn};
 ghost use Rattle.xxhsum_tree.specs.AuditLaws.{AuditMeansEqual};
 ghost use Rattle.xxhsum_tree.specs.Audits.{Audits, AuditsItems, AuditsSides, TellsTwice, twice_text};
@@ -45,7 +46,8 @@ pub fn audit_names<S: Store, T: Ticks, W: Sink, E: Sink>(
 ) -> Result<bool, Stop>
     requires { W.has_failed out.old ≡ false }
     ensures { Audits S.Store S.File.Source W.Sink E.Sink job.now.store.now job.now.options list.now
-        (map (λ name. name.items) names.now) out.old out.new err.old err.new result }
+        (map (λ name. name.items) names.now) (streams out.old err.old)
+        (streams out.new err.new) result }
 {
     let Some(said) = said_named(job, list, err)? else {
         return Ok(false);
@@ -65,7 +67,8 @@ fn audit_lines<S: Store, T: Ticks, W: Sink, E: Sink>(
     requires { W.has_failed out.old ≡ false }
     ensures { AuditsItems S.Store S.File.Source W.Sink E.Sink job.now.store.now job.now.options
         list.now (map said_by said.now) (map (λ name. name.items) names.now)
-        out.old out.new err.old err.new result }
+        (streams out.old err.old)
+        (streams out.new err.new) result }
 {
     let lines = lines_in_order(job.alloc, said)?;
     let asked = names_in_order(job.alloc, names)?;
@@ -156,7 +159,8 @@ fn audit_sides<S: Store, T: Ticks, W: Sink, E: Sink>(
     requires lines { Rises compare_lines (items_of lines.now) }
     requires names { Rises compare_paths (texts_of asked.now) }
     ensures { AuditsSides S.Store S.File.Source W.Sink E.Sink job.now.store.now job.now.options
-        (items_of lines.now) (texts_of asked.now) out.old out.new err.old err.new result }
+        (items_of lines.now) (texts_of asked.now) (streams out.old err.old)
+        (streams out.new err.new) result }
 {
     let kind = kind_of_new(lines, job.options.kind);
     let compared = digests_of(job, kind, lines, asked, err)?;

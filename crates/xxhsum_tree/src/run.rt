@@ -3,6 +3,7 @@
 ghost use Rattle.std.specs.Prelude.{◌≡◌, false, Bool, List, ℕ, Option, Some, Result, drop, map, IfSome};
 ghost use Rattle.xxhsum_program.specs.Arguments.{AreArguments};
 ghost use Rattle.xxhsum_program.specs.Finish.{Finishes};
+ghost use Rattle.xxhsum_program.specs.Order.{Streams, rules_of, streams};
 ghost use Rattle.xxhsum_program.specs.Run.{end_text, status_of};
 ghost use Rattle.xxhsum_tree.specs.Prelude.{Options, Stop, TellsOn};
 ghost use Rattle.xxhsum_tree.specs.Run.{AuditsBelow, AuditsWords, DoesArguments, PerformsWords, WalksFolders, WalksNames, all_well};
@@ -52,13 +53,14 @@ where
     T: Ticks,
     requires reader { R.has_failed console.input ≡ false }
     requires writer { W.has_failed out.old ≡ false }
-    ensures { (args : Option (List (List ℕ))) × (done ended : Result Bool Stop) × (met : W)
-        × (told : E) × IfSome args (AreArguments A.holds A.ends arguments.now)
-        × DoesArguments (PerformsWords S.Store S.Folders S.File.Source R.Source W.Sink E.Sink
-        store.now console.input out.old met err.old told done)
-        E.Sink console.terminals args out.old met err.old told done
-        × Finishes W.Sink W.held W.has_lost done met out.new ended
-        × TellsOn E.Sink (end_text ended) told err.new
+    ensures { (args : Option (List (List ℕ))) × (done ended : Result Bool Stop)
+        × (met : Streams W E) × IfSome args (AreArguments A.holds A.ends arguments.now)
+        × DoesArguments (PerformsWords S.Store S.Folders S.File.Source R.Source
+        (rules_of W.Sink W.held W.has_lost E.Sink)
+        store.now console.input (streams out.old err.old) met done)
+        E.Sink console.terminals args (streams out.old err.old) met done
+        × Finishes W.Sink W.held W.has_lost done met.out out.new ended
+        × TellsOn E.Sink (end_text ended) met.err err.new
         × (result ≡ status_of ended) }
 {
     match all_arguments(alloc, arguments) {
@@ -87,10 +89,11 @@ where
     T: Ticks,
     requires reader { R.has_failed console.input ≡ false }
     requires writer { W.has_failed out.old ≡ false }
-    ensures { DoesArguments (PerformsWords S.Store S.Folders S.File.Source R.Source W.Sink E.Sink
-        store.now console.input out.old out.new err.old err.new result)
+    ensures { DoesArguments (PerformsWords S.Store S.Folders S.File.Source R.Source
+        (rules_of W.Sink W.held W.has_lost E.Sink)
+        store.now console.input (streams out.old err.old) (streams out.new err.new) result)
         E.Sink console.terminals (Some (map (λ argument. argument.items) args.now))
-        out.old out.new err.old err.new result }
+        (streams out.old err.old) (streams out.new err.new) result }
 {
     let Console {
         input,
@@ -134,9 +137,10 @@ where
     E: Sink,
     requires reader { R.has_failed input ≡ false }
     requires writer { W.has_failed out.old ≡ false }
-    ensures { PerformsWords S.Store S.Folders S.File.Source R.Source W.Sink E.Sink
-        job.now.store.now input out.old out.new err.old err.new result job.now.options
-        (map (λ word. word.items) words.now) }
+    ensures { PerformsWords S.Store S.Folders S.File.Source R.Source
+        (rules_of W.Sink W.held W.has_lost E.Sink)
+        job.now.store.now input (streams out.old err.old) (streams out.new err.new) result
+        job.now.options (map (λ word. word.items) words.now) }
 {
     if job.options.audits {
         return walk_audit(job, words, input, out, err);
@@ -166,9 +170,10 @@ where
     E: Sink,
     requires reader { R.has_failed input ≡ false }
     requires writer { W.has_failed out.old ≡ false }
-    ensures { AuditsWords S.Store S.Folders S.File.Source R.Source W.Sink E.Sink job.now.store.now
-        input out.old out.new err.old err.new result job.now.options
-        (map (λ word. word.items) words.now) job.now.options.walks
+    ensures { AuditsWords S.Store S.Folders S.File.Source R.Source
+        (rules_of W.Sink W.held W.has_lost E.Sink)
+        job.now.store.now input (streams out.old err.old) (streams out.new err.new) result
+        job.now.options (map (λ word. word.items) words.now) job.now.options.walks
         (are_listed job.now.options.names_from) }
 {
     let Some((list, rest)) = words.split_first() else {
@@ -197,9 +202,9 @@ fn audit_below<S: Store + Folders, T: Ticks, W: Output, E: Sink>(
     err: &mut E,
 ) -> Result<bool, Stop>
     requires { W.has_failed out.old ≡ false }
-    ensures { AuditsBelow S.Store S.Folders S.File.Source W.Sink E.Sink job.now.store.now
-        job.now.options list.now (map (λ name. name.items) names.now)
-        out.old out.new err.old err.new result }
+    ensures { AuditsBelow S.Store S.Folders S.File.Source (rules_of W.Sink W.held W.has_lost E.Sink)
+        job.now.store.now job.now.options list.now (map (λ name. name.items) names.now)
+        (streams out.old err.old) (streams out.new err.new) result }
 {
     match files_below(job.alloc, job.store, names, err) {
         Ok(walked) => {
@@ -220,9 +225,9 @@ fn walk_folders<S: Store + Folders, T: Ticks, W: Output, E: Sink>(
     err: &mut E,
 ) -> Result<bool, Stop>
     requires { W.has_failed out.old ≡ false }
-    ensures { WalksFolders S.Store S.Folders S.File.Source W.Sink E.Sink job.now.store.now
-        job.now.options (map (λ name. name.items) names.now)
-        out.old out.new err.old err.new result }
+    ensures { WalksFolders S.Store S.Folders S.File.Source (rules_of W.Sink W.held W.has_lost E.Sink)
+        job.now.store.now job.now.options (map (λ name. name.items) names.now)
+        (streams out.old err.old) (streams out.new err.new) result }
 {
     match files_below(job.alloc, job.store, names, err) {
         Ok(walked) => {
@@ -254,9 +259,9 @@ fn walk_names<S: Store, T: Ticks, R: Source + Drop, W: Output, E: Sink>(
 ) -> Result<bool, Stop>
     requires reader { R.has_failed input ≡ false }
     requires writer { W.has_failed out.old ≡ false }
-    ensures { WalksNames S.Store S.File.Source R.Source W.Sink E.Sink job.now.store.now input
-        out.old out.new err.old err.new result job.now.options
-        (map (λ list. list.items) lists.now) }
+    ensures { WalksNames S.Store S.File.Source R.Source (rules_of W.Sink W.held W.has_lost E.Sink)
+        job.now.store.now input (streams out.old err.old) (streams out.new err.new) result
+        job.now.options (map (λ list. list.items) lists.now) }
 {
     let Some(names) = names_listed(job, lists, input, err)? else {
         return Ok(false);

@@ -1,6 +1,7 @@
+use Rattle.xxhsum_program.specs.Order.{rules_of}
 use Rattle.xxhsum_headline.proofs.HeadlineFacts.{each-name-once}
 use Rattle.xxhsum_headline.proofs.each_name_once.Goals as goal
 
 pub returns : goal.returns
-returns g c = λ store kind style names w_old w_new e_old e_new all says.
-    each-name-once g.S.Store g.S.File.Source g.W.Sink g.E.Sink store kind style names w_old w_new e_old e_new all says
+returns g c = λ held has_lost store kind style names old new all says.
+    each-name-once g.S.Store g.S.File.Source (rules_of g.W.Sink held has_lost g.E.Sink) store kind style names old new all says

@@ -1,8 +1,9 @@
+use Rattle.xxhsum_program.specs.Order.{rules_of}
 use Rattle.xxhsum_headline.proofs.HeadlineFacts.{list-stops, names-stop}
 use Rattle.xxhsum_headline.proofs.stops_early.Goals as goal
 
 pub returns : goal.returns
 returns g c = record {
-  names = λ store kind style names w_old w_new e_old e_new stop says. names-stop g.S.Store g.S.File.Source g.W.Sink g.E.Sink store kind style names w_old w_new e_old e_new stop says;
-  list = λ store options name source w_old w_new e_old e_new stop says. list-stops g.S.Store g.S.File.Source g.R.Source g.W.Sink g.E.Sink store options name source w_old w_new e_old e_new stop says;
+  names = λ held has_lost store kind style names old new stop says. names-stop g.S.Store g.S.File.Source (rules_of g.W.Sink held has_lost g.E.Sink) store kind style names old new stop says;
+  list = λ held has_lost store options name source old new stop says. list-stops g.S.Store g.S.File.Source g.R.Source (rules_of g.W.Sink held has_lost g.E.Sink) store options name source old new stop says;
 }

@@ -1,11 +1,10 @@
 use Rattle.std.proofs.Common.{◌≡◌, ◌+◌, ◌∷◌, ◌++◌, [], Err, inl, inr, Bool, map, take, drop, refl, sym, ◌∙◌, append_assoc, subst, rules}
-use Rattle.xxh_io.proofs.WriteFacts.{Took-join}
-use Rattle.xxhsum_program.specs.CheckList.{IsDone, is_good_outcome, printed_outcome, told_outcome}
-use Rattle.xxhsum_program.specs.Lines.{PrintsLines}
+use Rattle.xxhsum_program.specs.CheckList.{IsDone, is_good_outcome, outcome_events}
+use Rattle.xxhsum_program.specs.Order.{EmitsTo, rules_of, streams}
 use Rattle.xxhsum_program.proofs.EachFacts.{EachHas-push, all-push, list_all-push, map-more, map-split}
 use Rattle.xxhsum_program.proofs.HashFacts.{is-err}
-use Rattle.xxhsum_program.proofs.OutcomeFacts.{lines-push, prints-join}
-use Rattle.xxhsum_program.proofs.ToldFacts.{tells-more, tells-nothing}
+use Rattle.xxhsum_program.proofs.OrderFacts.{emits-append, emits-join}
+use Rattle.xxhsum_program.proofs.OutcomeFacts.{lines-push}
 use Rattle.xxhsum_program.proofs.check.check_lists.Goals as goal
 use Rattle.xxhsum_program.proofs.check.check_lists.Goals.{then-all, else-all}
 
@@ -15,8 +14,7 @@ loop-name-init g c = record {
   each = tt;
   finished = tt;
   all = refl;
-  prints = ([], refl, refl);
-  tells = tells-nothing g.E.Sink c.args.err.now;
+  emits = (refl, refl);
   works = search rules;
 }
 
@@ -41,10 +39,8 @@ loop-name-preserved g c =
             | then-all w ↦ rw (w.all-is, w.if-all.true) refl
             | else-all w ↦ rw (w.all-is, w.if-all.false) refl
           ]);
-      prints = rw (lines-push _ (printed_outcome options) names so_far.outcomes name outcome so_far.each)
-          (Took-join g.W.Sink _ _ _ _ _ so_far.prints checked.3);
-      tells = rw (lines-push _ (told_outcome options) names so_far.outcomes name outcome so_far.each)
-          (tells-more g.E.Sink _ _ _ _ _ so_far.tells checked.4);
+      emits = rw (lines-push _ (outcome_events options) names so_far.outcomes name outcome so_far.each)
+          (emits-append (rules_of g.W.Sink g.W.Output.held g.W.Output.has_lost g.E.Sink) _ _ (streams c.args.out.now c.args.err.now) (streams c.loop-name.out c.loop-name.err) (streams c.check_named.new.out c.check_named.new.err) so_far.emits checked.3);
       works = c.in_ok-good.ensures.works;
     }
 
@@ -59,6 +55,10 @@ returns-in_err-good g c =
     let checked = rw c.deref.ensures.value at c.in_err-good.ensures.checks in
     let outcome = checked.0 in
     let options = c.args.job.now.options in
+    let rules = rules_of g.W.Sink g.W.Output.held g.W.Output.has_lost g.E.Sink in
+    let old = streams c.args.out.now c.args.err.now in
+    let mid = streams c.loop-name.out c.loop-name.err in
+    let new = streams c.check_named.new.out c.check_named.new.err in
     rw (is-err c.from_residual.result stop c.from_residual.ensures.1) (
       so_far.outcomes ++ outcome ∷ [],
       names ++ name ∷ [],
@@ -68,10 +68,9 @@ returns-in_err-good g c =
         EachHas-push _ names so_far.outcomes name outcome so_far.each checked.1,
         inr (so_far.outcomes, outcome, refl, so_far.finished),
       ),
-      inl (subst (λ bytes. PrintsLines {T = Bool} g.W.Sink bytes c.args.out.now c.check_named.new.out (Err stop)) (sym (lines-push _ (printed_outcome options) names so_far.outcomes name outcome so_far.each)) (prints-join {T = Bool} g.W.Sink _ _ c.args.out.now c.loop-name.out c.check_named.new.out (Err stop) so_far.prints (subst (λ bytes. PrintsLines {T = Bool} g.W.Sink (printed_outcome options bytes outcome) c.loop-name.out c.check_named.new.out (Err stop)) c.deref.ensures.value checked.3))),
-      rw (lines-push _ (told_outcome options) names so_far.outcomes name outcome so_far.each) (tells-more g.E.Sink _ _ _ _ _ so_far.tells checked.4),
+      inl (subst (λ events. EmitsTo {T = Bool} rules events old new (Err stop)) (sym (lines-push _ (outcome_events options) names so_far.outcomes name outcome so_far.each)) (emits-join {T = Bool} rules _ _ old mid new (Err stop) so_far.emits (subst (λ bytes. EmitsTo {T = Bool} rules (outcome_events options bytes outcome) mid new (Err stop)) c.deref.ensures.value checked.3))),
     )
 
 pub returns-then-failed : goal.returns-then-failed
 returns-then-failed g c =
-    ([], [], map (λ name. name.items) c.args.names.now, (refl, tt, inl tt), inr (sym c.failed.ensures ∙ c.if-failed.true, refl, refl), tells-nothing g.E.Sink c.args.err.now)
+    ([], [], map (λ name. name.items) c.args.names.now, (refl, tt, inl tt), inr (sym c.failed.ensures ∙ c.if-failed.true, refl, refl, refl))

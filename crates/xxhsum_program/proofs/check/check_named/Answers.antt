@@ -1,5 +1,6 @@
 use Rattle.std.proofs.Common.{refl}
 use Rattle.xxhsum_program.specs.CheckList.{Checked, Unopened}
+use Rattle.xxhsum_program.specs.Order.{streams}
 use Rattle.xxhsum_program.proofs.StopFacts.{answers-outcome}
 use Rattle.xxhsum_program.specs.Watched.{source_of}
 use Rattle.xxhsum_program.proofs.check.check_named.Goals as goal
@@ -7,8 +8,8 @@ use Rattle.xxhsum_program.proofs.check.check_named.Goals as goal
 pub returns-in-Ok-clause-checks : goal.returns-in-Ok-clause-checks
 returns-in-Ok-clause-checks g c =
     let checks = c.check.ensures.checks in
-    (Checked checks.0 checks.1, (source_of c.in-Ok.file, c.in-Ok.ensures.opens, checks.2), answers-outcome c.args.job.now.options checks.0 checks.1 c.check.result checks.3, checks.4, checks.5)
+    (Checked checks.0 checks.1, (source_of c.in-Ok.file, c.in-Ok.ensures.opens, checks.2), answers-outcome c.args.job.now.options checks.0 checks.1 c.check.result checks.3, checks.4)
 
 pub returns-in-Err-clause-checks : goal.returns-in-Err-clause-checks
 returns-in-Err-clause-checks g c =
-    (Unopened c.in-Err.refusal, c.in-Err.ensures.refuses, (tt, refl), c.release.ensures.prints, rw c.text.ensures at c.tell_line_after.ensures)
+    (Unopened c.in-Err.refusal, c.in-Err.ensures.refuses, (tt, refl), (streams c.release.new.out c.tell_line_after.new.err, (c.release.ensures.prints, c.release.ensures.written, rw c.text.ensures at c.tell_line_after.ensures), (refl, refl)))

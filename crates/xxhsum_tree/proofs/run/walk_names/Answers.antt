@@ -19,5 +19,5 @@ returns g c =
     let lists = map (λ list. list.items) c.args.lists.now in
     let listed = found-is g.E.Sink (λ all. ListNames g.S.Store g.S.File.Source g.R.Source c.args.job.now.store.now c.args.input (end_of c.args.job.now.options.names_from) lists (map (λ name. name.items) all.items))
     (ListNone g.S.Store g.S.File.Source g.R.Source c.args.job.now.store.now c.args.input lists) c.args.err.now c.names_listed.new.err c.in_ok-names.field-0 c.in-Some.names c.in-Some.is c.in_ok-names.ensures in
-    let says = rw (c.deref-2.ensures.value, listed.1) at c.hash_names.ensures.says in
+    let says = rw (c.deref-2.ensures.value, listed.1) at c.hash_names.ensures in
     inl (map (λ name. name.items) c.in-Some.names.items, listed.0, rw c.if-job.false says)

@@ -2,36 +2,37 @@ use Rattle.std.proofs.Common.{◌∙◌, sym, [], refl, subst}
 use Rattle.xxhsum_line.specs.Meaning.{Means}
 use Rattle.xxhsum_program.specs.Findings.{Ignored, Improper, IsFinding, Proper, TooLong}
 use Rattle.xxhsum_program.specs.LinesView.{IsGiven}
+use Rattle.xxhsum_program.specs.Order.{rules_of, streams}
 use Rattle.xxhsum_program.proofs.StopFacts.{line-said, silent-prints}
 use Rattle.xxhsum_program.proofs.ToldFacts.{tells-nothing}
 use Rattle.xxhsum_program.proofs.check.ListCheck.check_line.Goals as goal
 
 pub returns-in_default-clause-checks : goal.returns-in_default-clause-checks
 returns-in_default-clause-checks g c = λ text given.
-    (TooLong, subst (IsGiven text) c.in_default.is given, c.count_too_long.ensures.counts, c.count_too_long.ensures.prints, c.count_too_long.ensures.tells)
+    (TooLong, subst (IsGiven text) c.in_default.is given, c.count_too_long.ensures.counts, c.count_too_long.ensures.emits)
 
 pub returns-in-Comment-clause-checks : goal.returns-in-Comment-clause-checks
 returns-in-Comment-clause-checks g c = λ text given.
     let is = subst (IsGiven text) c.in-Some.is given in
     let means = subst (Means c.args.self.now.options.is_little_endian text) c.in-Comment.is (rw is.1 at c.in_ok-entry.ensures.meaning) in
-    (Ignored, (is.0, means), refl, ([], refl, refl), tells-nothing g.E.Sink c.args.err.now)
+    (Ignored, (is.0, means), refl, (refl, refl))
 
 pub returns-in-Malformed-clause-checks : goal.returns-in-Malformed-clause-checks
 returns-in-Malformed-clause-checks g c = λ text given.
     let is = subst (IsGiven text) c.in-Some.is given in
     let means = subst (Means c.args.self.now.options.is_little_endian text) c.in-Malformed.is (rw is.1 at c.in_ok-entry.ensures.meaning) in
-    (Improper, (is.0, means), c.count_improper.ensures.counts, c.count_improper.ensures.prints, c.count_improper.ensures.tells)
+    (Improper, (is.0, means), c.count_improper.ensures.counts, c.count_improper.ensures.emits)
 
 pub returns-then-is_silent-clause-checks : goal.returns-then-is_silent-clause-checks
 returns-then-is_silent-clause-checks g c = λ text given.
     let is = subst (IsGiven text) c.in-Some.is given in
     let means = subst (Means c.args.self.now.options.is_little_endian text) c.in-Entry.is (rw is.1 at c.in_ok-entry.ensures.meaning) in
     let entry = c.in-Entry.entry in
-    (Proper entry.name.items c.compare-found.result, (is.0, entry.kind, entry.value, means, c.compare-found.ensures), c.count.ensures, ([], refl, sym (silent-prints c.args.self.now.options c.args.self.now.name.now c.args.line.number entry.name.items c.compare-found.result (sym c.is_silent.ensures ∙ c.if-is_silent.true))), tells-nothing g.E.Sink c.args.err.now)
+    (Proper entry.name.items c.compare-found.result, (is.0, entry.kind, entry.value, means, c.compare-found.ensures), c.count.ensures, (streams c.args.out.now c.args.err.now, (([], refl, sym (silent-prints c.args.self.now.options c.args.self.now.name.now c.args.line.number entry.name.items c.compare-found.result (sym c.is_silent.ensures ∙ c.if-is_silent.true))), tells-nothing g.E.Sink c.args.err.now), (refl, refl)))
 
 pub returns-clause-checks : goal.returns-clause-checks
 returns-clause-checks g c = λ text given.
     let is = subst (IsGiven text) c.in-Some.is given in
     let means = subst (Means c.args.self.now.options.is_little_endian text) c.in-Entry.is (rw is.1 at c.in_ok-entry.ensures.meaning) in
     let entry = c.in-Entry.entry in
-    line-said (IsFinding g.S.Store g.S.File.Source c.args.self.now.store.now c.args.self.now.options.is_little_endian text) g.W.Sink g.E.Sink c.args.self.now.options c.args.self.now.name.now c.args.line.number entry.name.items c.deref.result.now c.compare-found.result c.args.report.now c.count.new.self c.args.out.now c.say_found.new.out c.args.err.now c.say_found.result (sym c.is_silent.ensures ∙ c.if-is_silent.false) c.deref.ensures.value (is.0, entry.kind, entry.value, means, c.compare-found.ensures) c.count.ensures c.say_found.ensures.prints
+    line-said (IsFinding g.S.Store g.S.File.Source c.args.self.now.store.now c.args.self.now.options.is_little_endian text) (rules_of g.W.Sink g.W.Output.held g.W.Output.has_lost g.E.Sink) c.args.self.now.options c.args.self.now.name.now c.args.line.number entry.name.items c.deref.result.now c.compare-found.result c.args.report.now c.count.new.self (streams c.args.out.now c.args.err.now) c.say_found.new.out c.say_found.result (sym c.is_silent.ensures ∙ c.if-is_silent.false) c.deref.ensures.value (is.0, entry.kind, entry.value, means, c.compare-found.ensures) c.count.ensures c.say_found.ensures.prints

@@ -1,16 +1,15 @@
-use Rattle.std.proofs.Common.{◌≡◌, ◌+◌, ◌-◌, ◌^◌, ◌∷◌, ◌++◌, [], length, Some, refl, sym, ap, ◌∙◌, append-nil, arith}
+use Rattle.std.proofs.Common.{◌≡◌, ◌+◌, ◌-◌, ◌^◌, ◌∷◌, ◌++◌, [], length, Some, refl, sym, ap, ◌∙◌, arith}
 use Rattle.std.proofs.lemmas.List.{length_push}
-use Rattle.xxh_io.proofs.WriteFacts.{Took-join}
 use Rattle.xxhsum_program.specs.Findings.{IsFinding, count_one, no_findings, report_of, with_broken_end}
 use Rattle.xxhsum_program.specs.ListEnd.{Whole, TooMany, Endless, FailedRead}
-use Rattle.xxhsum_program.specs.Said.{numbered, printed_finding, told_finding}
+use Rattle.xxhsum_program.specs.Order.{rules_of, streams}
+use Rattle.xxhsum_program.specs.Said.{finding_events}
 use Rattle.xxhsum_program.proofs.CheckFacts.{add_up-push, breaks-endless, breaks-failed, ends-well, some-read, stands-line, stands-new}
 use Rattle.xxhsum_program.proofs.EachFacts.{EachHas-push}
 use Rattle.xxhsum_program.proofs.HashFacts.{is-err}
-use Rattle.xxhsum_program.proofs.OutcomeFacts.{took-nothing-more}
+use Rattle.xxhsum_program.proofs.OrderFacts.{emits-append}
 use Rattle.xxhsum_program.proofs.SaidFacts.{numbered-push}
-use Rattle.xxhsum_program.proofs.StopFacts.{lines-stop, tells-as, tells-break}
-use Rattle.xxhsum_program.proofs.ToldFacts.{tells-more, tells-nothing}
+use Rattle.xxhsum_program.proofs.StopFacts.{emits-break, lines-stop}
 use Rattle.xxhsum_program.specs.Watched.{source_of}
 use Rattle.xxhsum_program.proofs.check.ListCheck.check_lines.Goals as goal
 
@@ -23,8 +22,7 @@ loop-number-init g c = record {
   lines = refl;
   count = refl;
   stands = stands-new g.R.Source (source_of c.args.source) c.new-lines.result c.new-lines.ensures;
-  prints = ([], refl, refl);
-  tells = tells-nothing g.E.Sink c.args.err.now;
+  emits = (refl, refl);
   works = c.requires;
 }
 
@@ -46,58 +44,60 @@ loop-number-preserved g c =
       lines = omega (arith, length_push so_far.read line, so_far.lines);
       count = omega (arith, length_push so_far.findings finding, so_far.count);
       stands = stands;
-      prints = rw (numbered-push (printed_finding options list) 1 so_far.findings finding number so_far.count) (Took-join g.W.Sink _ _ _ _ _ so_far.prints checked.3);
-      tells = rw (numbered-push (told_finding options list) 1 so_far.findings finding number so_far.count) (tells-more g.E.Sink _ _ _ _ _ so_far.tells checked.4);
+      emits = rw (numbered-push (finding_events options list) 1 so_far.findings finding number so_far.count)
+          (emits-append (rules_of g.W.Sink g.W.Output.held g.W.Output.has_lost g.E.Sink) _ _ (streams c.args.out.now c.args.err.now) (streams c.loop-number.out c.loop-number.err) (streams c.check_line.new.out c.check_line.new.err) so_far.emits checked.3);
       works = c.in_ok-check_line-in-Line.ensures.works;
     }
 
 pub returns-in-End-clause-checks : goal.returns-in-End-clause-checks
 returns-in-End-clause-checks g c =
     let so_far = c.loop-number.invariant in
-    let said = numbered (told_finding c.args.self.now.options c.args.self.now.name.now) 1 so_far.findings in (
+    let here = streams c.loop-number.out c.loop-number.err in (
       so_far.findings,
       Some Whole,
       (so_far.read, so_far.each, ends-well g.R.Source (source_of c.args.source) c.loop-number.lines c.next.new.self so_far.read so_far.stands c.in-End.ensures.next),
       so_far.report,
-      so_far.prints,
-      tells-as g.E.Sink said (said ++ []) _ _ (append-nil said) so_far.tells,
+      emits-append (rules_of g.W.Sink g.W.Output.held g.W.Output.has_lost g.E.Sink) _ [] (streams c.args.out.now c.args.err.now) here here so_far.emits (refl, refl),
     )
 
 pub returns-in-Failed-clause-checks : goal.returns-in-Failed-clause-checks
 returns-in-Failed-clause-checks g c =
     let so_far = c.loop-number.invariant in
+    let rules = rules_of g.W.Sink g.W.Output.held g.W.Output.has_lost g.E.Sink in
+    let list = c.args.self.now.name.now in
+    let mid = streams c.loop-number.out c.loop-number.err in
     let count : c.loop-number.number ≡ length so_far.findings + 1 = omega (arith, so_far.count) in (
       so_far.findings,
       Some FailedRead,
       (so_far.read, so_far.each, breaks-failed g.R.Source (source_of c.args.source) c.loop-number.lines c.next.new.self so_far.read so_far.stands c.in-Failed.ensures.next c.in-Failed.ensures.ended),
       c.with_broken_end.ensures ∙ ap with_broken_end so_far.report,
-      took-nothing-more g.W.Sink _ _ _ _ so_far.prints c.release.ensures.prints,
-      tells-more g.E.Sink _ _ c.args.err.now c.loop-number.err c.tell_of_failure.new.err so_far.tells (tells-break g.E.Sink c.args.self.now.name.now FailedRead c.loop-number.number (length so_far.findings + 1) c.loop-number.report (report_of c.args.self.now.options.ignores_missing so_far.findings) c.loop-number.err c.tell_of_failure.new.err count so_far.report c.tell_of_failure.ensures),
+      emits-append rules _ _ (streams c.args.out.now c.args.err.now) mid (streams c.tell_of_failure.new.out c.tell_of_failure.new.err) so_far.emits (emits-break rules list FailedRead c.loop-number.number (length so_far.findings + 1) c.loop-number.report (report_of c.args.self.now.options.ignores_missing so_far.findings) mid (streams c.tell_of_failure.new.out c.tell_of_failure.new.err) count so_far.report c.tell_of_failure.ensures.emits),
     )
 
 pub returns-in-Endless-clause-checks : goal.returns-in-Endless-clause-checks
 returns-in-Endless-clause-checks g c =
     let so_far = c.loop-number.invariant in
+    let rules = rules_of g.W.Sink g.W.Output.held g.W.Output.has_lost g.E.Sink in
+    let list = c.args.self.now.name.now in
+    let mid = streams c.loop-number.out c.loop-number.err in
     let count : c.loop-number.number ≡ length so_far.findings + 1 = omega (arith, so_far.count) in (
       so_far.findings,
       Some Endless,
       (so_far.read, so_far.each, breaks-endless g.R.Source (source_of c.args.source) c.loop-number.lines c.next.new.self so_far.read so_far.stands c.in-Endless.ensures.next c.in-Endless.ensures.ended),
       c.with_broken_end-in-Endless.ensures ∙ ap with_broken_end so_far.report,
-      took-nothing-more g.W.Sink _ _ _ _ so_far.prints c.tell_too_long.ensures.prints,
-      tells-more g.E.Sink _ _ c.args.err.now c.loop-number.err c.tell_too_long.new.err so_far.tells (tells-break g.E.Sink c.args.self.now.name.now Endless c.loop-number.number (length so_far.findings + 1) c.loop-number.report (report_of c.args.self.now.options.ignores_missing so_far.findings) c.loop-number.err c.tell_too_long.new.err count so_far.report c.tell_too_long.ensures.tells),
+      emits-append rules _ _ (streams c.args.out.now c.args.err.now) mid (streams c.tell_too_long.new.out c.tell_too_long.new.err) so_far.emits (emits-break rules list Endless c.loop-number.number (length so_far.findings + 1) c.loop-number.report (report_of c.args.self.now.options.ignores_missing so_far.findings) mid (streams c.tell_too_long.new.out c.tell_too_long.new.err) count so_far.report (streams c.tell_too_long.new.out c.tell_too_long.new.err, c.tell_too_long.ensures.emits, (refl, refl))),
     )
 
 pub returns-clause-checks : goal.returns-clause-checks
 returns-clause-checks g c =
     let so_far = c.loop-number.invariant in
-    let said = numbered (told_finding c.args.self.now.options c.args.self.now.name.now) 1 so_far.findings in
+    let here = streams c.loop-number.out c.loop-number.err in
     let most : length so_far.read ≡ 2 ^ 64 - 2 = omega (arith, so_far.lines) in (
       so_far.findings,
       Some TooMany,
       (so_far.read, so_far.each, (some-read g.R.Source (source_of c.args.source) c.loop-number.lines so_far.read so_far.stands, most)),
       so_far.report,
-      so_far.prints,
-      tells-as g.E.Sink said (said ++ []) _ _ (append-nil said) so_far.tells,
+      emits-append (rules_of g.W.Sink g.W.Output.held g.W.Output.has_lost g.E.Sink) _ [] (streams c.args.out.now c.args.err.now) here here so_far.emits (refl, refl),
     )
 
 pub returns-in_err-check_line-in-Line-clause-checks : goal.returns-in_err-check_line-in-Line-clause-checks
@@ -109,4 +109,4 @@ returns-in_err-check_line-in-Line-clause-checks g c =
     let checked = c.in_err-check_line-in-Line.ensures.checks line (c.line.ensures line held) in
     let is_finding = IsFinding g.S.Store g.S.File.Source c.args.self.now.store.now c.args.self.now.options.is_little_endian in
     rw (is-err c.from_residual.result stop c.from_residual.ensures.1)
-    (lines-stop is_finding g.R.Source g.W.Sink g.E.Sink c.args.self.now.options c.args.self.now.name.now (source_of c.args.source) c.args.out.now c.loop-number.out _ c.args.err.now c.loop-number.err _ c.loop-number.lines state so_far.read so_far.findings line c.loop-number.number c.loop-number.report c.check_line.new.report stop so_far.each so_far.stands stands so_far.count so_far.prints so_far.tells checked)
+    (lines-stop is_finding g.R.Source (rules_of g.W.Sink g.W.Output.held g.W.Output.has_lost g.E.Sink) c.args.self.now.options c.args.self.now.name.now (source_of c.args.source) (streams c.args.out.now c.args.err.now) (streams c.loop-number.out c.loop-number.err) (streams c.check_line.new.out c.check_line.new.err) c.loop-number.lines state so_far.read so_far.findings line c.loop-number.number c.loop-number.report c.check_line.new.report stop so_far.each so_far.stands stands so_far.count so_far.emits checked)

@@ -1,12 +1,13 @@
 use Rattle.std.proofs.Common.{◌≡◌, ◌+◌, List, ℕ, length, false}
-use Rattle.xxhsum_program.specs.Prelude.{EachHas, TellsOn, Took}
+use Rattle.xxhsum_program.specs.Prelude.{EachHas}
 use Rattle.xxhsum_program.specs.Findings.{Finding, IsFinding, report_of}
-use Rattle.xxhsum_program.specs.Said.{numbered, printed_finding, told_finding}
+use Rattle.xxhsum_program.specs.Order.{EmitsAll, rules_of, streams}
+use Rattle.xxhsum_program.specs.Said.{finding_events, numbered}
 use Rattle.xxhsum_program.proofs.CheckFacts.{Stands}
 use Rattle.xxhsum_program.specs.Watched.{source_of}
 use Rattle.xxhsum_program.proofs.check.ListCheck.check_lines.Given as goal
 
--- a finding for each line so far, which the report counts, and what is said of them
+-- Invariant: a finding for each line so far, counted in the report, and the events of all of them.
 abbrev pub invariant-loop-number : goal.invariant-loop-number
 invariant-loop-number g l = record {
   read : List (List ℕ);
@@ -16,7 +17,6 @@ invariant-loop-number g l = record {
   lines : length read + 1 ≡ l.number;
   count : l.number ≡ 1 + length findings;
   stands : Stands g.R.Source (source_of l.fn.source) l.lines read;
-  prints : Took g.W.Sink (numbered (printed_finding l.fn.self.options l.fn.self.name.now) 1 findings) l.initial.out l.out;
-  tells : TellsOn g.E.Sink (numbered (told_finding l.fn.self.options l.fn.self.name.now) 1 findings) l.initial.err l.err;
+  emits : EmitsAll (rules_of g.W.Sink g.W.Output.held g.W.Output.has_lost g.E.Sink) (numbered (finding_events l.fn.self.options l.fn.self.name.now) 1 findings) (streams l.initial.out l.initial.err) (streams l.out l.err);
   works : g.W.Sink.has_failed l.out ≡ false;
 }

@@ -1,5 +1,5 @@
 use Rattle.xxhsum_program.proofs.HashFacts.{is-err}
-use Rattle.xxhsum_program.proofs.LineEndFacts.{line-join, line-more, none-is, summary-is}
+use Rattle.xxhsum_program.proofs.LineEndFacts.{line-join, line-more, summary-is}
 use Rattle.xxhsum_program.proofs.check.ListCheck.say_counts.Goals as goal
 
 pub returns-in_err-say_count-clause-prints : goal.returns-in_err-say_count-clause-prints
@@ -22,7 +22,3 @@ returns-clause-prints g c =
     rw (summary-is c.args.self.now.options c.args.report.now c.if-report-eq0.false c.if-self.false)
     (line-join g.W.Sink _ _ c.args.out.now c.say_count.new.out c.say_count-3.new.out c.say_count-3.result c.in_ok-say_count.ensures.prints c.say_count-3.ensures.only
     (line-join g.W.Sink _ _ c.say_count.new.out c.say_count-2.new.out c.say_count-3.new.out c.say_count-3.result c.in_ok-say_count-2.ensures.prints c.say_count-3.ensures.only c.say_count-3.ensures.prints))
-
-pub returns-then-report-eq0-clause-tells : goal.returns-then-report-eq0-clause-tells
-returns-then-report-eq0-clause-tells g c =
-    rw (none-is c.args.self.now.name.now c.args.report.now c.if-report-eq0.true) c.tell_line_after.ensures

@@ -1,11 +1,13 @@
-use Rattle.xxhsum_program.proofs.LineEndFacts.{break-none, break-some}
-use Rattle.xxhsum_program.proofs.ToldFacts.{tells-nothing}
+use Rattle.std.proofs.Common.{arith, refl}
+use Rattle.xxhsum_program.specs.Order.{streams}
+use Rattle.xxhsum_program.proofs.LineEndFacts.{break-is, no-break}
 use Rattle.xxhsum_program.proofs.check.ListCheck.tell_of_failure.Goals as goal
 
-pub returns-then-report-eq0 : goal.returns-then-report-eq0
-returns-then-report-eq0 g c =
-    rw (break-none c.args.self.now.name.now c.args.number c.args.report.now c.if-report-eq0.true) (tells-nothing g.E.Sink c.args.err.now)
+pub returns-then-report-gt0-clause-emits : goal.returns-then-report-gt0-clause-emits
+returns-then-report-gt0-clause-emits g c =
+    rw (break-is c.args.self.now.name.now c.args.number c.args.report.now c.if-report-gt0.true)
+    (streams c.release.new.out c.tell_of_line_after.new.err, (c.release.ensures.prints, c.release.ensures.written, c.tell_of_line_after.ensures), (refl, refl))
 
-pub returns : goal.returns
-returns g c =
-    rw (break-some c.args.self.now.name.now c.args.number c.args.report.now c.if-report-eq0.false) c.tell_of_line_after.ensures
+pub returns-else-report-gt0-clause-emits : goal.returns-else-report-gt0-clause-emits
+returns-else-report-gt0-clause-emits g c =
+    rw (no-break c.args.self.now.name.now c.args.number c.args.report.now (omega (arith, c.if-report-gt0.false))) (refl, refl)
