@@ -1,4 +1,4 @@
--- What a run over names and the check of a list come to.
+-- Lemmas on runs over names and on checks of lists.
 use Rattle.std.proofs.Common.{◌≡◌, ℕ, Bool, true, false, List, [], ◌∷◌, ◌++◌, Option, Some, None, inl, inr, refl, sym, ap, ◌∙◌, subst, append-nil, codes, ◌↔◌, Result, Ok, Err}
 use Rattle.xxhsum_program.specs.Prelude.{AllByRecursion, EachHas, Kind, Options, Shape, SinkRules, SourceRules, StoreRules, Style, TellsOn, Took, concat}
 use Rattle.xxhsum_program.specs.declared.outcome.Outcome.{Outcome}
@@ -23,7 +23,7 @@ status (Ok true) = (λ _. refl, λ _. refl)
 status (Ok false) = (λ is. let no : 1 ≡ 0 = is in cc, λ is. cc)
 status (Err stop) = (λ is. let no : 1 ≡ 0 = is in cc, λ is. cc)
 
--- ---- names
+-- ---- runs over names
 
 pub each-name-once : {S F W E : Type 0} (opening : StoreRules S F) (reading : SourceRules F) (writing : SinkRules W) (telling : SinkRules E) (store : S) (kind : Kind) (style : Style) (names : List (List ℕ)) (w_old w_new : W) (e_old e_new : E) (all : Bool)
     → SaysNames opening reading writing telling store kind style names w_old w_new e_old e_new (Ok all)
@@ -49,7 +49,7 @@ line-or-message printed told kind shape name (Unread reason) =
           ∷ codes ". " ∷ [])),
     )
 
--- ---- a run that stops
+-- ---- runs that stop
 
 beginning : {W : Type 0} (writing : SinkRules W) (lines : List ℕ) (old new : W) (stop : Stop) → PrintsLines {T = Bool} writing lines old new (Err stop) → PrintsBeginning writing lines old new
 beginning writing lines old new WriteFailed (taken, met, pieces, refused, (rest, whole, some)) =
@@ -74,7 +74,7 @@ pub list-stops : {S F R W E : Type 0} (opening : StoreRules S F) (reading : Sour
 list-stops opening reading list_reading writing telling store options name source w_old w_new e_old e_new stop (findings, end, finds, answers, prints, told) =
     (findings, end, unless-failed writing _ w_old w_new stop prints)
 
--- ---- a good list
+-- ---- good lists
 
 pub good-means-equal : {S F R W E : Type 0} (opening : StoreRules S F) (reading : SourceRules F) (list_reading : SourceRules R) (writing : SinkRules W) (telling : SinkRules E)
     → GoodMeansEqual opening reading list_reading
