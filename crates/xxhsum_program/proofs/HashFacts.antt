@@ -1,4 +1,4 @@
--- A hashing run that stops, over any names, outcomes and lines.
+-- Lemmas on a hashing run that stops, over any names, outcomes and lines.
 use Rattle.std.proofs.Common.{◌≡◌, ℕ, ◌+◌, Bool, List, [], ◌∷◌, ◌++◌, length, refl, sym, ap, ◌∙◌, subst, append-nil, append_assoc, length-append, arith, Ok, Err, Result, IsErrAnd}
 use Rattle.xxhsum_program.specs.Prelude.{Digested, EachHas, IsDirectory, Kind, OutOfMemory, Outcome, Refused, SinkRules, Stop, Style, TellsOn, Took, Unread, WriteFailed, concat}
 use Rattle.xxh_io.proofs.WriteFacts.{Refused-join}
@@ -16,7 +16,7 @@ nothing-is-refused writing old new refused =
     let none : 0 ≡ length (concat refused.0) + length refused.4.0 = ap length refused.4.1 ∙ length-append (concat refused.0) refused.4.0 in
     omega (arith, none, refused.4.2)
 
--- a refused line is that of a value, for which nothing is reported
+-- Lemma: nothing is reported for a name whose line is refused, since the line has its value.
 refused-has-value : {W : Type 0} (writing : SinkRules W) (kind : Kind) (style : Style) (name : List ℕ) (outcome : Outcome) (old new : W) → Refused writing (written_line kind style name outcome) old new → told_line name outcome ≡ []
 refused-has-value writing kind style name (Digested value) old new refused = refl
 refused-has-value writing kind style name IsDirectory old new refused = absurd (nothing-is-refused writing old new refused)

@@ -1,4 +1,4 @@
--- A line that is written in two parts, of which either may be refused.
+-- Lemmas on a line that is written in two parts, either of which may be refused.
 use Rattle.std.proofs.Common.{◌≡◌, ◌≢◌, ℕ, List, [], ◌∷◌, ◌++◌, Bool, true, false, Ok, Err, IfErr, codes, nat_eq, ◌||◌, refl, if◌then◌else◌, arith, append-nil, ap, ◌∙◌, Result}
 use Rattle.xxhsum_program.specs.Prelude.{Options, OutOfMemory, Report, SinkRules, Stop, Took, WriteFailed, concat, one_line}
 use Rattle.xxh_io.proofs.WriteFacts.{Refused-join, Refused-more, Took-join}
@@ -7,14 +7,14 @@ use Rattle.xxhsum_program.specs.ListEnd.{FailedRead}
 use Rattle.xxhsum_program.specs.Said.{count_text, printed_summary, told_break, told_of_line, told_summary, unverified_line, unverified_text}
 use Rattle.xxhsum_program.specs.Report.{is_unverified}
 
--- the first part was refused
+-- Lemma: a line is refused if its first part is refused.
 pub line-more : {W T : Type 0} (writing : SinkRules W) (a b : List ℕ) (old new : W) (result : Result T Stop) (stop : Stop) → result ≡ Err stop → stop ≡ WriteFailed → PrintsLine {T = T} writing a old new (Err stop) → PrintsLine writing (a ++ b) old new result
 line-more writing a b old new (Ok x) stop is only prints = cc
 line-more writing a b old new (Err WriteFailed) WriteFailed is only prints = Refused-more writing a b old new prints
 line-more writing a b old new (Err OutOfMemory) WriteFailed is only prints = cc
 line-more writing a b old new (Err e) OutOfMemory is only prints = cc
 
--- the first part was taken
+-- Lemma: a line has the result of its second part if its first part was taken.
 pub line-join : {W T : Type 0} (writing : SinkRules W) (a b : List ℕ) (old mid new : W) (result : Result T Stop) → Took writing a old mid → IfErr result (λ stop. stop ≡ WriteFailed) → PrintsLine writing b mid new result → PrintsLine writing (a ++ b) old new result
 line-join writing a b old mid new (Ok x) took only prints = Took-join writing a b old mid new took prints
 line-join writing a b old mid new (Err WriteFailed) took only prints = Refused-join writing a b old mid new took prints

@@ -1,4 +1,4 @@
--- Names and their outcomes, where one more comes.
+-- Lemmas on names and their outcomes after one more name.
 use Rattle.std.proofs.Common.{◌≡◌, ℕ, List, [], ◌∷◌, ◌++◌, sym, ap, subst, ◌∙◌, append-nil, append_assoc, Ok, Err, Result}
 use Rattle.xxhsum_program.specs.Prelude.{EachHas, SinkRules, Stop, Took}
 use Rattle.xxh_io.proofs.WriteFacts.{Refused-join, Took-join}
@@ -12,7 +12,7 @@ lines-push comes line (n ∷ ns) [] name outcome each = absurd each
 lines-push comes line (n ∷ ns) (o ∷ os) name outcome each =
     ap (λ bytes. line n o ++ bytes) (lines-push comes line ns os name outcome each.1) ∙ sym (append_assoc (line n o) (lines_of line ns os) (line name outcome))
 
--- ---- what is printed of them
+-- ---- the printed lines
 
 pub took-nothing-more : {W : Type 0} (writing : SinkRules W) (a : List ℕ) (old mid new : W) → Took writing a old mid → Took writing [] mid new → Took writing a old new
 took-nothing-more writing a old mid new first second =

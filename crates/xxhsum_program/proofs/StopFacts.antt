@@ -1,4 +1,4 @@
--- The check of a list, at the lines where it stops and at its end.
+-- Lemmas on the check of a list, at the lines where it stops and at its end.
 use Rattle.std.proofs.Common.{◌≡◌, ℕ, ◌+◌, Bool, true, false, List, [], ◌∷◌, ◌++◌, length, Option, Some, None, Ok, Err, refl, sym, subst, append-nil, inl, Result}
 use Rattle.xxhsum_program.specs.Prelude.{EachHas, Found, Options, OutOfMemory, Refused, Report, SinkRules, SourceRules, Stop, TellsOn, Took, WriteFailed}
 use Rattle.xxh_io.proofs.WriteFacts.{Refused-join, Took-join}
@@ -14,7 +14,7 @@ use Rattle.xxhsum_program.proofs.EachFacts.{EachHas-push}
 use Rattle.xxhsum_program.proofs.SaidFacts.{numbered-push}
 use Rattle.xxhsum_program.proofs.ToldFacts.{tells-more, tells-nothing}
 
--- what `check_lines` ensures, and what `check` does
+-- The postconditions of `check_lines` and of `check`.
 abbrev pub LinesChecked : {R W E : Type 0} → (List ℕ → Finding → Type 0) → SourceRules R → SinkRules W → SinkRules E → Options → List ℕ → R → W → W → E → E → Result Report Stop → Type 0
 LinesChecked is_finding reading writing telling options list source w_old w_new e_old e_new result =
     (findings : List Finding) × (end : Option ListEnd) × FindsLines is_finding reading source findings end
@@ -38,7 +38,7 @@ tells-as telling a b old new same tells =
 pub silent-prints : (options : Options) (list : List ℕ) (number : ℕ) (name : List ℕ) (found : Found) → is_silent options found ≡ true → printed_finding options list number (Proper name found) ≡ []
 silent-prints options list number name found silent = rw silent refl
 
--- a file's result is printed, up to where the run stopped
+-- Lemma: a line is checked if the result of its file is printed, up to an error.
 pub line-said : {W E : Type 0} (is_finding : Finding → Type 0) (writing : SinkRules W) (telling : SinkRules E) (options : Options) (list : List ℕ) (number : ℕ) (name shown : List ℕ) (found : Found) (r_old r_new : Report) (w_old w_new : W) (err : E) (result : Result (Unit {0}) Stop)
     → is_silent options found ≡ false → shown ≡ name → is_finding (Proper name found) → r_new ≡ count_proper options.ignores_missing r_old found → PrintsLine writing (found_text options.is_quiet list number shown found) w_old w_new result
     → ChecksLine is_finding writing telling options list number r_old r_new w_old w_new err err result
@@ -50,7 +50,7 @@ line-said is_finding writing telling options list number name shown found r_old 
     (Proper name found, is, subst (λ bytes. Refused writing bytes w_old w_new) text prints, tells-nothing telling err)
 line-said is_finding writing telling options list number name shown found r_old r_new w_old w_new err (Err OutOfMemory) speaks same is counted prints = (prints, refl)
 
--- ---- a line that could not be said
+-- ---- a line at which the check stops
 
 pub lines-stop : {R X W E : Type 0} (is_finding : List ℕ → Finding → Type 0) (reading : SourceRules R) (writing : SinkRules W) (telling : SinkRules E) (options : Options) (list : List ℕ) (source : R) (w_old w_mid w_new : W) (e_old e_mid e_new : E) (old new : Lines R X) (read : List (List ℕ)) (findings : List Finding) (line : List ℕ) (number : ℕ) (r_old r_new : Report) (stop : Stop)
     → EachHas is_finding read findings → Stands reading source old read → Stands reading source new (read ++ line ∷ []) → number ≡ 1 + length findings
@@ -78,7 +78,7 @@ lines-stop is_finding reading writing telling options list source w_old w_mid w_
       tells-as telling all (all ++ []) e_old e_new (append-nil all) (tells-as telling (numbered texts 1 findings ++ texts number finding) all e_old e_new (numbered-push texts 1 findings finding number count) (tells-more telling _ _ e_old e_mid e_new told tells)),
     )
 
--- ---- behind the lines
+-- ---- after the lines
 
 prints-nothing-more : {W : Type 0} (writing : SinkRules W) (lines : List ℕ) (old new : W) (stop : Stop) → PrintsLines {T = Report} writing lines old new (Err stop) → PrintsLines {T = Bool} writing (lines ++ []) old new (Err stop)
 prints-nothing-more writing lines old new WriteFailed prints =
@@ -86,13 +86,13 @@ prints-nothing-more writing lines old new WriteFailed prints =
 prints-nothing-more writing lines old new OutOfMemory prints =
     subst (λ bytes. Took writing bytes old new) (sym (append-nil lines)) prints
 
--- there was no memory before the first line
+-- Lemma: a check without memory for the first line has no findings.
 pub check-begins-not : {R W E : Type 0} (is_finding : List ℕ → Finding → Type 0) (reading : SourceRules R) (writing : SinkRules W) (telling : SinkRules E) (options : Options) (list : List ℕ) (source : R) (out : W) (err : E)
     → ListChecked is_finding reading writing telling options list source out out err err (Err OutOfMemory)
 check-begins-not is_finding reading writing telling options list source out err =
     ([], None, ([], tt, (false, [], ([], source, tt, refl, inl (tt, refl)))), tt, ([], refl, refl), tells-nothing telling err)
 
--- the lines were not all checked
+-- Lemma: the check of a list stops if the check of its lines stops.
 pub check-stops : {R W E : Type 0} (is_finding : List ℕ → Finding → Type 0) (reading : SourceRules R) (writing : SinkRules W) (telling : SinkRules E) (options : Options) (list : List ℕ) (source : R) (w_old w_new : W) (e_old e_new : E) (stop : Stop)
     → LinesChecked is_finding reading writing telling options list source w_old w_new e_old e_new (Err stop)
     → ListChecked is_finding reading writing telling options list source w_old w_new e_old e_new (Err stop)
@@ -106,7 +106,7 @@ check-stops is_finding reading writing telling options list source w_old w_new e
 )
 check-stops is_finding reading writing telling options list source w_old w_new e_old e_new stop (findings, Some end, finds, is, prints, tells) = cc
 
--- the summary could not be printed
+-- Lemma: the check of a list stops if its summary can't be printed.
 pub check-summary-stops : {R W E : Type 0} (is_finding : List ℕ → Finding → Type 0) (reading : SourceRules R) (writing : SinkRules W) (telling : SinkRules E) (options : Options) (list : List ℕ) (source : R) (w_old w_mid w_new : W) (e_old e_mid e_new : E) (report : Report) (stop : Stop)
     → LinesChecked is_finding reading writing telling options list source w_old w_mid e_old e_mid (Ok report)
     → PrintsLine {T = Unit {0}} writing (summary_text options list report) w_mid w_new (Err stop) → stop ≡ WriteFailed → TellsOn telling (told_summary list report) e_mid e_new
@@ -136,7 +136,7 @@ check-ends is_finding reading writing telling options list source w_old w_mid w_
 )
 check-ends is_finding reading writing telling options list source w_old w_mid w_new e_old e_mid e_new report good (findings, None, finds, is, took, told) prints tells answer = absurd is
 
--- the same break, of the number and the report of the lines so far
+-- Lemma: the message on a broken list depends only on the number and the report of the lines so far.
 pub tells-break : {E : Type 0} (telling : SinkRules E) (list : List ℕ) (end : ListEnd) (m n : ℕ) (r s : Report) (old new : E) → m ≡ n → r ≡ s → TellsOn telling (told_break list m r end) old new → TellsOn telling (told_break list n s end) old new
 tells-break telling list end m n r s old new numbers reports tells =
     subst (λ k. TellsOn telling (told_break list k s end) old new) numbers (subst (λ x. TellsOn telling (told_break list m x end) old new) reports tells)

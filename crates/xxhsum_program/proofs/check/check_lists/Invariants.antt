@@ -4,7 +4,7 @@ use Rattle.xxhsum_program.specs.CheckList.{AreAllDone, IsListOutcome, ListOutcom
 use Rattle.xxhsum_program.specs.Lines.{lines_of}
 use Rattle.xxhsum_program.proofs.check.check_lists.Given as goal
 
--- an outcome for each list so far, and what is said of them all
+-- Invariant: one outcome for each list so far, and their output
 abbrev pub invariant-loop-name : goal.invariant-loop-name
 invariant-loop-name g l = record {
   outcomes : List ListOutcome;

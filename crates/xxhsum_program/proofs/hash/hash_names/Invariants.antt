@@ -7,7 +7,7 @@ use Rattle.xxhsum_program.specs.Lines.{lines_of, told_line, written_line}
 use Rattle.xxhsum_program.specs.Run.{style_of}
 use Rattle.xxhsum_program.proofs.hash.hash_names.Given as goal
 
--- an outcome for each name so far, and the lines of them all
+-- Invariant: one outcome for each name so far, and their lines
 abbrev pub invariant-loop-name : goal.invariant-loop-name
 invariant-loop-name g l = record {
   outcomes : List Outcome;

@@ -6,7 +6,7 @@ use Rattle.xxhsum_program.proofs.CheckFacts.{Stands}
 use Rattle.xxhsum_program.specs.Watched.{source_of}
 use Rattle.xxhsum_program.proofs.check.ListCheck.check_lines.Given as goal
 
--- a finding for each line so far, which the report counts, and what is said of them
+-- Invariant: one finding for each line so far, which the report counts, and their output
 abbrev pub invariant-loop-number : goal.invariant-loop-number
 invariant-loop-number g l = record {
   read : List (List ℕ);
