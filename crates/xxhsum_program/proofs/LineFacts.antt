@@ -145,7 +145,7 @@ not-at-end lines inside some at_end =
 
 -- ---- a line that is too long
 
--- A line after `done` that is too long. Its dropped and its buffered bytes have no newline, and took `reads` reads.
+-- An unfinished line after `done`, of over 32767 dropped or buffered bytes. Each of `reads` returned some, or the end.
 abbrev pub IsInside : {R X : Type 0} → SourceRules R → R → List ℕ → ℕ → Lines R X → Type 0
 IsInside reading from done reads lines =
     (gone : List ℕ) × HasRead reading from (done ++ gone) lines × Lacks 10 (gone ++ waiting lines)

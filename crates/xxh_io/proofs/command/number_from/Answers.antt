@@ -10,7 +10,7 @@ use Rattle.xxh_io.proofs.command.number_from.Goals as goal
 
 -- Proves that an argument is a number if and only if it is one or more digits with a value below the limit.
 
--- The digits and their value, as a model of numerals for `parse`.
+-- Lemma: lists of digits, with their decimal value, are a model of the numerals of `parse`.
 numerals : IsNumeralModel (λ ds. all_ascii_digits ds ≡ true) (digits_value 10)
 numerals = numerals_by_value _ tells_all_ascii_digits
 
