@@ -77,8 +77,8 @@ with_copy kept found = found
 
 -- ---- an audit
 
--- The results `found` are the settled ones, followed by the results of the other lines and names, which are sorted by
--- digest and merged. A name that is still new becomes a copy if an unchanged file has its digest.
+-- The results `found` are the settled ones, followed by the results of the other lines and names, sorted by digest and
+-- merged. A name that is still new becomes a copy if an unchanged file has its digest.
 pub record HasMoves (settled : List Found) (gone come : List Item) (found : List Found) : Type 0 where
   pub kept : List Item
   pub gone_ordered : List Item

@@ -75,8 +75,8 @@ IsRead reading from done line new =
     HasRead reading from (done ++ line ++ 10 ∷ []) new
     ⊎ ((0 < length line) × HasRead reading from (done ++ line) new × IsAtEnd new)
 
--- The next item after the bytes `done`: a line; bytes without a line feed, more than a line has; the end of the source;
--- or bytes without a line feed before a read that failed.
+-- The next item after the bytes `done`: a line, an endless line (`IsEndless`), the end of the source, or a failed read
+-- after bytes without a line feed.
 abbrev pub IsNext : {R X : Type 0} → SourceRules R → R → List ℕ → Lines R X → Next → Type 0
 IsNext reading from done new Variant.Line =
     (line : List ℕ) × Lacks 10 line × IsHeld line new × IsRead reading from done line new

@@ -3,7 +3,7 @@ use Rattle.std.specs.Prelude.{Bool, List}
 use Rattle.xxhsum_program.specs.declared.check.Report.{Report}
 use Rattle.xxhsum_program.specs.Findings.{Finding, report_of, with_broken_end}
 
--- The end of the list; the largest line number; a line without an end; or a read that failed.
+-- The end of the list, the largest line number, a line without an end, or a read that failed.
 pub data ListEnd : Type 0 where
   Whole : ListEnd
   TooMany : ListEnd

@@ -14,7 +14,7 @@ IsTooLong line = 32767 < length line
 abbrev pub IsEndless : List ℕ → Type 0
 IsEndless bytes = Lacks 10 bytes × (2 ^ 64 - 2 ≤ length bytes)
 
--- The chunk of the last read, which is empty, if the source has ended.
+-- The empty chunk of the last read, if the source has ended.
 abbrev pub end_piece : Bool → List (List ℕ)
 end_piece has_ended = if has_ended then [] ∷ [] else []
 

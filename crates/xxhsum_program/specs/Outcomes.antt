@@ -29,7 +29,7 @@ HasNoValue opening reading store name (Why.Unopened refusal) = opening.refuses s
 HasNoValue opening reading store name Why.ReadFailed = FailsOn opening reading store name ReadFailed
 HasNoValue opening reading store name Why.TooLong = FailsOn opening reading store name TooLong
 
--- The outcome of the name is this. It is `IsDirectory` if and only if the store has a directory of this name.
+-- The name has this outcome. It is `IsDirectory` if and only if the name is a directory in the store.
 abbrev pub Comes : {S F : Type 0} → StoreRules S F → SourceRules F → S → Kind → List ℕ → Outcome → Type 0
 Comes opening reading store kind name (Digested value) =
     opening.holds_directory store name false × IsValueOf opening reading store kind name value
@@ -38,7 +38,7 @@ Comes opening reading store kind name IsDirectory =
 Comes opening reading store kind name (Unread reason) =
     opening.holds_directory store name false × HasNoValue opening reading store name reason
 
--- The reason of an error of a digest. A write error does not occur.
+-- The reason for a digest's error. A write error does not occur.
 abbrev pub reason_of : DigestError → Reason
 reason_of ReadFailed = Why.ReadFailed
 reason_of WriteFailed = Why.ReadFailed

@@ -115,8 +115,8 @@ FindsPrintedFiles {S} opening reading =
     → EachHas (IsFinding opening reading store is_little) (map text_of_listed entries) findings
     → AreFindingsOf opening reading store entries findings
 
--- A check that ends, of a source that holds a printed list, has read the list to its end. Its findings are the findings
--- of the entries.
+-- A check of a source that holds a printed list, if it ends, ends at the end of the list. Its findings are exactly the
+-- findings of the entries.
 abbrev pub ChecksPrinted : {S F R : Type 0} → StoreRules S F → SourceRules F → SourceRules R → Type 0
 ChecksPrinted {S} {F} {R} opening reading list_reading =
     (store : S) (is_little : Bool) (entries : List Listed) (source : R) (findings : List Finding) (end : ListEnd)

@@ -11,7 +11,7 @@ use Rattle.xxhsum_words.specs.declared.table.TheConstants.{ROWS}
 use Rattle.xxhsum_words.specs.declared.options.Asked.{Asked}
 use Rattle.xxhsum_words.specs.declared.options.Asked.TheVariants.{Run, Benchmark, Version, Help, WrongOption, NulsInList, WalkBesideLists, WalkOfNothing, InputBesideNames, NumberTooLarge}
 
--- A text that is reported, with the program's result; or the options and the arguments of a run that reads files.
+-- A text that is reported, with the program's result, or the options and the arguments of a run that reads files.
 pub data Task : Type 0 where
   Tells : List ℕ → Bool → Task
   Reads : Options → List (List ℕ) → Task
@@ -43,8 +43,7 @@ has_none names = nat_eq (length names) 0
 abbrev pub is_tree : Options → Bool
 is_tree options = options.audits || options.walks || are_listed options.names_from
 
--- True if there is no name and standard input is a terminal, unless `-`, an audit, a walk or lists of names are
--- requested.
+-- True if there is no name and the input is a terminal, unless `-`, an audit, a walk or lists of names are requested.
 abbrev pub waits_for_terminal : Terminals → Options → List (List ℕ) → Bool
 waits_for_terminal terminals options names =
     has_none names && not (is_tree options) && not options.takes_terminal && terminals.input

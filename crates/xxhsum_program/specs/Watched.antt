@@ -9,7 +9,7 @@ use Rattle.xxhsum_program.specs.Progress.{ShowsSometime, bytes_expected, bytes_r
 abbrev pub source_of : {R E : Type 0} → Watched R E → R
 source_of watched = watched.source
 
--- The meter of the bytes.
+-- The meter that counts its bytes.
 abbrev pub meter_of : {R E : Type 0} → Watched R E → Meter E
 meter_of watched = watched.meter
 
@@ -22,12 +22,12 @@ abbrev pub ShowsRead : {E : Type 0} → SinkRules E → Meter E → Meter E → 
 ShowsRead telling old new (Ok count) = ShowsSometime telling count old new
 ShowsRead telling old new (Err e) = ShowsSometime telling 0 old new
 
--- The size is the size of the file of this name in the store, or none if nothing is shown.
+-- The store has this size for the file of this name. If nothing is shown, there is no size.
 abbrev pub IsExpected : {S F T : Type 0} → StoreRules S F → S → ProgressDisplay T → List ℕ → Option ℕ → Type 0
 IsExpected opening store display name size =
     MatchBool (shows_reads display) (opening.sizes store name size) (size ≡ None)
 
--- The meter is the meter of the file of this name, of which nothing is read yet.
+-- The meter is for the file of this name, and has counted no bytes.
 abbrev pub IsFresh : {S F T E : Type 0} → StoreRules S F → S → ProgressDisplay T → List ℕ → Meter E → Type 0
 IsFresh opening store display name meter =
     (is_shown meter ≡ shows_reads display) × (bytes_read meter ≡ 0)

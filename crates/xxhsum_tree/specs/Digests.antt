@@ -36,14 +36,14 @@ AddsRow telling is_row kind old new e_old e_new (Ok _) =
     (row : Row) × is_row row × Grows old new (first_of kind row) (is_read row) × TellsOn telling (told_of row) e_old e_new
 AddsRow telling is_row kind old new e_old e_new (Err e) = TellsOn telling [] e_old e_new
 
--- The results of the rows are `compared`.
+-- `compared` holds the results of these rows.
 pub record HoldsRows (kind : Kind) (rows : List Row) (compared : Compared) : Type 0 where
   pub settled : founds_of compared.settled.items ≡ settled_in (first_in kind rows)
   pub gone : items_of compared.gone.items ≡ missing_in (first_in kind rows)
   pub come : items_of compared.come.items ≡ new_in (first_in kind rows)
   pub all : compared.are_all ≡ are_read rows
 
--- Each side has a row. The results of the rows are `compared`, and their messages were reported.
+-- Each side has a row. `compared` holds the results of the rows, and their messages were reported.
 abbrev pub DigestsRows : {S F E : Type 0} → StoreRules S F → SourceRules F → SinkRules E → S → Kind
     → List (Side Item (List ℕ)) → Compared → E → E → Type 0
 DigestsRows opening reading telling store kind sides compared e_old e_new =

@@ -29,7 +29,7 @@ ListNames opening reading input_reading store input end lists names =
     (texts : List (List ℕ)) × GiveTexts opening reading input_reading store input lists texts (has_none lists)
     × AreNamesIn end texts names
 
--- One of the lists has no text, and `told` is reported about it. If there is no list, the input has none.
+-- One of the lists has no text, and `told` is the message about it. If there is no list, the input has none.
 abbrev pub ListNone : {S F R : Type 0} → StoreRules S F → SourceRules F → SourceRules R → S → R → List (List ℕ) → List ℕ
     → Type 0
 ListNone opening reading input_reading store input lists told =

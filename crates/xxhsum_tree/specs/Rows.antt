@@ -9,7 +9,7 @@ use Rattle.xxhsum_audit.specs.Item.{Item, Says, kind_of}
 use Rattle.xxhsum_program.specs.Lines.{told_line}
 use Rattle.xxhsum_program.specs.Outcomes.{Comes, is_digested}
 
--- A line whose name was not given; a line and its given name; or a name that no line has.
+-- A line whose name was not given, a line and its given name, or a name that no line has.
 pub data Row : Type 0 where
   Gone : Item → Row
   Met : Item → List ℕ → Outcome → Row

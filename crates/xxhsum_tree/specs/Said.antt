@@ -22,13 +22,13 @@ abbrev pub SourceSays : {R : Type 0} → SourceRules R → Bool → R → List I
 SourceSays reading is_little source items =
     (lines : List (List ℕ)) × EndsWell reading source lines × HaveSaid is_little lines items
 
--- The line of this number is too long, or neither an entry nor a comment, and `told` is reported about it.
+-- The line of this number is too long, or neither an entry nor a comment. `told` is the message about it.
 abbrev pub IsFault : Bool → List ℕ → ℕ → List ℕ → List ℕ → Type 0
 IsFault is_little list number line told =
     (IsTooLong line × (told ≡ too_long_text list number))
     ⊎ ((length line ≤ 32767) × SaysNothing is_little line × (told ≡ improper_text list number))
 
--- After lines without a fault, a read fails, or a line has no end, or the next line has a fault. `told` is reported.
+-- After lines without a fault, a read fails, or a line has no end, or the next line has a fault. `told` is the message.
 abbrev pub SourceSaysNothing : {R : Type 0} → SourceRules R → Bool → List ℕ → R → List ℕ → Type 0
 SourceSaysNothing reading is_little list source told =
     (lines : List (List ℕ)) × (items : List Item) × HaveSaid is_little lines items
@@ -42,7 +42,7 @@ abbrev pub ListSays : {S F : Type 0} → StoreRules S F → SourceRules F → S 
 ListSays {S} {F} opening reading store is_little list items =
     (file : F) × opening.opens store list file × SourceSays reading is_little file items
 
--- The list can't be opened, or a read of it fails, or a line has a fault. `told` is reported about it.
+-- The list can't be opened, or a read of it fails, or a line has a fault. `told` is the message about it.
 abbrev pub ListSaysNothing : {S F : Type 0} → StoreRules S F → SourceRules F → S → Bool → List ℕ → List ℕ → Type 0
 ListSaysNothing {S} {F} opening reading store is_little list told =
     ((why : Refusal) × opening.refuses store list why × (told ≡ unopened_text list why))

@@ -26,7 +26,7 @@ abbrev pub GivesText : {S F : Type 0} → StoreRules S F → SourceRules F → S
 GivesText {S} {F} opening reading store name text =
     (file : F) × opening.opens store name file × HasText reading file text
 
--- The name opens no file, or a read of its file fails. `told` is reported about it.
+-- The name opens no file, or a read of its file fails. `told` is the message about it.
 abbrev pub HasNoText : {S F : Type 0} → StoreRules S F → SourceRules F → S → List ℕ → List ℕ → Type 0
 HasNoText {S} {F} opening reading store name told =
     ((why : Refusal) × opening.refuses store name why × (told ≡ unopened_text name why))
@@ -40,13 +40,13 @@ GiveTexts opening reading input_reading store input names texts true =
 GiveTexts opening reading input_reading store input names texts false =
     EachHas (GivesText opening reading store) names texts
 
--- A name has no text, and the names before it have texts. `told` is reported about it.
+-- A name has no text, and the names before it have texts. `told` is the message about it.
 abbrev pub LacksOne : {S F : Type 0} → StoreRules S F → SourceRules F → S → List (List ℕ) → List ℕ → Type 0
 LacksOne opening reading store names told =
     (before behind texts : List (List ℕ)) × (name : List ℕ) × (names ≡ before ++ name ∷ behind)
     × EachHas (GivesText opening reading store) before texts × HasNoText opening reading store name told
 
--- One of the names has no text, and `told` is reported about it. If there is no name, the input has none.
+-- One of the names has no text, and `told` is the message about it. If there is no name, the input has none.
 abbrev pub LackText : {S F R : Type 0} → StoreRules S F → SourceRules F → SourceRules R → S → R → List (List ℕ) → List ℕ
     → Bool → Type 0
 LackText opening reading input_reading store input names told true =

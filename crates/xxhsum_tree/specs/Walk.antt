@@ -18,12 +18,12 @@ Place = List ℕ × Bool
 abbrev pub given : List ℕ → Place
 given name = (name, true)
 
--- The place of a name after a prefix. The prefix of a name in a directory is the directory, of a given name nothing.
+-- The place of a name after a prefix: the directory that contains it, or nothing for a given name.
 abbrev pub below : List ℕ → Bool → List ℕ → Place
 below folder is_given name = (folder ++ name, is_given)
 
--- The result of a visit: a file; neither a file nor a directory; a directory with sorted names; a directory that can't
--- be read; or a name that can't be looked up.
+-- The result of a visit: a file, something other than a file or directory, a directory with its sorted names, a
+-- directory that can't be read, or a name that can't be looked up.
 pub data Seen : Type 0 where
   Leaf : List ℕ → Seen
   Passed : List ℕ → Seen

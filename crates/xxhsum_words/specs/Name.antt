@@ -9,8 +9,7 @@ abbrev pub has_part : List ℕ → List ℕ → Bool
 has_part text [] = false
 has_part text (c ∷ cs) = starts_with nat_eq (c ∷ cs) text || has_part text cs
 
--- The algorithm of the first of these names that the program's name contains, otherwise XXH64. Release 0.8.1 has no
--- xxh3sum.
+-- The algorithm of the first of these names in the program's name, otherwise XXH64. Release 0.8.1 has no xxh3sum.
 abbrev pub kind_of_program : List ℕ → Kind
 kind_of_program name =
     if has_part (codes "xxh3sum") name then X3_64
