@@ -1,4 +1,4 @@
--- The line in a buffer of line feeds, after the digits are written over its front.
+-- Proves that digits written over the front of a buffer of newlines make a hexadecimal line.
 use Rattle.std.proofs.Common.{◌≡◌, ℕ, zero, suc, ◌+◌, ◌-◌, ◌<◌, ◌/◌, List, [], ◌∷◌, ◌++◌, length, take, drop, replicate, refl, sym, ap, ◌∙◌, arith, length-append, length-take, append_assoc}
 use Rattle.std.proofs.lemmas.List.{drop-replicate, length-replicate, take_at}
 use Rattle.xxh_io.specs.Hex.{hex_digits, hex_line}

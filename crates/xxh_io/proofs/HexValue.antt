@@ -1,4 +1,4 @@
--- The digits of a value represent it.
+-- Proves that reading the hexadecimal digits of a value returns the value.
 use Rattle.std.proofs.Common.{◌≡◌, ℕ, zero, suc, ◌+◌, ◌*◌, ◌<◌, ◌/◌, ◌%◌, ◌^◌, List, [], ◌∷◌, ◌++◌, refl, ◌∙◌, arith}
 use Rattle.std.proofs.lemmas.Bool.Decides.{nat_tests}
 use Rattle.std.proofs.Math.Nat.{pow-suc}
@@ -19,5 +19,5 @@ hex_value-hex_digits (suc n) value fits =
     let high : value / 16 < 16 ^ n = omega arith in
     hex_value_after-push 0 (hex_digits n (value / 16)) (hex_digit (value % 16)) ∙ rw (hex_value-hex_digits n (value / 16) high, digit_value-hex_digit (value % 16) low) (omega arith)
 
--- for the tactics
+-- Rewrite rule for the tactics.
 pub ruleset hex_laws = hex_value-hex_digits

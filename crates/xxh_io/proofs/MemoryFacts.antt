@@ -1,4 +1,4 @@
--- Chunks that are read from a slice and written to a sink that follows a script.
+-- Lemmas on reads from a slice and writes to a sink that follows a script.
 use Rattle.std.proofs.Common.{◌≡◌, ℕ, inl, inr, ◌+◌, ◌<◌, ◌≤◌, List, [], ◌∷◌, ◌++◌, length, refl, sym, ap, ◌∙◌, append-nil, append_assoc, length-append, arith, Ok, Err, Result}
 use Rattle.std.specs.List.{concat}
 use Rattle.xxh_io.specs.declared.error.DigestError.{DigestError}
@@ -9,14 +9,14 @@ use Rattle.xxh_io.specs.Pieces.{Pieces, NoneEmpty}
 use Rattle.xxh_io.specs.Digest.{ReadsOn, Refused, Writes}
 use Rattle.xxh_io.specs.Script.{counted, slice_rest, sink_bytes, sink_fail_at, sink_writes, SliceGives, ScriptTakes, script_writing, slice_reading}
 
--- ---- what was read
+-- ---- reads
 
--- the chunks, joined, and then what is left are what was left before
+-- Lemma: the bytes before the reads are the chunks, joined, followed by the bytes that remain.
 pub slice-pieces : (old new : SliceSource) (pieces : List (List ℕ)) → Pieces SliceGives old pieces new → slice_rest old ≡ concat pieces ++ slice_rest new
 slice-pieces old new [] led = ap slice_rest (sym led)
 slice-pieces old new (p ∷ ps) led = led.1.0 ∙ ap (λ rest. p ++ rest) (slice-pieces led.0 new ps led.2) ∙ sym (append_assoc p (concat ps) (slice_rest new))
 
--- an empty chunk comes after all the bytes
+-- Lemma: the chunks before an empty chunk, joined, are all the bytes.
 pub slice-end : (old new : SliceSource) (pieces : List (List ℕ)) → Pieces SliceGives old (pieces ++ [] ∷ []) new → concat pieces ≡ slice_rest old
 slice-end old new [] led = sym (led.1.0 ∙ led.1.1 refl)
 slice-end old new (p ∷ ps) led = ap (λ rest. p ++ rest) (slice-end led.0 new ps led.2) ∙ sym led.1.0
@@ -30,7 +30,7 @@ never-too-long old new pieces some led =
     let all : length (slice_rest old) ≡ length (concat pieces) + length (slice_rest new) = ap length (slice-pieces old new pieces led) ∙ length-append (concat pieces) (slice_rest new) in
     omega (arith, all, count-pieces pieces some)
 
--- ---- what was written
+-- ---- writes
 
 sink-pieces : {N : ℕ} (old new : ScriptSink N) (pieces : List (List ℕ)) → Pieces ScriptTakes old pieces new → (sink_bytes new ≡ sink_bytes old ++ concat pieces) × (sink_fail_at new ≡ sink_fail_at old)
 sink-pieces old new [] led = (ap sink_bytes led ∙ sym (append-nil (sink_bytes old)), ap sink_fail_at led)
@@ -38,7 +38,7 @@ sink-pieces old new (p ∷ ps) led =
     let rest = sink-pieces led.0 new ps led.2 in
     (rest.0 ∙ ap (λ bytes. bytes ++ concat ps) led.1.0 ∙ append_assoc (sink_bytes old) p (concat ps), rest.1 ∙ led.1.3.2)
 
--- where there is room and the script fails no write, none is refused
+-- Lemma: a line is never refused if the script fails no write and the line fits in the rest of the sink.
 never-refused : {N : ℕ} (line : List ℕ) (old new : ScriptSink N) → sink_fail_at old ≡ 0 → length (sink_bytes old) + length line ≤ N → Refused script_writing line old new → ⊥
 never-refused {N} line old new never room refused =
     let taken = refused.0 in

@@ -1,4 +1,4 @@
--- Chunks between streams that expose their bytes.
+-- Proves that reads consume their chunks, joined, and that writes append theirs, on streams that expose their bytes.
 use Rattle.std.proofs.Common.{ℕ, List, [], ◌∷◌, subst, sym, Option}
 use Rattle.std.specs.List.{concat}
 use Rattle.std.specs.Io.KnownBytes.{Appends, Consumes}

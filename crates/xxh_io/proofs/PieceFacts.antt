@@ -1,4 +1,4 @@
--- Chunks, and one more.
+-- Lemmas on lists of chunks to which a chunk is appended.
 use Rattle.std.proofs.Common.{◌≡◌, ℕ, ◌-◌, ◌<◌, List, [], ◌∷◌, ◌++◌, length, take, drop, refl, ap, ◌∙◌, subst, append-nil, append_assoc, take-append-drop}
 use Rattle.std.specs.List.{concat}
 use Rattle.std.proofs.lemmas.List.{take_rest}
@@ -16,7 +16,7 @@ NoneEmpty-push (x ∷ xs) piece none some = (none.0, NoneEmpty-push xs piece non
 pub concat-push : (pieces : List (List ℕ)) (piece : List ℕ) → concat (pieces ++ piece ∷ []) ≡ concat pieces ++ piece
 concat-push pieces piece = concat-append pieces (piece ∷ []) ∙ ap (λ bytes. concat pieces ++ bytes) (append-nil piece)
 
--- bytes of which some chunks were taken, and then `count` of the rest
+-- Lemma: the bytes are still the chunks, joined, and the rest, after one more chunk of `count` bytes of the rest.
 pub taken-push : (bytes rest : List ℕ) (taken : List (List ℕ)) (count : ℕ) → bytes ≡ concat taken ++ rest → bytes ≡ concat (taken ++ take count rest ∷ []) ++ take (length rest - count) (drop count rest)
 taken-push bytes rest taken count before =
     rw (take_rest rest count, concat-push taken (take count rest), append_assoc (concat taken) (take count rest) (drop count rest), take-append-drop count rest) before

@@ -1,4 +1,4 @@
--- A run with the status 0 had no error, and reported none.
+-- Proves that a run with exit status 0 had no error and wrote no error message.
 use Rattle.std.proofs.Common.{◌≡◌, Ok, Err, refl, Result}
 use Rattle.xxh_io.specs.declared.fault.Fault.{Fault}
 use Rattle.xxh_io.specs.declared.fault.Fault.TheVariants.{Usage, BadSeed, BadSize, BadState, OutOfMemory, Digest}

@@ -1,4 +1,4 @@
--- What was written, where more is written after it.
+-- Lemmas on consecutive writes and on buffered bytes.
 use Rattle.std.proofs.Common.{◌≡◌, ℕ, ◌<◌, List, [], ◌∷◌, ◌++◌, length, sym, ap, ◌∙◌, subst, append_assoc, length-append, arith, Ok, Err, IfErr, Result, IsErr}
 use Rattle.std.specs.List.{concat}
 use Rattle.std.proofs.lemmas.List.Folds.{concat-append}
@@ -34,7 +34,7 @@ Refused-more writing a b old new first =
     let some : 0 < length (rest ++ b) = simp length-append (omega (arith, first.4.2)) in
     (first.0, first.1, first.2, first.3, (rest ++ b, ap (λ bytes. bytes ++ b) first.4.1 ∙ append_assoc (concat first.0) rest b, some))
 
--- by either result of a write
+-- Lemma: a write of `b` after `a` was taken is a write of `a ++ b` with the same result.
 pub Writes-join : {W T : Type 0} (writing : SinkRules W) (a b : List ℕ) (old mid new : W) (result : Result T DigestError) → IfErr result (λ e. e ≡ WriteFailed) → Took writing a old mid → Writes writing b mid new result → Writes writing (a ++ b) old new result
 Writes-join writing a b old mid new (Ok x) only first second = Took-join writing a b old mid new first second
 Writes-join writing a b old mid new (Err WriteFailed) only first second = Refused-join writing a b old mid new first second
@@ -50,21 +50,21 @@ never-too-long {T} result only is =
     let same : TooLong ≡ WriteFailed = subst (λ (r : Result T DigestError). IfErr r (λ e. e ≡ WriteFailed)) is only in
     cc
 
--- ---- bytes that are gathered
+-- ---- buffered bytes
 
--- more bytes after those that are gathered
+-- Lemma: gathering `b` after the buffered bytes of `a` gathers `a ++ b`.
 pub Gathers-push : {W : Type 0} (writing : SinkRules W) (a b before after : List ℕ) (old mid new : W) → Gathers writing a old mid before → Gathers writing (before ++ b) mid new after → Gathers writing (a ++ b) old new after
 Gathers-push writing a b before after old mid new first second =
     let whole : first.0 ++ second.0 ++ after ≡ a ++ b =
     append_assoc first.0 second.0 after ∙ ap (λ bytes. first.0 ++ bytes) second.2 ∙ sym (append_assoc first.0 before b) ∙ ap (λ bytes. bytes ++ b) first.2 in
     (first.0 ++ second.0, Took-join writing first.0 second.0 old mid new first.1 second.1, whole)
 
--- after those that wait were written
+-- Lemma: writing the buffered bytes of `a` is a write of `a` with the same result.
 pub Gathers-flush : {W T : Type 0} (writing : SinkRules W) (a waiting : List ℕ) (old mid new : W) (result : Result T DigestError) → IfErr result (λ e. e ≡ WriteFailed) → Gathers writing a old mid waiting → Writes writing waiting mid new result → Writes writing a old new result
 Gathers-flush {W} {T} writing a waiting old mid new result only first second =
     subst (λ (bytes : List ℕ). Writes {T = T} writing bytes old new result) first.2 (Writes-join writing first.0 waiting old mid new result only first.1 second)
 
--- where those that wait were refused
+-- Lemma: `a ++ b` is refused if the buffered bytes of `a` are refused.
 pub Gathers-refused : {W : Type 0} (writing : SinkRules W) (a b waiting : List ℕ) (old mid new : W) → Gathers writing a old mid waiting → Refused writing waiting mid new → Refused writing (a ++ b) old new
 Gathers-refused writing a b waiting old mid new first second =
     Refused-more writing a b old new (subst (λ (bytes : List ℕ). Refused writing bytes old new) first.2 (Refused-join writing first.0 waiting old mid new first.1 second))

@@ -1,4 +1,4 @@
--- Lines of blocks, after one more chunk.
+-- Lemmas on the lines of blocks after one more chunk.
 use Rattle.std.proofs.Common.{◌≡◌, ◌↔◌, ℕ, cond, true, false, zero, suc, ◌+◌, ◌-◌, ◌*◌, ◌/◌, ◌%◌, ◌^◌, min, ◌<◌, ◌≤◌, List, [], ◌++◌, length, drop, refl, sym, ap, ◌∙◌, append-nil, append_assoc, length-append, length-drop, arith, nat_lt}
 use Rattle.std.specs.Int.{div_ceil}
 use Rattle.std.proofs.lemmas.List.{drop-append-le, take-append-le, take_rest}
@@ -12,13 +12,13 @@ use Rattle.xxh_program.specs.Blocks.{block_bytes, offset_line, block_line, lines
 
 -- ---- counts
 
--- bytes that end before the block does
+-- Lemma: bytes that end inside the current block complete no block.
 pub counts_inside : (b : ℕ) (m d : List ℕ) → length m % b + length d < b → (length (m ++ d) / b ≡ length m / b) × (length (m ++ d) % b ≡ length m % b + length d)
 counts_inside b m d short =
     let size : length (m ++ d) ≡ length m / b * b + (length m % b + length d) = length-append m d ∙ omega (arith, div-add-mod' (length m) b) in
     (rw size (div-mul-add (length m / b) b (length m % b + length d) short), rw size (mod-mul-add (length m / b) b (length m % b + length d) short))
 
--- bytes that end the block
+-- Lemma: bytes that end where the current block ends complete it and leave no rest.
 pub counts_at_end : (b : ℕ) (m d : List ℕ) → 0 < b → length m % b + length d ≡ b → (length (m ++ d) / b ≡ length m / b + 1) × (length (m ++ d) % b ≡ 0)
 counts_at_end b m d some ends =
     let size : length (m ++ d) ≡ (length m / b + 1) * b + 0 = length-append m d ∙ omega (arith, div-add-mod' (length m) b, add-mul (length m / b) 1 b) in
@@ -89,7 +89,7 @@ all-split b m =
     let start : 0 + length m / b ≡ length m / b = omega arith in
     lines_from-split b m 0 (length m / b) (min 1 (length m % b)) ∙ rw start refl
 
--- ---- the block that is being read
+-- ---- the current block
 
 block_bytes-last : (b : ℕ) (m : List ℕ) (c : ℕ) → length m ≤ (c + 1) * b → block_bytes b m c ≡ drop (c * b) m
 block_bytes-last b m c last =
@@ -115,7 +115,7 @@ pub effective-default : (m : List ℕ) → effective_secret default_secret m ≡
 unfolding effective_secret
 effective-default m = elim (nat_lt (length m) 241) as (λ t. cond t default_secret default_secret ≡ default_secret) [ true ↦ refl | false ↦ refl ]
 
--- a block that is the rest of m, which is not empty
+-- Lemma: bytes that complete the current block add its line.
 pub added_at_end : (b : ℕ) (m d : List ℕ) → 0 < b → length m % b + length d ≡ b → added_lines b m d ≡ offset_line (min (length m / b * b) (2 ^ 64 - 1)) (xxh3_128 0 default_secret (drop (length m / b * b) m ++ d))
 added_at_end b m d some ends =
     let c = length m / b in
@@ -134,13 +134,13 @@ last_short b m some short =
     let last : length m ≤ (c + 1) * b = omega (arith, div-add-mod' (length m) b, add-mul c 1 b, mod_below (length m) b some) in
     rw (one, same, block_bytes-last b m c last) refl
 
--- the offset of the next block
+-- Lemma: the offset of the next block is `b` higher, and at most 2^64 - 1.
 pub next_offset : (b k offset n : ℕ) → offset ≡ min (k * b) (2 ^ 64 - 1) → n ≡ k + 1 → min (offset + b) (2 ^ 64 - 1) ≡ min (n * b) (2 ^ 64 - 1)
 next_offset b k offset n is next = rw (is, next) (omega (arith, add-mul k 1 b))
 
--- ---- which blocks have a line
+-- ---- blocks that have a line
 
--- those that begin before the end
+-- Lemma: a block has a line if and only if it begins before the end of the bytes.
 pub begins : (b n c : ℕ) → 0 < b → (c < div_ceil n b) ↔ (c * b < n)
 begins b n c some =
     let bounds = div_ceil_times n b some in
@@ -150,7 +150,7 @@ begins b n c some =
       λ before. let less : c * b < k * b = omega (arith, before, bounds.0) in lt_of_mul-lt-mul_right b less,
     )
 
--- those that end by then are whole
+-- Lemma: a block is whole if and only if it doesn't end after the bytes.
 pub ends : (b n c : ℕ) → 0 < b → (c < n / b) ↔ ((c + 1) * b ≤ n)
 ends b n c some =
     let law : (c + 1 ≤ n / b) ↔ ((c + 1) * b ≤ n) = le-div_iff_mul-le some in

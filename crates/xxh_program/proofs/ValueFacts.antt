@@ -1,4 +1,4 @@
--- The value of a kind has no more bits than the kind.
+-- Proves that a value of an algorithm fits in the number of digits of the algorithm.
 use Rattle.std.proofs.Common.{ℕ, ◌+◌, ◌*◌, ◌/◌, ◌%◌, ◌^◌, ◌<◌, List, length, arith, mod-lt, pow_pos}
 use Rattle.std.proofs.Math.Nat.{div-le_self}
 use Rattle.std.proofs.lemmas.Nat.{xor_lt}
@@ -18,7 +18,7 @@ use Rattle.xxh_program.specs.Kind.{value_of}
 
 -- ---- last steps
 
--- a product of so many bits, xor itself shifted
+-- Lemma: a value of `bits` bits, XORed with itself shifted, has at most `bits` bits.
 shifted : (bits n x : ℕ) → xor_shift (x % 2 ^ bits) n < 2 ^ bits
 shifted bits n x =
     let low : x % 2 ^ bits < 2 ^ bits = mod-lt x (pow_pos bits) in
@@ -73,7 +73,7 @@ high-lt Bytes17To128 seed s m = mod-lt _ (pow_pos 64)
 high-lt Bytes129To240 seed s m = mod-lt _ (pow_pos 64)
 high-lt BytesAbove240 seed s m = avalanche-lt _
 
--- two halves
+-- Lemma: two halves of 64 bits make a value of at most 128 bits.
 halves-lt : (high low : ℕ) → high < 2 ^ 64 → low < 2 ^ 64 → high * 2 ^ 64 + low < 2 ^ 128
 halves-lt high low h l = omega (arith, h, l)
 

@@ -1,4 +1,4 @@
--- What block digests have read and written when they return.
+-- The reads and writes of block digests.
 use Rattle.std.specs.Prelude.{ℕ, ◌≤◌, ◌⊎◌, List, length, Result, Ok, Err}
 use Rattle.std.specs.List.{concat}
 use Rattle.xxh_io.specs.declared.error.DigestError.{DigestError}
@@ -8,10 +8,10 @@ use Rattle.xxh_io.specs.Digest.{ReadsOn, Took, Refused}
 use Rattle.xxh_io.specs.Rules.{SourceRules, SinkRules}
 use Rattle.xxh_program.specs.Blocks.{block_lines, whole_block_lines}
 
--- What was read and what was written, where `pieces` is the chunks that are not empty: at the end of the input, the
--- lines of all blocks of what was read; if a read failed or the input was too long, those of the whole blocks; if a
--- write failed, a beginning, and not all, of the lines of all blocks after the end, and otherwise of those of the whole
--- blocks, after at most max_reads chunks.
+-- `pieces` is the list of nonempty chunks that were read. At the end of the input, the lines of all blocks were
+-- written. If a read failed or the input was too long, the lines of the whole blocks were written. If a write failed at
+-- the end of the input, a proper prefix of the lines of all blocks was written. If a write failed before, after at most
+-- max_reads chunks, a proper prefix of the lines of the whole blocks was written.
 abbrev pub DigestsBlocks : {R W : Type 0} → SourceRules R → SinkRules W → ℕ → ℕ → List (List ℕ) → R
     → R → W → W → Result (Unit {0}) DigestError → Type 0
 DigestsBlocks reading writing block max_reads pieces r r' w w' (Ok x) =

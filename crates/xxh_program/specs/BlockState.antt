@@ -3,8 +3,8 @@ use Rattle.std.specs.Prelude.{◌≡◌, ℕ, ◌-◌, ◌*◌, ◌/◌, ◌%◌
 use Rattle.xxh_program.specs.Streams.{FollowsDefault}
 use Rattle.xxh_program.specs.declared.program.blocks.CurrentBlock.{CurrentBlock}
 
--- m was taken: the hasher has hashed what comes after the whole blocks, `count` is the number of these bytes, and the
--- block begins at `offset`, or at 2^64 - 1 if that is smaller
+-- The bytes m were taken. The hasher has hashed the bytes after the whole blocks, and `count` is the number of these
+-- bytes. The current block begins at `offset`, saturating at 2^64 - 1.
 pub record HasTaken (b : CurrentBlock) (m : List ℕ) : Type 0 where
   pub size : b.count ≡ length m % b.size
   pub start : b.offset ≡ min (length m / b.size * b.size) (2 ^ 64 - 1)

@@ -1,7 +1,7 @@
--- What a hasher follows after it is fed.
+-- The effect of feeding a hasher.
 use Rattle.std.specs.Prelude.{ℕ, List, ◌++◌}
 
--- new follows each list that old follows, with these bytes after it, and keeps its seed
+-- `new` keeps the seed of `old`. It follows each list that `old` follows, with these bytes appended.
 abbrev pub IsFed : {H : Type 0} → (H → ℕ → List ℕ → Type 0) → (H → ℕ → Type 0) → H → List ℕ → H
     → Type 0
 IsFed follows has_seed old bytes new =

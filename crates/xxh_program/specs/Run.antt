@@ -1,4 +1,4 @@
--- The effect of the program for the command of its arguments.
+-- The effect of the program, by the command of its arguments.
 use Rattle.std.specs.Prelude.{◌≡◌, ℕ, List, Result, Ok, Err}
 use Rattle.std.specs.List.{concat}
 use Rattle.xxh_io.specs.declared.error.DigestError.{DigestError}
@@ -14,7 +14,7 @@ use Rattle.xxh_program.specs.Kind.{digits_of, value_of}
 use Rattle.xxh_program.specs.States.{most_reads, digest_answer, Saves32, Saves64, Resumes32, Resumes64}
 pub use Rattle.xxh_io.specs.Tells.{Tells, status_after}
 
--- the lines of the blocks of the input were printed, as for block digests
+-- The lines of the input's blocks were printed, as by block digests.
 abbrev pub DigestsInput : {R W : Type 0} → SourceRules R → SinkRules W → ℕ → R → R → W → W
     → Result (Unit {0}) DigestError → Type 0
 DigestsInput reading writing size r_old r_new w_old w_new digested =
@@ -22,8 +22,8 @@ DigestsInput reading writing size r_old r_new w_old w_new digested =
     × DigestsBlocks reading writing size most_reads pieces
     r_old r_new w_old w_new digested
 
--- What was read and written when this result is returned: for invalid arguments, nothing; for `hash` and `blocks`, as
--- by a digest; for the others, as defined there.
+-- The reads and writes of the program with this result. Invalid arguments cause none. `hash` and `blocks` read and
+-- write as a digest does. The other commands do as defined in `States`.
 abbrev pub Performs : {R W : Type 0} → SourceRules R → SinkRules W → Result Command Fault → R → R
     → W → W → Result (Unit {0}) Fault → Type 0
 Performs reading writing (Err fault) r_old r_new w_old w_new answer =

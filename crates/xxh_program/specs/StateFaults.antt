@@ -1,4 +1,4 @@
--- What is wrong with a saved text.
+-- The program's error for a saved text that can't be restored.
 use Rattle.twox_plain.specs.declared.xxhash32.saved.FormError.{FormError as FormError32}
 use Rattle.twox_plain.specs.declared.xxhash32.saved.FormError.TheVariants as Form32
 use Rattle.twox_plain.specs.declared.xxhash64.saved.FormError.{FormError as FormError64}

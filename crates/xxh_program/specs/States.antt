@@ -1,4 +1,4 @@
--- `save` prints the saved text of the input's hasher, and `resume` continues from one.
+-- `save` prints the saved text of the input's hasher, and `resume` continues from such a text.
 use Rattle.std.specs.Prelude.{◌≡◌, ◌⊎◌, ◌-◌, ◌^◌, ℕ, List, [], ◌∷◌, ◌++◌, Option, Some, Result, Ok, Err}
 use Rattle.std.specs.List.{concat}
 use Rattle.twox_hash.specs.Xxh32.{xxh32}
@@ -17,18 +17,18 @@ use Rattle.xxh_io.specs.Digest.{ReadsTo, Writes}
 use Rattle.xxh_io.specs.Hex.{hex_line}
 use Rattle.xxh_io.specs.Rules.{SourceRules, SinkRules}
 
--- the program bounds its reads by this
+-- The program's maximum number of reads.
 abbrev pub most_reads : ℕ
 most_reads = 2 ^ 64 - 1
 
--- a digest's result as the program's
+-- The program's result, from the result of a digest.
 abbrev pub digest_answer : Result (Unit {0}) DigestError → Result (Unit {0}) Fault
 digest_answer (Ok x) = Ok x
 digest_answer (Err e) = Err (Digest e)
 
 -- ---- save
 
--- The text was written; or a beginning of it, before a write failed; or nothing, if out of memory for it.
+-- The text was written. If a write failed, a proper prefix of it was written. If out of memory, nothing was written.
 abbrev pub Prints : {W : Type 0} → SinkRules W → List ℕ → W → W → Result (Unit {0}) Fault → Type 0
 Prints writing text old new (Ok x) = Writes {T = Unit {0}} writing text old new (Ok x)
 Prints writing text old new (Err (Digest WriteFailed)) =
@@ -36,8 +36,8 @@ Prints writing text old new (Err (Digest WriteFailed)) =
 Prints writing text old new (Err OutOfMemory) = new ≡ old
 Prints writing text old new (Err _) = ⊥
 
--- After the bytes m were read, the saved text of a record of this seed that represents them was printed; and nothing,
--- if they were not read to their end.
+-- The saved text of a record with this seed was printed. The record represents the bytes m. If the input was not read
+-- to its end, nothing was printed.
 abbrev pub PrintsState : {S W : Type 0} → (S → List ℕ → Type 0) → (S → ℕ) → (S → List ℕ)
     → SinkRules W → ℕ → List ℕ → W → W → Result S DigestError → Result (Unit {0}) Fault → Type 0
 PrintsState stands_for seed_of text_of writing seed m old new (Ok state) answer =
@@ -67,7 +67,8 @@ Saves64 reading writing seed r_old r_new w_old w_new answer =
 
 -- ---- resume
 
--- The text is read as a record from which a hasher is made; or as none; or memory ran out.
+-- The text represents this record, and a hasher can be made from the record. `BadState`: it represents no such record.
+-- `OutOfMemory` can happen with any text.
 abbrev pub Restores : {S : Type 0} → (List ℕ → Option S) → (S → Type 0) → List ℕ → Result S Fault
     → Type 0
 Restores record_of Fits text (Ok state) = (record_of text ≡ Some state) × Fits state
@@ -84,8 +85,8 @@ abbrev pub Restores64 : List ℕ → Result State64 Fault → Type 0
 Restores64 text restored =
     Restores Saved64.record_of_text (λ s. Record64.UsageFits s × Record64.CoreFits s) text restored
 
--- A digest continued from the record, for every list that it represents; if there is none, nothing was read and nothing
--- was written.
+-- A digest was continued from the record, for every list that the record represents. If its reads failed or were too
+-- many, nothing was written. If there is no record, nothing was read or written.
 abbrev pub GoesOn : {S R W : Type 0} → (S → List ℕ → Type 0) → (S → List ℕ → List ℕ) → SourceRules R
     → SinkRules W → Result S Fault → R → R → W → W → Result (Unit {0}) Fault → Type 0
 GoesOn stands_for line_of reading writing (Ok state) r_old r_new w_old w_new answer =

@@ -1,4 +1,4 @@
--- Elements of lists.
+-- Lemmas on the elements of lists.
 use Rattle.std.proofs.Common.{◌≡◌, ◌⊎◌, ℕ, suc, zero, ◌<◌, List, [], ◌∷◌, ◌++◌, length, get_or, refl, sym, subst, inl, inr, arith, Contains, flat_map, IsPermutation}
 use Rattle.std.proofs.lemmas.List.Sorted.{Contains-permutation}
 use Rattle.xxhsum_audit.specs.Item.{IsAmong}
@@ -38,14 +38,14 @@ among_either (y ∷ xs) ys x (inl e) = inl (inl e)
 among_either (y ∷ xs) ys x (inr h) =
     elim (among_either xs ys x h) [ inl a ↦ inl (inr a) | inr b ↦ inr b ]
 
--- what one of the elements gives is among what all give
+-- Lemma: an element of the result for one element is an element of the joined results for all.
 pub among_flat_map : {X A : Type 0} (f : X → List A) (xs : List X) (x : X) (a : A) → IsAmong xs x → IsAmong (f x) a
     → IsAmong (flat_map f xs) a
 among_flat_map f [] x a h k = absurd h
 among_flat_map f (y ∷ xs) x a (inl e) k = among_left (f y) (flat_map f xs) a (subst (λ z. IsAmong (f z) a) (sym e) k)
 among_flat_map f (y ∷ xs) x a (inr h) k = among_right (f y) (flat_map f xs) a (among_flat_map f xs x a h k)
 
--- what is among what all give one of them gives
+-- Lemma: an element of the joined results is an element of the result for one element.
 pub from_flat_map : {X A : Type 0} (f : X → List A) (xs : List X) (a : A) → IsAmong (flat_map f xs) a → (x : X) × IsAmong xs x × IsAmong (f x) a
 from_flat_map f [] a h = absurd h
 from_flat_map f (y ∷ xs) a h =

@@ -1,4 +1,4 @@
--- What holds of an audit.
+-- Proves the laws of an audit.
 use Rattle.std.proofs.Common.{◌≡◌, ℕ, false, List, [], ◌∷◌, ◌++◌, Option, Some, None, map, refl, sym, ap, subst, ◌∙◌, inl, inr, append_assoc, flat_map, IsPermutation}
 use Rattle.std.proofs.lemmas.List.Concat.{flat_map-append}
 use Rattle.std.proofs.lemmas.List.Sorted.{IsPermutation-append_comm, IsPermutation-append_left, IsPermutation-append_right, IsPermutation-refl, IsPermutation-sym, IsPermutation-trans}
@@ -46,11 +46,11 @@ split of alone side (x ∷ f) =
     (sym (flat_map-append of (settled_one x) (settled_in f)))
     (IsPermutation-trans (of x ++ flat_map of f) (of x ++ (rest ++ flat_map alone f)) ((here ++ rest) ++ (alone x ++ flat_map alone f)) first moved)
 
--- what was found of all, by the first putting side by side
+-- The second merge, from the results of the first merge to all results.
 abbrev MovesOf : List Found → List Found → Type 0
 MovesOf first found = HasMoves (settled_in first) (missing_in first) (new_in first) found
 
--- a side keeps its items if the unmatched ones are merged again
+-- Lemma: a side keeps its items if its unmatched items are merged again.
 keeps : (of alone : Found → List Item) → IsSide of alone → Ignores of → (first found : List Found) (moves : MovesOf first found)
     (items : List Item) → IsPermutation (flat_map alone first) items → flat_map of (moved moves.gone_ordered moves.come_ordered) ≡ items
     → IsPermutation (flat_map of first) (flat_map of found)
@@ -82,7 +82,7 @@ tells_each_name_once lines names found audit =
     (keeps name_in new_one side_of_names names_ignore first found moves moves.come_ordered moves.come_in_order.0
     (covers_digests moves.gone_ordered moves.come_ordered).names)
 
--- ---- none twice
+-- ---- no path twice
 
 pub has_none_twice : HasNoneTwice
 has_none_twice lines names found path audit = (
@@ -112,7 +112,7 @@ settled_is (Copied o n ∷ f) one h = let rest = settled_is f one h in (rest.0, 
 settled_is (New n ∷ f) one h = let rest = settled_is f one h in (rest.0, inr rest.1)
 settled_is (Missing l ∷ f) one h = let rest = settled_is f one h in (rest.0, inr rest.1)
 
--- a file that stayed is of a line
+-- Lemma: an unchanged file has a line.
 same_is : (f : List Found) (s : Item) → IsAmong (same_in f) s → (l : Item) × IsAmong f (Same l s)
 same_is [] s h = absurd h
 same_is (Same l n ∷ f) s (inl e) = (l, inl (ap (Same l) e))
@@ -134,7 +134,7 @@ right_if_settled lines names (Missing l) settled fits = absurd settled
 lacks_given : (given ordered : List Item) (path : List ℕ) → IsPermutation given ordered → LacksPath ordered path → LacksPath given path
 lacks_given given ordered path same lacks item h = lacks item (among_permutation given ordered item same h)
 
--- what is known of the lines that are gone, the names that have come, and the files that stayed
+-- The facts on the lines that are gone, the new names and the unchanged files.
 record IsKnown (lines names gone come kept : List Item) : Type 0 where
   pub gone_lacks : (l : Item) → IsAmong gone l → LacksPath names (path_of l)
   pub come_lacks : (n : Item) → IsAmong come n → LacksPath lines (path_of n)
@@ -169,7 +169,7 @@ right_by_digest lines names gone come kept known (New n) h fits =
 right_by_digest lines names gone come kept known (Missing l) h fits =
     known.gone_lacks l (line_among gone come (Missing l) l h (inl refl))
 
--- ---- of one audit
+-- ---- laws of one audit
 
 module _ (lines names : List Item) (found : List Found) (audit : IsAudit lines names found) where
   abbrev moves : MovesOf (compared audit.ordered_lines audit.ordered_names) found
@@ -214,7 +214,7 @@ module _ (lines names : List Item) (found : List Found) (audit : IsAudit lines n
         kept_stays = stays;
       }
 
-  -- what holds of what is settled by name and of what by digest holds of all
+  -- Lemma: a property of the results settled by name and of the results by digest is a property of all results.
   each : (P : Found → Type 0) → ((one : Found) → IsSettled one → IsAmong (settled_in first) one → P one)
       → ((one : Found) → IsAmong rest one → FitsDigest one → P (with_copy moves.kept one)) → (one : Found) → IsAmong found one → P one
   each P by_name by_digest one h =
@@ -232,7 +232,7 @@ module _ (lines names : List Item) (found : List Found) (audit : IsAudit lines n
       (all_fit_name audit.ordered_lines audit.ordered_names one (settled_is first one h).1))
       (right_by_digest lines names moves.gone_ordered moves.come_ordered moves.kept known)
 
-  -- a file that stayed is among those of which copies are looked for
+  -- A result that is not `Same`, or whose file is among the unchanged files `moves.kept`.
   abbrev IsSought : Found → Type 0
   IsSought (Same l s) = IsAmong moves.kept s
   IsSought (Changed l n) = Unit {0}
@@ -266,7 +266,7 @@ module _ (lines names : List Item) (found : List Found) (audit : IsAudit lines n
   sought : (one : Found) → IsAmong found one → IsSought one
   sought = each IsSought sought_if_settled sought_by_digest
 
-  -- a name is reported as new, or a copy, according to those files
+  -- A result that agrees with the search for its original in `moves.kept`.
   abbrev SaysOriginal : Found → Type 0
   SaysOriginal (Same l n) = Unit {0}
   SaysOriginal (Changed l n) = Unit {0}
@@ -316,7 +316,7 @@ module _ (lines names : List Item) (found : List Found) (audit : IsAudit lines n
   none_alone of alone side (x ∷ f) =
       flat_map-append alone (settled_one x) (settled_in f) ∙ ap (λ y. y ++ flat_map alone (settled_in f)) (side x).1 ∙ none_alone of alone side f
 
-  -- the unmatched ones are those of the second merge
+  -- Lemma: the unmatched items are those of the second merge.
   rest_alone : (of alone : Found → List Item) → IsSide of alone → Ignores alone → flat_map alone found ≡ flat_map alone rest
   rest_alone of alone side same =
       let copies = map (with_copy moves.kept) rest in

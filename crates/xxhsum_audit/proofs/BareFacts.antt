@@ -1,4 +1,4 @@
--- Names without `./` at their beginning.
+-- Lemmas on names without `./` at their beginning.
 use Rattle.std.proofs.Common.{◌≡◌, ℕ, ◌+◌, true, false, List, [], ◌∷◌, drop, length, refl, sym, ap, ◌∙◌, arith}
 use Rattle.std.proofs.lemmas.Bool.{cond-true, cond-false}
 use Rattle.xxhsum_audit.specs.Item.{bare, is_dotted}

@@ -1,4 +1,4 @@
--- Copies of files that stayed.
+-- Lemmas on copies of unchanged files.
 use Rattle.std.proofs.Common.{◌≡◌, ◌⊎◌, ℕ, suc, zero, ◌+◌, ◌<◌, ◌≤◌, Bool, true, false, List, [], ◌∷◌, ◌++◌, Option, Some, None, drop, get_or, length, map, refl, sym, ap, subst, ◌∙◌, inl, inr, arith, flat_map, Ordering, Less, Equal, Greater}
 use Rattle.std.proofs.lemmas.Bool.{cond-true, cond-false}
 use Rattle.std.proofs.lemmas.Cmp.{alike_right, tied_itself}
@@ -9,14 +9,14 @@ use Rattle.xxhsum_audit.specs.Found.{Changed, Copied, Found, Missing, Moved, New
 use Rattle.xxhsum_audit.specs.Item.{HasSameDigest, IsAmong, Item}
 use Rattle.xxhsum_audit.specs.Order.{Ascends, compare_digests, rank_digests, rank_lines}
 
--- ---- a copy speaks of its name, as a new one does
+-- ---- results that have the same items with and without copies
 
 copied_as : {T : Type 0} (of : Found → T) (name : Item) → ((first : Item) → of (Copied first name) ≡ of (New name))
     → (found : Option Item) → of (copied found name) ≡ of (New name)
 copied_as of name same None = refl
 copied_as of name same (Some first) = same first
 
--- what a copy changes nothing of
+-- A function of a result that has the same value with and without copies.
 abbrev pub Ignores : (Found → List Item) → Type 0
 Ignores of = (kept : List Item) (one : Found) → of (with_copy kept one) ≡ of one
 
@@ -52,7 +52,7 @@ from_copies kept [] one h = absurd h
 from_copies kept (x ∷ f) one (inl e) = (x, inl refl, e)
 from_copies kept (x ∷ f) one (inr h) = let there = from_copies kept f one h in (there.0, inr there.1, there.2)
 
--- ---- which file is copied
+-- ---- the original of a copy
 
 original_cases : (P : Option Item → Type 0) (x : Item) (xs : List Item) (n : Item) (b : Bool) → is_eq (compare_digests x n) ≡ b
     → (is_eq (compare_digests x n) ≡ true → P (Some x)) → (is_eq (compare_digests x n) ≡ false → P (original xs n))
@@ -62,7 +62,7 @@ original_cases P x xs n true e here behind =
 original_cases P x xs n false e here behind =
     subst P (sym (cond-false (is_eq (compare_digests x n)) (Some x) (original xs n) e)) (behind e)
 
--- what is found is one of them, with the digest; what isn't, none has
+-- The result of a search: the first item with the digest, or none if no item has it.
 abbrev pub IsOriginal : List Item → Item → Option Item → Type 0
 IsOriginal xs n (Some o) =
     IsAmong xs o × HasSameDigest o n
@@ -108,7 +108,7 @@ original_is (x ∷ xs) n =
     ))
     (λ e. more_original x xs n e (original xs n) (original_is xs n))
 
--- ---- by a search
+-- ---- the original by a search
 
 original-none : (xs : List Item) (n : Item) → ((x : Item) → IsAmong xs x → is_eq (compare_digests x n) ≡ false) → original xs n ≡ None
 original-none [] n none = refl
@@ -135,7 +135,7 @@ not_equal Less other = refl
 not_equal Equal other = absurd (other refl)
 not_equal Greater other = refl
 
--- where the first of digests that ascend is greater, none is equal
+-- Lemma: no item has the digest if the first of the ascending digests is greater.
 pub original-above : (x : Item) (xs : List Item) (n : Item) → Ascends compare_digests (x ∷ xs) → compare_digests x n ≡ Greater
     → original (x ∷ xs) n ≡ None
 original-above x xs n up above =

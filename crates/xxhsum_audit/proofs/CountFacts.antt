@@ -1,4 +1,4 @@
--- The classes add up.
+-- Proves that the counts of the classes add up.
 use Rattle.std.proofs.Common.{◌≡◌, ℕ, ◌+◌, List, [], ◌∷◌, length, length-append, refl, cond, arith, count_by, flat_map}
 use Rattle.std.proofs.lemmas.List.Sums.{sum_by-cons}
 use Rattle.xxhsum_audit.specs.declared.verdict.Class.{Class}
@@ -7,16 +7,16 @@ use Rattle.xxhsum_audit.specs.Found.{Changed, Copied, Found, Missing, Moved, New
 use Rattle.xxhsum_audit.specs.Item.{Item}
 use Rattle.xxhsum_audit.specs.Laws.{CountsAddUp}
 
--- 1 for what is of a class
+-- 1 for a result of the class, 0 for any other.
 one_of : Class → Found → ℕ
 one_of class x = cond (is_of_class class x) 1 0
 
--- one more of what is found
+-- Lemma: one more result adds 1 to the count of its class.
 more : (class : Class) (x : Found) (f : List Found) → count_by (is_of_class class) (x ∷ f) ≡ one_of class x + count_by (is_of_class class) f
 unfolding one_of
 more class x f = sum_by-cons (λ y. cond (is_of_class class y) 1 0) x f
 
--- what is found has a line where it is of a class of lines, and a name where it is of one of names
+-- Lemma: a result has a line if and only if it is the same, changed, moved or missing.
 counts_line : (x : Found) → length (line_in x) ≡ one_of Of.Same x + one_of Of.Changed x + one_of Of.Moved x + one_of Of.Missing x
 unfolding one_of
 counts_line (Same l n) = refl

@@ -1,4 +1,4 @@
--- Pairs by name and by digest are correct, and by digest no partner is left.
+-- Proves that pairs by name and by digest are correct, and that a merge by digest leaves no partner unmatched.
 use Rattle.std.proofs.Common.{◌≡◌, false, List, [], ◌∷◌, refl, sym, subst, inl, inr, Ordering, Less, Equal, Greater}
 use Rattle.std.specs.Ordering.{is_lt, ordering_then}
 use Rattle.xxhsum_audit.proofs.FoundFacts.{Covers, by_founds, met_is, met_pair, moved_pair}
@@ -10,7 +10,7 @@ use Rattle.xxhsum_audit.specs.Item.{HasSameDigest, IsAmong, Item, path_of}
 use Rattle.xxhsum_audit.specs.Laws.{IsKept}
 use Rattle.xxhsum_audit.specs.Order.{Ascends, compare_digests, compare_lines, rank_digests, rank_lines}
 
--- the result of a pair by name is correct
+-- A result of the merge by name that is correct.
 abbrev pub FitsName : Found → Type 0
 FitsName (Same l n) = IsKept l n
 FitsName (Changed l n) = (path_of l ≡ path_of n) × (HasSameDigest l n → ⊥)
@@ -19,7 +19,7 @@ FitsName (Copied o n) = ⊥
 FitsName (New n) = Unit {0}
 FitsName (Missing l) = Unit {0}
 
--- and so is what one by digest says
+-- A result of the merge by digest that is correct.
 abbrev pub FitsDigest : Found → Type 0
 FitsDigest (Same l n) = ⊥
 FitsDigest (Changed l n) = ⊥
@@ -28,7 +28,7 @@ FitsDigest (Copied o n) = ⊥
 FitsDigest (New n) = Unit {0}
 FitsDigest (Missing l) = Unit {0}
 
--- all that is found is as it should be
+-- A property of all results.
 abbrev AllFit : (Found → Type 0) → List Item → List Item → List Found → Type 0
 AllFit P ls ns f = (one : Found) → IsAmong f one → P one
 
@@ -68,7 +68,7 @@ not_less_first Less p e = e
 not_less_first Equal p e = refl
 not_less_first Greater p e = refl
 
--- no digest is less than one before it
+-- Lemma: items that ascend by digest and name ascend by digest.
 pub climbs : (xs : List Item) → Ascends rank_digests xs → Ascends compare_digests xs
 climbs [] up = tt
 climbs (x ∷ xs) up =
@@ -79,7 +79,7 @@ AreApart ls ns f =
     Ascends compare_digests ls → Ascends compare_digests ns → (l n : Item) → IsAmong (missing_in f) l → IsAmong (new_in f) n
     → HasSameDigest l n → ⊥
 
--- a digest less than the first of digests that climb is none of them
+-- Lemma: a digest less than the first of ascending digests is less than all of them.
 below : (a b : Item) (bs : List Item) → compare_digests a b ≡ Less → Ascends compare_digests (b ∷ bs) → (x : Item)
     → IsAmong (b ∷ bs) x → compare_digests a x ≡ Less
 below a b bs e up x (inl same) = subst (λ y. compare_digests a y ≡ Less) same e

@@ -1,4 +1,4 @@
--- What an audit comes to of which all is the same.
+-- Proves that if all results of an audit are the same, lines and names match each other.
 use Rattle.std.proofs.Common.{◌≡◌, List, inl, inr, refl, sym, subst, flat_map, IsPermutation}
 use Rattle.std.proofs.lemmas.List.Sorted.{IsPermutation-sym}
 use Rattle.xxhsum_audit.proofs.AmongFacts.{among_flat_map, among_permutation, from_flat_map}
@@ -7,7 +7,7 @@ use Rattle.xxhsum_audit.specs.Item.{IsAmong, Item}
 use Rattle.xxhsum_audit.specs.Laws.{IsKept, IsRight, SameMeansEqual}
 use Rattle.xxhsum_audit.proofs.AuditFacts.{tells_each_line_once, tells_each_name_once, tells_right}
 
--- one side of what is found, whose items are those that were given
+-- One side of the results, whose items are the given items.
 module _ (of other : Found → List Item) (given others : List Item) (found : List Found) (each : IsPermutation given (flat_map of found))
     (each_other : IsPermutation others (flat_map other found)) where
   found-with : (item : Item) → IsAmong given item → (one : Found) × IsAmong found one × IsAmong (of one) item

@@ -1,4 +1,4 @@
--- What is found of lines and names side by side, by induction.
+-- Lemmas on the results of a merge of lines and names, by induction.
 use Rattle.std.proofs.Common.{◌≡◌, Bool, true, false, List, [], ◌∷◌, ◌++◌, map, refl, sym, ap, subst, ◌∙◌, Ordering, Less, Equal, Greater, is_eq}
 use Rattle.std.proofs.lemmas.Bool.{cond-true, cond-false}
 use Rattle.xxhsum_audit.proofs.TurnFacts.{by_turns}
@@ -9,7 +9,7 @@ use Rattle.xxhsum_audit.specs.Item.{Item}
 use Rattle.xxhsum_audit.specs.Order.{compare_digests}
 use Rattle.xxhsum_audit.specs.Side.{beside}
 
--- ---- what a pair says
+-- ---- the result of a pair
 
 met_cases : (P : Found → Type 0) (l n : Item) (b : Bool) → is_eq (compare_digests l n) ≡ b
     → (is_eq (compare_digests l n) ≡ true → P (Same l n)) → (is_eq (compare_digests l n) ≡ false → P (Changed l n)) → P (met l n)
@@ -20,7 +20,7 @@ pub met_is : (P : Found → Type 0) (l n : Item) → (is_eq (compare_digests l n
     → (is_eq (compare_digests l n) ≡ false → P (Changed l n)) → P (met l n)
 met_is P l n same changed = met_cases P l n (is_eq (compare_digests l n)) refl same changed
 
--- a pair is of its line and its name
+-- A function whose result for a line and a name has that line and that name.
 abbrev pub IsPair : (Item → Item → Found) → Type 0
 IsPair pair = (l n : Item) → (line_in (pair l n) ≡ l ∷ []) × (name_in (pair l n) ≡ n ∷ [])
 
@@ -33,7 +33,7 @@ moved_pair l n = (refl, refl)
 
 -- ---- each line and each name once
 
--- what is found speaks of these lines and names
+-- Results with exactly these lines and names, in this order.
 pub record Covers (ls ns : List Item) (f : List Found) : Type 0 where
   pub lines : lines_in f ≡ ls
   pub names : names_in f ≡ ns

@@ -1,4 +1,4 @@
--- The orders are total, and distinguish what they compare.
+-- Proves that the orders are total and that they distinguish the items that they compare.
 use Rattle.std.proofs.Common.{◌≡◌, ℕ, true, false, List, nat_eq, refl, sym, ap, subst, ◌∙◌, if◌then◌else◌, Ordering, Less, Equal, Greater}
 use Rattle.std.proofs.lemmas.Cmp.{nat_cmp_total, nat_list_cmp_total, on_total, then_total, tied_itself, alike_right}
 use Rattle.std.proofs.lemmas.Map.Lookups.{exact_bytes, exact_unsigned}
@@ -90,7 +90,7 @@ step R order x y z less Equal e low = alike_right order z y x e ∙ less
 step R order x y z less Greater e low =
     order.trans x y z less (order.antisymm y z ∙ ap ordering_reverse e)
 
--- less than one that is no greater
+-- Lemma: an element less than another is less than each element that is not less than the other.
 pub less_upto : {K : Type 0} (R : K → K → Ordering) (order : IsTotalOrder R) (x y z : K) → R x y ≡ Less → is_lt (R z y) ≡ false
     → R x z ≡ Less
 less_upto R order x y z less low = step R order x y z less (R z y) refl low
@@ -101,7 +101,7 @@ back R order x y e = order.antisymm y x ∙ ap ordering_reverse e
 pub ahead : {K : Type 0} (R : K → K → Ordering) (order : IsTotalOrder R) (x y : K) → R x y ≡ Less → R y x ≡ Greater
 ahead R order x y e = order.antisymm y x ∙ ap ordering_reverse e
 
--- ---- what a test says
+-- ---- the results of a test
 
 pub eq_true : (o : Ordering) → is_eq o ≡ true → o ≡ Equal
 eq_true Less e = let no : ⊥ = cc in absurd no

@@ -1,4 +1,4 @@
--- Parts, one after another.
+-- Lemmas on splitting bytes into parts, one after another.
 use Rattle.std.proofs.Common.{◌≡◌, ℕ, ◌<◌, List, [], ◌∷◌, ◌++◌, append-nil, append_assoc, length, refl, sym, ap, ◌∙◌, inl, inr, subst, arith}
 use Rattle.std.proofs.lemmas.List.Concat.{flat_map-append}
 use Rattle.xxhsum_line.specs.Parts.{Lacks}
@@ -6,7 +6,7 @@ use Rattle.xxhsum_audit.proofs.AmongFacts.{among_either}
 use Rattle.xxhsum_audit.specs.Item.{IsAmong}
 use Rattle.xxhsum_audit.specs.Parts.{ArePartsOf, ended}
 
--- the parts so far, each with its end, and what is left
+-- The parts so far, each with its end, and the remaining bytes.
 pub record Stands (end : ℕ) (bytes : List ℕ) (parts : List (List ℕ)) (left : List ℕ) : Type 0 where
   pub lack : (part : List ℕ) → IsAmong parts part → Lacks end part
   pub whole : bytes ≡ ended end parts ++ left

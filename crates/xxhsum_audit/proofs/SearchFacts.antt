@@ -1,4 +1,4 @@
--- The first file with a digest, by a binary search.
+-- Proves that a binary search finds the first file with a digest.
 use Rattle.std.proofs.Common.{◌≡◌, ℕ, suc, zero, ◌+◌, ◌<◌, ◌≤◌, Bool, true, false, List, [], ◌∷◌, Some, None, drop, get_or, length, map, refl, sym, ap, subst, ◌∙◌, inl, inr, arith, ◌==◌, Ordering, Less, Equal, Greater}
 use Rattle.std.proofs.lemmas.Cmp.{alike_right}
 use Rattle.std.proofs.lemmas.List.{drop_all, drop_more}
@@ -11,7 +11,7 @@ use Rattle.xxhsum_audit.specs.Audit.{original}
 use Rattle.xxhsum_audit.specs.Item.{IsAmong, Item, item_of, items_of}
 use Rattle.xxhsum_audit.specs.Order.{Ascends, compare_digests}
 
--- the test of the search
+-- The predicate of the search.
 abbrev pub is_below : Item → FileDigest → Bool
 is_below n one = ordering_index (compare_digests (item_of one) n) == 0
 
@@ -23,7 +23,7 @@ less_is Greater e = let no : ⊥ = cc in absurd no
 is_less : (o : Ordering) → o ≡ Less → (ordering_index o == 0) ≡ true
 is_less o e = ap (λ x. ordering_index x == 0) e
 
--- what is no greater than one that is less
+-- Lemma: an item is less if it is not greater than an item that is less.
 stays_less : (x y n : Item) → is_lt (compare_digests y x) ≡ false → compare_digests y n ≡ Less → (o : Ordering) → compare_digests x n ≡ o
     → compare_digests x n ≡ Less
 stays_less x y n low less Less e = e
@@ -52,7 +52,7 @@ parted n (x ∷ ks) up zero (suc j) d low high below =
     (compare_digests (item_of x) n) refl)
 parted n (x ∷ ks) up (suc i) (suc j) d low high below = parted n ks up.1 i j d (omega (arith, low)) (omega (arith, high)) below
 
--- what is less by its digest is passed over
+-- Lemma: the search for the original skips items whose digest is less.
 passes : (n : Item) (ks : List FileDigest) (k : ℕ) → k ≤ length ks → ((i : ℕ) (d : FileDigest) → i < k → is_below n (get_or ks i d) ≡ true)
     → original (items_of ks) n ≡ original (items_of (drop k ks)) n
 passes n ks zero within less = refl
@@ -66,13 +66,13 @@ ascends-drop ks zero up = up
 ascends-drop [] (suc k) up = up
 ascends-drop (x ∷ ks) (suc k) up = ascends-drop ks k up.1
 
--- all are less
+-- Lemma: there is no original if all digests are less.
 pub search-none : (n : Item) (ks : List FileDigest) (k : ℕ) → k ≤ length ks → length ks ≤ k
     → ((i : ℕ) (d : FileDigest) → i < k → is_below n (get_or ks i d) ≡ true) → original (items_of ks) n ≡ None
 search-none n ks k within all less =
     passes n ks k within less ∙ ap (λ l. original (items_of l) n) (drop_all k ks all)
 
--- the first that is not less has the digest
+-- Lemma: the first item that is not less is the original if it has the digest.
 pub search-here : (n : Item) (ks : List FileDigest) (k : ℕ) (x : FileDigest) → k < length ks → x ≡ get_or ks k x
     → ((i : ℕ) (d : FileDigest) → i < k → is_below n (get_or ks i d) ≡ true) → compare_digests (item_of x) n ≡ Equal
     → original (items_of ks) n ≡ Some (item_of x)
@@ -86,7 +86,7 @@ above Less low other = let no : ⊥ = cc in absurd no
 above Equal low other = let no : ⊥ = cc in absurd no
 above Greater low other = refl
 
--- or another
+-- Lemma: there is no original if the first item that is not less has another digest.
 pub search-above : (n : Item) (ks : List FileDigest) (k : ℕ) (x : FileDigest) → Ascends compare_digests (items_of ks) → k < length ks
     → x ≡ get_or ks k x → ((i : ℕ) (d : FileDigest) → i < k → is_below n (get_or ks i d) ≡ true) → is_below n x ≡ false
     → (ordering_index (compare_digests (item_of x) n) == 1) ≡ false → original (items_of ks) n ≡ None

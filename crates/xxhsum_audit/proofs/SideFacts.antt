@@ -1,4 +1,4 @@
--- An unmatched element of a merge has no partner.
+-- Proves that an unmatched element of a merge has no partner.
 use Rattle.std.proofs.Common.{◌≡◌, ◌≢◌, ℕ, List, [], ◌∷◌, ◌++◌, append-nil, refl, sym, ap, subst, ◌∙◌, inl, inr, flat_map, Less, Equal, Greater}
 use Rattle.xxhsum_audit.proofs.AmongFacts.{among_either, among_left, among_right}
 use Rattle.xxhsum_audit.proofs.FoundFacts.{Covers, by_founds, met_is, met_pair}
@@ -8,9 +8,9 @@ use Rattle.xxhsum_audit.specs.Found.{Changed, Copied, Found, Missing, Moved, New
 use Rattle.xxhsum_audit.specs.Item.{IsAmong, Item, LacksPath, name_of, path_of}
 use Rattle.xxhsum_audit.specs.Order.{Rises, compare_lines}
 
--- ---- a side of what is found: the lines, or the names, and the unmatched ones
+-- ---- one side of the results: the lines or the names, and the unmatched ones
 
--- what is found is settled, or all that it has of the side is unmatched
+-- A side: the items of a result are settled, or all of them are unmatched.
 abbrev pub IsSide : (of alone : Found → List Item) → Type 0
 IsSide of alone = (x : Found) → (of x ≡ flat_map of (settled_one x) ++ alone x) × (flat_map alone (settled_one x) ≡ [])
 
@@ -30,7 +30,7 @@ side_of_names (Copied o n) = (refl, refl)
 side_of_names (New n) = (refl, refl)
 side_of_names (Missing l) = (refl, refl)
 
--- an unmatched element is one of all
+-- Lemma: an unmatched item is one of all items.
 alone_is : (of alone : Found → List Item) → IsSide of alone → (f : List Found) (i : Item) → IsAmong (flat_map alone f) i
     → IsAmong (flat_map of f) i
 alone_is of alone side [] i h = h
@@ -48,7 +48,7 @@ missing_line ls f all l h = subst (λ x. IsAmong x l) all (alone_is line_in miss
 pub new_name : (ns : List Item) (f : List Found) → names_in f ≡ ns → (n : Item) → IsAmong (new_in f) n → IsAmong ns n
 new_name ns f all n h = subst (λ x. IsAmong x n) all (alone_is name_in new_one side_of_names f n h)
 
--- nothing of a pair is unmatched
+-- Lemma: a pair has no unmatched line.
 past_missing : (l n : Item) (f : List Found) (x : Item) → IsAmong (missing_in (met l n ∷ f)) x → IsAmong (missing_in f) x
 past_missing l n f x h =
     subst (λ o. IsAmong (o ++ missing_in f) x) (met_is (λ m. missing_one m ≡ []) l n (λ e. refl) (λ e. refl)) h
@@ -57,13 +57,13 @@ past_new : (l n : Item) (f : List Found) (x : Item) → IsAmong (new_in (met l n
 past_new l n f x h =
     subst (λ o. IsAmong (o ++ new_in f) x) (met_is (λ m. new_one m ≡ []) l n (λ e. refl) (λ e. refl)) h
 
--- ---- by name
+-- ---- merging by name
 
--- a lesser name leads elsewhere
+-- Lemma: two names have different paths if one compares as less than the other.
 pub not_less : (a b : Item) → compare_lines a b ≡ Less → path_of a ≢ path_of b
 not_less a b less e = let tied = paths_tied (name_of a) (name_of b) e in let no : ⊥ = cc in no
 
--- a name less than the first of names that rise leads where none of them does
+-- Lemma: no item of a rising list has the path of a name that is less than the first item's.
 lower : (a b : Item) (bs : List Item) → compare_lines a b ≡ Less → Rises compare_lines (b ∷ bs) → LacksPath (b ∷ bs) (path_of a)
 lower a b bs e up item h =
     elim h [
@@ -71,7 +71,7 @@ lower a b bs e up item h =
       | inr there ↦ λ eq. not_less a item (lines_total.trans a b item e (up.0 item there)) (sym eq)
     ]
 
--- what is known of lines and names as far as they are put side by side
+-- The facts on the lines and names that are merged: no unmatched one has a partner.
 pub record ByNames (ls ns : List Item) (f : List Found) : Type 0 where
   pub missing : Rises compare_lines ls → Rises compare_lines ns → (l : Item) → IsAmong (missing_in f) l → LacksPath ns (path_of l)
   pub new : Rises compare_lines ls → Rises compare_lines ns → (n : Item) → IsAmong (new_in f) n → LacksPath ls (path_of n)

@@ -1,11 +1,11 @@
--- What a sort leaves ascends.
+-- Proves that sorted lists ascend.
 use Rattle.std.proofs.Common.{◌≡◌, ℕ, suc, ◌+◌, ◌<◌, Bool, false, List, [], ◌∷◌, map, length, get_or, subst, inl, inr, arith, IsSortedBy, Ordering, is_lt}
 use Rattle.std.proofs.lemmas.List.Sorted.{ranks_by, sorted_far}
 use Rattle.std.specs.Cmp.{IsTotalOrder}
 use Rattle.xxhsum_audit.specs.Item.{IsAmong}
 use Rattle.xxhsum_audit.specs.Order.{Ascends}
 
--- what holds at each place of a list holds of each element that a key gives
+-- Lemma: a property at each index of a list is a property of the key of each element.
 at_keys : {X Y : Type 0} (key : X → Y) (P : Y → Type 0) (d : X) (xs : List X)
     → ((i : ℕ) → i < length xs → P (key (get_or xs i d))) → (y : Y) → IsAmong (map key xs) y → P y
 at_keys key P d [] all y h = absurd h

@@ -1,4 +1,4 @@
--- Lines and names side by side, by induction.
+-- Induction over a merge of lines and names, and lemmas on its first element.
 use Rattle.std.proofs.Common.{◌≡◌, ℕ, List, [], ◌∷◌, map, length, refl, sym, ap, subst, ◌∙◌, arith, Ordering, Less, Equal, Greater}
 use Rattle.xxhsum_audit.specs.declared.side.Side.{Side}
 use Rattle.xxhsum_audit.specs.declared.side.Side.TheVariants.{Line, Name, Both}
@@ -60,7 +60,7 @@ module _ {A B L N : Type 0} (compare : L → N → Ordering) (f : A → L) (g : 
       subst (λ x. IsFirst sides [] x (Name (g n)) 0 1) (sym e') (record { has_line = omega arith; has_name = omega arith; is = refl })
   first-name n (l ∷ ls) ns ns' e e' = absurd (omega (arith, e))
 
-  -- of a line and a name
+  -- Lemma: merging starts with the first line and the first name in the order of their comparison.
   of-both : (l : A) (n : B) (ls : List A) (ns : List B) (o : Ordering) → compare (f l) (g n) ≡ o
       → sides (l ∷ ls) (n ∷ ns) ≡ in_turn o (f l) (g n) (sides ls (n ∷ ns)) (sides ls ns) (sides (l ∷ ls) ns)
   unfolding beside

@@ -1,4 +1,4 @@
--- Names that lead to one place, and names in order of which no two do.
+-- Lemmas on names with one path, and on sorted names with different paths.
 use Rattle.std.proofs.Common.{◌≡◌, ◌⊎◌, ℕ, ◌≤◌, Bool, true, false, List, [], ◌∷◌, Some, None, map, refl, sym, ap, subst, ◌∙◌, inl, inr, arith, sum_by, IsPermutation, Ordering, Less, Equal, Greater}
 use Rattle.std.proofs.lemmas.Bool.{cond-true, cond-false}
 use Rattle.std.proofs.lemmas.List.Sorted.{sum_by-IsPermutation}
@@ -13,7 +13,7 @@ use Rattle.xxhsum_audit.specs.Audit.{IsTwice}
 use Rattle.xxhsum_audit.specs.Item.{IsAmong, Item, path_of}
 use Rattle.xxhsum_audit.specs.Order.{Ascends, Rises, clash_in, compare_lines, compare_paths, rank_names, shares_path}
 
--- ---- names that are in order, and of which no two neighbours lead to one place, rise
+-- ---- sorted names of which no two neighbors have one path
 
 lesser : (a b : List ℕ) (o p : Ordering) → compare_paths a b ≡ o → is_eq o ≡ false → is_lt (ordering_then (compare_paths b a) p) ≡ false
     → compare_paths a b ≡ Less
@@ -32,7 +32,7 @@ no_clash_cases x xs true e none =
 no_clash_cases x xs false e none =
     (refl, sym (cond-false (shares_path x xs) (Some x) (clash_in xs) e) ∙ none)
 
--- what has names
+-- Elements with names.
 module _ {X : Type 0} (key : X → List ℕ) where
   abbrev by_key : X → X → Ordering
   by_key a b = compare_paths (key a) (key b)
@@ -54,13 +54,13 @@ module _ {X : Type 0} (key : X → List ℕ) where
       let rest = rises xs up.1 split.1 in
       (rises_past x xs up.0 split.0 rest, rest)
 
--- ---- a name that occurs twice
+-- ---- a path that occurs twice
 
 one_if : Bool → ℕ
 one_if true = 1
 one_if false = 0
 
--- 1 at an item whose name leads there
+-- 1 for an item with this path, 0 for any other.
 pub leading : List ℕ → Item → ℕ
 leading path item = one_if (is_eq (slice_cmp nat_cmp path (path_of item)))
 

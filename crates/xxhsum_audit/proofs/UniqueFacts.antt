@@ -1,4 +1,4 @@
--- A list is put in order in one way.
+-- Proves that a list has only one sorted order.
 use Rattle.std.proofs.Common.{◌≡◌, ℕ, Bool, true, false, List, [], ◌∷◌, refl, sym, ap, subst, ◌∙◌, inl, inr, arith, sum_by, IsPermutation, Ordering, Less, Equal, Greater}
 use Rattle.std.proofs.lemmas.Cmp.{then_total, tied_itself}
 use Rattle.std.proofs.lemmas.List.Sorted.{sum_by-IsPermutation, IsPermutation-sym, IsPermutation-trans}
@@ -14,7 +14,7 @@ one_if true = 1
 one_if false = 0
 
 module _ (R : Item → Item → Ordering) (total : IsTotalOrder R) (exact : (x y : Item) → R x y ≡ Equal → x ≡ y) where
-  -- 1 at an item that ties with this one
+  -- 1 for an item equal to this one in the order, 0 for any other.
   here : Item → Item → ℕ
   here x z = one_if (is_eq (R x z))
 
@@ -33,7 +33,7 @@ module _ (R : Item → Item → Ordering) (total : IsTotalOrder R) (exact : (x y
       let rest = none_here x zs (λ y h. all y (inr h)) in
       sum_by-cons (here x) z zs ∙ omega (arith, first, rest)
 
-  -- the first of one list is not less than the first of the other
+  -- Lemma: the first element of one sorted list is not less than that of the other.
   not_before : (x y : Item) (xs ys : List Item) → Ascends R (y ∷ ys)
       → ((f : Item → ℕ) → sum_by f (x ∷ xs) ≡ sum_by f (y ∷ ys)) → R x y ≡ Less → ⊥
   not_before x y xs ys up same less =
@@ -82,12 +82,12 @@ module _ (R : Item → Item → Ordering) (total : IsTotalOrder R) (exact : (x y
       (IsPermutation-trans given given' ordered' moved other.0) in
       only_order ordered ordered' one.1 other.1 (λ f. sym (sum_by-IsPermutation f ordered ordered' all))
 
--- in the order of their digests
+-- Lemma: two permutations of a list, sorted by digest, are the same.
 pub one_order : (given given' ordered ordered' : List Item) → IsPermutation given given' → IsOrder rank_digests given ordered
     → IsOrder rank_digests given' ordered' → ordered ≡ ordered'
 one_order = ordered_once rank_digests all_total all_exact
 
--- ---- in the order of their names, of which no two lead to one place
+-- ---- sorted by name, with no two names of one path
 
 abbrev whole : Item → Item → Ordering
 whole a b = ordering_then (compare_lines a b) (rank_digests a b)

@@ -1,4 +1,4 @@
--- An audit: the results of the lines of a list and of the current names.
+-- An audit: the results of a list's lines and of the current names.
 use Rattle.std.specs.Prelude.{ℕ, ◌≡◌, List, [], ◌∷◌, ◌++◌, Option, Some, None, map, if◌then◌else◌, flat_map, IsPermutation}
 use Rattle.std.specs.Ordering.{is_eq}
 use Rattle.xxhsum_audit.specs.declared.side.Side.{Side}
@@ -8,19 +8,19 @@ use Rattle.xxhsum_audit.specs.Item.{Item, path_of}
 use Rattle.xxhsum_audit.specs.Order.{IsOrder, Rises, compare_digests, compare_lines, rank_digests}
 use Rattle.xxhsum_audit.specs.Side.{beside}
 
--- ---- side by side
+-- ---- merged lists
 
--- the result of a side, from the result of a line and a name
+-- The result of a side. `pair` is the result of a line and a name.
 abbrev pub as_found : (Item → Item → Found) → Side Item Item → Found
 as_found pair (Line line) = Missing line
 as_found pair (Name name) = New name
 as_found pair (Both line name) = pair line name
 
--- lines and names by path
+-- The results of lines and names, merged by path.
 abbrev pub compared : List Item → List Item → List Found
 compared lines names = map (as_found met) (beside compare_lines lines names)
 
--- lines whose names are gone and new names, by their digests
+-- The results of lines whose names are gone and of new names, merged by digest.
 abbrev pub moved : List Item → List Item → List Found
 moved gone come = map (as_found Moved) (beside compare_digests gone come)
 
@@ -30,7 +30,7 @@ abbrev pub missing_one : Found → List Item
 missing_one (Missing line) = line ∷ []
 missing_one found = []
 
--- a name that no line has, and to which no line was moved
+-- The name of a result, if it is new or a copy: no line has it, and no line was moved to it.
 abbrev pub new_one : Found → List Item
 new_one (New name) = name ∷ []
 new_one (Copied first name) = name ∷ []
@@ -46,7 +46,7 @@ settled_one (New name) = []
 settled_one (Missing line) = []
 settled_one found = found ∷ []
 
--- the missing lines, the names that are new or copies, the unchanged files, and the results settled by name
+-- The missing lines, the new or copied names, the unchanged files, and all results except missing, new and copied.
 abbrev pub missing_in : List Found → List Item
 missing_in found = flat_map missing_one found
 
@@ -61,7 +61,7 @@ settled_in found = flat_map settled_one found
 
 -- ---- copies
 
--- the first of these that has the digest of the name
+-- The first of these items with the digest of the name.
 abbrev pub original : List Item → Item → Option Item
 original [] name = None
 original (first ∷ kept) name = if is_eq (compare_digests first name) then Some first else original kept name
@@ -70,14 +70,15 @@ abbrev pub copied : Option Item → Item → Found
 copied None name = New name
 copied (Some first) name = Copied first name
 
--- a new name is a copy of the first unchanged file with its digest
+-- The result. A new name becomes a copy of the first unchanged file with its digest, if there is one.
 abbrev pub with_copy : List Item → Found → Found
 with_copy kept (New name) = copied (original kept name) name
 with_copy kept found = found
 
 -- ---- an audit
 
--- with the results of the names in both lists, the rest is merged by digest, and copies are found
+-- The results `found` are the settled ones, followed by the results of the other lines and names, sorted by digest and
+-- merged. A name that is still new becomes a copy if an unchanged file has its digest.
 pub record HasMoves (settled : List Found) (gone come : List Item) (found : List Found) : Type 0 where
   pub kept : List Item
   pub gone_ordered : List Item
@@ -87,7 +88,7 @@ pub record HasMoves (settled : List Found) (gone come : List Item) (found : List
   pub come_in_order : IsOrder rank_digests come come_ordered
   pub is : found ≡ settled ++ map (with_copy kept) (moved gone_ordered come_ordered)
 
--- The lines and the names are sorted and merged by path: no two lines have one path, and no two names do.
+-- The lines and the names are sorted by path and merged. No two lines share a path, and no two names do.
 pub record IsAudit (lines names : List Item) (found : List Found) : Type 0 where
   pub ordered_lines : List Item
   pub ordered_names : List Item
@@ -98,7 +99,7 @@ pub record IsAudit (lines names : List Item) (found : List Found) : Type 0 where
   pub moves : HasMoves (settled_in (compared ordered_lines ordered_names))
       (missing_in (compared ordered_lines ordered_names)) (new_in (compared ordered_lines ordered_names)) found
 
--- the names of two of the items have this path
+-- Two of the items have this path.
 abbrev pub IsTwice : List Item → List ℕ → Type 0
 IsTwice items path =
     (a b : Item) × (rest : List Item) × IsPermutation items (a ∷ b ∷ rest) × (path_of a ≡ path) × (path_of b ≡ path)

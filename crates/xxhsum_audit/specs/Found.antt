@@ -8,7 +8,7 @@ use Rattle.xxhsum_audit.specs.declared.verdict.Verdict.TheVariants as Told
 use Rattle.xxhsum_audit.specs.Item.{Item, item_of}
 use Rattle.xxhsum_audit.specs.Order.{compare_digests}
 
--- the result of a line, of a name, or of both; for a name that is a copy, with the file that it is a copy of
+-- The result of a line, of a name, or of both. A copy has its original file first.
 pub data Found : Type 0 where
   Same : Item → Item → Found
   Changed : Item → Item → Found
@@ -28,7 +28,7 @@ found_of (Told.Missing line) = Missing (item_of line)
 abbrev pub founds_of : List Verdict → List Found
 founds_of verdicts = map found_of verdicts
 
--- a line and the file of its name
+-- The result of a line and of the file with its name.
 abbrev pub met : Item → Item → Found
 met line name = if is_eq (compare_digests line name) then Same line name else Changed line name
 

@@ -1,4 +1,4 @@
--- A file's digest: a name, and a value of an algorithm.
+-- The digest of a file: a name, an algorithm and a value.
 use Rattle.std.specs.Prelude.{ℕ, ◌≡◌, ◌≢◌, ◌⊎◌, Bool, List, [], ◌∷◌, codes, map, nat_eq, take, if◌then◌else◌}
 use Rattle.std.specs.Borrow.{Bor}
 use Rattle.std.specs.Cmp.Lexicographic.{pointwise}
@@ -26,7 +26,7 @@ item_of one = Says one.name.now one.kind one.value
 abbrev pub items_of : List FileDigest → List Item
 items_of digests = map item_of digests
 
--- the bytes of borrowed texts
+-- The bytes of borrowed texts.
 abbrev pub texts_of : List (Bor (List ℕ)) → List (List ℕ)
 texts_of texts = map (λ text. text.now) texts
 
@@ -35,7 +35,7 @@ texts_of texts = map (λ text. text.now) texts
 abbrev pub is_dotted : List ℕ → Bool
 is_dotted name = pointwise nat_eq (take 2 name) (codes "./")
 
--- every `./` at the beginning is ignored
+-- The name without each `./` at its beginning.
 unfoldable pub bare : List ℕ → List ℕ
 bare [] = []
 bare (c ∷ []) = c ∷ []
@@ -46,15 +46,15 @@ path_of item = bare (name_of item)
 
 -- ---- items of a list
 
--- it is one of these
+-- The element is in the list.
 abbrev pub IsAmong : {X : Type 0} → List X → X → Type 0
 IsAmong [] x = ⊥
 IsAmong (first ∷ xs) x = (first ≡ x) ⊎ IsAmong xs x
 
--- no name of these has that path
+-- No item has this path.
 abbrev pub LacksPath : List Item → List ℕ → Type 0
 LacksPath items path = (item : Item) → IsAmong items item → path_of item ≢ path
 
--- the same value by the same algorithm
+-- Both items have the same value by the same algorithm.
 abbrev pub HasSameDigest : Item → Item → Type 0
 HasSameDigest a b = (kind_of a ≡ kind_of b) × (value_of a ≡ value_of b)

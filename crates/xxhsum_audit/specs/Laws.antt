@@ -7,7 +7,7 @@ use Rattle.xxhsum_audit.specs.Found.{Changed, Copied, Found, Missing, Moved, New
 use Rattle.xxhsum_audit.specs.Item.{HasSameDigest, IsAmong, Item, LacksPath, path_of}
 use Rattle.xxhsum_audit.specs.Order.{rank_lines}
 
--- each line is reported once, and no other
+-- Each line has exactly one result, and no other line has one. The same is true of names.
 abbrev pub TellsEachLineOnce : Type 0
 TellsEachLineOnce =
     (lines names : List Item) (found : List Found) → IsAudit lines names found → IsPermutation lines (lines_in found)
@@ -16,21 +16,21 @@ abbrev pub TellsEachNameOnce : Type 0
 TellsEachNameOnce =
     (lines names : List Item) (found : List Found) → IsAudit lines names found → IsPermutation names (names_in found)
 
--- no two lines of an audit have one path, and no two names
+-- No two lines of an audit share a path, and no two names do.
 abbrev pub HasNoneTwice : Type 0
 HasNoneTwice =
     (lines names : List Item) (found : List Found) (path : List ℕ) → IsAudit lines names found
     → (IsTwice lines path → ⊥) × (IsTwice names path → ⊥)
 
--- the line and the name have one path and one digest
+-- The line and the name have the same path and the same digest.
 abbrev pub IsKept : Item → Item → Type 0
 IsKept line name = (path_of line ≡ path_of name) × HasSameDigest line name
 
--- the file of this name is as a line has it
+-- The name is among the names, and a line has its path and its digest.
 abbrev pub StaysSame : List Item → List Item → Item → Type 0
 StaysSame lines names name = IsAmong names name × ((line : Item) × IsAmong lines line × IsKept line name)
 
--- the meaning of each class
+-- The result is correct, by the meaning of its class.
 abbrev pub IsRight : List Item → List Item → Found → Type 0
 IsRight lines names (Same line name) = IsKept line name
 IsRight lines names (Changed line name) = (path_of line ≡ path_of name) × (HasSameDigest line name → ⊥)
@@ -46,27 +46,27 @@ TellsRight =
     (lines names : List Item) (found : List Found) → IsAudit lines names found
     → (one : Found) → IsAmong found one → IsRight lines names one
 
--- no file is reported as new or as a copy that may have been moved
+-- A name with the digest of a missing line is reported neither as new nor as a copy.
 abbrev pub LeavesNoMove : Type 0
 LeavesNoMove =
     (lines names : List Item) (found : List Found) → IsAudit lines names found
     → (line first name : Item) → IsAmong found (Missing line) → HasSameDigest line name
     → (IsAmong found (New name) → ⊥) × (IsAmong found (Copied first name) → ⊥)
 
--- no file is reported as new that is a copy of an unchanged one
+-- A name with the digest of an unchanged file is not reported as new.
 abbrev pub LeavesNoCopy : Type 0
 LeavesNoCopy =
     (lines names : List Item) (found : List Found) → IsAudit lines names found
     → (line kept name : Item) → IsAmong found (Same line kept) → IsAmong found (New name) → HasSameDigest kept name → ⊥
 
--- of several unchanged files with its digest, the first by name is reported as a copy's original
+-- The original of a copy is the first unchanged file with its digest, in the order of names.
 abbrev pub CopiesTheFirst : Type 0
 CopiesTheFirst =
     (lines names : List Item) (found : List Found) → IsAudit lines names found
     → (line kept first name : Item) → IsAmong found (Same line kept) → IsAmong found (Copied first name)
     → HasSameDigest kept name → is_lt (rank_lines kept first) ≡ false
 
--- if all are the same, each line has a name with its digest and its path, and each name has such a line
+-- If all results are `Same`, each line has a name with its digest and its path, and each name has such a line.
 abbrev pub SameMeansEqual : Type 0
 SameMeansEqual =
     (lines names : List Item) (found : List Found) → IsAudit lines names found
@@ -74,7 +74,7 @@ SameMeansEqual =
     → ((line : Item) → IsAmong lines line → (name : Item) × IsAmong names name × IsKept line name)
     × ((name : Item) → IsAmong names name → (line : Item) × IsAmong lines line × IsKept line name)
 
--- the classes of lines add up to the lines, and those of names to the names
+-- The counts of the classes that have lines add up to the number of lines. The same is true of names.
 abbrev pub CountsAddUp : Type 0
 CountsAddUp =
     (found : List Found)
@@ -86,7 +86,7 @@ CountsAddUp =
     + count_by (is_of_class Of.Moved) found + count_by (is_of_class Of.Copied) found
     + count_by (is_of_class Of.New) found)
 
--- The order of the lines and of the names changes nothing.
+-- The results don't depend on the order of the lines and of the names.
 abbrev pub IsOneReport : Type 0
 IsOneReport =
     (lines lines' names names' : List Item) (found found' : List Found) → IsAudit lines names found

@@ -8,18 +8,18 @@ use Rattle.xxh_io.specs.declared.kind.Kind.{Kind}
 use Rattle.xxh_io.specs.declared.kind.Kind.TheVariants.{X32, X64, X3_64, X3_128}
 use Rattle.xxhsum_audit.specs.Item.{IsAmong, Item, bare, kind_of, name_of, value_of}
 
--- the position of an algorithm among the algorithms
+-- The position of an algorithm among the algorithms.
 abbrev pub rank_of : Kind → ℕ
 rank_of X32 = 0
 rank_of X64 = 1
 rank_of X3_64 = 2
 rank_of X3_128 = 3
 
--- names by path
+-- The order of names by path.
 abbrev pub compare_paths : List ℕ → List ℕ → Ordering
 compare_paths a b = slice_cmp nat_cmp (bare a) (bare b)
 
--- and for equal paths by all their bytes
+-- The order of names by path, and of names with the same path by all their bytes.
 abbrev pub rank_names : List ℕ → List ℕ → Ordering
 rank_names a b = ordering_then (compare_paths a b) (slice_cmp nat_cmp a b)
 
@@ -38,28 +38,28 @@ rank_digests a b = ordering_then (compare_digests a b) (rank_lines a b)
 
 -- ---- sorted lists
 
--- none is less than one before it
+-- No element is less than an element before it.
 abbrev pub Ascends : {X : Type 0} → (X → X → Ordering) → List X → Type 0
 Ascends compare [] = Unit {0}
 Ascends {X} compare (x ∷ xs) = ((y : X) → IsAmong xs y → is_lt (compare y x) ≡ false) × Ascends compare xs
 
--- each is less than those after it
+-- Each element is less than the elements after it.
 abbrev pub Rises : {X : Type 0} → (X → X → Ordering) → List X → Type 0
 Rises compare [] = Unit {0}
 Rises {X} compare (x ∷ xs) = ((y : X) → IsAmong xs y → compare x y ≡ Less) × Rises compare xs
 
--- the same elements, sorted
+-- The second list has the elements of the first one, sorted.
 abbrev pub IsOrder : {X : Type 0} → (X → X → Ordering) → List X → List X → Type 0
 IsOrder compare given ordered = IsPermutation given ordered × Ascends compare ordered
 
--- ---- names with one path
+-- ---- names with the same path
 
--- the first of the others has the path of this one
+-- True if the first of the others has the path of this name.
 abbrev pub shares_path : List ℕ → List (List ℕ) → Bool
 shares_path name [] = false
 shares_path name (next ∷ names) = is_eq (compare_paths name next)
 
--- the first name with the path of the next one
+-- The first name with the path of the name after it.
 abbrev pub clash_in : List (List ℕ) → Option (List ℕ)
 clash_in [] = None
 clash_in (name ∷ names) = if shares_path name names then Some name else clash_in names

@@ -3,12 +3,12 @@ use Rattle.std.specs.Prelude.{ℕ, ◌≡◌, ◌⊎◌, ◌<◌, List, [], ◌�
 use Rattle.xxhsum_line.specs.Parts.{Lacks}
 use Rattle.xxhsum_audit.specs.Item.{IsAmong}
 
--- the parts, each with this byte after it
+-- The parts, each followed by this byte.
 abbrev pub ended : ℕ → List (List ℕ) → List ℕ
 ended end parts = flat_map (λ part. part ++ end ∷ []) parts
 
--- no part has the byte; the bytes are the parts, each with the byte after it, except that the last part may end without
--- it
+-- The bytes are these parts, each followed by the byte `end`, which no part contains. The last part may be without it,
+-- if it is not empty.
 abbrev pub ArePartsOf : ℕ → List ℕ → List (List ℕ) → Type 0
 ArePartsOf end bytes parts =
     ((part : List ℕ) → IsAmong parts part → Lacks end part)

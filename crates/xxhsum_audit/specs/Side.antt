@@ -1,4 +1,4 @@
--- Two sorted lists, merged: the elements of both, and those of only one.
+-- Two sorted lists, merged: elements of both, and elements of only one.
 use Rattle.std.specs.Prelude.{ℕ, ◌≡◌, ◌≤◌, List, [], ◌∷◌, drop, length, map}
 use Rattle.std.specs.Borrow.{Bor}
 use Rattle.std.specs.declared.cmp.Ordering.{Ordering}
@@ -9,35 +9,35 @@ use Rattle.xxhsum_audit.specs.declared.side.Side.TheVariants.{Line, Name, Both}
 use Rattle.xxhsum_audit.specs.Item.{Item, item_of, items_of, name_of, texts_of}
 use Rattle.xxhsum_audit.specs.Order.{compare_digests, compare_paths}
 
--- the lesser one comes first, and the rest follows
+-- The lesser element, or both if they are equal, followed by the rest.
 abbrev pub in_turn : {L N : Type 0} → Ordering → L → N → List (Side L N) → List (Side L N) → List (Side L N) → List (Side L N)
 in_turn Less line name past_line past_both past_name = Line line ∷ past_line
 in_turn Equal line name past_line past_both past_name = Both line name ∷ past_both
 in_turn Greater line name past_line past_both past_name = Name name ∷ past_name
 
--- a line against names, from the result of the lines after it
+-- A line and the lines after it, merged with names. `behind` merges the lines after it with names.
 abbrev pub against : {L N : Type 0} → (L → N → Ordering) → L → (List N → List (Side L N)) → List N → List (Side L N)
 against compare line behind [] = Line line ∷ behind []
 against compare line behind (name ∷ names) =
     in_turn (compare line name) line name (behind (name ∷ names)) (behind names) (against compare line behind names)
 
--- lines against names, both sorted
+-- Lines and names, both sorted, merged.
 unfoldable pub beside : {L N : Type 0} → (L → N → Ordering) → List L → List N → List (Side L N)
 beside compare [] names = map Name names
 beside compare (line ∷ lines) names = against compare line (beside compare lines) names
 
--- by the path of the names
+-- The order of a line and a name, by path.
 abbrev pub compare_to_name : Item → List ℕ → Ordering
 compare_to_name line name = compare_paths (name_of line) name
 
 abbrev pub by_path : List Item → List (List ℕ) → List (Side Item (List ℕ))
 by_path lines names = beside compare_to_name lines names
 
--- by the digests
+-- Lines whose names are gone and new names, merged by digest.
 abbrev pub by_digest : List Item → List Item → List (Side Item Item)
 by_digest gone come = beside compare_digests gone come
 
--- the number of lines and names of a side
+-- The number of lines of a side, and the number of its names.
 abbrev pub lines_of : {L N : Type 0} → Side L N → ℕ
 lines_of (Line line) = 1
 lines_of (Name name) = 0
@@ -48,14 +48,14 @@ names_of (Line line) = 0
 names_of (Name name) = 1
 names_of (Both line name) = 1
 
--- this comes first, and removes this many lines and names
+-- The merged list begins with this side, which takes this many lines and names.
 pub record IsFirst {A B S : Type 0} (sides : List A → List B → List S) (lines : List A) (names : List B) (side : S)
     (line_count name_count : ℕ) : Type 0 where
   pub has_line : line_count ≤ length lines
   pub has_name : name_count ≤ length names
   pub is : sides lines names ≡ side ∷ sides (drop line_count lines) (drop name_count names)
 
--- ---- the meaning of a side of the code
+-- ---- the sides of the code
 
 abbrev pub path_side : Side FileDigest (Bor (List ℕ)) → Side Item (List ℕ)
 path_side (Line line) = Line (item_of line)

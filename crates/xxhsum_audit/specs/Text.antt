@@ -1,4 +1,4 @@
--- An audit as text, one line each, whatever names are in it.
+-- An audit as text: each result is one line, whatever names it contains.
 use Rattle.std.specs.Prelude.{ℕ, List, ◌++◌, codes}
 use Rattle.xxhsum_line.specs.Escapes.{one_line}
 use Rattle.xxhsum_audit.specs.Found.{Changed, Copied, Found, Missing, Moved, New, Same}

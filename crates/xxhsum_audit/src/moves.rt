@@ -1,4 +1,4 @@
-//! The results of files, once lines and names are merged and the names have their digests.
+//! The results of an audit, from merged lines and names. The names have their digests.
 
 ghost use Rattle.std.specs.Prelude.{◌≡◌, ◌++◌, IfOk, MatchOption, None, Some, map};
 ghost use Rattle.xxhsum_audit.specs.Audit.{HasMoves, as_found, moved, original, same_in, with_copy};
@@ -14,10 +14,10 @@ use crate::verdict::Verdict;
 use std::alloc::{AllocError, Global};
 use std::cmp::Ordering;
 
-/// Lines and names, of which those in both lists are known.
+/// Lines and names, merged by path.
 #[derive(Drop)]
 pub struct Compared<'n> {
-    /// The results of those in both lists.
+    /// The results of the names that are in both lists.
     pub settled: Vec<Verdict<'n>>,
     /// The lines whose names were not given.
     pub gone: Vec<FileDigest<'n>>,
@@ -27,7 +27,7 @@ pub struct Compared<'n> {
     pub are_all: bool,
 }
 
-/// Returns the results of all lines and names: those in both lists first, and the others in the order of their digests.
+/// Returns the results of all lines and names: first the names in both lists, then the others, sorted by digest.
 /// Returns `AllocError` if out of memory.
 pub fn verdicts<'n>(alloc: Global, compared: Compared<'n>) -> Result<Vec<Verdict<'n>>, AllocError>
     ensures { IfOk result (λ found. HasMoves (founds_of compared.entry.settled.items)
@@ -104,7 +104,7 @@ fn verdict_of<'n>(
     }
 }
 
-// Returns the first of these with the digest of the name.
+// Returns the first unchanged file with the digest of the name.
 fn original_in<'n>(kept: &[FileDigest<'n>], name: FileDigest<'_>) -> Option<FileDigest<'n>>
     requires { Ascends rank_digests (items_of kept.now) }
     ensures { MatchOption result (original (items_of kept.now) (item_of name.entry) ≡ None)

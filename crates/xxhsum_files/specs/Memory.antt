@@ -5,25 +5,25 @@ use Rattle.xxhsum_files.specs.declared.memory.MemoryFiles.{MemoryFiles}
 use Rattle.xxhsum_files.specs.declared.refusal.Refusal.{Refusal}
 use Rattle.xxhsum_files.specs.Refusal.{refusal_code}
 
--- the table
+-- The entries of the table.
 abbrev pub entries_of : {S : Type 0} → MemoryFiles S → List (MemoryEntry S)
 entries_of files = files.entries.now
 
--- the first entry of this name
+-- The first entry with this name.
 abbrev pub entry_named : {S : Type 0} → MemoryFiles S → List ℕ → Option (MemoryEntry S)
 entry_named files name = find (λ entry. bytes_eq entry.name.now name) (entries_of files)
 
--- the file is the source of the name's first entry, as in the table
+-- The file is the source of the name's first entry, in its state in the table.
 abbrev pub LeadsTo : {S : Type 0} → MemoryFiles S → List ℕ → S → Type 0
 LeadsTo files name file = option_map (λ entry. entry.source) (entry_named files name) ≡ Some file
 
--- 2, as for a missing file, if there is no such name; 5, as for a failed read, if its source has failed
+-- The code is 2 (missing file) if no entry has the name, and 5 (failed read) if its first entry's source has failed.
 abbrev pub RefusedFor : {S : Type 0} → (S → Bool) → MemoryFiles S → List ℕ → Refusal → Type 0
 RefusedFor has_failed files name why =
     MatchOption (entry_named files name) (refusal_code why ≡ pos 2)
     (λ entry. (has_failed entry.source ≡ true) × (refusal_code why ≡ pos 5))
 
--- the name's first entry is a directory's
+-- True if the name's first entry is a directory.
 abbrev pub is_directory_named : {S : Type 0} → MemoryFiles S → List ℕ → Bool
 is_directory_named files name =
     unwrap_or (option_map (λ entry. entry.is_directory) (entry_named files name)) false

@@ -1,11 +1,11 @@
--- What clauses read of a reader that repeats interrupted reads.
+-- A reader that repeats interrupted reads.
 use Rattle.std.specs.Prelude.{ℕ, List, Option}
 use Rattle.xxhsum_files.specs.declared.uninterrupted.Uninterrupted.{Uninterrupted}
 
--- the inner reader
+-- The inner reader.
 abbrev pub interrupted_reader : {R : Type 0} → Uninterrupted R → R
 interrupted_reader r = r.inner
 
--- the remaining bytes: those of the inner reader
+-- The remaining bytes of the inner reader.
 abbrev pub remaining_behind : {R : Type 0} → (R → Option (List ℕ)) → Uninterrupted R → Option (List ℕ)
 remaining_behind remaining r = remaining r.inner

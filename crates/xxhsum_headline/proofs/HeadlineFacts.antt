@@ -25,7 +25,7 @@ status (Ok true) = (λ _. refl, λ _. refl)
 status (Ok false) = (λ is. let no : 1 ≡ 0 = is in cc, λ is. cc)
 status (Err stop) = (λ is. let no : 1 ≡ 0 = is in cc, λ is. cc)
 
--- ---- names
+-- ---- runs over names
 
 printed-names : (kind : Kind) (style : Style) (names : List (List ℕ)) (outcomes : List Outcome) → printed_of (lines_of (name_events kind style) names outcomes) ≡ lines_of (written_line kind style) names outcomes
 printed-names kind style [] outcomes = refl
@@ -69,7 +69,7 @@ line-or-message printed told kind shape name (Unread reason) =
           ∷ codes ". " ∷ [])),
     )
 
--- ---- a run that stops
+-- ---- runs that stop
 
 beginning : {W E : Type 0} (rules : StreamRules W E) (events : List Event) (old new : Streams W E) (stop : Stop) → EmitsTo {T = Bool} rules events old new (Err stop) → PrintsBeginning rules.writing (printed_of events) old.out new.out
 beginning rules events old new WriteFailed emits =
@@ -97,7 +97,7 @@ pub list-stops : {S F R W E : Type 0} (opening : StoreRules S F) (reading : Sour
 list-stops opening reading list_reading rules store options name source old new stop (findings, end, finds, answers, emits) =
     (findings, end, unless-failed rules _ old new stop emits)
 
--- ---- a good list
+-- ---- good lists
 
 pub good-means-equal : {S F R W E : Type 0} (opening : StoreRules S F) (reading : SourceRules F) (list_reading : SourceRules R) (rules : StreamRules W E)
     → GoodMeansEqual opening reading list_reading

@@ -1,4 +1,4 @@
--- What a line says is one thing.
+-- Proves that a line has at most one meaning.
 use Rattle.std.proofs.Common.{◌≡◌, ◌⊎◌, ℕ, List, inl, inr, sym, ap, subst, ◌∙◌, Bool, false, Some, None}
 use Rattle.std.proofs.lemmas.Bool.{both_ways}
 use Rattle.std.proofs.lemmas.Option.{none-some, same_Some}
@@ -12,13 +12,13 @@ use Rattle.xxhsum_line.specs.declared.entry.Meaning.TheVariants.{Comment, Malfor
 use Rattle.xxhsum_line.specs.Parts.{HasNoParts, IsPlain, IsTagged, up_to_nul, without_return}
 use Rattle.xxhsum_line.specs.Tags.{kind_of_digits, kind_of_tag, is_little_tag}
 
--- a text without parts says nothing
+-- Lemma: a text without parts has no entry.
 pub nothing_without_parts : (is_little : Bool) (text : List ℕ) → HasNoParts text
     → TextSaysNothing is_little text
 nothing_without_parts is_little text none kind value name (inl p) = none.0 p.0 name p.1
 nothing_without_parts is_little text none kind value name (inr p) = none.1 p.0 name p.1 p.2
 
--- no kind has that many digits
+-- Lemma: a plain text has no entry if its digits determine no algorithm.
 pub nothing_of_count : (is_little : Bool) (text digits name : List ℕ) → IsPlain text digits name → kind_of_digits digits ≡ None
     → TextSaysNothing is_little text
 nothing_of_count is_little text digits name here none kind value name' (inl p) =
@@ -27,7 +27,7 @@ nothing_of_count is_little text digits name here none kind value name' (inl p) =
 nothing_of_count is_little text digits name here none kind value name' (inr p) =
     not_both text digits name p.0 name' p.1 here p.2
 
--- the digits of a plain line show no value
+-- Lemma: a plain text has no entry if its digits have no value.
 pub nothing_of_plain : (is_little : Bool) (text digits name : List ℕ) (kind : Kind) → IsPlain text digits name
     → kind_of_digits digits ≡ Some kind → value_meant kind is_little digits ≡ None
     → TextSaysNothing is_little text
@@ -38,7 +38,7 @@ nothing_of_plain is_little text digits name kind here is_kind none kind' value n
 nothing_of_plain is_little text digits name kind here is_kind none kind' value name' (inr p) =
     not_both text digits name p.0 name' p.1 here p.2
 
--- the digits of a tagged line show no value
+-- Lemma: a tagged text has no entry if its digits have no value.
 pub nothing_of_tagged : (is_little : Bool) (text tag name digits : List ℕ) → IsTagged text tag name digits
     → value_meant (kind_of_tag tag) (is_little_tag tag) digits ≡ None
     → TextSaysNothing is_little text
@@ -50,7 +50,7 @@ nothing_of_tagged is_little text tag name digits here none kind value name' (inr
     none-some value (sym none ∙ ap (λ k. value_meant k (is_little_tag tag) digits) kinds
     ∙ ap (λ t. value_meant kind (is_little_tag t) digits) same.0 ∙ ap (value_meant kind (is_little_tag p.0)) same.2 ∙ p.4)
 
--- two entries of one text are the same
+-- Lemma: two entries of one text are equal.
 text_says_same : (is_little : Bool) (text : List ℕ) (kind : Kind) (value : ℕ) (name : List ℕ) (kind' : Kind) (value' : ℕ) (name' : List ℕ)
     → TextSays is_little text kind value name → TextSays is_little text kind' value' name'
     → (kind ≡ kind') × (value ≡ value') × (name ≡ name')
@@ -72,7 +72,7 @@ text_says_same is_little text kind value name kind' value' name' (inr p) (inr q)
       same.1,
     )
 
--- two entries of one line are the same
+-- Lemma: two entries of one line are equal.
 pub says_same : (is_little : Bool) (line : List ℕ) (kind : Kind) (value : ℕ) (name : List ℕ) (kind' : Kind) (value' : ℕ) (name' : List ℕ)
     → Says is_little line kind value name → Says is_little line kind' value' name'
     → (kind ≡ kind') × (value ≡ value') × (name ≡ name')
@@ -81,7 +81,7 @@ says_same is_little line kind value name kind' value' name' p q =
     let same = text_says_same is_little (body_of text) kind value p.1 kind' value' q.1 p.2 q.2 in
     (same.0, same.1, same_Some name name' (sym p.3 ∙ ap (name_meant (is_escaped text)) same.2 ∙ q.3))
 
--- ---- what is malformed
+-- ---- malformed lines
 
 pub nothing_shown : (is_little : Bool) (line : List ℕ) → is_comment line ≡ false → TextSaysNothing is_little (body_of (up_to_nul (without_return line)))
     → SaysNothing is_little line
@@ -98,7 +98,7 @@ nothing_meant is_little line kind value shown no_comment says none = (
       none-some name (sym none ∙ ap (name_meant (is_escaped text)) same.2 ∙ p.3),
 )
 
--- ---- a line that says something is no other
+-- ---- lines with an entry, which are neither comments nor malformed
 
 pub not_other : (is_little : Bool) (line : List ℕ) (kind : Kind) (value : ℕ) (name : List ℕ) (meaning : Meaning)
     → (meaning ≡ Comment) ⊎ (meaning ≡ Malformed) → Means is_little line meaning → Says is_little line kind value name → ⊥

@@ -1,4 +1,4 @@
--- Escaped names: what they mean, and which bytes they lack.
+-- Lemmas on escaped names: their meaning, the bytes that they lack, and their length.
 use Rattle.std.proofs.Common.{◌≡◌, ◌≢◌, ◌⊎◌, ℕ, ◌+◌, ◌*◌, ◌<◌, ◌≤◌, Bool, true, false, ◌||◌, nat_eq, List, [], ◌∷◌, ◌++◌, length, take, get_or, Option, Some, None, refl, sym, ap, ◌∙◌, inl, inr, append-nil, append_assoc, length-append, arith, option_and_then}
 use Rattle.std.proofs.lemmas.Bool.{cases_eq, cond-false, ne_eqb, or_parts}
 use Rattle.std.proofs.lemmas.List.{take_more}
@@ -6,7 +6,7 @@ use Rattle.xxhsum_line.proofs.LackFacts.{lacks_both}
 use Rattle.xxhsum_line.specs.Escapes.{before, escape, escaped, is_special, meant_behind, meant_by, needs_escape, unescaped}
 use Rattle.xxhsum_line.specs.Parts.{Lacks}
 
--- ---- what a byte is in an escaped line
+-- ---- bytes of an escaped name
 
 stays : (c : ℕ) → nat_eq c 92 ≡ false → nat_eq c 10 ≡ false → nat_eq c 13 ≡ false → escape c ≡ c ∷ []
 stays c e e' e'' = cond-false (nat_eq c 92) _ _ e ∙ cond-false (nat_eq c 10) _ _ e' ∙ cond-false (nat_eq c 13) _ _ e''
@@ -36,14 +36,14 @@ pub needs_append : (x y : List ℕ) → needs_escape (x ++ y) ≡ (needs_escape 
 needs_append [] y = refl
 needs_append (c ∷ x) y = ap (λ r. is_special c || r) (needs_append x y) ∙ or_assoc (is_special c) (needs_escape x) (needs_escape y)
 
--- one byte more of a name
+-- Lemma: one more byte of a name appends its escape to the escaped name.
 pub escaped_more : (name : List ℕ) (i : ℕ) → i < length name → escaped (take (i + 1) name) ≡ escaped (take i name) ++ escape (get_or name i 0)
 escaped_more name i h =
     ap escaped (take_more name i 0 h)
     ∙ escaped_append (take i name) (get_or name i 0 ∷ [])
     ∙ ap (λ r. escaped (take i name) ++ r) (append-nil (escape (get_or name i 0)))
 
--- ---- what is meant
+-- ---- the meaning of an escaped name
 
 before_before : (x y : List ℕ) (rest : Option (List ℕ)) → before x (before y rest) ≡ before (x ++ y) rest
 before_before x y None = refl
@@ -80,7 +80,7 @@ pub escape_is_undone : (name : List ℕ) → unescaped (escaped name) ≡ Some n
 escape_is_undone [] = refl
 escape_is_undone (c ∷ name) = escape_meant c (escaped name) ∙ ap (before (c ∷ [])) (escape_is_undone name)
 
--- a name that needs no escape is unchanged
+-- Lemma: the escaped form of a name that needs no escape is the name.
 pub plain_names_stay : (name : List ℕ) → needs_escape name ≡ false → escaped name ≡ name
 plain_names_stay [] h = refl
 plain_names_stay (c ∷ name) h =
@@ -89,7 +89,7 @@ plain_names_stay (c ∷ name) h =
     let second = or_parts (nat_eq c 10) (nat_eq c 13) first.1 in
     ap (λ e. e ++ escaped name) (stays c first.0 second.0 second.1) ∙ ap (λ r. c ∷ r) (plain_names_stay name both.1)
 
--- ---- which bytes are lacked
+-- ---- bytes that an escaped name lacks
 
 escape_lacks : (b c : ℕ) → b < 32 → (c ≢ 92 → c ≢ 10 → c ≢ 13 → c ≢ b) → Lacks b (escape c)
 escape_lacks b c low other =
@@ -118,7 +118,7 @@ escaped_lacks_nul [] h = tt
 escaped_lacks_nul (c ∷ name) h =
     lacks_both 0 (escape c) (escaped name) (escape_lacks 0 c (omega arith) (λ m n r. h.0)) (escaped_lacks_nul name h.1)
 
--- ---- how long a name becomes
+-- ---- the length of an escaped name
 
 escape_length : (c : ℕ) → length (escape c) ≤ 2
 escape_length c =

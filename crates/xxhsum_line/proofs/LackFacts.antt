@@ -1,4 +1,4 @@
--- Lists that lack a byte, and the first or last position of a byte.
+-- Lemmas on lists that lack a byte, and on splits at the first or last position of a byte.
 use Rattle.std.proofs.Common.{◌≡◌, ◌≢◌, ℕ, suc, ◌+◌, ◌-◌, ◌<◌, ◌≤◌, List, [], ◌∷◌, ◌++◌, length, take, drop, get_or, refl, sym, ap, subst, ◌∙◌, inl, inr, arith}
 use Rattle.std.proofs.lemmas.List.{drop_more, take-append-drop, length-take-le, length-drop, get_or-take, get_or-drop}
 use Rattle.std.proofs.lemmas.Bool.Decides.{eqb_tells}
@@ -15,7 +15,7 @@ lacks_both b (c ∷ x) y h k = (h.0, lacks_both b x y h.1 k)
 pub lacks_not : (b : ℕ) (x y : List ℕ) → Lacks b (x ++ b ∷ y) → ⊥
 lacks_not b x y h = (lacks_right b x (b ∷ y) h).0 refl
 
--- two cuts at the first such byte are the same
+-- Lemma: two splits of a list at its first `b` are the same.
 pub first_same : (b : ℕ) (x y x' y' : List ℕ) → x ++ b ∷ y ≡ x' ++ b ∷ y' → Lacks b x → Lacks b x' → (x ≡ x') × (y ≡ y')
 first_same b [] y [] y' e h h' = (refl, cc)
 first_same b [] y (c ∷ x') y' e h h' = let here : c ≡ b = cc in absurd (h'.0 here)
@@ -27,7 +27,7 @@ first_same b (c ∷ x) y (c' ∷ x') y' e h h' =
     let fronts : x ≡ x' = rest.0 in
     (cc, rest.1)
 
--- two cuts at the last such byte are the same
+-- Lemma: two splits of a list at its last `b` are the same.
 pub last_same : (b : ℕ) (x y x' y' : List ℕ) → x ++ b ∷ y ≡ x' ++ b ∷ y' → Lacks b y → Lacks b y' → (x ≡ x') × (y ≡ y')
 last_same b [] y [] y' e h h' = (refl, cc)
 last_same b [] y (c ∷ x') y' e h h' = let tails : y ≡ x' ++ b ∷ y' = cc in absurd (lacks_not b x' y' (subst (Lacks b) tails h))
@@ -39,7 +39,7 @@ last_same b (c ∷ x) y (c' ∷ x') y' e h h' =
     let fronts : x ≡ x' = rest.0 in
     (cc, rest.1)
 
--- what is known place by place
+-- Lemma: a list lacks a byte if no index has the byte.
 pub lacks_by_place : (b : ℕ) (l : List ℕ) → ((k : ℕ) → k < length l → get_or l k 0 ≡ b → ⊥) → Lacks b l
 lacks_by_place b [] h = tt
 lacks_by_place b (c ∷ l) h =
@@ -61,7 +61,7 @@ lacks_from b l n h =
     let within : n + k < length l = omega (arith, len, lt) in
     h (n + k) (omega arith) within (sym (get_or-drop n l k 0) ∙ e))
 
--- a list is what comes before a place, the element there and what comes behind it
+-- Lemma: a list with `b` at index `i` is the elements before it, `b`, and the elements after it.
 pub at_place : (l : List ℕ) (i b : ℕ) → i < length l → get_or l i 0 ≡ b → l ≡ take i l ++ b ∷ drop (i + 1) l
 at_place l i b h e =
     sym (take-append-drop i l)
@@ -100,7 +100,7 @@ without_return_cut [] = refl
 without_return_cut (c ∷ []) = refl
 without_return_cut (c ∷ d ∷ l) = ap (λ r. c ∷ r) (without_return_cut (d ∷ l))
 
--- a line that ends otherwise stays
+-- Lemma: `without_return` returns a line unchanged if the line doesn't end with a carriage return.
 pub without_return_none : (l : List ℕ) → ((front : List ℕ) → l ≢ front ++ 13 ∷ []) → without_return l ≡ l
 without_return_none [] h = refl
 without_return_none (c ∷ []) h =

@@ -1,4 +1,4 @@
--- Which parts a line has: at most one choice of them.
+-- Proves that a line has at most one choice of parts.
 use Rattle.std.proofs.Common.{◌≡◌, ℕ, List, [], ◌∷◌, ◌++◌, sym, ap, subst, ◌∙◌, append_assoc, MatchOption, Option, Some, None}
 use Rattle.std.proofs.lemmas.List.{append_cancel_right}
 use Rattle.xxhsum_line.proofs.LackFacts.{lacks_not, first_same, last_same}
@@ -6,14 +6,14 @@ use Rattle.xxhsum_line.specs.Parts.{Lacks, IsPlain, IsTagged, EndsTagged, HasPar
 use Rattle.xxhsum_line.specs.declared.parts.Parts.{Parts}
 use Rattle.xxhsum_line.specs.declared.parts.Parts.TheVariants.{Plain, Tagged}
 
--- the line has no space
+-- Lemma: a line without a space has no parts.
 pub no_parts_without_space : (line : List ℕ) → Lacks 32 line → HasNoParts line
 no_parts_without_space line h = (
   (λ digits name p. lacks_not 32 digits (p.0 ∷ name) (subst (Lacks 32) p.1 h)),
   (λ tag name digits p. lacks_not 32 tag (40 ∷ (name ++ 41 ∷ 32 ∷ 61 ∷ 32 ∷ digits)) (subst (Lacks 32) p.0 h)),
 )
 
--- nothing follows the first space
+-- Lemma: a line has no parts if its first space is its last byte.
 pub no_parts_at_end : (line first : List ℕ) → line ≡ first ++ 32 ∷ [] → Lacks 32 first → HasNoParts line
 no_parts_at_end line first e h = (
   (λ digits name p.
@@ -26,7 +26,7 @@ no_parts_at_end line first e h = (
       cc),
 )
 
--- an opening bracket follows the first space, and no end of a tagged line after the bracket
+-- Lemma: a line with `(` after its first space has no parts if no tagged parts follow the bracket.
 pub no_parts_in_brackets : (line first inside : List ℕ) → line ≡ first ++ 32 ∷ 40 ∷ inside → Lacks 32 first
     → HasNoTaggedParts inside → HasNoParts line
 no_parts_in_brackets line first inside e h none = (
@@ -42,7 +42,7 @@ no_parts_in_brackets line first inside e h none = (
       none name digits (ends, p.2)),
 )
 
--- the parts that are found behind the bracket are the line's
+-- Lemma: the tagged parts found after the bracket are the parts of the line. If there are none, the line has none.
 pub parts_in_brackets : (line first inside : List ℕ) (found : Option Parts) → line ≡ first ++ 32 ∷ 40 ∷ inside → Lacks 32 first
     → MatchOption found (HasNoTaggedParts inside) (IsTaggedWith first inside) → MatchOption found (HasNoParts line) (HasParts line)
 parts_in_brackets line first inside None e h none = no_parts_in_brackets line first inside e h none
@@ -53,20 +53,20 @@ parts_in_brackets line first inside (Some (Tagged tag name digits)) e h p = (
   p.1.1,
 )
 
--- behind the bracket there is no space
+-- Lemma: bytes after the bracket have no tagged parts if they have no space.
 pub no_end_without_space : (inside : List ℕ) → Lacks 32 inside → HasNoTaggedParts inside
 no_end_without_space inside h name digits p =
     let more : inside ≡ (name ++ 41 ∷ []) ++ 32 ∷ 61 ∷ 32 ∷ digits = p.0 ∙ sym (append_assoc name (41 ∷ []) (32 ∷ 61 ∷ 32 ∷ digits)) in
     lacks_not 32 (name ++ 41 ∷ []) (61 ∷ 32 ∷ digits) (subst (Lacks 32) more h)
 
--- the part before the last space is the name and ") ="
+-- Lemma: the name and `) =` are before the last space of tagged parts, and the digits are after it.
 pub end_before_space : (inside before last name digits : List ℕ) → inside ≡ before ++ 32 ∷ last → Lacks 32 last
     → EndsTagged inside name digits → (before ≡ name ++ 41 ∷ 32 ∷ 61 ∷ []) × (last ≡ digits)
 end_before_space inside before last name digits e h p =
     let more : inside ≡ (name ++ 41 ∷ 32 ∷ 61 ∷ []) ++ 32 ∷ digits = p.0 ∙ sym (append_assoc name (41 ∷ 32 ∷ 61 ∷ []) (32 ∷ digits)) in
     last_same 32 before last (name ++ 41 ∷ 32 ∷ 61 ∷ []) digits (sym e ∙ more) h p.1
 
--- a line of both forms
+-- Lemma: no line has both forms.
 pub not_both : (line digits name tag name' digits' : List ℕ) → IsPlain line digits name → IsTagged line tag name' digits' → ⊥
 not_both line digits name tag name' digits' p q =
     let end = name' ++ 41 ∷ 32 ∷ 61 ∷ 32 ∷ digits' in

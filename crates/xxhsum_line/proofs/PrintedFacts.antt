@@ -1,4 +1,4 @@
--- Printed lines are accepted.
+-- Proves that printed lines are accepted.
 use Rattle.std.proofs.Common.{◌≡◌, ◌≢◌, ℕ, ◌<◌, ◌+◌, ◌*◌, ◌^◌, Bool, true, false, List, [], ◌∷◌, ◌++◌, length, Some, inl, inr, refl, sym, ap, subst, ◌∙◌, arith, length-append, ◌≤◌, nat_lt, drop, ◌&&◌, if◌then◌else◌}
 use Rattle.std.proofs.lemmas.Bool.{and_parts, cond-false, ne_eqb}
 use Rattle.std.proofs.lemmas.List.{same_from_push}
@@ -18,7 +18,7 @@ use Rattle.xxhsum_line.proofs.EscapeFacts.{escape_is_undone, escaped_lacks_line_
 use Rattle.xxhsum_line.proofs.LackFacts.{lacks_both, up_to_nul_whole, without_return_whole}
 use Rattle.xxhsum_line.proofs.ShownFacts.{lacks_shown, length-shown, value_shown-shown}
 
--- a test of literals: each byte is above the space
+-- True if each byte is above the space.
 abbrev above_space : List ℕ → Bool
 above_space [] = true
 above_space (c ∷ cs) = nat_lt 32 c && above_space cs
@@ -31,7 +31,7 @@ lacks_up_to_space b (c ∷ l) low h =
     let differs : c ≢ b = λ e. grind (arith, nat_tests) in
     (differs, lacks_up_to_space b l low parts.1)
 
--- a tag is above the space, and names its kind and the order of bytes
+-- Lemma: the bytes of a tag are above the space. The tag determines its algorithm and byte order.
 tag_says : (kind : Kind) (is_little : Bool)
     → (above_space (full_tag kind is_little) ≡ true) × (kind_of_tag (full_tag kind is_little) ≡ kind) × (is_little_tag (full_tag kind is_little) ≡ is_little)
 tag_says X32 true = (refl, refl, refl)
@@ -52,7 +52,7 @@ prefix_lacks b X64 low = tt
 prefix_lacks b X3_64 low = lacks_up_to_space b (prefix_of X3_64) low refl
 prefix_lacks b X3_128 low = tt
 
--- ---- a byte that is in neither tags nor digits, and is no part of what is between them
+-- ---- bytes outside of tags, digits and separators
 
 lacks_plain : (b : ℕ) (kind : Kind) (is_little : Bool) (value : ℕ) (name : List ℕ) → b < 32 → Lacks b name
     → Lacks b (plain_text kind is_little value name)
@@ -105,9 +105,9 @@ told_is_one_line text =
 pub plain_texts_stay : PlainTextsStay
 plain_texts_stay text plain = rw (plain, plain_names_stay text plain) refl
 
--- ---- how a line begins
+-- ---- the beginning of a line
 
--- neither a comment nor an escaped line
+-- A line that is neither a comment nor escaped.
 abbrev IsOrdinary : List ℕ → Type 0
 IsOrdinary line = (is_comment line ≡ false) × (is_escaped line ≡ false)
 
@@ -161,7 +161,7 @@ pub printed_is_no_comment : PrintedIsNoComment
 printed_is_no_comment kind shape value name =
     marked_no_comment (needs_escape name) (formed kind shape value (escaped name)) (formed_ordinary kind shape value (escaped name)).0
 
--- ---- what a printed text says
+-- ---- the meaning of a printed text
 
 no_prefix : (digits : List ℕ) → Lacks 88 digits → has_prefix digits ≡ false
 no_prefix [] h = refl
@@ -181,7 +181,7 @@ shown_bare X3_64 is_little value =
     cond-false (has_prefix digits) (drop 5 digits) digits (shown_no_prefix X3_64 is_little value)
 shown_bare X3_128 is_little value = refl
 
--- an algorithm that only its digits name
+-- Lemma: a plain text without a prefix has its entry if the number of digits determines the algorithm.
 counted_says : (kind : Kind) (is_little : Bool) (value : ℕ) (name : List ℕ) → kind_of_count (digits_of kind) ≡ Some kind
     → value < 16 ^ digits_of kind → SaysPlain is_little (shown kind is_little value ++ 32 ∷ 32 ∷ name) kind value name
 counted_says kind is_little value name is_plain fits =
@@ -195,7 +195,7 @@ counted_says kind is_little value name is_plain fits =
     ap (value_shown kind is_little) (shown_bare kind is_little value) ∙ value_shown-shown kind is_little value fits in
     (digits, (32, refl, lacks_shown 32 kind is_little value (inl below), mark), counted, means)
 
--- digits with their prefix
+-- Lemma: a plain text with the prefix of XXH3 64-bit has its entry.
 prefixed_says : (is_little : Bool) (value : ℕ) (name : List ℕ) → value < 16 ^ digits_of X3_64
     → SaysPlain is_little (plain_text X3_64 is_little value name) X3_64 value name
 prefixed_says is_little value name fits =
@@ -239,9 +239,9 @@ formed_says : (kind : Kind) (shape : Shape) (value : ℕ) (name : List ℕ) → 
     → TextSays shape.is_little (formed kind shape value name) kind value name
 formed_says kind shape value name fits = either_says kind shape.is_little shape.is_tagged value name fits
 
--- ---- what a printed line says
+-- ---- the meaning of a printed line
 
--- a text without NUL and carriage return is read whole
+-- Lemma: a text without NUL and carriage return is read in full.
 all_stays : (text : List ℕ) → Lacks 0 text → Lacks 13 text → up_to_nul (without_return text) ≡ text
 all_stays text lacks lacks_return = ap up_to_nul (without_return_whole text lacks_return) ∙ up_to_nul_whole text lacks
 
@@ -285,14 +285,14 @@ printed_is_accepted kind shape value name fits h =
     (lacks_formed 0 kind shape value (escaped name) low (escaped_lacks_nul name h))
     (lacks_formed 13 kind shape value (escaped name) low' (escaped_lacks_return name)) (plain_names_stay name) (formed_says kind shape value (escaped name) fits)
 
--- what is left of a printed line without its line feed
+-- Lemma: a printed line without its newline has the entry that it was made of.
 pub text_is_accepted : (kind : Kind) (shape : Shape) (value : ℕ) (name text : List ℕ) → line_of kind shape value name ≡ text ++ 10 ∷ []
     → value < 16 ^ digits_of kind → Lacks 0 name → Says shape.is_little text kind value name
 text_is_accepted kind shape value name text e fits h =
     let same = same_from_push (text_of kind shape value name) text 10 10 e in
     subst (λ t. Says shape.is_little t kind value name) same.0 (printed_is_accepted kind shape value name fits h)
 
--- ---- how long a line is
+-- ---- the length of a line
 
 tag_length : (kind : Kind) (is_little : Bool) → length (full_tag kind is_little) ≤ 9
 tag_length X32 true = omega arith
@@ -335,7 +335,7 @@ marked_length : (is_marked : Bool) (text : List ℕ) → length ((if is_marked t
 marked_length true text = omega arith
 marked_length false text = omega arith
 
--- each byte of a name becomes two at most
+-- Lemma: a printed line has at most two bytes for each byte of its name, and 48 others.
 pub printed_length : (kind : Kind) (shape : Shape) (value : ℕ) (name : List ℕ) → length (text_of kind shape value name) ≤ 2 * length name + 48
 printed_length kind shape value name =
     let marked : length (text_of kind shape value name) ≤ length (formed kind shape value (escaped name)) + 1 =

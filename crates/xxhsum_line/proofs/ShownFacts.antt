@@ -1,4 +1,4 @@
--- The digits of a value are read as that value.
+-- Proves that reading the digits of a value returns the value.
 use Rattle.std.proofs.Common.{◌≡◌, ◌≢◌, ◌⊎◌, ℕ, zero, suc, ◌+◌, ◌*◌, ◌/◌, ◌%◌, ◌^◌, ◌<◌, Bool, true, false, List, [], ◌∷◌, ◌++◌, length, reverse, Some, None, inl, inr, refl, sym, ap, ◌∙◌, arith, length-append, eq-eqb, option_and_then}
 use Rattle.std.proofs.Math.Nat.{pow-suc}
 use Rattle.std.proofs.lemmas.Bool.Decides.{nat_tests}
@@ -13,7 +13,7 @@ use Rattle.xxhsum_line.specs.Parts.{Lacks}
 use Rattle.xxhsum_line.specs.Printed.{shown}
 use Rattle.xxhsum_line.proofs.LackFacts.{lacks_both}
 
--- one digit more behind others
+-- Lemma: a digit after others multiplies their value by 16 and adds its own.
 number_after-push : (before : ℕ) (cs : List ℕ) (c n : ℕ) → number_after before cs ≡ Some n
     → number_after before (cs ++ c ∷ []) ≡ option_and_then (λ digit. Some (n * 16 + digit)) (digit_of c)
 number_after-push before [] c n e =
@@ -50,7 +50,7 @@ length-turned_if : (is_little : Bool) (l : List ℕ) → length (turned_if is_li
 length-turned_if true l = length-pairs_swapped (reverse l) ∙ length-reverse l
 length-turned_if false l = refl
 
--- a pair more behind others
+-- Lemma: a pair after an even number of digits is swapped after them.
 pairs_swapped-push : (l : List ℕ) (a b : ℕ) → length l % 2 ≡ 0 → pairs_swapped (l ++ a ∷ b ∷ []) ≡ pairs_swapped l ++ b ∷ a ∷ []
 pairs_swapped-push [] a b even = refl
 pairs_swapped-push (x ∷ []) a b even = absurd (omega arith)
@@ -77,7 +77,7 @@ pairs_swapped-twice [] = refl
 pairs_swapped-twice (a ∷ []) = refl
 pairs_swapped-twice (a ∷ b ∷ l) = ap (λ r. a ∷ b ∷ r) (pairs_swapped-twice l)
 
--- bytes turned round twice
+-- Lemma: reversing the bytes of an even number of digits twice returns the digits.
 pub turned_if-twice : (is_little : Bool) (l : List ℕ) → length l % 2 ≡ 0 → turned_if is_little (turned_if is_little l) ≡ l
 turned_if-twice false l even = refl
 turned_if-twice true l even =
@@ -106,7 +106,7 @@ value_shown-shown kind is_little value fits =
     ∙ ap number_of (turned_if-twice is_little digits even)
     ∙ number_of-hex_digits (digits_of kind) value fits
 
--- no digit is below '0', nor between '9' and 'a'
+-- A byte below '0', or between '9' and 'a', and so no lower-case digit.
 abbrev pub IsNoDigit : ℕ → Type 0
 IsNoDigit b = (b < 48) ⊎ ((57 < b) × (b < 97))
 

@@ -3,7 +3,7 @@ use Rattle.std.specs.Prelude.{ℕ, ◌+◌, ◌-◌, ◌*◌, Bool, List, [], �
 use Rattle.xxh_io.specs.Kind.{digits_of}
 use Rattle.xxh_io.specs.declared.kind.Kind.{Kind}
 
--- the value of a digit: '0' is 48, 'a' is 87 + 10, and 'A' is 55 + 10
+-- The value of a hexadecimal digit. The bytes 48, 97 and 65 are '0', 'a' and 'A'.
 abbrev pub digit_of : ℕ → Option ℕ
 digit_of c =
     if nat_le 48 c && nat_le c 57 then Some (c - 48)
@@ -11,7 +11,7 @@ digit_of c =
     else if nat_le 65 c && nat_le c 70 then Some (c - 55)
     else None
 
--- the value of digits after others with the value `before`
+-- The value of digits that follow others with the value `before`. None if a byte is no digit.
 abbrev pub number_after : ℕ → List ℕ → Option ℕ
 number_after before [] = Some before
 number_after before (c ∷ cs) = option_and_then (λ digit. number_after (before * 16 + digit) cs) (digit_of c)
@@ -19,20 +19,20 @@ number_after before (c ∷ cs) = option_and_then (λ digit. number_after (before
 abbrev pub number_of : List ℕ → Option ℕ
 number_of digits = number_after 0 digits
 
--- the two digits of each byte are swapped
+-- The digits, with the two digits of each byte swapped.
 abbrev pub pairs_swapped : List ℕ → List ℕ
 pairs_swapped (a ∷ b ∷ rest) = b ∷ a ∷ pairs_swapped rest
 pairs_swapped rest = rest
 
--- the bytes in reverse order, two digits each
+-- The digits, with their bytes in reverse order, two digits each.
 abbrev pub turned : List ℕ → List ℕ
 turned digits = pairs_swapped (reverse digits)
 
--- digits whose bytes are reversed if they are little-endian
+-- The digits, with their bytes reversed if they are little-endian.
 abbrev pub turned_if : Bool → List ℕ → List ℕ
 turned_if is_little digits = if is_little then turned digits else digits
 
--- the digest of the digits: there are as many as its algorithm has
+-- The digest of the digits. None if their number is not the algorithm's, or a byte is no digit.
 abbrev pub value_shown : Kind → Bool → List ℕ → Option ℕ
 value_shown kind is_little digits =
     if nat_eq (length digits) (digits_of kind) then number_of (turned_if is_little digits) else None

@@ -8,49 +8,49 @@ use Rattle.xxhsum_line.specs.Parts.{IsPlain, IsTagged, Lacks}
 use Rattle.xxhsum_line.specs.Printed.{text_of}
 use Rattle.xxhsum_line.specs.declared.printed.Shape.{Shape}
 
--- a printed line whose name has no NUL means the entry that it was made of
+-- A printed line means the entry that it was printed from, if the value fits the algorithm and the name has no NUL.
 abbrev pub PrintedIsAccepted : Type 0
 PrintedIsAccepted =
     (kind : Kind) (shape : Shape) (value : ℕ) (name : List ℕ) → value < 16 ^ digits_of kind → Lacks 0 name
     → Says shape.is_little (text_of kind shape value name) kind value name
 
--- a printed line has no newline except its last byte, whatever the name
+-- A printed line has no newline before its end, whatever the name.
 abbrev pub PrintedIsOneLine : Type 0
 PrintedIsOneLine =
     (kind : Kind) (shape : Shape) (value : ℕ) (name : List ℕ) → Lacks 10 (text_of kind shape value name)
 
--- this is one line: its last byte is a newline, and no other is
+-- The bytes are one line: the last byte is a newline, and no other byte is.
 abbrev pub IsOneLine : List ℕ → Type 0
 IsOneLine line = (text : List ℕ) × (line ≡ text ++ 10 ∷ []) × Lacks 10 text
 
--- a text that is reported as one line is one, whatever names it has
+-- A text that is reported as one line is one line, whatever names it contains.
 abbrev pub ToldIsOneLine : Type 0
 ToldIsOneLine = (text : List ℕ) → IsOneLine (one_line text)
 
--- and if nothing in it needs an escape, it is the text
+-- A text that needs no escape is reported unchanged, with a newline at its end.
 abbrev pub PlainTextsStay : Type 0
 PlainTextsStay = (text : List ℕ) → needs_escape text ≡ false → one_line text ≡ text ++ 10 ∷ []
 
--- no printed line is a comment
+-- No printed line is a comment.
 abbrev pub PrintedIsNoComment : Type 0
 PrintedIsNoComment =
     (kind : Kind) (shape : Shape) (value : ℕ) (name : List ℕ) → is_comment (text_of kind shape value name) ≡ false
 
--- an escaped name means the name, and one that needs no escape is written as it is
+-- Unescaping an escaped name returns the name. A name that needs no escape is written unchanged.
 abbrev pub EscapeIsUndone : Type 0
 EscapeIsUndone = (name : List ℕ) → unescaped (escaped name) ≡ Some name
 
 abbrev pub PlainNamesStay : Type 0
 PlainNamesStay = (name : List ℕ) → needs_escape name ≡ false → escaped name ≡ name
 
--- a line has one meaning
+-- A line has at most one meaning.
 abbrev pub SaysOneThing : Type 0
 SaysOneThing =
     (is_little : Bool) (line : List ℕ) (kind kind' : Kind) (value value' : ℕ) (name name' : List ℕ)
     → Says is_little line kind value name → Says is_little line kind' value' name'
     → (kind ≡ kind') × (value ≡ value') × (name ≡ name')
 
--- a line has one choice of parts
+-- A line has at most one form, and at most one split into parts.
 abbrev pub PlainPartsAreOne : Type 0
 PlainPartsAreOne =
     (line digits digits' name name' : List ℕ) → IsPlain line digits name → IsPlain line digits' name'

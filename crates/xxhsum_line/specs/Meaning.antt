@@ -10,7 +10,7 @@ Means is_little line (Entry entry) = Says is_little line entry.kind entry.value 
 Means is_little line Comment = is_comment line ≡ true
 Means is_little line Malformed = SaysNothing is_little line
 
--- the digest of an entry has no more digits than its algorithm
+-- The value of an entry has no more digits than its algorithm.
 abbrev pub FitsKind : Meaning → Type 0
 FitsKind (Entry entry) = entry.value < 16 ^ digits_of entry.kind
 FitsKind Comment = Unit {0}

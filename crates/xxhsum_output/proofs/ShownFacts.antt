@@ -1,4 +1,4 @@
--- Texts as they are shown on a terminal.
+-- Lemmas on bytes as they are displayed on a terminal.
 use Rattle.std.proofs.Common.{◌≡◌, ℕ, ◌+◌, ◌<◌, ◌/◌, ◌%◌, Bool, true, false, ◌&&◌, not, if◌then◌else◌, List, [], ◌∷◌, ◌++◌, length, take, drop, get_or, refl, sym, ap, subst, ◌∙◌, append-nil, map, take-append-drop, arith}
 use Rattle.std.specs.List.{AllByRecursion, concat}
 use Rattle.std.proofs.lemmas.Grind.{flat_map-append}
@@ -13,35 +13,35 @@ use Rattle.xxhsum_output.specs.Shown.{is_calm, is_clean, is_plain, in_hex, shown
 use Rattle.xxhsum_output.specs.Visible.{TakesShown, is_shown, terminal_of}
 use Rattle.xxhsum_output.specs.declared.visible.Visible.{Visible}
 
--- one byte more
+-- Lemma: one more byte appends its displayed form.
 pub shown-more : (bytes : List ℕ) (i : ℕ) → i < length bytes → shown_all (take (i + 1) bytes) ≡ shown_all (take i bytes) ++ shown_byte (get_or bytes i 0)
 shown-more bytes i h =
     ap shown_all (take_more bytes i 0 h)
     ∙ flat_map-append shown_byte (take i bytes) (get_or bytes i 0 ∷ [])
     ∙ ap (λ r. shown_all (take i bytes) ++ r) (append-nil (shown_byte (get_or bytes i 0)))
 
--- those so far, and those behind
+-- Lemma: the displayed forms of the bytes before, at and after index `i`, joined, are the displayed form of all.
 shown-parts : (bytes : List ℕ) (i : ℕ) → i < length bytes → (shown_all (take i bytes) ++ shown_byte (get_or bytes i 0)) ++ shown_all (drop (i + 1) bytes) ≡ shown_all bytes
 shown-parts bytes i h =
     ap (λ front. front ++ shown_all (drop (i + 1) bytes)) (sym (shown-more bytes i h))
     ∙ sym (flat_map-append shown_byte (take (i + 1) bytes) (drop (i + 1) bytes))
     ∙ ap shown_all (take-append-drop (i + 1) bytes)
 
--- a byte more was taken
+-- Lemma: a sink that takes the displayed form of byte `i` after the bytes before it has taken the first `i + 1`.
 pub takes-more : {W : Type 0} (writing : SinkRules W) (bytes : List ℕ) (i : ℕ) (old mid new : W) → i < length bytes → Took writing (shown_all (take i bytes)) old mid → Took writing (shown_byte (get_or bytes i 0)) mid new → Took writing (shown_all (take (i + 1) bytes)) old new
 takes-more writing bytes i old mid new h took more =
     subst (λ text. Took writing text old new) (sym (shown-more bytes i h)) (Took-join writing (shown_all (take i bytes)) (shown_byte (get_or bytes i 0)) old mid new took more)
 
--- a byte was refused
+-- Lemma: the displayed form of all bytes is refused if one byte's form is refused after the bytes before it.
 pub refuses-rest : {W : Type 0} (writing : SinkRules W) (bytes : List ℕ) (i : ℕ) (old mid new : W) → i < length bytes → Took writing (shown_all (take i bytes)) old mid → Refused writing (shown_byte (get_or bytes i 0)) mid new → Refused writing (shown_all bytes) old new
 refuses-rest writing bytes i old mid new h took refused =
     let front = shown_all (take i bytes) ++ shown_byte (get_or bytes i 0) in
     let joined = Refused-join writing (shown_all (take i bytes)) (shown_byte (get_or bytes i 0)) old mid new took refused in
     subst (λ text. Refused writing text old new) (shown-parts bytes i h) (Refused-more writing front (shown_all (drop (i + 1) bytes)) old new joined)
 
--- ---- the laws
+-- ---- laws
 
--- what the inner sink took of some chunks
+-- Lemma: the inner sink takes the displayed forms of the chunks, joined.
 pub shows-pieces : {W : Type 0} (writing : SinkRules W) (pieces : List (List ℕ)) (old new : Visible W) → Pieces (TakesShown writing) old pieces new → Took writing (concat (map (shown (is_shown old)) pieces)) (terminal_of old) (terminal_of new)
 shows-pieces writing [] old new led = ([], ap terminal_of led, refl)
 shows-pieces {W} writing (piece ∷ pieces) old new led =
@@ -49,9 +49,9 @@ shows-pieces {W} writing (piece ∷ pieces) old new led =
     let rest = subst (λ on. Took writing (concat (map (shown on) pieces)) (terminal_of mid) (terminal_of new)) led.1.0 (shows-pieces writing pieces mid new led.2) in
     Took-join writing (shown (is_shown old) piece) (concat (map (shown (is_shown old)) pieces)) (terminal_of old) (terminal_of mid) (terminal_of new) led.1.1 rest
 
--- ---- a text that is shown has no control character
+-- ---- displayed text, which has no control character
 
--- a printable byte is calm behind any other
+-- Lemma: a printable byte belongs to no control character, whatever byte is before it.
 plain-calm : (before byte : ℕ) → is_plain byte ≡ true → is_calm before byte ≡ true
 plain-calm before byte plain = grind (arith, nat_tests, plain)
 

@@ -1,4 +1,4 @@
--- Lines that are gathered, and what the sink behind them has of them.
+-- Lemmas on buffered lines and on the bytes of them that the inner sink has taken.
 use Rattle.std.proofs.Common.{◌≡◌, ◌⊎◌, ℕ, ◌<◌, Bool, true, false, List, [], ◌∷◌, ◌++◌, length, refl, sym, ap, subst, ◌∙◌, inl, inr, append-nil, append_assoc, Ok, Err, IfOk, OnErr, is_err, Result}
 use Rattle.std.specs.List.{concat}
 use Rattle.xxh_io.specs.declared.ends.Failed.{Failed}
@@ -10,7 +10,7 @@ use Rattle.xxhsum_output.specs.WholeLines.{Passes, Reaches, RefusesLine, TakesPi
 use Rattle.xxhsum_output.specs.declared.whole_lines.WholeLines.{WholeLines}
 use Rattle.xxh_io.proofs.WriteFacts.{Refused-join, Refused-more, Took-join}
 
--- those that waited were written too
+-- Lemma: all the lines are taken if the buffered lines are written.
 all-taken : {W : Type 0} (writing : SinkRules W) (text waiting : List ℕ) (first old new : W) → Gathers writing text first old waiting → Took writing waiting old new → Took writing text first new
 all-taken writing text waiting first old new gathers took =
     subst (λ bytes. Took writing bytes first new) gathers.2 (Took-join writing gathers.0 waiting first old new gathers.1 took)
@@ -53,7 +53,7 @@ reaches-all writing text (piece ∷ pieces) first old new reaches led =
     let next = reaches-on writing text piece first old led.0 reaches led.1 in
     subst (λ bytes. Reaches writing bytes first new) (append_assoc text piece (concat pieces)) (reaches-all writing (text ++ piece) pieces first led.0 new next led.2)
 
--- nothing waits, and nothing was taken
+-- Lemma: a sink with an empty buffer and no failed write has taken no bytes yet.
 reaches-none : {W : Type 0} (writing : SinkRules W) (old : WholeLines W) → writing.has_failed (behind old) ≡ false → waiting_lines old ≡ [] → Reaches writing [] (behind old) old
 reaches-none writing old works empty = inl (works, ([], ([], refl, refl), empty))
 
@@ -77,7 +77,7 @@ pub refused-reaches : {W : Type 0} (writing : SinkRules W) (bytes rest : List �
 refused-reaches writing bytes rest pieces old met new works empty led refuses are some =
     refused-behind writing (concat pieces) bytes rest (behind old) met new (taken-reaches writing (concat pieces) pieces old met works empty led refl) refuses are some
 
--- a release takes nothing
+-- Lemma: writing the buffered lines takes no bytes from the caller, even if the write fails.
 pub released : {W : Type 0} (writing : SinkRules W) (old new : WholeLines W) (result : Result (Unit {0}) Failed) → writing.has_failed (behind old) ≡ false → IfOk result (λ _. Took writing (waiting_lines old) (behind old) (behind new)) → IfOk result (λ _. waiting_lines new ≡ []) → OnErr result (Refused writing (waiting_lines old) (behind old) (behind new)) → writing.has_failed (behind new) ≡ is_err result → (pieces : List (List ℕ)) × Pieces (TakesPiece writing) old pieces new × (concat pieces ≡ [])
 released writing old new (Ok x) works written empty refused failed =
     ([] ∷ [], (new, inl (works, failed, inr (inl (written, empty))), refl), refl)

@@ -1,4 +1,4 @@
--- Findings of lines, and how a list ends behind them.
+-- Lemmas on the findings of lines and on the end of a list.
 use Rattle.std.proofs.Common.{◌≡◌, ◌⊎◌, ℕ, Bool, true, List, [], ◌∷◌, ◌++◌, refl, sym, ap, subst, ◌∙◌, inl, inr, append-nil, append_assoc}
 use Rattle.xxhsum_program.specs.Prelude.{AllByRecursion, Lacks, Pieces, Report, SourceRules, concat}
 use Rattle.xxhsum_program.specs.declared.lines.Lines.{Lines}
@@ -17,7 +17,7 @@ add_up-push ignores report (f ∷ fs) finding = add_up-push ignores (count_one i
 
 -- ---- the lines so far
 
--- what was read of a list so far is these lines, and what waits
+-- A state in which these lines of a list were read, and the bytes after them are buffered.
 abbrev pub Stands : {R X : Type 0} → SourceRules R → R → Lines R X → List (List ℕ) → Type 0
 Stands reading source state lines =
     (done : List ℕ) × HasRead reading source done state
@@ -32,7 +32,7 @@ line-feeds-push (x ∷ xs) line =
     let before = with_line_feeds xs in
     ap (λ (r : List ℕ). x ++ 10 ∷ r) (line-feeds-push xs line) ∙ sym (append_assoc x (10 ∷ (before ++ line)) (10 ∷ [])) ∙ ap (λ (r : List ℕ). r ++ 10 ∷ []) (sym (append_assoc x (10 ∷ before) line))
 
--- one line more
+-- Lemma: reading one more line appends it to the lines that were read.
 stands-read : {R X : Type 0} (reading : SourceRules R) (source : R) (new : Lines R X) (lines : List (List ℕ)) (done line : List ℕ) → AllByRecursion (Lacks 10) lines × (done ≡ with_line_feeds lines) → Lacks 10 line → IsRead reading source done line new → Stands reading source new (lines ++ line ∷ [])
 stands-read reading source new lines done line so_far lacks (inl read) =
     (done ++ line ++ 10 ∷ [], read, inl (all-push (Lacks 10) lines line so_far.0 lacks, ap (λ (d : List ℕ). d ++ line ++ 10 ∷ []) so_far.1 ∙ sym (line-feeds-push lines line)))

@@ -1,4 +1,4 @@
--- Names or lines and what each has, where one more comes.
+-- Lemmas on lists with one result for each name or line, after one more.
 use Rattle.std.proofs.Common.{◌≡◌, ℕ, ◌+◌, ◌<◌, ◌&&◌, Bool, true, false, List, [], ◌∷◌, ◌++◌, length, map, take, drop, get_or, refl, sym, ap, ◌∙◌, take-append-drop}
 use Rattle.std.specs.List.{list_all}
 use Rattle.std.proofs.lemmas.List.{drop_more, map-append, take_more}
@@ -14,12 +14,12 @@ pub all-push : {A : Type 0} (holds : A → Type 0) (xs : List A) (x : A) → All
 all-push holds [] x all is = (is, tt)
 all-push holds (y ∷ ys) x all is = (all.0, all-push holds ys x all.1 is)
 
--- a list up to one of its elements
+-- Lemma: one more element of a list appends its image to the mapped list.
 pub map-more : {A B : Type 0} (f : A → B) (xs : List A) (k : ℕ) (x : A) → k < length xs → x ≡ get_or xs k x → map f (take (k + 1) xs) ≡ map f (take k xs) ++ f x ∷ []
 map-more f xs k x within is =
     rw (take_more xs k x within, map-append) (ap (λ v. map f (take k xs) ++ f v ∷ []) (sym is))
 
--- a list around one of its elements
+-- Lemma: a mapped list is the elements before an index, the element there and those after it, each mapped.
 pub map-split : {A B : Type 0} (f : A → B) (xs : List A) (k : ℕ) (x : A) → k < length xs → x ≡ get_or xs k x → map f xs ≡ map f (take k xs) ++ f x ∷ map f (drop (k + 1) xs)
 map-split f xs k x within is =
     let parts : xs ≡ take k xs ++ get_or xs k x ∷ drop (k + 1) xs =

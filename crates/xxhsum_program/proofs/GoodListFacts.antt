@@ -1,4 +1,4 @@
--- A report with none different, none unread and none too long is one of lines that are well.
+-- Proves that all lines are well if the report has no different file, no unread file and no line that is too long.
 use Rattle.std.proofs.Common.{◌≡◌, ◌&&◌, ℕ, Bool, true, false, List, [], ◌∷◌, Some, None, refl, arith, if◌then◌else◌, inl, inr}
 use Rattle.xxhsum_program.specs.Prelude.{AllByRecursion, EachHas, Options, Reason, Report, SourceRules, StoreRules}
 use Rattle.xxhsum_program.specs.declared.entry.Found.TheVariants.{Same, Different, Unread}
@@ -9,14 +9,14 @@ use Rattle.xxhsum_program.specs.ListEnd.{ListEnd, Whole, TooMany, Endless, Faile
 use Rattle.xxhsum_program.specs.Outcomes.{HasNoValue, has_no_file}
 use Rattle.xxhsum_program.specs.Report.{passes}
 
--- none different, none unread, and none too long
+-- A report with no different file, no unread file and no line that is too long.
 abbrev Clean : Report → Type 0
 Clean report = (report.different ≡ 0) × (report.unread ≡ 0) × (report.is_broken ≡ false)
 
 more-than-none : (count : ℕ) → one_more count ≡ 0 → ⊥
 more-than-none count is = grind (arith, is)
 
--- what is not counted as unread is passed over
+-- Lemma: an unread file was ignored if the report with it is clean.
 ignored : (is_ignored : Bool) (report : Report) → Clean (if is_ignored then report else record report { unread = one_more report.unread }) → Clean report × (is_ignored ≡ true)
 ignored true report clean = (clean, refl)
 ignored false report clean = absurd (more-than-none report.unread clean.1)

@@ -9,14 +9,14 @@ use Rattle.xxhsum_program.specs.Said.{break_events, count_text, printed_summary,
 use Rattle.xxhsum_program.specs.Report.{is_unverified}
 use Rattle.xxhsum_program.proofs.OrderFacts.{emits-join, emits-line}
 
--- the first part was refused
+-- Lemma: a line is refused if its first part is refused.
 pub line-more : {W T : Type 0} (writing : SinkRules W) (a b : List ℕ) (old new : W) (result : Result T Stop) (stop : Stop) → result ≡ Err stop → stop ≡ WriteFailed → PrintsLine {T = T} writing a old new (Err stop) → PrintsLine writing (a ++ b) old new result
 line-more writing a b old new (Ok x) stop is only prints = cc
 line-more writing a b old new (Err WriteFailed) WriteFailed is only prints = Refused-more writing a b old new prints
 line-more writing a b old new (Err OutOfMemory) WriteFailed is only prints = cc
 line-more writing a b old new (Err e) OutOfMemory is only prints = cc
 
--- the first part was taken
+-- Lemma: a line has the result of its second part if its first part was taken.
 pub line-join : {W T : Type 0} (writing : SinkRules W) (a b : List ℕ) (old mid new : W) (result : Result T Stop) → Took writing a old mid → IfErr result (λ stop. stop ≡ WriteFailed) → PrintsLine writing b mid new result → PrintsLine writing (a ++ b) old new result
 line-join writing a b old mid new (Ok x) took only prints = Took-join writing a b old mid new took prints
 line-join writing a b old mid new (Err WriteFailed) took only prints = Refused-join writing a b old mid new took prints

@@ -1,4 +1,4 @@
--- What waits of a list, where bytes are taken from it or come behind it.
+-- Lemmas on the buffered bytes of a list, if bytes are taken from them or appended to them.
 use Rattle.std.proofs.Common.{◌≡◌, ℕ, ◌+◌, ◌-◌, ◌<◌, ◌≤◌, ◌^◌, Bool, true, false, List, [], ◌∷◌, ◌++◌, length, length-append, take, drop, slice_range, slice_index, nat_eq, refl, sym, ap, ◌∙◌, subst, inl, inr, Some, None, Ok, Err, arith, append-nil, append_assoc, rules, if◌then◌else◌, IsErrAnd, Option, Result}
 use Rattle.std.specs.List.{concat, copy_within}
 use Rattle.std.proofs.lemmas.Bool.Decides.{eqb_tells}
@@ -16,7 +16,7 @@ use Rattle.xxhsum_program.specs.declared.lines.Next.TheVariants as Variant
 use Rattle.xxhsum_program.specs.LinesView.{HasRead, IsAtEnd, IsBeforeLineFeed, IsHeld, IsNext, IsTaken, ReadsBehind, StopsAt, line_of, most_reads_left, waiting}
 use Rattle.xxhsum_program.specs.ListLines.{FailsAfter, end_piece}
 
--- ---- parts of what waits
+-- ---- parts of the buffered bytes
 
 front-of : (xs : List ℕ) (start end n : ℕ) → start + n ≤ end → take n (slice_range xs start end) ≡ slice_range xs start (start + n)
 front-of xs start end n within =
@@ -28,7 +28,7 @@ rest-of xs start end n within =
     let whole : end - start ≡ n + (end - (start + n)) = omega arith in
     ap (λ k. drop n (take k (drop start xs))) whole ∙ drop-take n (end - (start + n)) (drop start xs) ∙ ap (take (end - (start + n))) (drop-drop n start xs)
 
--- the first line feed among the bytes from start to end
+-- Lemma: the first newline of the buffered bytes ends the next line.
 pub found-line-feed : {R X : Type 0} (lines : Lines R X) (found : Option ℕ) → lines.end ≤ length lines.buf → IsFirstByte (is_byte 10) (waiting lines) found → IsBeforeLineFeed found lines
 found-line-feed lines None inside first =
     lacks_by_place 10 (waiting lines) (λ k lt e. first k (omega arith) lt (ap (λ x. is_byte 10 x) e))
@@ -42,15 +42,15 @@ found-line-feed lines (Some len) inside first =
     let rest = rest-of lines.buf lines.start lines.end (len + 1) (omega arith) in
     (omega arith, subst (Lacks 10) front lacks, at_place w len 10 below here ∙ ap (λ x. x ++ 10 ∷ drop (len + 1) w) front ∙ ap (λ x. slice_range lines.buf lines.start (lines.start + len) ++ 10 ∷ x) rest)
 
--- ---- one read more
+-- ---- one more read
 
--- what waits is moved to the front of the buffer
+-- Lemma: the buffered bytes are moved to the front of the buffer.
 pub moved : (xs ys : List ℕ) (start end len : ℕ) → start ≤ end → end ≤ length xs → len ≡ end - start → ys ≡ copy_within xs start end 0 → take len ys ≡ slice_range xs start end
 moved xs ys start end len ordered inside is copied =
     let size : length (slice_range xs start end) ≡ len = length-between xs start end inside ∙ sym is in
     ap (take len) copied ∙ take_at (slice_range xs start end) (drop (0 + (end - start)) xs) len size
 
--- a read puts bytes behind them
+-- Lemma: a read appends its bytes to the buffered bytes.
 pub put-behind : (xs w ys : List ℕ) (len room count : ℕ) → take len xs ≡ w → len ≤ length xs → count ≤ length ys → slice_range (put_mid len room xs ys) 0 (len + count) ≡ w ++ take count ys
 put-behind xs w ys len room count is inside within =
     let after = drop room (drop len xs) in
@@ -80,9 +80,9 @@ reads-on {R} reading from old new done w piece ended count going size read gave 
           rw (some.0) (longer, NoneEmpty-push pieces piece read.1 above, subst (λ ps. Pieces reading.gives from ps new) (sym (append-nil longer)) (Pieces-push reading.gives from old new pieces piece so_far gave), text)
     ]
 
--- ---- what comes next
+-- ---- the next line, end or error
 
--- the same error, of another result
+-- Lemma: an error is the same for any type of result.
 pub fails-alike : {R X U : Type 0} (reading : SourceRules R) (from : R) (done : List ℕ) (new : Lines R X) (e : Failed) (result : Result U Failed) → FailsAfter reading from (done ++ waiting new) × Lacks 10 (waiting new) → IsErrAnd result (λ f. f ≡ e) → ReadsBehind reading from done new result
 fails-alike reading from done new e (Ok x) read is = absurd is
 fails-alike reading from done new e (Err f) read is = read
@@ -96,7 +96,7 @@ moves-on reading from done taken old new read source ended parts =
 waiting-count : {R X : Type 0} (lines : Lines R X) → lines.end ≤ length lines.buf → length (waiting lines) ≡ lines.end - lines.start
 waiting-count lines inside = length-between lines.buf lines.start lines.end inside
 
--- the line before the next line feed that waits
+-- The line before the next buffered newline.
 abbrev pub front_of : {R X : Type 0} → Lines R X → ℕ → List ℕ
 front_of lines len = slice_range lines.buf lines.start (lines.start + len)
 
@@ -105,7 +105,7 @@ front-count lines len inside stops =
     let size : length (front_of lines len) ≡ lines.start + len - lines.start = length-between lines.buf lines.start (lines.start + len) (omega (arith, stops.0, inside)) in
     omega (arith, size)
 
--- it is taken with its line feed
+-- Lemma: the line and its newline are taken from the buffer.
 line-taken : {R X : Type 0} (reading : SourceRules R) (from : R) (done : List ℕ) (old new : Lines R X) (len kept : ℕ) (is_long : Bool) → StopsAt (Some len) old → IsTaken kept (len + 1) is_long old new → HasRead reading from done old → HasRead reading from (done ++ front_of old len ++ 10 ∷ []) new
 line-taken reading from done old new len kept is_long stops taken read =
     let front = front_of old len in
@@ -145,7 +145,7 @@ not-at-end lines inside some at_end =
 
 -- ---- a line that is too long
 
--- Behind `done` a line is read that is too long: so many reads gave what is gone of it and what waits, with no line feed.
+-- An unfinished line after `done`, of over 32767 dropped or buffered bytes. Each of `reads` returned some, or the end.
 abbrev pub IsInside : {R X : Type 0} → SourceRules R → R → List ℕ → ℕ → Lines R X → Type 0
 IsInside reading from done reads lines =
     (gone : List ℕ) × HasRead reading from (done ++ gone) lines × Lacks 10 (gone ++ waiting lines)
@@ -157,7 +157,7 @@ inside-new reading from done lines inside long lacks read =
     let size = waiting-count lines inside in
     ([], subst (λ bytes. HasRead reading from bytes lines) (sym (append-nil done)) read, lacks, omega (arith, size, long), omega arith)
 
--- all that waited is gone
+-- A line after `done` that is too long and whose bytes were all dropped.
 abbrev pub IsEmptied : {R X : Type 0} → SourceRules R → R → List ℕ → ℕ → Lines R X → Type 0
 IsEmptied reading from done reads lines =
     (gone : List ℕ) × HasRead reading from (done ++ gone) lines × Lacks 10 gone × (32767 < length gone)
@@ -174,19 +174,19 @@ emptied reading from done reads old new ordered inside taken (gone, read, lacks,
     let all = subst (λ bytes. HasRead reading from bytes new) (append_assoc done gone (waiting old)) (moves-on reading from (done ++ gone) (waiting old) old new read taken.1 taken.2 parts) in
     (gone ++ waiting old, all, lacks, long, rw taken.2 most)
 
--- the line was the last one
+-- Lemma: the line is complete if it is the last one.
 pub inside-ends : {R X : Type 0} (reading : SourceRules R) (from : R) (done : List ℕ) (reads : ℕ) (lines : Lines R X) → lines.is_long ≡ true → lines.has_ended ≡ true → waiting lines ≡ [] → IsEmptied reading from done reads lines → IsNext reading from done lines Variant.Line
 inside-ends reading from done reads lines is_long ended none (gone, read, lacks, long, most) =
     let held : IsHeld gone lines = rw is_long long in
     (gone, lacks, held, inr (omega (arith, long), read, (ended, none)))
 
--- a read failed in it
+-- Lemma: the next result is an error if a read fails in the line.
 pub inside-fails : {R X : Type 0} (reading : SourceRules R) (from : R) (done : List ℕ) (reads : ℕ) (e : Failed) (old new : Lines R X) → IsEmptied reading from done reads old → ((from : R) (done : List ℕ) → HasRead reading from done old → ReadsBehind {T = Unit {0}} reading from done new (Err e)) → IsNext reading from done new Variant.Failed
 inside-fails reading from done reads e old new (gone, read, lacks, long, most) behind =
     let failed = behind from (done ++ gone) read in
     (gone ++ waiting new, subst (λ bytes. FailsAfter reading from bytes) (append_assoc done gone (waiting new)) failed.0, lacks_both 10 gone (waiting new) lacks failed.1)
 
--- a read gave bytes with its line feed
+-- Lemma: the line is complete after a read that returns its newline.
 pub inside-found : {R X : Type 0} (reading : SourceRules R) (from : R) (done : List ℕ) (reads len : ℕ) (old mid new : Lines R X) → IsEmptied reading from done reads old → ((from : R) (done : List ℕ) → HasRead reading from done old → HasRead reading from done mid) → StopsAt (Some len) mid → IsTaken 0 (len + 1) true mid new → IsNext reading from done new Variant.Line
 inside-found reading from done reads len old mid new (gone, read, lacks, long, most) behind stops taken =
     let front = front_of mid len in
@@ -200,7 +200,7 @@ one-more : (ended : Bool) (count : ℕ) → (if ended then 0 else 1) + (65536 - 
 one-more true count less = omega arith
 one-more false count less = omega (arith, less)
 
--- a read gave bytes without it, or was the last one
+-- Lemma: the line is not complete after a read that returns no newline.
 pub inside-goes-on : {R X : Type 0} (reading : SourceRules R) (from : R) (done : List ℕ) (reads : ℕ) (old new : Lines R X) → old.has_ended ≡ false → old.end - old.start ≡ 0 → new.end ≤ length new.buf → IsEmptied reading from done reads old → ((from : R) (done : List ℕ) → HasRead reading from done old → HasRead reading from done new) → most_reads_left new < most_reads_left old → Lacks 10 (waiting new) → IsInside reading from done (reads + 1) new
 inside-goes-on reading from done reads old new going none inside (gone, read, lacks, long, most) behind fewer lacks_new =
     let so_far : reads ≤ length gone + 0 = rw going at most in
@@ -214,7 +214,7 @@ one-less : (ended : Bool) (count : ℕ) → 2 ^ 64 - 1 ≤ count + (if ended the
 one-less true count most = omega (arith, most)
 one-less false count most = omega (arith, most)
 
--- as many reads as can be counted gave bytes of it
+-- Lemma: the line is endless after as many reads as can be counted.
 pub inside-endless : {R X : Type 0} (reading : SourceRules R) (from : R) (done : List ℕ) (reads : ℕ) (lines : Lines R X) → 2 ^ 64 - 1 ≤ reads → IsInside reading from done reads lines → IsNext reading from done lines Variant.Endless
 inside-endless reading from done reads lines many (gone, read, lacks, long, most) =
     (gone, read, (lacks, one-less lines.has_ended (length (gone ++ waiting lines)) (omega (arith, many, most))))

@@ -1,4 +1,4 @@
--- A line "NAME: OK" is printed only for a file that has the line's value.
+-- Proves that a line "NAME: OK" is printed only for a file with the line's value.
 use Rattle.std.proofs.Common.{◌≡◌, ◌≢◌, ◌+◌, ℕ, Bool, true, false, List, [], ◌∷◌, ◌++◌, refl, sym, ap, ◌∙◌, subst, arith, codes, decimal, drop, length, if◌then◌else◌}
 use Rattle.xxhsum_program.specs.Prelude.{Found, SourceRules, StoreRules, concat}
 use Rattle.std.proofs.lemmas.List.{append_assoc, append_cancel_right, length_push, same_from_push}
@@ -13,7 +13,7 @@ use Rattle.xxhsum_program.specs.Outcomes.{IsValueOf, reason_text}
 use Rattle.xxhsum_program.specs.Said.{found_text, is_silent, named_text}
 use Rattle.xxhsum_program.specs.declared.entry.Found.TheVariants.{Same, Different, Unread}
 
--- ---- one line is that of one text, and of some
+-- ---- the text of a line, which is unique
 
 by-marks : EscapeIsUndone → PlainNamesStay → (a b : List ℕ) (m n : Bool) → needs_escape a ≡ m → needs_escape b ≡ n
     → (if m then 92 ∷ [] else []) ++ escaped a ++ 10 ∷ [] ≡ (if n then 92 ∷ [] else []) ++ escaped b ++ 10 ∷ [] → a ≡ b

@@ -1,4 +1,4 @@
--- What a hashing run prints is a good list while the files stay as they are.
+-- Proves that a hashing run prints a good list while the files stay unchanged.
 use Rattle.std.proofs.Common.{◌≡◌, ℕ, ◌+◌, ◌<◌, Bool, true, false, List, [], ◌∷◌, ◌++◌, length, refl, sym, ap, subst, ◌∙◌, arith, ◌^◌, nat_eq, nat_lt}
 use Rattle.std.proofs.lemmas.Bool.Decides.{nat_tests}
 use Rattle.xxhsum_program.specs.Prelude.{AllByRecursion, Digested, EachHas, Found, IsDirectory, Kind, Options, Outcome, Report, Shape, SourceRules, StoreRules, Unread, concat}
@@ -16,7 +16,7 @@ use Rattle.xxhsum_program.specs.declared.entry.Found.TheVariants as Is
 use Rattle.xxhsum_program.proofs.PrintedListFacts.{checks_printed, short_names_fit}
 use Rattle.xxh_program.proofs.ValueFacts.{value-lt}
 
--- the lines that are printed are those of the entries
+-- Lemma: the printed lines are the list of the entries.
 printed_text : (kind : Kind) (shape : Shape) (names : List (List ℕ)) (outcomes : List Outcome)
     → lines_of (printed_line kind shape) names outcomes ≡ printed_list (entries_of kind shape names outcomes)
 printed_text kind shape [] outcomes = refl
@@ -25,7 +25,7 @@ printed_text kind shape (name ∷ names) (Digested value ∷ outcomes) = ap (λ 
 printed_text kind shape (name ∷ names) (IsDirectory ∷ outcomes) = printed_text kind shape names outcomes
 printed_text kind shape (name ∷ names) (Unread reason ∷ outcomes) = printed_text kind shape names outcomes
 
--- the entries of names that are short enough are those of a list
+-- Lemma: the entries of names that are short enough are entries of a list.
 listed : {S F : Type 0} (opening : StoreRules S F) (reading : SourceRules F)
     → (store : S) (kind : Kind) (shape : Shape) (names : List (List ℕ)) (outcomes : List Outcome) → AllByRecursion IsName names
     → EachHas (Comes opening reading store kind) names outcomes → AreListed shape.is_little (entries_of kind shape names outcomes)
@@ -77,7 +77,7 @@ as_many opening reading store (e ∷ es) (f ∷ fs) are = let rest = as_many ope
 
 -- ---- their report
 
--- how many proper lines are counted
+-- The number of well-formed lines after these findings.
 abbrev proper_after : ℕ → List Finding → ℕ
 proper_after count [] = count
 proper_after count (finding ∷ findings) = proper_after (one_more count) findings

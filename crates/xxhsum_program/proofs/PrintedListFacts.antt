@@ -1,4 +1,4 @@
--- The lines that are found in a printed list.
+-- Lemmas on the lines that are found in a printed list.
 use Rattle.std.proofs.Common.{◌≡◌, ℕ, ◌+◌, ◌<◌, Bool, true, false, List, [], ◌∷◌, ◌++◌, length, map, refl, sym, ap, subst, ◌∙◌, inl, inr, append-nil, append_assoc, length-append, arith}
 use Rattle.std.proofs.lemmas.Bool.{both_ways, false≢true}
 use Rattle.std.proofs.lemmas.List.{length-map}
@@ -17,13 +17,13 @@ use Rattle.xxhsum_program.specs.ListEnd.{Endless, FailedRead, TooMany, Whole}
 use Rattle.xxhsum_program.specs.ListLines.{IsLastLine, end_piece}
 use Rattle.xxhsum_program.specs.PrintedList.{AreListed, BeginsTooLong, ChecksPrinted, FindsPrintedFiles, FindsPrintedLines, HasJustLines, Holds, HoldsPrintedLines, IsFindingOf, IsLineOf, IsListed, Listed, ShortNamesFit, printed_list, text_of_listed}
 
--- ---- lines and the rest of a text of lines
+-- ---- the lines and the rest of a text
 
--- a printed line
+-- A printed line.
 abbrev pub IsLine : List ℕ → Type 0
 IsLine line = Lacks 10 line × (length line < 32767)
 
--- the first of some lines, and the others, which make up the rest
+-- The first lines of a text, with the rest of the text.
 abbrev pub Beginning : List (List ℕ) → List (List ℕ) → List ℕ → Type 0
 Beginning texts lines rest = (others : List (List ℕ)) × (texts ≡ lines ++ others) × (with_line_feeds others ≡ rest)
 
@@ -42,12 +42,12 @@ begins_with_lines (text ∷ texts) (line ∷ lines) rest all is e =
     let more = begins_with_lines texts lines rest all.1 is.1 same.1 in
     (more.0, ap (λ t. t ∷ texts) same.0 ∙ ap (λ ts. line ∷ ts) more.1, more.2)
 
--- lines leave nothing that no line feed ends
+-- Lemma: a text of lines has no last line without a newline.
 pub no_last_line : (others : List (List ℕ)) (last : List ℕ) → with_line_feeds others ≡ last → IsLastLine last → ⊥
 no_last_line [] last e is = let none : length last ≡ 0 = ap length (sym e) in omega (arith, none, is.1)
 no_last_line (other ∷ others) last e is = lacks_not 10 other (with_line_feeds others) (subst (Lacks 10) (sym e) is.0)
 
--- a line feed within a front
+-- Lemma: a prefix without a newline is not longer than the line before the first newline.
 feed_within : (line rest front more : List ℕ) → line ++ 10 ∷ rest ≡ front ++ more → length line < length front → Lacks 10 front → ⊥
 feed_within [] rest [] more e short lacks = omega arith
 feed_within [] rest (c ∷ front) more e short lacks = let here : c ≡ 10 = cc in lacks.0 here
@@ -101,7 +101,7 @@ nothing_left : (lines others : List (List ℕ)) → with_line_feeds others ≡ [
 nothing_left lines [] e = append-nil lines
 nothing_left lines (other ∷ others) e = absurd (nothing_before other (with_line_feeds others) (sym e))
 
--- the lines of a whole text of lines are those
+-- Lemma: the lines of a text made of lines are these lines.
 pub lines_are : (texts lines : List (List ℕ)) → AllByRecursion IsLine texts → HasLines true (with_line_feeds texts) lines [] → texts ≡ lines
 lines_are texts lines all (inl has) =
     let begin = begins_with_lines texts lines [] all has.0 has.1 in
@@ -124,13 +124,13 @@ reads_printed_lines reading is_little entries source end pieces all some read ar
     let text : concat pieces ≡ with_line_feeds texts ++ [] = are ∙ printed_lines entries ∙ sym (append-nil (with_line_feeds texts)) in
     (pieces, end, some, read, inl (lack_line_feeds texts (listed_are_lines is_little entries all), text))
 
--- ---- what a check of the list meets
+-- ---- the results of a check of the list
 
 all_right : (lines others : List (List ℕ)) → AllByRecursion IsLine (lines ++ others) → AllByRecursion IsLine others
 all_right [] others all = all
 all_right (line ∷ lines) others all = all_right lines others all.1
 
--- what was read is a beginning of the text, and all of it at the end of the source
+-- Lemma: the bytes read are a prefix of the text, and all of it at the end of the source.
 read_part : {R : Type 0} (reading : SourceRules R) (source end : R) (text : List ℕ) (has_ended : Bool) (pieces : List (List ℕ))
     → Holds reading source text → NoneEmpty pieces → Pieces reading.gives source (pieces ++ end_piece has_ended) end
     → (more : List ℕ) × (text ≡ concat pieces ++ more) × (has_ended ≡ true → more ≡ [])
@@ -140,7 +140,7 @@ read_part reading source end text false pieces holds some read =
     let part = (holds.0 pieces end some (subst (λ ps. Pieces reading.gives source ps end) (append-nil pieces) read)).0 in
     (part.0, part.1, λ e. absurd (false≢true e))
 
--- the lines that reads give are the first ones
+-- Lemma: the lines read are the first lines of the text.
 reads_begin : {R : Type 0} (reading : SourceRules R) (source : R) (texts lines : List (List ℕ)) (rest : List ℕ) (has_ended : Bool)
     → AllByRecursion IsLine texts → Holds reading source (with_line_feeds texts) → ReadsLines reading source has_ended lines rest
     → (more : List ℕ) × Beginning texts lines (rest ++ more)
@@ -156,7 +156,7 @@ reads_begin reading source texts lines rest has_ended all holds (pieces, end, so
     let begin = begins_with_lines texts ends.0 ends.1 all ends.2 whole in
     absurd (no_last_line begin.0 ends.1 begin.2 ends.3)
 
--- a source that holds lines has those, and no others
+-- Lemma: a source that holds lines has these lines and no others.
 holds_just_lines : {R : Type 0} (reading : SourceRules R) (source : R) (texts : List (List ℕ))
     → AllByRecursion IsLine texts → Holds reading source (with_line_feeds texts) → HasJustLines reading source texts
 holds_just_lines reading source texts all holds = (

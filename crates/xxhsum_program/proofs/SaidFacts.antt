@@ -1,4 +1,4 @@
--- What is said of the lines of a list, where one more comes.
+-- Lemmas on the output for the lines of a list after one more line.
 use Rattle.std.proofs.Common.{◌≡◌, ℕ, ◌+◌, List, [], ◌∷◌, ◌++◌, length, sym, ap, ◌∙◌, append-nil, append_assoc, arith}
 use Rattle.xxhsum_program.specs.Findings.{Finding}
 use Rattle.xxhsum_program.specs.Said.{numbered}

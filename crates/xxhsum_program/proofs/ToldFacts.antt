@@ -1,4 +1,4 @@
--- Lemma: what was reported, if more is reported after it.
+-- Lemmas on messages that are followed by more messages.
 use Rattle.std.proofs.Common.{◌≡◌, ◌↔◌, ℕ, Bool, true, false, List, [], ◌++◌, refl, sym, ap, subst, append-nil, append_assoc, is_err, Ok, Err, IfErr, Result}
 use Rattle.xxh_io.specs.declared.error.DigestError.{DigestError}
 use Rattle.xxh_io.specs.declared.error.DigestError.TheVariants.{ReadFailed, WriteFailed, TooLong}
@@ -7,7 +7,7 @@ use Rattle.xxhsum_program.specs.Prelude.{SinkRules, TellsOn}
 use Rattle.xxh_io.specs.Tells.{Told}
 use Rattle.xxh_io.proofs.WriteFacts.{Writes-join, Refused-more}
 
--- a sink that has failed takes nothing more
+-- Lemma: `a ++ b` is reported if `a` is reported and the sink has failed.
 pub Told-failed : {E : Type 0} (telling : SinkRules E) (a b : List ℕ) (old new : E) → telling.has_failed new ≡ true → Told telling a old new → Told telling (a ++ b) old new
 Told-failed telling a b old new failed (Ok x, done, only, is) = cc
 Told-failed telling a b old new failed (Err WriteFailed, done, only, is) = (Err WriteFailed, Refused-more telling a b old new done, only, is)
@@ -19,13 +19,13 @@ failed-is (Ok x) true only says = let never = says.1 refl in cc
 failed-is (Ok x) false only says = refl
 failed-is (Err e) failed only says = says.0 (ap Err only)
 
--- one that has not failed is written to
+-- Lemma: `a ++ b` is reported if `a` is reported and `b` is written to a sink that has not failed.
 pub Told-write : {E : Type 0} (telling : SinkRules E) (a b : List ℕ) (old mid new : E) (result : Result (Unit {0}) DigestError) → telling.has_failed mid ≡ false → Told telling a old mid → Writes telling b mid new result → IfErr result (λ e. e ≡ WriteFailed) → ((result ≡ Err WriteFailed) ↔ (telling.has_failed new ≡ true)) → Told telling (a ++ b) old new
 Told-write telling a b old mid new result works (Ok x, done, only, is) writes fails says =
     (result, Writes-join telling a b old mid new result fails done writes, fails, failed-is result (telling.has_failed new) fails says)
 Told-write telling a b old mid new result works (Err e, done, only, is) writes fails says = cc
 
--- ---- what is reported after it
+-- ---- later messages
 
 pub tells-nothing : {E : Type 0} (telling : SinkRules E) (old : E) → TellsOn telling [] old old
 tells-nothing telling old = λ initial before told.

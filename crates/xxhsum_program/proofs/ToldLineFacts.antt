@@ -1,4 +1,4 @@
--- Texts that are one line, or nothing.
+-- Lemmas on texts that are one line, or empty.
 use Rattle.std.proofs.Common.{ℕ, Bool, true, false, List, [], inl, inr, refl, if◌then◌else◌}
 use Rattle.xxhsum_line.specs.Escapes.{one_line}
 use Rattle.xxhsum_line.proofs.PrintedFacts.{told_is_one_line}

@@ -1,4 +1,4 @@
--- What is said of watched sources, said of what they watch.
+-- Proves that facts on watched sources hold for the sources that they watch.
 use Rattle.std.proofs.Common.{ℕ, List, [], ◌∷◌, ◌++◌, ap, Result, Ok, Err}
 use Rattle.xxh_io.specs.declared.error.DigestError.{DigestError}
 use Rattle.xxh_io.specs.declared.error.DigestError.TheVariants.{ReadFailed, WriteFailed, TooLong}

@@ -1,7 +1,7 @@
--- What each of some lines or names has.
+-- Elements that belong to lines or names.
 use Rattle.std.specs.Prelude.{ℕ, List, [], ◌∷◌}
 
--- as many as lines or names, each that of its own
+-- There are as many elements as lines or names, and each line or name has the element at its position.
 abbrev pub EachHas : {T : Type 0} → (List ℕ → T → Type 0) → List (List ℕ) → List T → Type 0
 EachHas has [] [] = Unit {0}
 EachHas has [] (x ∷ xs) = ⊥

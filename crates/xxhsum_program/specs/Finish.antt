@@ -1,18 +1,18 @@
--- The end of a run, at which all that was printed is written.
+-- The end of a run, which writes the buffered output.
 use Rattle.std.specs.Prelude.{◌≡◌, ℕ, Bool, true, false, List, [], Result, Ok, Err}
 use Rattle.xxhsum_program.specs.Prelude.{SinkRules, Stop, Took, WriteFailed}
 
--- what a run comes to by whether some of its output was lost
+-- The result of a run. It is an error if some of the output was lost.
 abbrev pub end_after : Bool → Result Bool Stop → Result Bool Stop
 end_after false done = done
 end_after true (Ok all) = Err WriteFailed
 end_after true (Err stop) = Err stop
 
--- all that was printed is written, unless some of it was lost
+-- No output is buffered, unless some of it was lost.
 abbrev pub IsWritten : {W : Type 0} → (W → List ℕ) → (W → Bool) → W → Type 0
 IsWritten held has_lost out = has_lost out ≡ false → held out ≡ []
 
--- nothing more is printed, and what the output held is written; or that was lost, and the run has failed
+-- Nothing more is printed, and the buffered output is written. If some of it was lost, the run has failed.
 abbrev pub Finishes : {W : Type 0} → SinkRules W → (W → List ℕ) → (W → Bool) → Result Bool Stop → W → W
     → Result Bool Stop → Type 0
 Finishes writing held has_lost done old new result =

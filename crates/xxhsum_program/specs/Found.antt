@@ -1,10 +1,10 @@
--- How the file of a line is, beside what the line says.
+-- The state of a line's file, compared with the line.
 use Rattle.std.specs.Prelude.{◌≢◌, ℕ, Bool, false, ◌&&◌, List}
 use Rattle.xxhsum_program.specs.Prelude.{Found, Kind, SourceRules, StoreRules}
 use Rattle.xxhsum_program.specs.declared.entry.Found.TheVariants.{Same, Different, Unread}
 use Rattle.xxhsum_program.specs.Outcomes.{HasNoValue, IsValueOf, has_no_file}
 
--- the file of this name has this value of this kind, or another one, or none
+-- The file of this name has this value by this algorithm, another value, or none.
 abbrev pub IsFound : {S F : Type 0} → StoreRules S F → SourceRules F → S → Kind → ℕ → List ℕ → Found → Type 0
 IsFound opening reading store kind value name Same =
     IsValueOf opening reading store kind name value
@@ -13,12 +13,12 @@ IsFound opening reading store kind value name Different =
 IsFound opening reading store kind value name (Unread reason) =
     HasNoValue opening reading store name reason
 
--- whether there is no such file
+-- True if there is no such file.
 abbrev pub is_gone : Found → Bool
 is_gone Same = false
 is_gone Different = false
 is_gone (Unread reason) = has_no_file reason
 
--- a file that isn't there is passed over where that is asked for, and no other is
+-- True if the file is missing, and missing files are ignored.
 abbrev pub is_passed_over : Bool → Found → Bool
 is_passed_over ignores found = ignores && is_gone found

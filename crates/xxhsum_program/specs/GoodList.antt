@@ -1,4 +1,4 @@
--- What a good list says of its files, and what a line that says OK does.
+-- Laws of good lists, and of lines that are printed as OK.
 use Rattle.std.specs.Prelude.{◌≡◌, ◌⊎◌, ℕ, Bool, true, List, Option, codes}
 use Rattle.xxhsum_program.specs.Prelude.{AllByRecursion, Kind, Options, Refusal, SourceRules, StoreRules}
 use Rattle.xxhsum_files.specs.Refusal.{is_missing}
@@ -9,12 +9,12 @@ use Rattle.xxhsum_program.specs.ListEnd.{ListEnd}
 use Rattle.xxhsum_program.specs.Outcomes.{IsValueOf}
 use Rattle.xxhsum_program.specs.Said.{named_text, printed_finding}
 
--- there is no file of this name, and that is passed over
+-- There is no file of this name, and missing files are ignored.
 abbrev pub IsPassedOver : {S F : Type 0} → StoreRules S F → S → Bool → List ℕ → Type 0
 IsPassedOver opening store ignores name =
     (ignores ≡ true) × (refusal : Refusal) × opening.refuses store name refusal × (is_missing refusal ≡ true)
 
--- a comment; a malformed line; or a line whose file has its value, or isn't there where that is passed over
+-- The line is a comment, or malformed, or its file has its value, or its file is missing and missing files are ignored.
 abbrev pub IsWell : {S F : Type 0} → StoreRules S F → SourceRules F → S → Options → List ℕ → Type 0
 IsWell opening reading store options line =
     (is_comment line ≡ true)
@@ -22,7 +22,7 @@ IsWell opening reading store options line =
     ⊎ ((kind : Kind) × (value : ℕ) × (name : List ℕ) × Says options.is_little_endian line kind value name
     × (IsValueOf opening reading store kind name value ⊎ IsPassedOver opening store options.ignores_missing name)))
 
--- The lines of a list were found, and it is good. Then each line is well.
+-- If the lines of a list were checked and it is good, each line is as `IsWell` states.
 abbrev pub GoodMeansEqual : {S F R : Type 0} → StoreRules S F → SourceRules F → SourceRules R → Type 0
 GoodMeansEqual {S} {F} {R} opening reading list_reading =
     (store : S) (options : Options) (source : R) (findings : List Finding) (end : Option ListEnd)
@@ -31,7 +31,7 @@ GoodMeansEqual {S} {F} {R} opening reading list_reading =
     → (lines : List (List ℕ)) × MeetsLines list_reading source lines end
     × AllByRecursion (IsWell opening reading store options) lines
 
--- What is printed of a line is "NAME: OK" only where the line says a kind, a value and this name, and its file has the value.
+-- A line is printed as "NAME: OK" only if it is an entry with this name, and its file has its value by its algorithm.
 abbrev pub OkMeansEqual : {S F : Type 0} → StoreRules S F → SourceRules F → Type 0
 OkMeansEqual {S} opening reading =
     (store : S) (options : Options) (list : List ℕ) (number : ℕ) (line : List ℕ) (finding : Finding) (name : List ℕ)

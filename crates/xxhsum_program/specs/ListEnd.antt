@@ -1,16 +1,16 @@
--- How the lines of a list end, and the report of a list that ends so.
+-- The end of a list's lines, and the report of a list with this end.
 use Rattle.std.specs.Prelude.{Bool, List}
 use Rattle.xxhsum_program.specs.declared.check.Report.{Report}
 use Rattle.xxhsum_program.specs.Findings.{Finding, report_of, with_broken_end}
 
--- with the list; at as many lines as have numbers; in a line that has no end; at a read that failed
+-- The end of the list, the largest line number, a line without an end, or a read that failed.
 pub data ListEnd : Type 0 where
   Whole : ListEnd
   TooMany : ListEnd
   Endless : ListEnd
   FailedRead : ListEnd
 
--- what the findings add up to: with a broken end where the list breaks off behind them
+-- The report of the findings. If the list breaks off after them, it is marked as broken.
 abbrev pub report_at : Bool → ListEnd → List Finding → Report
 report_at ignores Whole findings = report_of ignores findings
 report_at ignores TooMany findings = report_of ignores findings

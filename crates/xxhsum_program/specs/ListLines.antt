@@ -1,28 +1,28 @@
--- The lines of a list, and reads of a list that break off.
+-- The lines of a list, and reads of a list that fail.
 use Rattle.std.specs.Prelude.{◌≡◌, ◌⊎◌, ℕ, ◌-◌, ◌<◌, ◌≤◌, ◌^◌, Bool, true, List, [], ◌∷◌, length, if◌then◌else◌}
 use Rattle.xxhsum_program.specs.Prelude.{Lacks, NoneEmpty, Pieces, SourceRules, concat}
 
--- what follows the last line feed of a list is a line, if there is anything
+-- The line can be the last of a list, without a line feed at its end: it is not empty and contains none.
 abbrev pub IsLastLine : List ℕ → Type 0
 IsLastLine line = Lacks 10 line × (0 < length line)
 
--- a line that is not checked, without its line feed
+-- The line is too long to be checked. Its line feed does not count.
 abbrev pub IsTooLong : List ℕ → Type 0
 IsTooLong line = 32767 < length line
 
--- so many bytes without a line feed that nobody waits for the end of the line
+-- The bytes have no line feed and are 2^64 - 2 or more: their line is not read to its end.
 abbrev pub IsEndless : List ℕ → Type 0
 IsEndless bytes = Lacks 10 bytes × (2 ^ 64 - 2 ≤ length bytes)
 
--- the chunk of a source's last read is empty
+-- The empty chunk of the last read, if the source has ended.
 abbrev pub end_piece : Bool → List (List ℕ)
 end_piece has_ended = if has_ended then [] ∷ [] else []
 
--- the source had failed before, or its read fails
+-- The source has failed before, or its read fails.
 abbrev pub CantRead : {R : Type 0} → SourceRules R → R → Type 0
 CantRead {R} reading met = (reading.has_failed met ≡ true) ⊎ ((end : R) × reading.fails met end)
 
--- reads gave these bytes, and the next one failed
+-- Reads returned these bytes, and the next one failed.
 abbrev pub FailsAfter : {R : Type 0} → SourceRules R → R → List ℕ → Type 0
 FailsAfter {R} reading from bytes =
     (pieces : List (List ℕ)) × (met : R) × NoneEmpty pieces × Pieces reading.gives from pieces met

@@ -1,4 +1,4 @@
--- What becomes of the names of a hashing run.
+-- The outcomes of the names of a hashing run.
 use Rattle.std.specs.Prelude.{◌≡◌, ℕ, Bool, true, false, List, codes, Result, Ok, Err}
 use Rattle.std.specs.List.{list_all}
 use Rattle.xxhsum_program.specs.Prelude.{Digested, IsDirectory, Kind, Outcome, Reason, SourceRules, StoreRules, Unread, concat}
@@ -10,26 +10,26 @@ use Rattle.xxh_program.specs.States.{most_reads}
 use Rattle.xxhsum_files.specs.Refusal.{is_missing, refusal_text}
 use Rattle.xxhsum_program.specs.declared.outcome.Reason.TheVariants as Why
 
--- the name leads to a file that was read to its end, and this is the hash of what its reads gave
+-- The name leads to a file that was read to its end, and the value is the digest of the bytes read, with the seed 0.
 abbrev pub IsValueOf : {S F : Type 0} → StoreRules S F → SourceRules F → S → Kind → List ℕ → ℕ → Type 0
 IsValueOf {S} {F} opening reading store kind name value =
     (file end : F) × (pieces : List (List ℕ)) × (read : Result ℕ DigestError) × (read ≡ Ok value)
     × opening.opens store name file × ReadsTo reading most_reads pieces file end read
     × (value ≡ value_of kind 0 (concat pieces))
 
--- the name leads to a file whose reading came to no end, for this reason
+-- The name leads to a file that was not read to its end, for this reason.
 abbrev pub FailsOn : {S F : Type 0} → StoreRules S F → SourceRules F → S → List ℕ → DigestError → Type 0
 FailsOn {S} {F} opening reading store name e =
     (file end : F) × (pieces : List (List ℕ)) × (read : Result ℕ DigestError) × (read ≡ Err e)
     × opening.opens store name file × ReadsTo reading most_reads pieces file end read
 
--- the name has no value, for this reason
+-- The name has no value, for this reason.
 abbrev pub HasNoValue : {S F : Type 0} → StoreRules S F → SourceRules F → S → List ℕ → Reason → Type 0
 HasNoValue opening reading store name (Why.Unopened refusal) = opening.refuses store name refusal
 HasNoValue opening reading store name Why.ReadFailed = FailsOn opening reading store name ReadFailed
 HasNoValue opening reading store name Why.TooLong = FailsOn opening reading store name TooLong
 
--- the outcome of a name: it is reported as a directory exactly if the store says that it is one
+-- The name has this outcome. It is `IsDirectory` if and only if the name is a directory in the store.
 abbrev pub Comes : {S F : Type 0} → StoreRules S F → SourceRules F → S → Kind → List ℕ → Outcome → Type 0
 Comes opening reading store kind name (Digested value) =
     opening.holds_directory store name false × IsValueOf opening reading store kind name value
@@ -38,30 +38,30 @@ Comes opening reading store kind name IsDirectory =
 Comes opening reading store kind name (Unread reason) =
     opening.holds_directory store name false × HasNoValue opening reading store name reason
 
--- the reason by what ended the reading: no write does
+-- The reason for a digest's error. A write error does not occur.
 abbrev pub reason_of : DigestError → Reason
 reason_of ReadFailed = Why.ReadFailed
 reason_of WriteFailed = Why.ReadFailed
 reason_of TooLong = Why.TooLong
 
--- a reason in words
+-- A reason as text.
 abbrev pub reason_text : Reason → List ℕ
 reason_text (Why.Unopened refusal) = refusal_text refusal
 reason_text Why.ReadFailed = codes "a failure occurred reading the input file"
 reason_text Why.TooLong = codes "the input file is too long"
 
--- whether the reason is that there is no file of the name
+-- True if the reason is that there is no file of the name.
 abbrev pub has_no_file : Reason → Bool
 has_no_file (Why.Unopened refusal) = is_missing refusal
 has_no_file Why.ReadFailed = false
 has_no_file Why.TooLong = false
 
--- whether a name has a value
+-- True if the name has a value.
 abbrev pub is_digested : Outcome → Bool
 is_digested (Digested value) = true
 is_digested IsDirectory = false
 is_digested (Unread reason) = false
 
--- whether each of them has
+-- True if each name has a value.
 abbrev pub are_digested : List Outcome → Bool
 are_digested outcomes = list_all is_digested outcomes

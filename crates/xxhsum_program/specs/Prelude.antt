@@ -1,4 +1,4 @@
--- The types and words that most words and lemmas of the crate cite, passed on from one place. Declares nothing.
+-- The types and definitions that most of the crate uses, re-exported by one module. Declares nothing.
 pub use Rattle.std.specs.List.{AllByRecursion, concat}
 pub use Rattle.xxh_io.specs.Digest.{Refused, Took}
 pub use Rattle.xxh_io.specs.Pieces.{NoneEmpty, Pieces}

@@ -1,4 +1,4 @@
--- What a hashing run prints, and the check of it over the same files.
+-- The output of a hashing run, and its check with the same files.
 use Rattle.std.specs.Prelude.{◌≡◌, ℕ, ◌-◌, ◌<◌, ◌≤◌, ◌^◌, true, List, Some, [], ◌∷◌, length}
 use Rattle.xxhsum_program.specs.Prelude.{AllByRecursion, Digested, EachHas, IsDirectory, Kind, Lacks, Options, Outcome, Reason, Shape, SourceRules, StoreRules, Unread}
 use Rattle.xxhsum_program.specs.CheckList.{FindsLines, is_good_list}
@@ -8,7 +8,7 @@ use Rattle.xxhsum_program.specs.ListEnd.{ListEnd}
 use Rattle.xxhsum_program.specs.Outcomes.{Comes, HasNoValue, IsValueOf}
 use Rattle.xxhsum_program.specs.PrintedList.{Holds, Listed}
 
--- the entries of the lines that are printed: those of the names with a value
+-- The entries of the printed lines: the names with a value.
 abbrev pub entries_of : Kind → Shape → List (List ℕ) → List Outcome → List Listed
 entries_of kind shape [] outcomes = []
 entries_of kind shape (name ∷ names) [] = []
@@ -17,19 +17,19 @@ entries_of kind shape (name ∷ names) (Digested value ∷ outcomes) =
 entries_of kind shape (name ∷ names) (IsDirectory ∷ outcomes) = entries_of kind shape names outcomes
 entries_of kind shape (name ∷ names) (Unread reason ∷ outcomes) = entries_of kind shape names outcomes
 
--- the files stay as they are: where a name has a value, it has no other, and there is no reason for none
+-- The files don't change: a name with a value has no other value, and no reason to have none.
 abbrev pub FilesStay : {S F : Type 0} → StoreRules S F → SourceRules F → S → Kind → Type 0
 FilesStay opening reading store kind =
     (name : List ℕ) (value : ℕ) → IsValueOf opening reading store kind name value
     → ((other : ℕ) → IsValueOf opening reading store kind name other → other ≡ value)
     × ((reason : Reason) → ¬ HasNoValue opening reading store name reason)
 
--- a name of no more bytes than any of the system's, and with no NUL, as those are
+-- The name has no NUL and at most 16,359 bytes. Each name of the system is like that.
 abbrev pub IsName : List ℕ → Type 0
 IsName name = Lacks 0 name × (length name ≤ 16359)
 
--- The names have their outcomes, of which one is a value; and the files stay as they are. Then a list that holds the lines
--- which are printed is good where its check comes to an end, by all options.
+-- A list of the printed lines is good if its check ends, with any options. The names are as above and have these
+-- outcomes, at least one of them a value, and the files don't change.
 abbrev pub PrintedIsGood : {S F R : Type 0} → StoreRules S F → SourceRules F → SourceRules R → Type 0
 PrintedIsGood {S} {F} {R} opening reading list_reading =
     (store : S) (kind : Kind) (shape : Shape) (names : List (List ℕ)) (outcomes : List Outcome) (source : R)

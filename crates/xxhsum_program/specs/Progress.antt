@@ -1,55 +1,55 @@
--- What is shown of the reading of a long file.
+-- The progress display of a long file.
 use Rattle.std.specs.Prelude.{◌≡◌, ℕ, ◌+◌, ◌-◌, ◌*◌, ◌^◌, ◌/◌, Bool, true, false, List, [], ◌∷◌, ◌++◌, Option, Some, None, codes, decimal, if◌then◌else◌, max, min, nat_eq, nat_lt}
 use Rattle.xxhsum_program.specs.Prelude.{SinkRules, TellsOn, concat}
 use Rattle.xxhsum_program.specs.declared.progress.Meter.{Meter}
 
--- where a meter shows what it counts
+-- The sink that the meter writes to.
 abbrev pub end_of : {E : Type 0} → Meter E → E
 end_of meter = meter.end
 
--- whether it shows anything
+-- True if the meter shows anything.
 abbrev pub is_shown : {E : Type 0} → Meter E → Bool
 is_shown meter = meter.is_on
 
--- how many bytes it counted
+-- The number of bytes that the meter has counted.
 abbrev pub bytes_read : {E : Type 0} → Meter E → ℕ
 bytes_read meter = meter.count
 
--- how many bytes it expects, where that is known
+-- The number of bytes that the meter expects, if known.
 abbrev pub bytes_expected : {E : Type 0} → Meter E → Option ℕ
 bytes_expected meter = meter.size
 
--- when the reading began, in milliseconds
+-- The start time of the reading, in milliseconds.
 abbrev pub begun : {E : Type 0} → Meter E → ℕ
 begun meter = meter.started
 
--- the count after a read, which stays at the largest number of 64 bits
+-- The count after a read, saturating at 2^64 - 1.
 abbrev pub count_after : ℕ → ℕ → ℕ
 count_after before count = min (before + count) (2 ^ 64 - 1)
 
--- how many KiB a second were read, of so many bytes in so many milliseconds
+-- The rate in KiB per second of this many bytes in this many milliseconds.
 abbrev pub rate_of : ℕ → ℕ → ℕ
 rate_of count millis = count / 1024 * 1000 / max millis 1
 
--- an empty line: a carriage return, and ESC [ K
+-- An empty line: a carriage return, and ESC [ K.
 abbrev pub empty_line : List ℕ
 empty_line = 13 ∷ 27 ∷ 91 ∷ 75 ∷ []
 
--- ESC [ ? 7 l, behind which no character comes into the terminal's next row
+-- ESC [ ? 7 l, after which no character wraps to the terminal's next row.
 abbrev pub one_row : List ℕ
 one_row = 27 ∷ 91 ∷ 63 ∷ 55 ∷ 108 ∷ []
 
--- ESC [ ? 7 h, behind which one may, and a carriage return
+-- ESC [ ? 7 h, after which characters wrap again, and a carriage return.
 abbrev pub row_end : List ℕ
 row_end = 27 ∷ 91 ∷ 63 ∷ 55 ∷ 104 ∷ 13 ∷ []
 
--- a count in MiB and a rate in MiB a second, on an empty line of one row
+-- A count in MiB and a rate in MiB per second, on an empty line of one row.
 abbrev pub rate_text : ℕ → ℕ → List ℕ
 rate_text count rate =
     concat (empty_line ∷ one_row ∷ decimal (count / 1048576) ∷ codes " MiB, " ∷ decimal (rate / 1024)
     ∷ codes " MiB/s" ∷ [])
 
--- how many seconds the rest lasts at this rate, where the size is known
+-- The remaining seconds at this rate. Empty if the size is unknown or the rate is 0.
 abbrev pub left_text : Option ℕ → ℕ → ℕ → List ℕ
 left_text None count rate = []
 left_text (Some size) count rate =
@@ -58,22 +58,22 @@ left_text (Some size) count rate =
 abbrev pub line_text : Option ℕ → ℕ → ℕ → List ℕ
 line_text size count rate = (rate_text count rate ++ left_text size count rate) ++ row_end
 
--- the line of a count where a multiple of 64 MiB comes behind the count before
+-- The line of a count, if it has reached a multiple of 64 MiB since the count before. Otherwise empty.
 abbrev pub progress_line : Option ℕ → ℕ → ℕ → ℕ → List ℕ
 progress_line size millis before count =
     if nat_lt (before / 67108864) (count / 67108864) then line_text size count (rate_of count millis) else []
 
--- what takes the line away, where this count had one
+-- The bytes that clear the line. Empty if this count had no line.
 abbrev pub cleared : ℕ → List ℕ
 cleared count = if nat_lt count 67108864 then [] else empty_line
 
--- what is shown of a read of so many bytes: its line, or, at the end, what takes the last line away
+-- The output for a read of `count` bytes: its line, or, at the end, the bytes that clear the last line.
 abbrev pub shown_text : Bool → Option ℕ → ℕ → ℕ → ℕ → List ℕ
 shown_text false size millis before count = []
 shown_text true size millis before count =
     if nat_eq count 0 then cleared before else progress_line size millis before (count_after before count)
 
--- a read of so many bytes was counted, and shown by this time; without a place to show it nothing was written
+-- A read of `count` bytes was counted, and shown at the time `now`. If the meter is off, nothing was written.
 abbrev pub Shows : {E : Type 0} → SinkRules E → ℕ → ℕ → Meter E → Meter E → Type 0
 Shows telling count now old new =
     (is_shown new ≡ is_shown old) × (bytes_expected new ≡ bytes_expected old) × (begun new ≡ begun old)
@@ -82,6 +82,6 @@ Shows telling count now old new =
     × TellsOn telling (shown_text (is_shown old) (bytes_expected old) (now - begun old) (bytes_read old) count)
     (end_of old) (end_of new)
 
--- a read is shown by some time that the clock gave
+-- A read was shown, at some time.
 abbrev pub ShowsSometime : {E : Type 0} → SinkRules E → ℕ → Meter E → Meter E → Type 0
 ShowsSometime telling count old new = (now : ℕ) × Shows telling count now old new

@@ -1,4 +1,4 @@
--- What the arguments ask the program to do.
+-- The task of the arguments.
 use Rattle.std.specs.Prelude.{◌≡◌, ℕ, Bool, true, false, ◌&&◌, ◌||◌, not, List, [], ◌∷◌, ◌++◌, Option, Some, None, codes, drop, get_or, length, nat_eq, if◌then◌else◌}
 use Rattle.xxhsum_program.specs.Prelude.{Options, concat, one_line}
 use Rattle.xxhsum_program.specs.declared.process.Terminals.{Terminals}
@@ -11,44 +11,44 @@ use Rattle.xxhsum_words.specs.declared.table.TheConstants.{ROWS}
 use Rattle.xxhsum_words.specs.declared.options.Asked.{Asked}
 use Rattle.xxhsum_words.specs.declared.options.Asked.TheVariants.{Run, Benchmark, Version, Help, WrongOption, NulsInList, WalkBesideLists, WalkOfNothing, InputBesideNames, NumberTooLarge}
 
--- a text is reported, with this result; or files are read, by the options and the arguments after them
+-- A text that is reported, with the program's result, or the options and the arguments of a run that reads files.
 pub data Task : Type 0 where
   Tells : List ℕ → Bool → Task
   Reads : Options → List (List ℕ) → Task
 
--- the name by which the program was called
+-- The name of the program: the last part of its path, or `xxhsum` if there is no path.
 abbrev pub IsProgram : List (List ℕ) → List ℕ → Type 0
 IsProgram [] program = program ≡ codes "xxhsum"
 IsProgram (path ∷ words) program = IsLastPart path program
 
--- how the program is used
+-- The help.
 abbrev pub usage_text : List ℕ → List ℕ
 usage_text program =
     one_line (concat (program ∷ TITLE.now ∷ [])) ++ ABOUT.now
     ++ one_line (concat (codes "Usage: " ∷ program ∷ codes " [OPTION].. [FILE].." ∷ []))
     ++ BEFORE.now ++ rows_text ROWS ++ BEHIND.now
 
--- how the program is used, behind a line that says what is wrong with the words
+-- An error line, an empty line, and the help.
 abbrev pub wrong_text : List ℕ → List ℕ → List ℕ
 wrong_text line program = one_line line ++ codes "\n" ++ usage_text program
 
--- progress is shown where standard error is a terminal, and there with neither `-q` nor `--status`
+-- True if progress is shown: standard error is a terminal, and neither `-q` nor `--status` was given.
 abbrev pub shows_progress : Terminals → Options → Bool
 shows_progress terminals options = terminals.errors && not options.is_quiet && not options.is_status_only
 
 abbrev pub has_none : List (List ℕ) → Bool
 has_none names = nat_eq (length names) 0
 
--- a tree is requested: an audit, the files below folders, or names from lists of names
+-- True for an audit, a walk of directories, or names from lists of names.
 abbrev pub is_tree : Options → Bool
 is_tree options = options.audits || options.walks || are_listed options.names_from
 
--- with no name the input is read, which is no terminal unless that, or a tree, is asked for
+-- True if there is no name and the input is a terminal, unless `-`, an audit, a walk or lists of names are requested.
 abbrev pub waits_for_terminal : Terminals → Options → List (List ℕ) → Bool
 waits_for_terminal terminals options names =
     has_none names && not (is_tree options) && not options.takes_terminal && terminals.input
 
--- what is reported if no run is requested, and whether that is a success
+-- The text that is reported if no run is requested. `is_well` is true if that is a success.
 abbrev pub answer_text : List ℕ → List (List ℕ) → Asked → List ℕ
 answer_text program words Version = one_line (concat (program ∷ TITLE.now ∷ []))
 answer_text program words Help = usage_text program
@@ -77,7 +77,7 @@ is_well InputBesideNames = false
 is_well (Run options place) = false
 is_well NumberTooLarge = false
 
--- the options of a run that is asked for, and which of the words its names begin at
+-- The options of a requested run, and the index of the argument that its names begin at.
 abbrev pub run_asked : Asked → Option (Options × ℕ)
 run_asked (Run options place) = Some (options, place)
 run_asked Version = None
@@ -90,7 +90,7 @@ run_asked WalkOfNothing = None
 run_asked InputBesideNames = None
 run_asked NumberTooLarge = None
 
--- the task of a run with these options and names
+-- The task of a run with these options and names.
 abbrev pub task_of_run : Terminals → List ℕ → Options → List (List ℕ) → Task
 task_of_run terminals program options names =
     if waits_for_terminal terminals options names then Tells (wrong_text (codes "Wrong parameters") program) false
@@ -100,7 +100,7 @@ abbrev pub task_from : Terminals → List ℕ → List (List ℕ) → Asked → 
 task_from terminals program words asked None = Tells (answer_text program words asked) (is_well asked)
 task_from terminals program words asked (Some run) = task_of_run terminals program run.0 (drop run.1 words)
 
--- the task of the words behind the program's name
+-- The task of the arguments after the program's name.
 abbrev pub task_of : Terminals → List ℕ → List (List ℕ) → Task
 task_of terminals program words =
     let asked = asked_of (kind_of_program program) words in

@@ -1,4 +1,4 @@
--- An audit that is good.
+-- Proves that if an audit is good, the lines and the files match each other.
 use Rattle.std.proofs.Common.{◌≡◌, ℕ, true, List, [], ◌∷◌, Option, Some, None, refl, sym, ap, subst, ◌∙◌, inl, inr, Ok}
 use Rattle.std.proofs.lemmas.List.Sorted.{IsPermutation-sym}
 use Rattle.xxhsum_tree.specs.Prelude.{Digested, IsDirectory, Kind, Options, Outcome, SinkRules, SourceRules, StoreRules, Streams, Unread}
@@ -28,11 +28,11 @@ all-same (New n ∷ f) e one h = let no : ⊥ = cc in absurd no
 all-same (Missing l ∷ f) e one h = let no : ⊥ = cc in absurd no
 
 module _ {S F : Type 0} (opening : StoreRules S F) (reading : SourceRules F) (store : S) (kind : Kind) where
-  -- what a value is of
+  -- An item with the correct value of its file.
   abbrev IsTrue : Item → Type 0
   IsTrue item = IsValueOf opening reading store (kind_of item) (name_of item) (value_of item)
 
-  -- all lines and names are there, and no other, each name with its value
+  -- Rows with all lines and names and no others, each name with its value.
   abbrev AllThere : List Item → List (List ℕ) → List Row → Type 0
   AllThere ls ns rows =
       ((l : Item) → IsAmong ls l → IsAmong (kept_in rows) l) × ((l : Item) → IsAmong (kept_in rows) l → IsAmong ls l)
@@ -107,7 +107,7 @@ module _ {S F : Type 0} (opening : StoreRules S F) (reading : SourceRules F) (st
       (λ l n ls ns s e ih. read-both l n ls ns s ih)
       (λ l n ls ns s e ih. read-name n (l ∷ ls) ns s ih)
 
--- ---- what a good audit comes to
+-- ---- the meaning of a good audit
 
 module _ {S F W E : Type 0} (opening : StoreRules S F) (reading : SourceRules F) (writing : SinkRules W) (telling : SinkRules E)
     (store : S) (options : Options) (list : List ℕ) (old new : Streams W E) where

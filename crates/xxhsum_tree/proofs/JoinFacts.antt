@@ -1,4 +1,4 @@
--- Rows of lines and names that rise come to what the lines and the digests come to side by side.
+-- Proves that rows of rising lines and names have the results of merging the lines and the digests.
 use Rattle.std.proofs.Common.{◌≡◌, ℕ, List, [], ◌∷◌, map, refl, sym, ap, subst, ◌∙◌, inl, inr, Less, Equal, Greater}
 use Rattle.std.proofs.lemmas.List.Sorted.{IsPermutation-refl}
 use Rattle.xxhsum_tree.specs.Prelude.{Digested, IsDirectory, Kind, Outcome, SourceRules, StoreRules, Unread}
@@ -13,7 +13,7 @@ use Rattle.xxhsum_audit.specs.Order.{Rises, compare_lines, compare_paths}
 use Rattle.xxhsum_audit.specs.Side.{against, beside, by_path, compare_to_name, in_turn}
 use Rattle.xxhsum_tree.specs.Rows.{AreRows, Come, Gone, Met, Row, first_in, kept_in, seen_in}
 
--- ---- what is first
+-- ---- the first element of a merge
 
 line-first : (l : Item) (ks ss : List Item) → ((s : Item) → IsAmong ss s → compare_lines l s ≡ Less)
     → compared (l ∷ ks) ss ≡ Missing l ∷ compared ks ss
@@ -34,7 +34,7 @@ unfolding beside
 both-first k s ks ss equal =
     ap (λ o. map (as_found met) (in_turn o k s (beside compare_lines ks (s ∷ ss)) (beside compare_lines ks ss) (against compare_lines k (beside compare_lines ks) ss))) equal
 
--- ---- one row more
+-- ---- one more row
 
 record Joined (kind : Kind) (ls : List Item) (ns : List (List ℕ)) (rows : List Row) : Type 0 where
   pub kept : (k : Item) → IsAmong (kept_in rows) k → IsAmong ls k
@@ -47,7 +47,7 @@ joined-none : (kind : Kind) → Joined kind [] [] []
 unfolding beside
 joined-none kind = record { kept = λ k h. h; seen = λ s h. absurd h; kept_rise = tt; seen_rise = tt; is = refl }
 
--- a line that is less than all names
+-- Lemma: a line that is less than all names adds a `Gone` row.
 joined-gone : (kind : Kind) (l : Item) (ls : List Item) (ns : List (List ℕ)) (rows : List Row) → Rises compare_lines (l ∷ ls)
     → ((n : List ℕ) → IsAmong ns n → compare_to_name l n ≡ Less) → Joined kind ls ns rows → Joined kind (l ∷ ls) ns (Gone l ∷ rows)
 joined-gone kind l ls ns rows up less ih = record {
@@ -58,7 +58,7 @@ joined-gone kind l ls ns rows up less ih = record {
   is = line-first l (kept_in rows) (seen_in kind rows) (λ s h. less (name_of s) (ih.seen s h)) ∙ ap (λ f. Missing l ∷ f) ih.is;
 }
 
--- fewer lines, or names, than there are
+-- Lemma: rows of some of the lines and names satisfy `Joined` for all of them.
 wider : (kind : Kind) (ls ls' : List Item) (ns ns' : List (List ℕ)) (rows : List Row) → ((k : Item) → IsAmong ls k → IsAmong ls' k)
     → ((n : List ℕ) → IsAmong ns n → IsAmong ns' n) → Joined kind ls ns rows → Joined kind ls' ns' rows
 wider kind ls ls' ns ns' rows lines names ih = record {
@@ -69,7 +69,7 @@ wider kind ls ls' ns ns' rows lines names ih = record {
   is = ih.is;
 }
 
--- a name that is less than all lines
+-- Lemma: a name that is less than all lines adds a `Come` row.
 joined-come : (kind : Kind) (n : List ℕ) (ls : List Item) (ns : List (List ℕ)) (rows : List Row) (outcome : Outcome)
     → Rises compare_paths (n ∷ ns) → ((k : Item) → IsAmong ls k → compare_to_name k n ≡ Greater) → Joined kind ls ns rows
     → Joined kind ls (n ∷ ns) (Come n outcome ∷ rows)
@@ -89,7 +89,7 @@ joined-come kind n ls ns rows (Unread reason) up greater ih =
     let wide = wider kind ls ls ns (n ∷ ns) rows (λ k h. h) (λ m h. inr h) ih in
     record { kept = wide.kept; seen = wide.seen; kept_rise = wide.kept_rise; seen_rise = wide.seen_rise; is = wide.is }
 
--- a line and its name
+-- Lemma: a line and its name add a `Met` row.
 joined-met : (kind : Kind) (l : Item) (n : List ℕ) (ls : List Item) (ns : List (List ℕ)) (rows : List Row) (outcome : Outcome)
     → Rises compare_lines (l ∷ ls) → Rises compare_paths (n ∷ ns) → compare_to_name l n ≡ Equal → Joined kind ls ns rows
     → Joined kind (l ∷ ls) (n ∷ ns) (Met l n outcome ∷ rows)

@@ -1,4 +1,4 @@
--- Lemma: a path occurs once in a walk.
+-- Proves that a path occurs only once in a walk.
 use Rattle.std.proofs.Common.{◌≡◌, ◌≢◌, ◌⊎◌, ℕ, ◌<◌, ◌-◌, ◌&&◌, true, false, List, [], ◌∷◌, ◌++◌, append-nil, append_assoc, codes, drop, length, map, nat_eq, refl, sym, ap, subst, inl, inr, arith, ◌∙◌, IsPermutation}
 use Rattle.std.proofs.lemmas.Bool.{cond-false}
 use Rattle.std.proofs.lemmas.Bool.Decides.{nat_tests}
@@ -14,7 +14,7 @@ use Rattle.xxhsum_tree.proofs.VisitFacts.{from-places, leads-here}
 use Rattle.xxhsum_tree.specs.Walk.{Closed, IsSeen, Leaf, Lost, Opened, Passed, Place, Seen, Tree, Visits, below, below_of, file_of, files_in, given, with_slash}
 use Rattle.xxhsum_tree.specs.WalkLaws.{FindsOnce, HoldsNames, IsOnce}
 
--- ---- a name with no slash behind a folder
+-- ---- a name without a slash after a folder
 
 last-of : (x : ℕ) (xs : List ℕ) → (init : List ℕ) × (c : ℕ) × (x ∷ xs ≡ init ++ c ∷ [])
 last-of x [] = ([], x, refl)
@@ -38,7 +38,7 @@ slash-behind folder (x ∷ xs) some lacks =
     subst (λ l. ends_with nat_eq l (codes "/") ≡ false) whole (no-slash-last (folder ++ last.0) last.1 other) in
     cond-false (ends_with nat_eq (folder ++ x ∷ xs) (codes "/")) (folder ++ x ∷ xs) ((folder ++ x ∷ xs) ++ 47 ∷ []) test
 
--- ---- what lies under a name
+-- ---- paths at or below a name
 
 abbrev Under : List ℕ → List ℕ → Type 0
 Under base path = (path ≡ base) ⊎ ((rest : List ℕ) × (path ≡ with_slash base ++ rest))
@@ -57,7 +57,7 @@ under-named folder name path some lacks (inr (rest, e)) = (
       ∙ append_assoc folder name (47 ∷ rest),
 )
 
--- what lies under a name in a folder lies under the folder
+-- Lemma: a path at or below a name in a folder is below the folder.
 under-folder : (base name path : List ℕ) → 0 < length name → Lacks 47 name → Under (with_slash base ++ name) path → Under base path
 under-folder base name path some lacks h =
     let there = under-named (with_slash base) name path some lacks h in
@@ -75,7 +75,7 @@ one-name a b s t (inr (rest, e)) (inl e') lacks lacks' same =
 one-name a b s t (inr (rest, e)) (inr (rest', e')) lacks lacks' same =
     (first_same 47 a rest b rest' (ap (λ l. a ++ l) (sym e) ∙ same ∙ ap (λ l. b ++ l) e') lacks lacks').0
 
--- ---- places that have nothing in common
+-- ---- places without a common path
 
 abbrev Apart : List Place → Type 0
 Apart [] = Unit {0}
@@ -93,7 +93,7 @@ apart-both (p ∷ ps) qs up up' cross = (
   apart-both ps qs up.1 up' (λ x q h k path under under'. cross x q (inr h) k path under under'),
 )
 
--- one of a list is put first
+-- Lemma: a permutation moves an element of a list to its front.
 to-front : (xs : List (List ℕ)) (x : List ℕ) → IsAmong xs x → (rest : List (List ℕ)) × IsPermutation xs (x ∷ rest)
 to-front [] x h = absurd h
 to-front (y ∷ xs) x (inl e) = (xs, subst (λ z. IsPermutation (y ∷ xs) (z ∷ xs)) e (IsPermutation-refl (y ∷ xs)))
@@ -162,7 +162,7 @@ module _ (tree : Tree) (holds : HoldsNames tree) where
       apart-both (below_of seen) places (below-apart place seen sees) up.1
       (λ p q h k path under under'. up.0 q k path (below-under place seen sees p h path under) under')
 
-  -- a file lies under one of the places
+  -- Lemma: each file of a walk is at or below one of its places.
   lies-under : (trace : List Seen) (places left : List Place) (file : List ℕ) → Visits tree places trace left
       → IsAmong (files_in trace) file → (place : Place) × IsAmong places place × Under place.0 file
   lies-under [] places left file visits h = absurd h

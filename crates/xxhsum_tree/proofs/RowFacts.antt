@@ -1,4 +1,4 @@
--- Rows, where one more comes, and what they come to.
+-- Lemmas on rows and their results, after one more row.
 use Rattle.std.proofs.Common.{◌≡◌, ℕ, Bool, true, false, ◌&&◌, List, [], ◌∷◌, ◌++◌, append-nil, refl, sym, ap, subst, inl, ◌∙◌, Ok, Err, IsErr, MatchResult, Result, flat_map}
 use Rattle.std.specs.declared.alloc.AllocError.{AllocError}
 use Rattle.std.proofs.lemmas.List.{map-append}
@@ -33,11 +33,11 @@ rows-more opening reading store kind (s ∷ sides) rows side row are is = (
   rows-more opening reading store kind sides are.1 side row are.4 is,
 )
 
--- the result of one more comes after
+-- Lemma: one more element appends its result.
 pub flat-push : {X A : Type 0} (f : X → List A) (xs : List X) (x : X) → flat_map f (xs ++ x ∷ []) ≡ flat_map f xs ++ f x
 flat-push f xs x = flat_map-append f xs (x ∷ []) ∙ ap (λ more. flat_map f xs ++ more) (append-nil (f x))
 
--- the result of more rows comes after
+-- Lemma: one more row appends its results.
 pub first-push : {A : Type 0} (of : Found → List A) (kind : Kind) (rows : List Row) (row : Row) → flat_map of (first_in kind (rows ++ row ∷ [])) ≡ flat_map of (first_in kind rows) ++ flat_map of (first_of kind row)
 first-push of kind rows row =
     ap (flat_map of) (flat-push (first_of kind) rows row) ∙ flat_map-append of (first_in kind rows) (first_of kind row)
@@ -49,7 +49,7 @@ not-digested kind name (Digested value) is = let no : ⊥ = cc in absurd no
 not-digested kind name IsDirectory is = refl
 not-digested kind name (Unread reason) is = refl
 
--- only a line
+-- Lemma: a line without a name adds a missing line.
 pub grows-gone : (old new : Compared) (line : FileDigest) → new.gone.items ≡ old.gone.items ++ line ∷ [] → new.settled ≡ old.settled → new.come ≡ old.come → new.are_all ≡ old.are_all
     → Grows old new (Missing (item_of line) ∷ []) true
 grows-gone old new line more settled come all = (
@@ -59,7 +59,7 @@ grows-gone old new line more settled come all = (
   all ∙ sym (and-true old.are_all),
 )
 
--- only a name
+-- Lemma: a name without a line adds a new name.
 pub grows-come : (old new : Compared) (one : FileDigest) (item : Item) → item_of one ≡ item → new.come.items ≡ old.come.items ++ one ∷ [] → new.settled ≡ old.settled → new.gone ≡ old.gone → new.are_all ≡ old.are_all
     → Grows old new (New item ∷ []) true
 grows-come old new one item is more settled gone all = (
@@ -69,7 +69,7 @@ grows-come old new one item is more settled gone all = (
   all ∙ sym (and-true old.are_all),
 )
 
--- both
+-- Lemma: a line and its name add their verdict.
 pub grows-met : (old new : Compared) (verdict : Verdict) (line item : Item) → found_of verdict ≡ met line item → new.settled.items ≡ old.settled.items ++ verdict ∷ [] → new.gone ≡ old.gone → new.come ≡ old.come → new.are_all ≡ old.are_all
     → Grows old new (met line item ∷ []) true
 grows-met old new verdict line item is more gone come all = (
@@ -82,7 +82,7 @@ grows-met old new verdict line item is more gone come all = (
   all ∙ sym (and-true old.are_all),
 )
 
--- a name with no digest
+-- Lemma: a name without a digest adds no result, and its row is not read.
 pub grows-nothing : (old new : Compared) (found : List Found) (read : Bool) → found ≡ [] → read ≡ false → new.settled ≡ old.settled → new.gone ≡ old.gone → new.come ≡ old.come → new.are_all ≡ false → Grows old new found read
 grows-nothing old new found read none unread settled gone come all =
     subst (λ f. Grows old new f read) (sym none) (subst (λ r. Grows old new [] r) (sym unread) (
@@ -92,7 +92,7 @@ grows-nothing old new found read none unread settled gone come all =
       all ∙ and-false old.are_all,
     ))
 
--- ---- without memory
+-- ---- failed allocations
 
 pub fails-rows : {T : Type 0} (is : T → Type 0) (fails : Type 0) (result : Result T AllocError) → IsErr result → fails → MatchResult result is (λ _. fails)
 fails-rows is fails (Ok x) err fact = let no : ⊥ = cc in absurd no

@@ -1,4 +1,4 @@
--- What texts give and lines say, where one more comes.
+-- Lemmas on the items of texts and lines, after one more text or line.
 use Rattle.std.proofs.Common.{◌≤◌, ℕ, Bool, List, [], ◌∷◌, ◌++◌, append-nil, append_assoc, length, refl, sym, ap, ◌∙◌, subst, true}
 use Rattle.xxhsum_audit.specs.Item.{Item}
 use Rattle.xxhsum_audit.specs.List.{GiveAll, SayAll, SaysOne, TakesLine}

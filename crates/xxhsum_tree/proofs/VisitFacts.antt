@@ -1,4 +1,4 @@
--- Walks, where one more name is looked at; and which files they find.
+-- Lemmas on walks after one more name, and on the files that walks find.
 use Rattle.std.proofs.Common.{◌≡◌, ◌⊎◌, ℕ, ◌+◌, ◌<◌, Bool, true, false, List, [], ◌∷◌, ◌++◌, map, get_or, length, refl, sym, ap, subst, inl, inr, Ok, Err, arith, ◌∙◌, IsSorted, is_lt, nat_cmp, reverse, Result}
 use Rattle.std.proofs.lemmas.List.{get_or-map, length-map, reverse-append}
 use Rattle.std.proofs.lemmas.List.Sorted.{IsPermutation-sym, IsPermutation-trans}
@@ -13,11 +13,11 @@ use Rattle.xxhsum_tree.specs.declared.walk.Walked.{Walked}
 use Rattle.xxhsum_tree.specs.Walk.{Closed, HasKind, IsIn, IsSeen, Leaf, Lost, Opened, Passed, Place, Seen, SeesOne, Tree, Visits, are_open, below, below_of, file_of, files_in, given, is_open, with_slash}
 use Rattle.xxhsum_tree.specs.WalkLaws.{FindsEachFile, FindsNoOther, IsSteady, LeadsTo}
 
--- the last of a list is the first of its reverse
+-- Lemma: the last element of a list is the first of its reverse.
 pub reverse-push : {X : Type 0} (xs : List X) (x : X) → reverse (xs ++ x ∷ []) ≡ x ∷ reverse xs
 reverse-push xs x = reverse-append xs (x ∷ [])
 
--- the places of names
+-- Lemma: the place of a name in a list is among the places of all its names.
 among-places : (at : List ℕ → Place) (names : List (List ℕ)) (name : List ℕ) → IsAmong names name → IsAmong (map at names) (at name)
 among-places at [] name h = absurd h
 among-places at (n ∷ names) name (inl e) = inl (ap at e)
@@ -51,7 +51,7 @@ module _ (tree : Tree) where
   folder-seen place (Closed name why) kind is = (kind, is)
   folder-seen place (Lost name why) kind is = absurd is
 
-  -- ---- a place is of one kind
+  -- ---- one kind for each place
 
   kind-once : IsSteady tree → (name : List ℕ) (is_given : Bool) (a b : PathKind) → HasKind tree name is_given a → HasKind tree name is_given b → a ≡ b
   kind-once steady name false a b one other = steady.one_kind name a b one other
@@ -64,7 +64,7 @@ module _ (tree : Tree) where
   kind-once steady name true (Unknown why) b one other = absurd one
   kind-once steady name true a (Unknown why) one other = absurd other
 
-  -- ---- each file is found
+  -- ---- each file
 
   finds-file : IsSteady tree → (place : Place) (seen : Seen) (file : List ℕ) → IsSeen tree place seen → HasKind tree place.0 place.1 File → file ≡ place.0 → IsAmong (file_of seen) file
   finds-file steady place (Leaf name) file sees kind is = inl (sees.0 ∙ sym is)
@@ -104,9 +104,9 @@ module _ (tree : Tree) where
       (finds-each steady trace (below_of seen ++ places) next behind file visits.1 opens.1
       (among_left (below_of seen) places next (opens-folder steady place seen name leads.1.0 sees opens.0 leads.0 leads.1.1 leads.1.2)) leads.2)
 
-  -- ---- no other is
+  -- ---- no other file
 
-  -- what leads on from a place leads there from the folder that it lies in
+  -- Lemma: a file reached from a place in a folder is reached from the folder.
   leads-in : (place : Place) (seen : Seen) (next : Place) (behind : List (List ℕ)) (file : List ℕ) → IsSeen tree place seen → IsAmong (below_of seen) next → LeadsTo tree next behind file
       → (more : List (List ℕ)) × LeadsTo tree place more file
   leads-in place (Leaf name) next behind file sees h leads = absurd h
@@ -153,7 +153,7 @@ finds-no-other tree names trace left file visits h =
     let there = from-places given names found.0 found.2 in
     (there.0, found.1, there.1, subst (λ q. LeadsTo tree q found.1 file) (sym there.2) found.3)
 
--- ---- names in order
+-- ---- sorted names
 
 pub names-sorted : {X : Type 0} (key : X → List ℕ) (xs : List X) → IsSorted (λ a b. slice_cmp nat_cmp (key a) (key b)) xs → IsSorted (slice_cmp nat_cmp) (map key xs)
 names-sorted key [] up k d low high = absurd (omega arith)

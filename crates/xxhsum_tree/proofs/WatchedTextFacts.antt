@@ -1,4 +1,4 @@
--- What is said of the text of a watched source, said of the source.
+-- Proves that facts on the text of a watched source hold for the source that it watches.
 use Rattle.std.proofs.Common.{ℕ, List, [], ◌∷◌, ◌++◌}
 use Rattle.xxhsum_program.proofs.WatchedFacts.{inner-pieces}
 use Rattle.xxhsum_program.specs.Watched.{source_of, watched_reading}

@@ -1,4 +1,4 @@
--- How the digests of names are gathered, a side at a time. No public clause speaks of it.
+-- The digests of names, collected side by side. No public clause uses them.
 use Rattle.std.specs.Prelude.{◌≡◌, ℕ, Bool, false, ◌&&◌, List, [], ◌++◌, Option, Some, None, Result, Ok, Err}
 use Rattle.std.specs.declared.alloc.AllocError.{AllocError}
 use Rattle.xxhsum_tree.specs.Prelude.{Digested, Kind, Outcome, SinkRules, SourceRules, StoreRules, TellsOn}
@@ -12,7 +12,7 @@ use Rattle.xxhsum_program.specs.Lines.{told_line}
 use Rattle.xxhsum_program.specs.Outcomes.{Comes, is_digested}
 use Rattle.xxhsum_tree.specs.Rows.{AreRows, Row, TellsRows, are_read, first_in, first_of, is_read, told_in, told_of}
 
--- the name has this digest, and nothing is reported; or the reason why it has none is reported
+-- The name has this digest, and nothing is reported. Or it has none, and the reason is reported.
 abbrev pub DigestsName : {S F E : Type 0} → StoreRules S F → SourceRules F → SinkRules E → S → Kind → List ℕ → E → E
     → Option FileDigest → Type 0
 DigestsName opening reading telling store kind name e_old e_new (Some found) =
@@ -22,35 +22,35 @@ DigestsName opening reading telling store kind name e_old e_new None =
     (outcome : Outcome) × (is_digested outcome ≡ false) × Comes opening reading store kind name outcome
     × TellsOn telling (told_line name outcome) e_old e_new
 
--- the result of these comes after what is known
+-- The results were appended to the known ones.
 abbrev pub Grows : Compared → Compared → List Found → Bool → Type 0
 Grows old new found is_read =
     (founds_of new.settled.items ≡ founds_of old.settled.items ++ settled_in found)
     × (items_of new.gone.items ≡ items_of old.gone.items ++ missing_in found)
     × (items_of new.come.items ≡ items_of old.come.items ++ new_in found) × (new.are_all ≡ (old.are_all && is_read))
 
--- a row comes after the earlier ones; if there was no memory, its name had a digest, so that nothing was reported
+-- A row was appended. If out of memory, nothing was reported: the name of the row had a digest.
 abbrev pub AddsRow : {E : Type 0} → SinkRules E → (Row → Type 0) → Kind → Compared → Compared → E → E
     → Result (Unit {0}) AllocError → Type 0
 AddsRow telling is_row kind old new e_old e_new (Ok _) =
     (row : Row) × is_row row × Grows old new (first_of kind row) (is_read row) × TellsOn telling (told_of row) e_old e_new
 AddsRow telling is_row kind old new e_old e_new (Err e) = TellsOn telling [] e_old e_new
 
--- what rows come to
+-- `compared` holds the results of these rows.
 pub record HoldsRows (kind : Kind) (rows : List Row) (compared : Compared) : Type 0 where
   pub settled : founds_of compared.settled.items ≡ settled_in (first_in kind rows)
   pub gone : items_of compared.gone.items ≡ missing_in (first_in kind rows)
   pub come : items_of compared.come.items ≡ new_in (first_in kind rows)
   pub all : compared.are_all ≡ are_read rows
 
--- the rows of all sides, and what they come to
+-- Each side has a row. `compared` holds the results of the rows, and their messages were reported.
 abbrev pub DigestsRows : {S F E : Type 0} → StoreRules S F → SourceRules F → SinkRules E → S → Kind
     → List (Side Item (List ℕ)) → Compared → E → E → Type 0
 DigestsRows opening reading telling store kind sides compared e_old e_new =
     (rows : List Row) × AreRows opening reading store kind sides rows × HoldsRows kind rows compared
     × TellsOn telling (told_in rows) e_old e_new
 
--- the rows of the first of them
+-- The first sides have rows, and the messages of the rows were reported.
 abbrev pub FailsRows : {S F E : Type 0} → StoreRules S F → SourceRules F → SinkRules E → S → Kind
     → List (Side Item (List ℕ)) → E → E → Type 0
 FailsRows opening reading telling store kind sides e_old e_new =

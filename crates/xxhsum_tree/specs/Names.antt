@@ -8,28 +8,28 @@ use Rattle.xxhsum_tree.specs.Texts.{GiveTexts, LackText}
 use Rattle.xxhsum_words.specs.declared.options.NamesFrom.{NamesFrom}
 use Rattle.xxhsum_words.specs.declared.options.NamesFrom.TheVariants.{Words, Lines, Nuls}
 
--- the byte that ends each name of a list
+-- The byte that ends each name of a list.
 abbrev pub end_of : NamesFrom → ℕ
 end_of Words = 10
 end_of Lines = 10
 end_of Nuls = 0
 
--- the names of a text come after these
+-- The names of a text were appended to the others.
 abbrev pub AddsNames : ℕ → List ℕ → List (List ℕ) → List (List ℕ) → Type 0
 AddsNames end text old new = (more : List (List ℕ)) × (new ≡ old ++ more) × ArePartsOf end text more
 
--- the names of all texts, in order
+-- The names of all texts, in order, are these.
 abbrev pub AreNamesIn : ℕ → List (List ℕ) → List (List ℕ) → Type 0
 AreNamesIn end texts names = GiveAll (ArePartsOf end) texts names
 
--- the names in lists, or in the input if there is no list
+-- The names in the lists are these. If there is no list, the input has the names.
 abbrev pub ListNames : {S F R : Type 0} → StoreRules S F → SourceRules F → SourceRules R → S → R → ℕ → List (List ℕ)
     → List (List ℕ) → Type 0
 ListNames opening reading input_reading store input end lists names =
     (texts : List (List ℕ)) × GiveTexts opening reading input_reading store input lists texts (has_none lists)
     × AreNamesIn end texts names
 
--- one of the lists has no text: what is reported about it
+-- One of the lists has no text, and `told` is the message about it. If there is no list, the input has none.
 abbrev pub ListNone : {S F R : Type 0} → StoreRules S F → SourceRules F → SourceRules R → S → R → List (List ℕ) → List ℕ
     → Type 0
 ListNone opening reading input_reading store input lists told =

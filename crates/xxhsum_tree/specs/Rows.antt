@@ -1,4 +1,4 @@
--- Lines and names side by side, and what became of the names.
+-- Merged lines and names, with the outcomes of the names.
 use Rattle.std.specs.Prelude.{◌≡◌, ℕ, Bool, true, List, [], ◌∷◌, ◌++◌, map, flat_map}
 use Rattle.std.specs.List.{list_all}
 use Rattle.xxhsum_tree.specs.Prelude.{Digested, IsDirectory, Kind, Outcome, SinkRules, SourceRules, StoreRules, TellsOn, Unread}
@@ -9,18 +9,18 @@ use Rattle.xxhsum_audit.specs.Item.{Item, Says, kind_of}
 use Rattle.xxhsum_program.specs.Lines.{told_line}
 use Rattle.xxhsum_program.specs.Outcomes.{Comes, is_digested}
 
--- a line whose name was not given; a line and the name that it has, which was; a name that no line has
+-- A line whose name was not given, a line and its given name, or a name that no line has.
 pub data Row : Type 0 where
   Gone : Item → Row
   Met : Item → List ℕ → Outcome → Row
   Come : List ℕ → Outcome → Row
 
--- the algorithm of a name that no line has: that of the first line, and where there is none, this one
+-- The algorithm of a name that no line has: the algorithm of the first line, or `without` if there is no line.
 abbrev pub kind_of_new : Kind → List Item → Kind
 kind_of_new without [] = without
 kind_of_new without (line ∷ lines) = kind_of line
 
--- what became of a side: a name beside its line is digested by the line's algorithm, and another by this one
+-- The side has this row. A name with a line is digested by the line's algorithm, another name by `kind`.
 abbrev pub IsRow : {S F : Type 0} → StoreRules S F → SourceRules F → S → Kind → Side Item (List ℕ) → Row → Type 0
 IsRow opening reading store kind (Line line) row = row ≡ Gone line
 IsRow opening reading store kind (Name name) row =
@@ -28,22 +28,22 @@ IsRow opening reading store kind (Name name) row =
 IsRow opening reading store kind (Both line name) row =
     (outcome : Outcome) × (row ≡ Met line name outcome) × Comes opening reading store (kind_of line) name outcome
 
--- a row for each side, in order
+-- Each side has a row, in order.
 abbrev pub AreRows : {S F : Type 0} → StoreRules S F → SourceRules F → S → Kind → List (Side Item (List ℕ)) → List Row → Type 0
 AreRows opening reading store kind [] rows = rows ≡ []
 AreRows opening reading store kind (side ∷ sides) rows =
     (row : Row) × (rest : List Row) × (rows ≡ row ∷ rest) × IsRow opening reading store kind side row
     × AreRows opening reading store kind sides rest
 
--- ---- what is known by them
+-- ---- the results of rows
 
--- the name and its digest, where it has one
+-- The name with its digest, if it has one.
 abbrev pub digest_of : Kind → List ℕ → Outcome → List Item
 digest_of kind name (Digested value) = Says name kind value ∷ []
 digest_of kind name IsDirectory = []
 digest_of kind name (Unread reason) = []
 
--- the line is put beside the names: not where its name was given and has no digest
+-- The line of a row. None if its name was given and has no digest.
 abbrev pub kept_of : Row → List Item
 kept_of (Gone line) = line ∷ []
 kept_of (Met line name outcome) = map (λ item. line) (digest_of (kind_of line) name outcome)
@@ -54,19 +54,19 @@ seen_of kind (Gone line) = []
 seen_of kind (Met line name outcome) = digest_of (kind_of line) name outcome
 seen_of kind (Come name outcome) = digest_of kind name outcome
 
--- what became of it by its name
+-- The result of a row, by path.
 abbrev pub first_of : Kind → Row → List Found
 first_of kind (Gone line) = Missing line ∷ []
 first_of kind (Met line name outcome) = map (met line) (digest_of (kind_of line) name outcome)
 first_of kind (Come name outcome) = map New (digest_of kind name outcome)
 
--- why a name has no digest
+-- The message about the name of a row, if it has no digest.
 abbrev pub told_of : Row → List ℕ
 told_of (Gone line) = []
 told_of (Met line name outcome) = told_line name outcome
 told_of (Come name outcome) = told_line name outcome
 
--- a name that was given has a digest
+-- True if the name of a row has a digest, or was not given.
 abbrev pub is_read : Row → Bool
 is_read (Gone line) = true
 is_read (Met line name outcome) = is_digested outcome
@@ -87,7 +87,7 @@ told_in rows = flat_map told_of rows
 abbrev pub are_read : List Row → Bool
 are_read rows = list_all is_read rows
 
--- the first of the sides have their rows, and the reasons why names have no digest are reported
+-- The first sides have these rows, and the messages of the rows were reported.
 abbrev pub TellsRows : {S F E : Type 0} → StoreRules S F → SourceRules F → SinkRules E → S → Kind → List (Side Item (List ℕ)) → List Row
     → E → E → Type 0
 TellsRows opening reading telling store kind sides rows e_old e_new =

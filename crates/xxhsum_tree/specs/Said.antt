@@ -1,4 +1,4 @@
--- What the lines of a list say, which is audited.
+-- The meaning of the lines of an audited list.
 use Rattle.std.specs.Prelude.{◌≡◌, ◌⊎◌, ℕ, ◌+◌, ◌≤◌, Bool, List, [], ◌∷◌, ◌++◌, codes, length}
 use Rattle.xxhsum_tree.specs.Prelude.{AllByRecursion, Refusal, SourceRules, StoreRules}
 use Rattle.xxhsum_audit.specs.Item.{Item}
@@ -13,22 +13,22 @@ use Rattle.xxhsum_tree.specs.Texts.{unopened_text, unread_text}
 abbrev pub improper_text : List ℕ → ℕ → List ℕ
 improper_text list number = told_of_line list number (codes "Improperly formatted checksum line")
 
--- none of the lines is too long, and they say this
+-- None of the lines is too long, and their items are these.
 abbrev pub HaveSaid : Bool → List (List ℕ) → List Item → Type 0
 HaveSaid is_little lines items = AllByRecursion (λ line. length line ≤ 32767) lines × SayAll is_little lines items
 
--- the lines of the source say this
+-- The source was read to its end, and the items of its lines are these.
 abbrev pub SourceSays : {R : Type 0} → SourceRules R → Bool → R → List Item → Type 0
 SourceSays reading is_little source items =
     (lines : List (List ℕ)) × EndsWell reading source lines × HaveSaid is_little lines items
 
--- the line of this number is neither an entry nor a comment, or too long: what is reported about it
+-- The line of this number is too long, or neither an entry nor a comment. `told` is the message about it.
 abbrev pub IsFault : Bool → List ℕ → ℕ → List ℕ → List ℕ → Type 0
 IsFault is_little list number line told =
     (IsTooLong line × (told ≡ too_long_text list number))
     ⊎ ((length line ≤ 32767) × SaysNothing is_little line × (told ≡ improper_text list number))
 
--- behind lines that say something or are comments a read fails, or one has no end, or is the first with a fault
+-- After lines without a fault, a read fails, or a line has no end, or the next line has a fault. `told` is the message.
 abbrev pub SourceSaysNothing : {R : Type 0} → SourceRules R → Bool → List ℕ → R → List ℕ → Type 0
 SourceSaysNothing reading is_little list source told =
     (lines : List (List ℕ)) × (items : List Item) × HaveSaid is_little lines items
@@ -37,12 +37,12 @@ SourceSaysNothing reading is_little list source told =
     ⊎ ((line : List ℕ) × ReadsSome reading source (lines ++ line ∷ [])
     × IsFault is_little list (length lines + 1) line told)))
 
--- the list can be read, and its lines say this
+-- The list can be read to its end, and the items of its lines are these.
 abbrev pub ListSays : {S F : Type 0} → StoreRules S F → SourceRules F → S → Bool → List ℕ → List Item → Type 0
 ListSays {S} {F} opening reading store is_little list items =
     (file : F) × opening.opens store list file × SourceSays reading is_little file items
 
--- it can't be opened, or its lines have no entry: what is reported about it
+-- The list can't be opened, or a read of it fails, or a line has a fault. `told` is the message about it.
 abbrev pub ListSaysNothing : {S F : Type 0} → StoreRules S F → SourceRules F → S → Bool → List ℕ → List ℕ → Type 0
 ListSaysNothing {S} {F} opening reading store is_little list told =
     ((why : Refusal) × opening.refuses store list why × (told ≡ unopened_text list why))

@@ -1,4 +1,4 @@
--- Each message and each line of an audit and of lists is one line, whatever names it has.
+-- Each message about a list and each line of an audit is one line, whatever names it contains.
 use Rattle.std.specs.Prelude.{ℕ, List}
 use Rattle.xxhsum_audit.specs.Found.{Found}
 use Rattle.xxhsum_audit.specs.Text.{text_of}
@@ -8,16 +8,16 @@ use Rattle.xxhsum_tree.specs.Audits.{twice_text}
 use Rattle.xxhsum_tree.specs.Said.{improper_text}
 use Rattle.xxhsum_tree.specs.Texts.{unopened_text, unread_text}
 
--- what is reported about a list
+-- Each message about a list is one line.
 abbrev pub ListsAreToldInLines : Type 0
 ListsAreToldInLines =
     (list : List ℕ) (number : ℕ) (why : Refusal)
     → IsOneLine (unopened_text list why) × IsOneLine (unread_text list) × IsOneLine (improper_text list number)
 
--- what is reported about a name that occurs twice
+-- The message about a name that occurs twice is one line.
 abbrev pub TwiceIsToldInLines : Type 0
 TwiceIsToldInLines = (among name : List ℕ) → IsOneLine (twice_text among name)
 
--- what is printed of a line or a name
+-- The printed text of a result is one line.
 abbrev pub AuditsAreSaidInLines : Type 0
 AuditsAreSaidInLines = (found : Found) → IsOneLine (text_of found)

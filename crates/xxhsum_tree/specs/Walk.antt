@@ -1,4 +1,4 @@
--- The files below folders: names are looked at one after another, and those in a folder before those that wait.
+-- The files below directories. A walk visits the names in a directory before the names that are waiting.
 use Rattle.std.specs.Prelude.{◌≡◌, ℕ, Bool, true, false, ◌&&◌, List, [], ◌∷◌, ◌++◌, map, codes, nat_eq, reverse, if◌then◌else◌, IsPermutation, IsSorted, Result, Ok, Err}
 use Rattle.std.specs.Cmp.Lexicographic.{slice_cmp}
 use Rattle.std.specs.List.{ends_with, flat_map, list_all}
@@ -11,19 +11,19 @@ use Rattle.xxhsum_program.specs.declared.outcome.Reason.TheVariants.{Unopened}
 use Rattle.xxhsum_tree.specs.declared.walk.Waiting.{Waiting}
 use Rattle.xxhsum_tree.specs.declared.walk.Walked.{Walked}
 
--- a name, and whether it was given: a name in a folder wasn't
+-- A name, and true if it was given, false if it was found in a directory.
 abbrev pub Place : Type 0
 Place = List ℕ × Bool
 
 abbrev pub given : List ℕ → Place
 given name = (name, true)
 
--- a name in a folder, or one that was given, behind nothing
+-- The place of a name after a prefix: the directory that contains it, or nothing for a given name.
 abbrev pub below : List ℕ → Bool → List ℕ → Place
 below folder is_given name = (folder ++ name, is_given)
 
--- what is found at a name: a file; neither a file nor a folder; a folder with names in it, in order; one whose names
--- can't be read; or nothing, since the name can't be looked up
+-- The result of a visit: a file, something other than a file or directory, a directory with its sorted names, a
+-- directory that can't be read, or a name that can't be looked up.
 pub data Seen : Type 0 where
   Leaf : List ℕ → Seen
   Passed : List ℕ → Seen
@@ -31,15 +31,15 @@ pub data Seen : Type 0 where
   Closed : List ℕ → Refusal → Seen
   Lost : List ℕ → Refusal → Seen
 
--- what a walk learns of names: whether a given name is a folder's, the names in a folder, or why they can't be
--- read, and what a name in a folder leads to
+-- The facts that a walk needs: if a given name is a directory, the names in a directory or the reason why they can't be
+-- read, and the type of a name in a directory.
 pub record Tree : Type 1 where
   pub is_folder : List ℕ → Bool → Type 0
   pub holds : List ℕ → List (List ℕ) → Type 0
   pub closes : List ℕ → Refusal → Type 0
   pub leads : List ℕ → PathKind → Type 0
 
--- as a store says it
+-- The tree of a store.
 abbrev pub tree_of : {S F : Type 0} → StoreRules S F → FolderRules S → S → Tree
 tree_of opening folders store = record {
   is_folder = λ name answer. opening.holds_directory store name answer;
@@ -48,7 +48,7 @@ tree_of opening folders store = record {
   leads = λ name kind. folders.leads store name kind;
 }
 
--- what a name leads to: a link is followed where its name was given
+-- The name has this type. A link is followed if its name was given.
 abbrev pub HasKind : Tree → List ℕ → Bool → PathKind → Type 0
 HasKind tree name true File = tree.is_folder name false
 HasKind tree name true Folder = tree.is_folder name true
@@ -56,15 +56,15 @@ HasKind tree name true Other = ⊥
 HasKind tree name true (Unknown why) = ⊥
 HasKind tree name false kind = tree.leads name kind
 
--- the name of a folder with a slash behind it, unless it ends with one
+-- The name of a directory, with a slash appended unless it ends with one.
 abbrev pub with_slash : List ℕ → List ℕ
 with_slash name = if ends_with nat_eq name (codes "/") then name else name ++ 47 ∷ []
 
--- the same names, in the order of their bytes
+-- The second list has the names of the first one, sorted by their bytes.
 abbrev pub IsInOrder : List (List ℕ) → List (List ℕ) → Type 0
 IsInOrder names ordered = IsPermutation names ordered × IsSorted (slice_cmp nat_cmp) ordered
 
--- what is found in a folder
+-- Reading the directory has this result.
 abbrev pub IsIn : Tree → List ℕ → Seen → Type 0
 IsIn tree name (Opened folder ordered) =
     (folder ≡ name) × ((names : List (List ℕ)) × tree.holds (with_slash name) names × IsInOrder names ordered)
@@ -73,7 +73,7 @@ IsIn tree name (Leaf file) = ⊥
 IsIn tree name (Passed other) = ⊥
 IsIn tree name (Lost other why) = ⊥
 
--- what is found at a name
+-- Visiting the place has this result.
 abbrev pub IsSeen : Tree → Place → Seen → Type 0
 IsSeen tree place (Leaf name) = (name ≡ place.0) × HasKind tree place.0 place.1 File
 IsSeen tree place (Passed name) = (name ≡ place.0) × HasKind tree place.0 place.1 Other
@@ -81,7 +81,7 @@ IsSeen tree place (Opened name names) = HasKind tree place.0 place.1 Folder × I
 IsSeen tree place (Closed name why) = HasKind tree place.0 place.1 Folder × IsIn tree place.0 (Closed name why)
 IsSeen tree place (Lost name why) = (name ≡ place.0) × HasKind tree place.0 place.1 (Unknown why)
 
--- the names that are then looked at first
+-- The places that are visited next.
 abbrev pub below_of : Seen → List Place
 below_of (Leaf name) = []
 below_of (Passed name) = []
@@ -89,14 +89,14 @@ below_of (Opened name names) = map (below (with_slash name) false) names
 below_of (Closed name why) = []
 below_of (Lost name why) = []
 
--- The first of these places is looked at, then the next of those that wait, and so on: this is seen, and these wait still.
+-- Visits of the first waiting place, one after another, have the results `trace`. The places `left` are still waiting.
 abbrev pub Visits : Tree → List Place → List Seen → List Place → Type 0
 Visits tree places [] left = left ≡ places
 Visits tree [] (seen ∷ trace) left = ⊥
 Visits tree (place ∷ places) (seen ∷ trace) left =
     IsSeen tree place seen × Visits tree (below_of seen ++ places) trace left
 
--- ---- what comes of it
+-- ---- the results of a walk
 
 abbrev pub file_of : Seen → List (List ℕ)
 file_of (Leaf name) = name ∷ []
@@ -105,11 +105,11 @@ file_of (Opened name names) = []
 file_of (Closed name why) = []
 file_of (Lost name why) = []
 
--- the files, in order
+-- The files, in order.
 abbrev pub files_in : List Seen → List (List ℕ)
 files_in trace = flat_map file_of trace
 
--- what is reported of a folder whose names can't be read, or of a name that can't be looked up
+-- The message about a directory that can't be read, or about a name that can't be looked up.
 abbrev pub closed_text : List ℕ → Refusal → List ℕ
 closed_text name why = told_line name (Unread (Unopened why))
 
@@ -123,7 +123,7 @@ closed_of (Lost name why) = closed_text name why
 abbrev pub closed_in : List Seen → List ℕ
 closed_in trace = flat_map closed_of trace
 
--- the names in each folder were read, and looked up
+-- True unless a directory could not be read, or a name could not be looked up.
 abbrev pub is_open : Seen → Bool
 is_open (Leaf name) = true
 is_open (Passed name) = true
@@ -134,28 +134,29 @@ is_open (Lost name why) = false
 abbrev pub are_open : List Seen → Bool
 are_open trace = list_all is_open trace
 
--- all is seen from these names on: these are the files, and each folder that can't be read is reported
+-- The walk from these names ended with these files, and each directory or name that can't be read was reported. `all`
+-- is true if there was none.
 abbrev pub WalksAll : {E : Type 0} → Tree → SinkRules E → List (List ℕ) → List (List ℕ) → Bool → E → E → Type 0
 WalksAll tree telling names files all old new =
     (trace : List Seen) × Visits tree (map given names) trace [] × (files ≡ files_in trace)
     × (all ≡ are_open trace) × TellsOn telling (closed_in trace) old new
 
--- there was no memory for more
+-- The walk ran out of memory. The messages of its visits were reported.
 abbrev pub WalksSome : {E : Type 0} → Tree → SinkRules E → List (List ℕ) → E → E → Stop → Type 0
 WalksSome tree telling names old new stop =
     (trace : List Seen) × (left : List Place) × (stop ≡ OutOfMemory)
     × Visits tree (map given names) trace left × TellsOn telling (closed_in trace) old new
 
--- ---- one step. No public clause speaks of it.
+-- ---- one step (used by no public clause)
 
 abbrev pub place_of : Waiting → Place
 place_of one = (one.name.items, one.is_given)
 
--- the last of them is looked at first
+-- The waiting places. The last element of the list is visited first.
 abbrev pub waiting_in : List Waiting → List Place
 waiting_in waiting = reverse (map place_of waiting)
 
--- what is seen counts, and what is below it waits; or there was no memory, and nothing is reported
+-- The result of a visit was added, and the names below it are waiting. If out of memory, nothing was reported.
 abbrev pub SeesOne : {E : Type 0} → (Seen → Type 0) → SinkRules E → List Place → List Place → Walked → Walked → E → E
     → Result (Unit {0}) Stop → Type 0
 SeesOne is_seen telling p_old p_new old new e_old e_new (Ok _) =

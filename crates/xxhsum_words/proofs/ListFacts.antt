@@ -1,4 +1,4 @@
--- The end of a list, as `&xs[i..]` takes it, or as what is left of it.
+-- Lemmas on suffixes of a list, such as `&xs[i..]`.
 use Rattle.std.proofs.Common.{◌≡◌, ℕ, ◌+◌, ◌-◌, ◌<◌, ◌≤◌, List, ◌∷◌, length, map, take, drop, get_or, sym, ap, ◌∙◌, arith, length-drop}
 use Rattle.std.proofs.lemmas.List.{drop_more, take_all}
 

@@ -1,4 +1,4 @@
--- A text that is not at the front of a name is in it if and only if it is in the rest.
+-- Proves that a text that is not a prefix of a name is in the name if and only if it is after the first byte.
 use Rattle.std.proofs.Common.{◌≡◌, ℕ, ◌+◌, ◌<◌, List, ◌∷◌, length, drop, false, nat_eq, refl, ap, sym, ◌∙◌, add-one}
 use Rattle.std.proofs.Math.Seq.{drop-cons}
 use Rattle.std.specs.List.{starts_with}

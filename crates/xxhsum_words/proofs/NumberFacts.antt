@@ -1,4 +1,4 @@
--- The digits at the front of letters, and how a number grows with its digits.
+-- Lemmas on the digits at the beginning of letters, and on the growth of a number with its digits.
 use Rattle.std.proofs.Common.{◌≡◌, ℕ, ◌+◌, ◌*◌, ◌<◌, ◌≤◌, List, [], ◌∷◌, length, take, Bool, true, false, cond, refl, arith, take_while}
 use Rattle.std.proofs.lemmas.List.Folds.{length-prefix_len}
 use Rattle.std.proofs.lemmas.List.Sums.{take_while-cons}
@@ -15,7 +15,7 @@ all_ascii_digits-take_while [] = refl
 all_ascii_digits-take_while (c ∷ cs) =
     rw (take_while-cons is_ascii_digit c cs) (all_ascii_digits-cond (is_ascii_digit c) c _ refl (all_ascii_digits-take_while cs))
 
--- the letters before the first that is no digit are digits
+-- Lemma: the letters before the first letter that is not a digit are digits.
 pub all_ascii_digits-front : (letters : List ℕ) (count : ℕ) → count ≡ length (take_while is_ascii_digit letters) → all_ascii_digits (take count letters) ≡ true
 all_ascii_digits-front letters count is_count =
     rw (is_count, length-prefix_len is_ascii_digit letters) (all_ascii_digits-take_while letters)
@@ -24,7 +24,7 @@ digits_value_after-ge : (n : ℕ) (digits : List ℕ) → n ≤ digits_value_aft
 digits_value_after-ge n [] = omega arith
 digits_value_after-ge n (c ∷ cs) = omega (arith, digits_value_after-ge (n * 10 + digit_value c) cs)
 
--- a further digit makes a number at least ten times as large
+-- Lemma: one or more further digits make a number at least ten times as large.
 pub digits_value_after-grows : (n : ℕ) (digits : List ℕ) → 0 < length digits → n * 10 ≤ digits_value_after 10 n digits
 digits_value_after-grows n [] some = omega (arith, some)
 digits_value_after-grows n (c ∷ cs) some = omega (arith, digits_value_after-ge (n * 10 + digit_value c) cs)

@@ -5,20 +5,20 @@ use Rattle.std.specs.Str.Parse.{digits_value}
 use Rattle.xxhsum_words.specs.declared.number.Number.{Number}
 use Rattle.xxhsum_words.specs.declared.number.Unit as unit
 
--- the letters begin with this text
+-- True if the letters begin with this text.
 abbrev pub begins_with : List ℕ → List ℕ → Bool
 begins_with text letters = bytes_eq (take (length text) letters) text
 
--- the digits that the letters begin with
+-- The digits at the start of the letters.
 abbrev pub digits_of : List ℕ → List ℕ
 digits_of letters = take_while is_ascii_digit letters
 
--- a digit may follow 429,496,728, and nothing larger
+-- The value of the digits. None if it is 4,294,967,290 or more.
 abbrev pub value_named : List ℕ → Option ℕ
 value_named digits =
     if nat_lt (digits_value 10 digits) 4294967290 then Some (digits_value 10 digits) else None
 
--- the number of letters of a unit after its K or M
+-- The number of letters after the K or M of a unit.
 abbrev pub suffix_letters : List ℕ → ℕ
 suffix_letters letters =
     if begins_with (codes "iB") letters then 2
@@ -26,7 +26,7 @@ suffix_letters letters =
     else if begins_with (codes "B") letters then 1
     else 0
 
--- the unit that the letters begin with
+-- The unit at the start of the letters, of factor 1 if they begin with no unit.
 abbrev pub unit_of : List ℕ → unit.Unit
 unit_of letters =
     if begins_with (codes "K") letters
@@ -35,7 +35,7 @@ unit_of letters =
     then record { factor = 1048576; letters = 1 + suffix_letters (drop 1 letters) }
     else record { factor = 1; letters = 0 }
 
--- the value in its unit, below 2^32
+-- The number of a value in this unit. None if it is 2^32 or more.
 abbrev pub in_unit : ℕ → ℕ → unit.Unit → Option Number
 in_unit value digits unit =
     if nat_lt (value * unit.factor) (2 ^ 32)
@@ -46,7 +46,7 @@ abbrev pub number_from : Option ℕ → ℕ → unit.Unit → Option Number
 number_from (Some value) digits unit = in_unit value digits unit
 number_from None digits unit = None
 
--- the number that the letters begin with, 0 if there is no digit; none if it is too large
+-- The number at the start of the letters, 0 if there is no digit. None if it is too large.
 abbrev pub number_of : List ℕ → Option Number
 number_of letters =
     let digits = digits_of letters in

@@ -13,7 +13,7 @@ use Rattle.xxhsum_words.specs.Number.{begins_with}
 use Rattle.xxhsum_words.specs.Table.{of_name}
 use Rattle.xxhsum_words.specs.declared.table.TheConstants.{ROWS}
 
--- no option was read
+-- The options before the first argument.
 abbrev pub no_options : Kind → Options
 no_options kind = record {
   kind = kind;
@@ -32,7 +32,7 @@ no_options kind = record {
   takes_terminal = false;
 }
 
--- the effect of the argument on these options
+-- The effect of an argument on these options.
 abbrev pub word_step : Options → List ℕ → Step
 word_step options word =
     if begins_with (codes "--") word then of_name ROWS options (drop 2 word)
@@ -40,32 +40,32 @@ word_step options word =
     else if begins_with (codes "-") word then letters_step 0 options (drop 1 word)
     else EndsBefore
 
--- the names are read from lists of names
+-- True if the names are read from lists of names.
 abbrev pub are_listed : NamesFrom → Bool
 are_listed Words = false
 are_listed Lines = true
 are_listed Nuls = true
 
--- one of the names is `-`
+-- True if one of the names is `-`.
 abbrev pub have_input : List (List ℕ) → Bool
 have_input [] = false
 have_input (name ∷ names) = bytes_eq name (codes "-") || have_input names
 
--- the number of checksum lists before the names: an audit has one
+-- The number of checksum lists before the names: 1 for an audit, otherwise 0.
 abbrev pub lists_audited : Options → ℕ
 lists_audited options = if options.audits then 1 else 0
 
--- the number of checksum lists before lists of names: an audit has one
+-- The number of checksum lists before lists of names: 1 for an audit with lists of names, otherwise 0.
 abbrev pub lists_before : Options → ℕ
 lists_before options = if options.audits && are_listed options.names_from then 1 else 0
 
--- `-` is one of the names, or was given before names, with which standard input is not read
+-- True if `-` is one of the names, or was given before names. Standard input is not read if there are names.
 abbrev pub leaves_input : Options → List (List ℕ) → Bool
 leaves_input options names =
     have_input names || (options.takes_terminal && nat_lt (lists_before options) (length names))
 
--- the run by these options, of these names, the arguments from this index on; `-z` is refused with `-c` and `--audit`,
--- `-r` with `-c`, with lists of names and without a name, and `-` with names
+-- The run with these options. Its names are the arguments from index `at` on. `-z` is refused with `-c` or `--audit`.
+-- `-r` is refused with `-c`, with lists of names, or without a name. `-` is refused with names.
 abbrev pub run_from : Options → ℕ → List (List ℕ) → Asked
 run_from options at names =
     if options.ends_in_nul && (options.checks || options.audits) then NulsInList
@@ -74,7 +74,7 @@ run_from options at names =
     else if leaves_input options names then InputBesideNames
     else Run options at
 
--- an argument that is not an option ends them
+-- The result of an argument, and of the arguments after it. An argument that is not an option ends the options.
 abbrev pub after_word : Step → ℕ → Options → List ℕ → List (List ℕ) → (Options → Asked) → Asked
 after_word (Takes next) at options word words go_on = go_on next
 after_word EndsBefore at options word words go_on = run_from options at (word ∷ words)
@@ -82,12 +82,12 @@ after_word EndsAfter at options word words go_on = run_from options (at + 1) wor
 after_word IsWrong at options word words go_on = WrongOption at
 after_word (Settles asked) at options word words go_on = asked
 
--- the meaning of these arguments, after this many others that made these options
+-- The meaning of these arguments. The first `at` arguments resulted in these options.
 abbrev pub asked_after : ℕ → Options → List (List ℕ) → Asked
 asked_after at options [] = run_from options at []
 asked_after at options (word ∷ words) =
     after_word (word_step options word) at options word words (λ next. asked_after (at + 1) next words)
 
--- the meaning of the arguments after the program's name
+-- The meaning of the arguments after the program's name.
 abbrev pub asked_of : Kind → List (List ℕ) → Asked
 asked_of kind words = asked_after 0 (no_options kind) words

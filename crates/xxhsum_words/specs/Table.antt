@@ -8,7 +8,7 @@ use Rattle.xxhsum_words.specs.declared.options.Step.TheVariants.{EndsAfter, IsWr
 use Rattle.xxhsum_words.specs.declared.table.Does.{Does}
 use Rattle.xxhsum_words.specs.declared.table.Does.TheVariants.{Checks, Audits, Walks, Lists, Tags, TurnsRound, EndsInNul, Nothing, Quiets, Silences, IgnoresMissing, IsStrict, Warns, EndsOptions, Asks}
 
--- the effect of an option on these options
+-- The effect of an option on these options.
 abbrev pub does_step : Does → Options → Step
 does_step Checks options = Takes (record options { checks = true })
 does_step Audits options = Takes (record options { audits = true })
@@ -26,14 +26,14 @@ does_step Warns options = Takes (record options { warns = true })
 does_step EndsOptions options = EndsAfter
 does_step (Asks asked) options = Settles asked
 
--- a letter, a name, its effect, and its help; and a row as in a slice
+-- A row of the table: a letter, a name, its effect and its help. `seen` is the row of a slice's element.
 abbrev pub Row : Type 0
 Row = ℕ × record { now : List ℕ } × Does × record { now : List ℕ }
 
 abbrev pub seen : ℕ × Bor (List ℕ) × Does × Bor (List ℕ) → Row
 seen row = (row.0, record { now = row.1.now }, row.2, record { now = row.3.now })
 
--- the effect of the first row of this name, or of this letter
+-- The effect of the first row with this name, or with this letter.
 abbrev pub of_name : List Row → Options → List ℕ → Step
 of_name [] options name = IsWrong
 of_name (row ∷ rows) options name =
@@ -44,7 +44,7 @@ of_letter [] options letter = IsWrong
 of_letter (row ∷ rows) options letter =
     if letter == row.0 then does_step row.2 options else of_letter rows options letter
 
--- the line of an option in the help
+-- The lines of options in the help. An option without a letter has the letter `-`.
 abbrev pub letter_text : ℕ → List ℕ
 letter_text letter = if letter == 45 then [] else 45 ∷ letter ∷ 44 ∷ 32 ∷ []
 

@@ -8,9 +8,9 @@ use Rattle.xxh_io.specs.declared.fault.Fault.{Fault}
 use Rattle.xxh_io.specs.Command.{number_named}
 use Rattle.xxh_io.proofs.command.number_from.Goals as goal
 
--- A word is a number just where it is all digits, has one, and writes a number below the limit.
+-- Proves that an argument is a number if and only if it is one or more digits with a value below the limit.
 
--- the digits and their value, in the words of `parse`
+-- Lemma: lists of digits, with their decimal value, are a model of the numerals of `parse`.
 numerals : IsNumeralModel (λ ds. all_ascii_digits ds ≡ true) (digits_value 10)
 numerals = numerals_by_value _ tells_all_ascii_digits
 

@@ -3,9 +3,9 @@ use borrow.Rule.Slice.PartMut.{put_mid}
 use Rattle.xxh_io.specs.Hex.{hex_digits, hex_line, offset_line}
 use Rattle.xxh_io.proofs.hex.offset_line.Goals as goal
 
--- The line of a block in a buffer of line feeds, after both numbers and the space are written.
+-- Lemmas on the line of a block, written as two numbers and a space into a buffer of newlines.
 
--- the buffer after the offset and the space
+-- The buffer after the offset and the space.
 abbrev after_space : List ℕ → List ℕ
 after_space front = set (front ++ replicate 34 10) 16 32
 

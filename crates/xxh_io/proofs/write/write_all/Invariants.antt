@@ -3,7 +3,7 @@ use Rattle.std.specs.List.{concat}
 use Rattle.xxh_io.specs.Pieces.{Pieces}
 use Rattle.xxh_io.proofs.write.write_all.Given as goal
 
--- chunks of the bytes up to the rest were taken, and no write has failed
+-- Invariant: chunks of the bytes before the rest were taken, and no write has failed
 abbrev pub invariant-loop-rest : goal.invariant-loop-rest
 invariant-loop-rest g l = record {
   works : g.W.Sink.has_failed l.w ≡ false;

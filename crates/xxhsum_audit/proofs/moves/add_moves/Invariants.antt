@@ -5,7 +5,7 @@ use Rattle.xxhsum_audit.specs.Item.{items_of}
 use Rattle.xxhsum_audit.specs.Side.{by_digest}
 use Rattle.xxhsum_audit.proofs.moves.add_moves.Given as goal
 
--- what is found so far, and what the rest comes to
+-- Invariant: the results so far, followed by those of the remaining items, are the final results
 abbrev pub invariant-loop-side : goal.invariant-loop-side
 invariant-loop-side l =
     founds_of l.found.items ++ map (with_copy (items_of l.kept)) (moved (items_of l.gone_left) (items_of l.come_left))

@@ -2,15 +2,15 @@ use Rattle.std.proofs.Common.{◌≡◌, ℕ, ◌+◌, ◌*◌, ◌<◌, ◌≤�
 use Rattle.std.proofs.Math.Nat.{pow-suc, pow-le-pow_right}
 use Rattle.xxhsum_line.proofs.digits.number_of.Goals as goal
 
--- The numbers that digits write stay below a power of 16.
+-- Lemmas on the value of digits, which stays below a power of 16.
 
--- one digit more
+-- Lemma: a number below `16 ^ i` with one more digit is below `16 ^ (i + 1)`.
 digit_fits : (n d i : ℕ) → n < 16 ^ i → d < 16 → n * 16 + d < 16 ^ (i + 1)
 digit_fits n d i below small =
     let whole : 16 ^ (i + 1) ≡ 16 ^ i * 16 = rw (add-one, pow-suc) in
     omega arith
 
--- at most 32 digits fit 128 bits
+-- Lemma: a number below `16 ^ i` fits in 128 bits if `i` is at most 32.
 number_fits : (n i : ℕ) → n < 16 ^ i → i ≤ 32 → n < 2 ^ 128
 number_fits n i below most =
     let positive : 0 < 16 = omega arith in

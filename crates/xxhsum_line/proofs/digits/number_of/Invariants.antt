@@ -2,7 +2,7 @@ use Rattle.std.proofs.Common.{◌≡◌, ◌<◌, ◌^◌, drop}
 use Rattle.xxhsum_line.specs.Digits.{number_of, number_after}
 use Rattle.xxhsum_line.proofs.digits.number_of.Given as goal
 
--- the digits to come, after those that were read
+-- Invariant: the number so far fits its digits, and the remaining digits complete it to the result
 abbrev pub invariant-loop-byte : goal.invariant-loop-byte
 invariant-loop-byte l = record {
   fits : l.number < 16 ^ l.byte-index;

@@ -4,9 +4,9 @@ use Rattle.std.proofs.lemmas.List.Edits.{swap_is}
 use Rattle.xxhsum_line.specs.Digits.{pairs_swapped}
 use Rattle.xxhsum_line.proofs.digits.turn.Goals as goal
 
--- Pairs of digits that change places, and bytes in the opposite order.
+-- Lemmas on swapping the two digits of each byte.
 
--- a list is what comes before a place, the two elements there and what comes after them
+-- Lemma: the elements from index `i` on are the two elements there, followed by the elements after them.
 at_pair : (l : List ℕ) (i : ℕ) → i + 1 < length l
     → drop i l ≡ get_or l i 0 ∷ get_or l (i + 1) 0 ∷ drop (i + 2) l
 at_pair l i h =
@@ -16,7 +16,7 @@ at_pair l i h =
     ∙ ap (λ r. get_or l i 0 ∷ r) (drop_more l (i + 1) 0 h)
     ∙ ap (λ n. get_or l i 0 ∷ get_or l (i + 1) 0 ∷ drop n l) next
 
--- a swap of two neighbours after i others
+-- Lemma: setting both elements of a pair after `i` elements swaps them.
 swap_pair : (p q : List ℕ) (a b i : ℕ) → length p ≡ i
     → set (set (p ++ a ∷ b ∷ q) i b) (i + 1) a ≡ p ++ b ∷ a ∷ q
 swap_pair p q a b i len =
@@ -25,7 +25,7 @@ swap_pair p q a b i len =
     ∙ set_at (p ++ b ∷ []) b q a (i + 1) len'
     ∙ append_assoc p (b ∷ []) (a ∷ q)
 
--- the first i + 2 of them, and the others
+-- Lemma: a swapped pair, followed by the other pairs swapped, is all the pairs swapped.
 behind_pair : (p q : List ℕ) (a b i : ℕ) → length p ≡ i
     → take (i + 2) (p ++ b ∷ a ∷ q) ++ pairs_swapped (drop (i + 2) (p ++ b ∷ a ∷ q)) ≡ p ++ pairs_swapped (a ∷ b ∷ q)
 behind_pair p q a b i len =
@@ -35,7 +35,7 @@ behind_pair p q a b i len =
     let back : drop (i + 2) (p ++ b ∷ a ∷ q) ≡ q = ap (drop (i + 2)) whole ∙ drop_at (p ++ b ∷ a ∷ []) q (i + 2) len' in
     rw (front, back) (append_assoc p (b ∷ a ∷ []) (pairs_swapped q))
 
--- after the swap of a pair, the pairs that follow are still to be swapped
+-- Lemma: swapping the pair at `i` leaves only the pairs after it to swap.
 pair_step : (l : List ℕ) (i : ℕ) → i + 1 < length l
     → take (i + 2) (swap l i (i + 1)) ++ pairs_swapped (drop (i + 2) (swap l i (i + 1))) ≡ take i l ++ pairs_swapped (drop i l)
 pair_step l i h =
@@ -54,7 +54,7 @@ pair_step l i h =
     ∙ behind_pair p q a b i len
     ∙ ap (λ r. p ++ pairs_swapped r) (sym tail)
 
--- where no pair is left
+-- Lemma: a list of at most one element has no pair to swap.
 short_rest : (l : List ℕ) → length l ≤ 1 → pairs_swapped l ≡ l
 short_rest [] h = refl
 short_rest (a ∷ []) h = refl

@@ -2,6 +2,6 @@ use Rattle.std.proofs.Common.{◌≡◌, drop}
 use Rattle.xxhsum_line.specs.Escapes.{needs_escape}
 use Rattle.xxhsum_line.proofs.escapes.needs_escape.Given as goal
 
--- no byte so far needs one
+-- Invariant: the name needs an escape if and only if its remaining bytes do
 abbrev pub invariant-loop-byte : goal.invariant-loop-byte
 invariant-loop-byte l = needs_escape (drop l.byte-index l.name) ≡ needs_escape l.name

@@ -1,7 +1,7 @@
 use Rattle.std.proofs.Common.{◌≡◌, ℕ, ◌<◌, [], length, get_or, map}
 use Rattle.xxhsum_program.proofs.arguments.all_arguments.Given as goal
 
--- the arguments so far, each at its index
+-- Invariant: the arguments so far, each at its index
 abbrev pub invariant-loop-index : goal.invariant-loop-index
 invariant-loop-index g l = record {
   count : length l.all.items ≡ l.index;

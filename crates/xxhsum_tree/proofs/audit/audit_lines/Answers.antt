@@ -7,7 +7,7 @@ use Rattle.xxhsum_audit.specs.Order.{IsOrder, Rises, clash_in, compare_lines, co
 use Rattle.xxhsum_tree.specs.Audits.{TellsTwice, twice_text}
 use Rattle.xxhsum_tree.proofs.audit.audit_lines.Goals as goal
 
--- A name that occurs twice is reported, or none does.
+-- Lemmas on two names with one path: one of them is reported, or there are none.
 
 none-twice : {E : Type 0} (telling : SinkRules E) (among : List ℕ) (clash : Option (List ℕ)) (old new : E) (answer : Bool) → TellsTwice telling among clash old new answer → answer ≡ false → (clash ≡ None) × (new ≡ old)
 none-twice telling among None old new answer told is = (refl, told.1)
@@ -18,7 +18,7 @@ some-twice : {E : Type 0} (telling : SinkRules E) (among : List ℕ) (clash : Op
 some-twice telling among None old new answer told is = let never = told.0 in let no : ⊥ = cc in absurd no
 some-twice telling among (Some name) old new answer told is = (name, refl, told.1)
 
--- what is in order, and of which no two lead to one place, rises
+-- Lemma: sorted lines rise if no two of them have one path.
 lines-rise : (said lines : List Item) → IsOrder rank_lines said lines → clash_in (names_of lines) ≡ None → Rises compare_lines lines
 lines-rise said lines order none = rises name_of lines order.1 none
 

@@ -7,7 +7,7 @@ use Rattle.xxhsum_tree.specs.Digests.{HoldsRows}
 use Rattle.xxhsum_tree.specs.Rows.{AreRows, Row, told_in}
 use Rattle.xxhsum_tree.proofs.digests.digests_of.Given as goal
 
--- the rows of the sides so far, and what they come to
+-- Invariant: one row for each side so far, and their results
 abbrev pub invariant-loop-side : goal.invariant-loop-side
 invariant-loop-side g l = record {
   rows : List Row;

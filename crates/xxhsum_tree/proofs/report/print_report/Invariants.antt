@@ -4,7 +4,7 @@ use Rattle.xxhsum_audit.specs.Found.{founds_of}
 use Rattle.xxhsum_tree.specs.Report.{shown_lines}
 use Rattle.xxhsum_tree.proofs.report.print_report.Given as goal
 
--- the lines so far
+-- Invariant: the lines so far were printed, and no write has failed
 abbrev pub invariant-loop-verdict : goal.invariant-loop-verdict
 invariant-loop-verdict g l = record {
   prints : Took g.W.Sink (shown_lines l.options.is_quiet (founds_of (take l.verdict-index l.found))) l.initial.out l.out;

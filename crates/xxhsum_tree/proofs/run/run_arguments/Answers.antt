@@ -7,16 +7,16 @@ use Rattle.xxhsum_program.specs.declared.process.Terminals.{Terminals}
 use Rattle.xxhsum_program.specs.Task.{Reads, Tells, answer_text, is_well, run_asked, task_from, task_of, waits_for_terminal, wrong_text}
 use Rattle.xxhsum_tree.proofs.run.run_arguments.Goals as goal
 
--- What the words ask for is the task.
+-- Lemmas on the task of the arguments.
 
--- by the words, the kind and what they ask for as they were found
+-- Lemma: `task_of` the arguments is `task_from` the words, options and run that were computed from them.
 task-is : (terminals : Terminals) (program : List ℕ) (arguments words : List (List ℕ)) (kind : Kind) (asked : Asked) (run : Option (Options × ℕ)) → words ≡ drop 1 arguments → kind ≡ kind_of_program program → asked ≡ asked_of kind words → run ≡ run_asked asked → task_of terminals program (drop 1 arguments) ≡ task_from terminals program words asked run
 task-is terminals program arguments words kind asked run same kinds is runs = rw (runs, is, kinds, same) refl
 
 task-told : (terminals : Terminals) (program : List ℕ) (words : List (List ℕ)) (asked : Asked) (run : Option (Options × ℕ)) → run ≡ None → task_from terminals program words asked run ≡ Tells (answer_text program words asked) (is_well asked)
 task-told terminals program words asked run is = rw is refl
 
--- where a run is asked for, by whether it waits for a terminal
+-- A requested run, which may wait for a terminal.
 module _ (terminals : Terminals) (program : List ℕ) (words names : List (List ℕ)) (asked : Asked) (run : Option (Options × ℕ)) (options : Options) (place : ℕ) (is : run ≡ Some (options, place)) (same : names ≡ drop place words) where
   task-waits : waits_for_terminal terminals options names ≡ true → task_from terminals program words asked run ≡ Tells (wrong_text (codes "Wrong parameters") program) false
   task-waits waits =

@@ -5,7 +5,7 @@ use Rattle.xxhsum_tree.specs.Said.{HaveSaid}
 use Rattle.xxhsum_program.specs.Watched.{source_of}
 use Rattle.xxhsum_tree.proofs.said.said_by_lines.Given as goal
 
--- the entries of the lines so far, and nothing is reported
+-- Invariant: the entries of the lines so far, and nothing is reported
 abbrev pub invariant-loop-number : goal.invariant-loop-number
 invariant-loop-number g l = record {
   read : List (List ℕ);

@@ -3,7 +3,7 @@ use Rattle.xxhsum_program.specs.EachHas.{EachHas}
 use Rattle.xxhsum_tree.specs.Texts.{GivesText}
 use Rattle.xxhsum_tree.proofs.texts.texts_of_files.Given as goal
 
--- a text for each name so far, and nothing is reported
+-- Invariant: one text for each name so far, and nothing is reported
 abbrev pub invariant-loop-name : goal.invariant-loop-name
 invariant-loop-name g l = record {
   each : EachHas (GivesText g.S.Store g.S.File.Source l.fn.job.store.now) (map (λ name. name.items) (take l.name-index l.names)) (map (λ text. text.items) l.texts.items);

@@ -3,7 +3,7 @@ use Rattle.xxhsum_program.specs.Told.{TellsOn}
 use Rattle.xxhsum_tree.specs.Walk.{Seen, Visits, are_open, closed_in, files_in, given, tree_of, waiting_in}
 use Rattle.xxhsum_tree.proofs.walk.files_below.Given as goal
 
--- what was seen so far, and what comes of it
+-- Invariant: the names visited so far, their files, and the reports on them
 abbrev pub invariant-loop : goal.invariant-loop
 invariant-loop g l = record {
   trace : List Seen;

@@ -2,7 +2,7 @@ use Rattle.std.proofs.Common.{◌≡◌, ◌-◌, ◌++◌, drop, length, map}
 use Rattle.xxhsum_tree.specs.Walk.{below, waiting_in}
 use Rattle.xxhsum_tree.proofs.walk.put_names.Given as goal
 
--- the last of the names are on top of what waited before
+-- Invariant: the last `at` names are on top of the names that waited before
 abbrev pub invariant-loop-at : goal.invariant-loop-at
 invariant-loop-at l =
     waiting_in l.waiting.items

@@ -5,7 +5,7 @@ use Rattle.xxhsum_words.specs.Letters.{after_letter, letter_of, letters_step}
 use Rattle.xxhsum_words.proofs.ListFacts.{take-drop_all}
 use Rattle.xxhsum_words.proofs.letters.letters.Goals as goal
 
--- Letters that are passed over may be left out.
+-- Lemmas on the letters that an option consumes, which the next step skips.
 
 letters_step-passed : (passed : ℕ) (options : Options) (letters : List ℕ) → letters_step passed options letters ≡ letters_step 0 options (drop passed letters)
 letters_step-passed zero options letters = refl

@@ -2,7 +2,7 @@ use Rattle.std.proofs.Common.{◌≡◌, length}
 use Rattle.xxhsum_words.specs.Letters.{letters_step}
 use Rattle.xxhsum_words.proofs.letters.letters.Given as goal
 
--- the letters that are left decide, after the options so far
+-- Invariant: the result is that of the remaining letters with the options so far
 abbrev pub invariant-loop-letter : goal.invariant-loop-letter
 invariant-loop-letter l = letters_step 0 l.fn.options l.fn.word ≡ letters_step 0 l.options l.rest
 

@@ -3,7 +3,7 @@ use Rattle.std.specs.Str.{all_ascii_digits}
 use Rattle.std.specs.Str.Parse.{digits_value, digits_value_after}
 use Rattle.xxhsum_words.proofs.number.value_of.Given as goal
 
--- the digits that are left go on from the value, which may have one more
+-- Invariant: the remaining digits continue the value, which is below 4294967290
 abbrev pub invariant-loop-digit : goal.invariant-loop-digit
 invariant-loop-digit l =
     (digits_value 10 l.digits ≡ digits_value_after 10 l.value (drop l.digit-index l.digits))

@@ -7,7 +7,7 @@ use Rattle.xxhsum_words.specs.declared.options.Step.TheVariants.{EndsBefore, End
 use Rattle.xxhsum_words.proofs.ListFacts.{map-drop}
 use Rattle.xxhsum_words.proofs.options.asked_by.Goals as goal
 
--- A word at which the options end.
+-- Lemmas on an argument at which the options end.
 
 asked-at : (at : ℕ) (options : Options) (word : List ℕ) (words : List (List ℕ)) (step : Step) → step ≡ word_step options word → asked_after at options (word ∷ words) ≡ after_word step at options word words (λ next. asked_after (at + 1) next words)
 asked-at at options word words step is =

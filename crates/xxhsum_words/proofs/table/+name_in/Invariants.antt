@@ -1,6 +1,6 @@
 use Rattle.std.proofs.Common.{length}
 use Rattle.xxhsum_words.proofs.table.+name_in.Given as goal
 
--- the rows that are left
+-- Decreases: the number of remaining rows
 abbrev pub decreases-name_in : goal.decreases-name_in
 decreases-name_in l = length l.rows.now

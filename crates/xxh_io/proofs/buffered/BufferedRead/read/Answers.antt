@@ -4,16 +4,16 @@ use Rattle.std.specs.Io.KnownBytes.{Keeps, Consumes, IsAtEnd, prepend_known, Rea
 use Rattle.std.proofs.KnownBytes.{prepend_known-read}
 use Rattle.xxh_io.proofs.buffered.BufferedRead.read.Goals as goal
 
--- A read from a buffer, and what waits after it.
+-- Lemmas on a read from a buffer and on the bytes that remain in it.
 
--- the first n of the bytes that wait, and the others
+-- Lemma: the buffered bytes are the first `n` of them, followed by the others.
 waiting_parts : (xs : List ℕ) (start end n : ℕ) → n ≤ end - start → slice_range xs start end ≡ take n (slice_range xs start end) ++ slice_range xs (start + n) end
 waiting_parts xs start end n within =
     let whole : n + (end - (start + n)) ≡ end - start = omega arith in
     let cut : drop n (take (n + (end - (start + n))) (drop start xs)) ≡ take (end - (start + n)) (drop n (drop start xs)) = drop-take n (end - (start + n)) (drop start xs) in
     sym (take-append-drop n (slice_range xs start end)) ∙ ap (λ (rest : List ℕ). take n (slice_range xs start end) ++ rest) (rw whole at cut ∙ ap (take (end - (start + n))) (drop-drop n start xs))
 
--- where n bytes of those that wait are copied over the front of `room`, they are what is read
+-- Lemma: copying `n` buffered bytes to the front of a nonempty slice reads them. `n` is 0 only at the end.
 waiting_read : (a b : Option (List ℕ)) (xs room copied : List ℕ) (start end n : ℕ) → end ≤ length xs → n ≡ min (length (slice_range xs start end)) (length room) → copied ≡ take n (slice_range xs start end)
     → Keeps a (prepend_known (slice_range xs start end) b) → (end ≤ start → IsAtEnd b)
     → Consumes a (prepend_known (slice_range xs (start + n) end) b) (take n (copied ++ drop n room)) × (n ≡ 0 → 0 < length (copied ++ drop n room) → IsAtEnd (prepend_known (slice_range xs (start + n) end) b))
@@ -28,7 +28,7 @@ waiting_read a b xs room copied start end n inside count copy kept ended =
     let room_left : length (copied ++ drop n room) ≡ length copied + (length room - n) = simp (length-append, length-drop) in
     (rw front read.0, λ none some. read.1 (none, omega arith))
 
--- where no bytes wait, those that are left are the reader's
+-- Lemma: the remaining bytes are those of the reader if none are buffered.
 none_waiting : (xs : List ℕ) (start end : ℕ) (known : Option (List ℕ)) → end ≤ start → prepend_known (slice_range xs start end) known ≡ known
 none_waiting xs start end known past =
     let none : slice_range xs start end ≡ [] = ap (λ k. take k (drop start xs)) {y = 0} (omega (arith, past)) in

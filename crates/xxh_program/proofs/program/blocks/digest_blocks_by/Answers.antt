@@ -13,9 +13,9 @@ use Rattle.xxh_program.specs.BlockState.{HasTaken}
 use Rattle.xxh_program.proofs.BlockFacts.{whole-append, all-split}
 use Rattle.xxh_program.proofs.program.blocks.digest_blocks_by.Goals as goal
 
--- What was read and written, after the end was read.
+-- Lemmas on the bytes read and written after the end of the input was read.
 
--- after the end was read
+-- Lemma: a write of all block lines after the end of the input was read digests the blocks.
 ends-well : {R W : Type 0} (reading : SourceRules R) (writing : SinkRules W) (block max_reads : ℕ) (pieces : List (List ℕ)) (r_old r_new : R) (w_old w_new : W) (result : Result (Unit {0}) DigestError) → IfErr result (λ e. e ≡ WriteFailed) → (length pieces < max_reads) × Pieces reading.gives r_old (pieces ++ [] ∷ []) r_new → Writes writing (block_lines block (concat pieces)) w_old w_new result → DigestsBlocks reading writing block max_reads pieces r_old r_new w_old w_new result
 ends-well reading writing block max_reads pieces r_old r_new w_old w_new (Ok x) only read wrote = (read, wrote)
 ends-well reading writing block max_reads pieces r_old r_new w_old w_new (Err WriteFailed) only read wrote = inl (read, wrote)

@@ -6,8 +6,8 @@ use Rattle.xxh_io.specs.Digest.{Took}
 use Rattle.xxh_program.specs.BlockState.{HasTaken}
 use Rattle.xxh_program.proofs.program.blocks.digest_blocks_by.Given as goal
 
--- one chunk per iteration, none of them empty, was read and taken, the lines of the whole blocks were written, and
--- neither end has failed
+-- Invariant: each iteration has read and taken one nonempty chunk, the lines of the whole blocks were written, and
+-- neither stream has failed
 abbrev pub invariant-loop-turn : goal.invariant-loop-turn
 invariant-loop-turn g l = record {
   reads : g.R.Source.has_failed l.r ≡ false;

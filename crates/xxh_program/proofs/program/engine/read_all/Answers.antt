@@ -4,9 +4,9 @@ use Rattle.xxh_io.proofs.PieceFacts.{concat-push, Pieces-push, NoneEmpty-push}
 use Rattle.xxh_program.specs.Feeding.{IsFed}
 use Rattle.xxh_program.proofs.program.engine.read_all.Goals as goal
 
--- A hasher that was fed, and one more chunk.
+-- Lemmas on feeding one more chunk to a hasher.
 
--- a hasher that was fed the chunks, and then one more
+-- Lemma: a hasher that was fed chunks and then one more was fed all of them, joined.
 IsFed-push : {H : Type 0} (follows : H → ℕ → List ℕ → Type 0) (has_seed : H → ℕ → Type 0) (old mid new : H) (pieces : List (List ℕ)) (piece : List ℕ) → IsFed follows has_seed old (concat pieces) mid → IsFed follows has_seed mid piece new → IsFed follows has_seed old (concat (pieces ++ piece ∷ [])) new
 IsFed-push follows has_seed old mid new pieces piece first second =
     subst (λ bytes. IsFed follows has_seed old bytes new) (sym (concat-push pieces piece)) (

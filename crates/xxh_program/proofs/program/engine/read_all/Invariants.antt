@@ -4,7 +4,7 @@ use Rattle.xxh_io.specs.Pieces.{Pieces, NoneEmpty}
 use Rattle.xxh_program.specs.Feeding.{IsFed}
 use Rattle.xxh_program.proofs.program.engine.read_all.Given as goal
 
--- one chunk per iteration, none of them empty, was read and fed, and no read has failed
+-- Invariant: each iteration has read one nonempty chunk and fed it to the hasher, and no read has failed
 abbrev pub invariant-loop-turn : goal.invariant-loop-turn
 invariant-loop-turn g l = record {
   works : g.R.Source.has_failed l.r ≡ false;

@@ -3,7 +3,7 @@ use Rattle.std.proofs.Math.Seq.{take-append_seam}
 use Rattle.std.proofs.lemmas.List.{length-take-le, take_min}
 use Rattle.xxhsum_files.proofs.refusal.Refusal.new.Goals as goal
 
--- a beginning that was copied in front is what is kept
+-- Lemma: a copy of the first 256 bytes, or of all of them if there are fewer, is the stored text.
 kept : (front rest words : List ℕ) (len : ℕ) → len ≡ min (length words) 256 → front ≡ take len words → take len (front ++ rest) ≡ take 256 words
 kept front rest words len least is =
     let whole : length front ≡ len = ap length is ∙ length-take-le len words (omega (arith, least)) in

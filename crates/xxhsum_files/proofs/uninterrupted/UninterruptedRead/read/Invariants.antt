@@ -1,4 +1,4 @@
--- The buffer keeps its length, and an interrupted read consumes nothing.
+-- Invariant: the buffer keeps its length, and interrupted reads have consumed no bytes
 use Rattle.std.proofs.Common.{◌≡◌, length}
 use Rattle.std.specs.Io.KnownBytes.{Keeps}
 use Rattle.xxhsum_files.specs.Uninterrupted.{remaining_behind}

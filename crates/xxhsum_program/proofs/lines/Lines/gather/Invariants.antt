@@ -2,7 +2,7 @@ use Rattle.std.proofs.Common.{List, ℕ}
 use Rattle.xxhsum_program.specs.LinesView.{HasRead, IsAtEnd, most_reads_left}
 use Rattle.xxhsum_program.proofs.lines.Lines.gather.Given as goal
 
--- what was read so far, unless it had ended before
+-- Invariant: the bytes read so far are kept, and a source that has ended stays at its end
 abbrev pub invariant-loop-found : goal.invariant-loop-found
 invariant-loop-found g l = record {
   reads : (from : g.row.R.Denot) (done : List ℕ) → HasRead g.R.Source from done l.initial.self

@@ -4,8 +4,8 @@ use Rattle.xxh_program.specs.BlockState.{HasTaken}
 use Rattle.xxh_io.specs.Waiting.{Gathers, waiting_bytes}
 use Rattle.xxh_program.proofs.program.blocks.CurrentBlock.take.Given as goal
 
--- the bytes before the rest were taken, the lines of the blocks that they end were written or wait, and no
--- write has failed
+-- Invariant: the bytes before the rest were taken, the lines of the blocks that they complete were written or are
+-- buffered, and no write has failed
 abbrev pub invariant-loop-rest : goal.invariant-loop-rest
 invariant-loop-rest g l = record {
   works : g.W.Sink.has_failed l.w ≡ false;
