@@ -1,5 +1,5 @@
--- XXH3 of 128 bits of rows of oracle/vectors.txt, checked by computing: Answers of xxHash 0.8.1, the reference
--- library. oracle/make-proofs wrote this file from the table.
+-- XXH3 of 128 bits of test cases of oracle/vectors.txt, checked by evaluation. The values are those of xxHash 0.8.1,
+-- the reference library. Generated from the table by oracle/make-proofs.
 use Rattle.std.specs.Prelude.{◌≡◌}
 use Rattle.std.proofs.Common.{refl}
 use Rattle.twox_words.specs.Word.{word_at}

@@ -1,5 +1,5 @@
 -- Lemmas on the check of a list, at the lines where it stops and at its end.
-use Rattle.std.proofs.Common.{◌≡◌, ℕ, ◌+◌, Bool, true, false, List, [], ◌∷◌, ◌++◌, length, Option, Some, None, Ok, Err, refl, sym, ◌∙◌, subst, append-nil, inl, IfErr, Result}
+use Rattle.std.proofs.Common.{◌≡◌, ℕ, ◌+◌, Bool, true, false, List, [], ◌∷◌, ◌++◌, length, Option, Some, None, Ok, Err, refl, sym, subst, inl, Result}
 use Rattle.xxhsum_program.specs.Prelude.{EachHas, Found, Options, OutOfMemory, Report, SourceRules, Stop, WriteFailed}
 use Rattle.xxhsum_program.specs.declared.lines.Lines.{Lines}
 use Rattle.xxhsum_program.specs.CheckList.{AnswersList, AnswersOutcome, Checked, ChecksLine, FindsLines, ReportsLines}

@@ -1,7 +1,7 @@
 // SPDX-License-Identifier: MIT
 // crates/xxhsum_audit/src/moves.rt without its contracts, written by rust/erase --programs: change that file.
 
-//! The results of files, once lines and names are merged and the names have their digests.
+//! The results of an audit, from merged lines and names. The names have their digests.
 
 use crate::rattle::prelude::Vec;
 use crate::programs::xxhsum_audit::digest::FileDigest;
@@ -11,9 +11,9 @@ use crate::programs::xxhsum_audit::verdict::Verdict;
 use crate::rattle::{AllocError, Global};
 use std::cmp::Ordering;
 
-/// Lines and names, of which those in both lists are known.
+/// Lines and names, merged by path.
 pub struct Compared<'n> {
-    /// The results of those in both lists.
+    /// The results of the names that are in both lists.
     pub settled: Vec<Verdict<'n>>,
     /// The lines whose names were not given.
     pub gone: Vec<FileDigest<'n>>,
@@ -23,7 +23,7 @@ pub struct Compared<'n> {
     pub are_all: bool,
 }
 
-/// Returns the results of all lines and names: those in both lists first, and the others in the order of their digests.
+/// Returns the results of all lines and names: first the names in both lists, then the others, sorted by digest.
 /// Returns `AllocError` if out of memory.
 pub fn verdicts<'n>(alloc: Global, compared: Compared<'n>) -> Result<Vec<Verdict<'n>>, AllocError> {
     let Compared {
@@ -86,7 +86,7 @@ fn verdict_of<'n>(
     }
 }
 
-// Returns the first of these with the digest of the name.
+// Returns the first unchanged file with the digest of the name.
 fn original_in<'n>(kept: &[FileDigest<'n>], name: FileDigest<'_>) -> Option<FileDigest<'n>> {
     let place = kept.partition_point(|one| compare_digests(*one, name) == Ordering::Less);
     let first = *kept.get(place)?;

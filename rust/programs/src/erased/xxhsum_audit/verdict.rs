@@ -20,7 +20,7 @@ pub enum Verdict<'n> {
         line: FileDigest<'n>,
         name: FileDigest<'n>,
     },
-    /// The line's name is gone, and a name that no line has has its digest.
+    /// The line's name is gone, and a name without a line has its digest.
     Moved {
         line: FileDigest<'n>,
         name: FileDigest<'n>,

@@ -64,7 +64,7 @@ impl<W: Sink> WholeLines<W> {
     }
 
     /// Lemma (no code), the laws of such a sink: if nothing was buffered, the inner sink took what this one took,
-    /// except what is buffered; or a write there failed, and the inner sink took a beginning of it.
+    /// except the buffered bytes; or a write there failed, and the inner sink took a prefix of them.
     pub fn laws() {}
 }
 

@@ -96,6 +96,9 @@ impl Report {
     }
 }
 
+// The message about a list whose read failed.
+const READ_FAILED: &[u8] = b"A failure occurred reading the list";
+
 // A line of a list. Its text is `None` if it is too long.
 #[derive(Clone, Copy)]
 struct ListLine<'a> {
@@ -141,7 +144,6 @@ impl<S: Store, T: Ticks> ListCheck<'_, S, T> {
             match lines.next() {
                 Next::End => return Ok(report),
                 Next::Failed => {
-                    release(out);
                     self.tell_of_failure(number, &report, out, err);
                     return Ok(report.with_broken_end());
                 }
@@ -255,19 +257,13 @@ impl<S: Store, T: Ticks> ListCheck<'_, S, T> {
         &self,
         number: u64,
         report: &Report,
-        out: &W,
+        out: &mut W,
         err: &mut E,
     ) {
-        if report.proper == 0 {
-            return;
+        if report.proper > 0 {
+            release(out);
+            tell_of_line_after(self.name, number, READ_FAILED, out, err);
         }
-        tell_of_line_after(
-            self.name,
-            number,
-            b"A failure occurred reading the list",
-            out,
-            err,
-        );
     }
 
     // Returns the line "no file was verified".
@@ -275,7 +271,7 @@ impl<S: Store, T: Ticks> ListCheck<'_, S, T> {
         line_of(self.alloc, &[self.name, b": no file was verified"])
     }
 
-    // Prints and reports the summary of a list.
+    // Reports a list without a well-formed line, and prints the summary of a list.
     fn sum_up<W: Output, E: Sink>(
         &self,
         report: &Report,
@@ -283,7 +279,28 @@ impl<S: Store, T: Ticks> ListCheck<'_, S, T> {
         out: &mut W,
         err: &mut E,
     ) -> Result<(), Stop> {
-        self.say_counts(report, out, err)?;
+        if report.proper == 0 {
+            release(out);
+            tell_line_after(
+                &[
+                    self.name,
+                    b": no properly formatted xxHash checksum lines found",
+                ],
+                out,
+                err,
+            );
+        }
+        self.say_summary(report, unverified, out)
+    }
+
+    // Prints the summary of a list.
+    fn say_summary<W: Output>(
+        &self,
+        report: &Report,
+        unverified: &[u8],
+        out: &mut W,
+    ) -> Result<(), Stop> {
+        self.say_counts(report, out)?;
         self.say_unverified(report, unverified, out)
     }
 
@@ -300,26 +317,9 @@ impl<S: Store, T: Ticks> ListCheck<'_, S, T> {
         Ok(())
     }
 
-    // Prints the numbers of malformed lines, unread files and mismatches, or reports that no line is well-formed.
-    fn say_counts<W: Output, E: Sink>(
-        &self,
-        report: &Report,
-        out: &mut W,
-        err: &mut E,
-    ) -> Result<(), Stop> {
-        if report.proper == 0 {
-            release(out);
-            tell_line_after(
-                &[
-                    self.name,
-                    b": no properly formatted xxHash checksum lines found",
-                ],
-                out,
-                err,
-            );
-            return Ok(());
-        }
-        if self.options.is_status_only {
+    // Prints the numbers of malformed lines, unread files and mismatches, unless no line is well-formed.
+    fn say_counts<W: Output>(&self, report: &Report, out: &mut W) -> Result<(), Stop> {
+        if report.proper == 0 || self.options.is_status_only {
             return Ok(());
         }
         say_count(

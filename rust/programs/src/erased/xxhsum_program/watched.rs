@@ -56,7 +56,7 @@ impl<R: Source, T: Ticks> Source for Watched<R, T> {
     }
 }
 
-/// Where the progress of reads is shown, or that it isn't.
+/// A display of reading progress, or none.
 #[derive(Clone, Copy)]
 pub struct ProgressDisplay<T> {
     screen: T,

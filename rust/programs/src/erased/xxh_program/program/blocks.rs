@@ -1,7 +1,7 @@
 // SPDX-License-Identifier: MIT
 // crates/xxh_program/src/program/blocks.rt without its contracts, written by rust/erase --programs: change that file.
 
-//! Digest lines of blocks: reads a source to its end, and writes a line for each block of what was read.
+//! Digest lines of blocks: reads a source to its end, and writes a line for each block of the input.
 
 use crate::programs::xxh_program::program::engine::OFFERED;
 use crate::programs::twox_hash::xxhash3::{DefaultSecret, SecretBuffer};
@@ -22,7 +22,7 @@ struct CurrentBlock {
     hasher: RawHasher<DefaultSecret>,
     // Number of bytes of a block.
     size: u64,
-    // Number of bytes of this block that the hasher has.
+    // Number of bytes of this block that the hasher has hashed.
     count: u64,
     // Offset of this block, saturating at `u64::MAX`.
     offset: u64,
@@ -83,8 +83,8 @@ impl CurrentBlock {
     }
 }
 
-// Does what `digest_blocks` does, with a read buffer of `READ` bytes, and a buffer of `LINES` bytes for the lines of
-// the blocks that a chunk ends, which is written before the next read.
+// Implements `digest_blocks` with a read buffer of `READ` bytes and a buffer of `LINES` bytes for the lines of the
+// blocks that a chunk ends. That buffer is written before the next read.
 pub(crate) fn digest_blocks_by<R: Source, W: Sink, const READ: usize, const LINES: usize>(
     r: &mut R,
     w: &mut W,
@@ -103,23 +103,23 @@ pub(crate) fn digest_blocks_by<R: Source, W: Sink, const READ: usize, const LINE
     Err(DigestError::TooLong)
 }
 
-/// Reads to the end of the source and writes a line for each block of `block` bytes of what was read, the last of which
-/// may be shorter: the block's offset, saturating at 2^64 - 1, in 16 lower-case hexadecimal digits, a space, XXH3
-/// 128-bit of its bytes, under the seed 0 and the default secret, in 32 digits, and a newline. Each read is offered
-/// 4,096 bytes (tested, not in a clause), a line is written before the next read, and nothing is allocated. No bytes
-/// have no lines.
+/// Reads to the end of the source and writes a line for each block of `block` bytes. The last block may be shorter. A
+/// line has the block's offset, saturating at 2^64 - 1, in 16 lower-case hexadecimal digits, a space, XXH3 128-bit of
+/// the block under the seed 0 and the default secret, in 32 digits, and a newline. Each read is offered 4,096 bytes
+/// (tested, not in a clause). A line is written before the next read. Nothing is allocated. An empty input has no
+/// lines.
 ///
 /// The caller proves that neither stream has failed and that a block has at least one byte.
 ///
-/// It is proved only from public contracts of the library: that of `SecretBuffer::default`, that of `RawHasher::new`,
+/// Its proof uses only public contracts of the library: the contracts of `SecretBuffer::default` and `RawHasher::new`,
 /// and the clauses `message` of `write` and `finish_128`.
 ///
 /// # Errors
 ///
 /// - [`DigestError::ReadFailed`] if and only if the source has failed afterwards. The lines of the whole blocks were
 ///   written.
-/// - [`DigestError::WriteFailed`] if and only if the sink has failed afterwards. A beginning of the lines was written,
-///   and not all of them, and no further read was made.
+/// - [`DigestError::WriteFailed`] if and only if the sink has failed afterwards. A proper prefix of the lines was
+///   written, and no further read was made.
 /// - [`DigestError::TooLong`] if and only if `max_reads` reads each returned at least one byte and the sink has not
 ///   failed. The lines of the whole blocks were written, and no further read was made.
 ///
@@ -139,6 +139,6 @@ pub fn digest_blocks<R: Source, W: Sink>(
     digest_blocks_by::<R, W, OFFERED, LINE>(r, w, block, max_reads)
 }
 
-/// Lemma (no code): of `n` bytes, the blocks that begin before their end have a line, and those that end by then are
-/// whole.
+/// Lemma (no code): a block of `n` bytes has a line if and only if it begins before their end. It is whole if and only
+/// if it ends by then.
 pub fn block_counts() {}
