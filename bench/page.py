@@ -107,7 +107,7 @@ def dispatch():
     """The calls `.._dispatch`, of both widths."""
     with open(f"{TOP}/bench/data/dispatch.tsv") as lines:
         rows = [it.strip().split("\t") for it in lines if not it.startswith("#")]
-    return ["Debian's functions `.._dispatch` use AVX-512. The same ratio, if both use it:", "",
+    return ["Debian's functions `.._dispatch` use AVX-512. The same ratio, if both use it (ours only for chunks of 2 KiB and more):", "",
             *markdown(["what", "64 bits", "128 bits"], rows)]
 
 
