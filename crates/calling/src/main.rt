@@ -1,4 +1,4 @@
-//! The code that CALLING.md quotes: callers with contracts, and a program.
+//! The program that CALLING.md links to: callers with contracts, a map, a stream and a saved hasher.
 #![tactic(auto)]
 
 mod callers;
