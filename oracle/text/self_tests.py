@@ -4,7 +4,7 @@ import functools
 import tempfile
 
 from . import (cargo_calls, cargo_planted, cargo_streams, changes, on_processor, planted, planted_checks, planted_lines,
-               planted_objects, switched_off)
+               planted_objects, planted_values, switched_off)
 from .cargo_exports import BEGIN
 from .instructions import SETS, TABLE, V1, V4
 from .questions import CASES, Beside, plain_update, xxh3_update
@@ -28,6 +28,7 @@ def choose(texts, others, is_all):
             planted_row("wrong objects are refused", planted_objects.X86_ASKED),
             planted_row("wrong texts of each kind are refused", planted.ASKED),
             planted_row("wrong texts, one for each check, are refused", planted_checks.X86_ASKED[::1 if is_all else SOME_CHECKS]),
+            planted_row("calls with wrong operands are refused", planted_values.ASKED),
             counted("checks that are switched off are noticed", SWITCHED_OFF[is_all], functools.partial(switched_off.tell, is_all)),
             counted("faults of the check itself are noticed", len(planted.CHECKS), planted.noticed),
             planted_row(f"{BEGIN}wrong texts are refused", cargo_planted.ASKED), *change_rows(texts, others, is_all)]

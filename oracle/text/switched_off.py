@@ -21,7 +21,7 @@ HERE = os.path.dirname(os.path.abspath(__file__))
 UNPLANTED = os.path.join(HERE, "unplanted.txt")
 MODULES = ("grammar", "listed", "objects", "decoded", "sources", "unwinding", "processor", "memory", "runs", "streams", "calls",
            "cargo", "exports", "instructions", "any_updates", "every_length", "xxh3_updates", "linked", "aarch64.objects",
-           "aarch64.processor", "../terms/memory")
+           "aarch64.processor", "induction", "stripes", "values", "flags", "../terms/memory", "../terms/induction")
 TAKING = {"take": "lines.number += 1", "take_exactly": "lines.number += {count}", "refuse": "pass", "want": "pass"}
 THEMSELVES = "want", "refuse", "take", "take_exactly", "has"
 FEW = 24                          # step of planted faults, without --all
@@ -111,10 +111,11 @@ class Loader(importlib.abc.MetaPathFinder, importlib.abc.SourceLoader):
 
 def every_text():
     """Returns all planted faults, in a fixed order."""
-    from text import cargo_planted, planted, planted_checks, planted_lines, planted_objects, rows
+    from text import cargo_planted, planted, planted_checks, planted_lines, planted_objects, planted_values, rows
     assert rows
     return [*planted_lines.X86_ASKED, *planted_lines.ARM_ASKED, *planted_lines.X86_ALIKE, *planted_objects.X86_ASKED,
-            *planted_objects.ARM_ASKED, *planted.ASKED, *cargo_planted.ASKED, *planted_checks.X86_ASKED, *planted_checks.ARM_ASKED]
+            *planted_objects.ARM_ASKED, *planted.ASKED, *cargo_planted.ASKED, *planted_checks.X86_ASKED, *planted_checks.ARM_ASKED,
+            *planted_values.ASKED]
 
 
 def refusal(one):
