@@ -17,6 +17,7 @@ from terms import definition, nodes
 
 from .instructions import PARTS, SETS, TABLE, VECTORS, letters
 from .objects import TEXT, Immediate, Place, Register
+from .one_shots import is_plain
 from .questions import FOR_C, are_long, by_induction, further, near, questions, reaching, takes_stripes
 
 FOLDER = os.path.join(os.path.dirname(os.path.abspath(__file__)), "equal_changes")
@@ -167,11 +168,13 @@ def written(x):
 
 # ---- the row
 
-def more_ways(cpu, asked, entries, is_all, section, beside):
+def more_ways(cpu, reached, asked, entries, is_all, section, beside):
     """Yields further questions about a change in a section: calls without a request, inductions with --all, and further
-    requests. A function that takes many stripes always gets inductions: its requests take long."""
-    requests = [question for question in asked if question.request]
-    yield from (question.over_symbols for question in asked if not question.request)
+    requests. A function that takes many stripes always gets inductions: its requests take long. If no request reaches
+    the change, those of XXH32's and XXH64's streams are used."""
+    requests = [question for question in reached if question.request] or [
+        question for question in asked if question.request and question.request.cuts and is_plain(question.request.hash_name)]
+    yield from (question.over_symbols for question in reached if not question.request)
     if beside.updates and (is_all or takes_stripes(cpu.program, section)):
         yield from (question.over_symbols for question in by_induction(cpu.program, requests, section, beside.updates))
     yield from (question.twice for question in further(requests, entries))
@@ -209,7 +212,7 @@ def noticed_of(cpu, changes, known, is_all, beside=FOR_C):
         texts.append(text)
         reached = [question for k, question in enumerate(asked) if found[place] >> k & 1]
         has_reason = bool(known.of(text))
-        more = () if has_reason else more_ways(cpu, reached, entries, is_all, place[0], beside)
+        more = () if has_reason else more_ways(cpu, reached, asked, entries, is_all, place[0], beside)
         what = outcome(cpu, instructions, reached, random.Random(text), entries, more)
         if is_fault(what, has_reason):
             bad.append(f"{what}{', and has a reason' if has_reason else ''}: {text}")

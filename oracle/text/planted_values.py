@@ -6,7 +6,8 @@ from terms.induction import Induction
 from terms.nodes import symbol
 from terms.polynomials import plus, variable
 
-from . import flags, induction, stripes, values
+from . import cargo, flags, induction, stripes, values
+from .aarch64 import processor
 from .flags import Flags
 from .values import Address, Either, address
 
@@ -81,6 +82,10 @@ def condition(name, now=None, carry=None):
     flags.condition(types.SimpleNamespace(flags=now, carry=carry), name)
 
 
+def arm_operands(kind, a):
+    processor.Processor.signed_operands(types.SimpleNamespace(flags=(kind, 64, a, 2, 3)))
+
+
 def loop_again():
     made(induction.Loops, stop=None, running={("section", 3): 5}).pass_by(None, ("section", 3))
 
@@ -102,9 +107,12 @@ ASKED = [Direct(*one) for one in (
     ("an unknown condition", "the condition po", lambda: condition("po")),
     ("a signed comparison without a comparison", "of another result", lambda: condition("l", Flags("shift", 64, 1, 2, 3))),
     ("a signed comparison of terms", "of symbols", lambda: condition("l", Flags("sub", 64, TERM, 2, 3))),
+    ("on ARM, a signed comparison without a comparison", "of another result", lambda: arm_operands("add", 1)),
+    ("on ARM, a signed comparison of terms", "of symbols", lambda: arm_operands("sub", TERM)),
     ("a carry after a shift", "a carry that isn't set", lambda: condition("b", carry=Flags("shift", 64, 1, 2, 3))),
     ("a carry of terms", "carry of a sum", lambda: condition("b", carry=Flags("add", 64, TERM, 2, 3))),
     ("a test for 0 without flags", "flags that aren't set", lambda: condition("e")),
+    ("a one-shot with a seed of the cargo crate", "no export hashes", lambda: cargo.ForCargo.one_shot(None, "3-64", "seed")),
     ("a loop that changes another cell later", "kept is 8 and not 7", lambda: Counter().show()),
     ("a loop that is entered again", "isn't left", loop_again),
     ("a loop that stores to a run", "stores to a run", stored_to_run),
