@@ -177,7 +177,7 @@ def more_ways(cpu, reached, asked, entries, is_all, section, beside):
     yield from (question.over_symbols for question in reached if not question.request)
     if beside.updates and (is_all or takes_stripes(cpu.program, section)):
         yield from (question.over_symbols for question in by_induction(cpu.program, requests, section, beside.updates))
-    yield from (question.twice for question in further(requests, entries))
+    yield from (question.twice for question in further(requests, entries, beside.shortest))
 
 
 def noticed(name, make, count, is_all, is_drawn=anywhere, beside=FOR_C):

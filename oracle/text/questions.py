@@ -167,12 +167,12 @@ def near(asked, entries, draw, count):
         yield from (OfRequest(twin, entries, True) for twin in with_twins(request))
 
 
-def further(asked, entries):
+def further(asked, entries, shortest):
     """Yields further requests of the same hashes: one-shots of LENGTHS and with other secrets, and streams that add
     each number of bytes to the buffer and leave each number in it."""
     kinds = {(one.hash_name, one.cuts is None): one for one in (question.request for question in asked)}
     for (hash_name, is_once), one in kinds.items():
-        for n, *cuts in [(n,) for n in LENGTHS] if is_once else further_streams(one_shots.is_plain(hash_name)):
+        for n, *cuts in [(n,) for n in LENGTHS if n >= shortest] if is_once else further_streams(one_shots.is_plain(hash_name)):
             yield OfRequest(Request(hash_name, one.kind, n, one.secret_length, one.fixed_seed, None if is_once else cuts),
                             entries)
         for n, secret in OTHER_SECRETS if is_once and one.secret_length else ():
@@ -201,9 +201,10 @@ def reaching(cpu, asked):
     return {place: bits for place, bits in found.items() if place[0] in cpu.program.sections}
 
 
-# Questions of a library besides requests: other calls, and the class that proves updates of XXH3.
-Beside = collections.namedtuple("Beside", "calls updates")
-FOR_C = Beside([call for _, _, call in calls.OTHERS], xxh3_updates.Xxh3Updates)
+# Questions of a library besides requests: other calls, and the class that proves updates of XXH3; and the length of its
+# shortest one-shots.
+Beside = collections.namedtuple("Beside", "calls updates shortest")
+FOR_C = Beside([call for _, _, call in calls.OTHERS], xxh3_updates.Xxh3Updates, 0)
 
 
 # ---- questions by induction

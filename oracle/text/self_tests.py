@@ -44,7 +44,7 @@ def change_rows(texts, others, is_all):
             yield change_row(name, (40, 100), is_all, name, make)
     name = f"cargo's {V1}"
     row = change_row(name, (30, 30), is_all, f"cargo-{V1}", makers(others)[name],
-                     beside=Beside([*cargo_calls.ALL, *pieces()], cargo_streams.CargoUpdates))
+                     beside=Beside([*cargo_calls.ALL, *pieces()], cargo_streams.CargoUpdates, 241))
     row.title = BEGIN + row.title
     yield row
 
