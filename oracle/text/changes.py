@@ -18,7 +18,7 @@ from terms import definition, nodes
 from .instructions import PARTS, SETS, TABLE, VECTORS, letters
 from .objects import TEXT, Immediate, Place, Register
 from .one_shots import is_plain
-from .questions import FOR_C, are_long, by_induction, further, near, questions, reaching, takes_stripes
+from .questions import FOR_C, Call, are_long, by_induction, further, near, questions, reaching, takes_stripes
 
 FOLDER = os.path.join(os.path.dirname(os.path.abspath(__file__)), "equal_changes")
 LIMIT = 40_000                   # instructions of a changed source's call
@@ -35,14 +35,14 @@ ALIKE = [("je", "jne"), ("jb", "jbe"), ("ja", "jae"), ("jb", "jae"), ("sete", "s
 
 # ---- outcome of a change
 
-def outcome(cpu, instructions, asked, draw, entries, more):
+def outcome(cpu, instructions, asked, draw, near_to, more):
     """Returns the outcome of changed instructions: tests the requests that run them, requests near those, a few on
     symbols, and `more` questions. If only long requests run them, `more` comes first. A question that detects a change
     must accept the unchanged source: otherwise its result says nothing about the change."""
     before = [cpu.program.sections[x.section][x.at] for x in instructions]
     requests = [question for question in asked if question.request]
     few = draw.sample(requests[:MOST], min(FEWEST, len(requests[:MOST])))
-    with_near = itertools.chain(requests, near(requests, entries, draw, NEAR))
+    with_near = itertools.chain(requests, near_to(requests, draw=draw))
     by_requests = itertools.chain((question.twice for question in with_near), (question.over_symbols for question in few))
     ways = itertools.chain(*((more, by_requests) if are_long(requests) else (by_requests, more)))
     try:
@@ -178,6 +178,7 @@ def more_ways(cpu, reached, asked, entries, is_all, section, beside):
     if beside.updates and (is_all or takes_stripes(cpu.program, section)):
         yield from (question.over_symbols for question in by_induction(cpu.program, requests, section, beside.updates))
     yield from (question.twice for question in further(requests, entries, beside.shortest))
+    yield from (Call(call).over_symbols for call in beside.more(cpu))
 
 
 def noticed(name, make, count, is_all, is_drawn=anywhere, beside=FOR_C):
@@ -208,12 +209,13 @@ def noticed_of(cpu, changes, known, is_all, beside=FOR_C):
     asked = questions(entries, is_all, beside.calls, cpu.library)
     found = reaching(cpu, asked)
     bad, texts = [], []
+    near_to = functools.partial(near, entries=entries, count=NEAR, shortest=beside.shortest)
     for place, text, instructions in changes(sorted(found)):
         texts.append(text)
         reached = [question for k, question in enumerate(asked) if found[place] >> k & 1]
         has_reason = bool(known.of(text))
         more = () if has_reason else more_ways(cpu, reached, asked, entries, is_all, place[0], beside)
-        what = outcome(cpu, instructions, reached, random.Random(text), entries, more)
+        what = outcome(cpu, instructions, reached, random.Random(text), near_to, more)
         if is_fault(what, has_reason):
             bad.append(f"{what}{', and has a reason' if has_reason else ''}: {text}")
     return texts, bad

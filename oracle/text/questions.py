@@ -157,11 +157,11 @@ def are_long(asked):
     return all(question.request.length >= LONG for question in asked)
 
 
-def near(asked, entries, draw, count):
+def near(asked, entries, draw, count, shortest):
     """Yields requests with lengths and cuts near to the given ones, with mostly extreme bytes."""
     requests = [question.request for question in asked if question.request.length < LONG]
     for one in draw.choices(requests, k=count if requests else 0):
-        n = max(0, one.length + draw.randrange(-2, 3))
+        n = max(shortest, one.length + draw.randrange(-2, 3))
         cuts = None if one.cuts is None else [max(0, min(n, cut + draw.randrange(-2, 3))) for cut in one.cuts]
         request = Request(one.hash_name, one.kind, n, one.secret_length, cuts=cuts and sorted(cuts))
         yield from (OfRequest(twin, entries, True) for twin in with_twins(request))
@@ -201,10 +201,10 @@ def reaching(cpu, asked):
     return {place: bits for place, bits in found.items() if place[0] in cpu.program.sections}
 
 
-# Questions of a library besides requests: other calls, and the class that proves updates of XXH3; and the length of its
-# shortest one-shots.
-Beside = collections.namedtuple("Beside", "calls updates shortest")
-FOR_C = Beside([call for _, _, call in calls.OTHERS], xxh3_updates.Xxh3Updates, 0)
+# Questions of a library besides requests: other calls, the class that proves updates of XXH3, and a function that
+# yields calls for changes that are still undetected; and the length of its shortest one-shots.
+Beside = collections.namedtuple("Beside", "calls updates more shortest")
+FOR_C = Beside([call for _, _, call in calls.OTHERS], xxh3_updates.Xxh3Updates, lambda cpu: (), 0)
 
 
 # ---- questions by induction

@@ -3,8 +3,8 @@ compared with the processor. They can only fail: no proof of a source depends on
 import functools
 import tempfile
 
-from . import (cargo_calls, cargo_planted, cargo_streams, changes, on_processor, planted, planted_checks, planted_lines,
-               planted_objects, planted_values, switched_off)
+from . import (any_updates, cargo_calls, cargo_planted, cargo_streams, changes, on_processor, planted, planted_checks,
+               planted_lines, planted_objects, planted_values, switched_off)
 from .cargo_exports import BEGIN
 from .instructions import SETS, TABLE, V1, V4
 from .questions import CASES, Beside, plain_update, xxh3_update
@@ -44,7 +44,7 @@ def change_rows(texts, others, is_all):
             yield change_row(name, (40, 100), is_all, name, make)
     name = f"cargo's {V1}"
     row = change_row(name, (30, 30), is_all, f"cargo-{V1}", makers(others)[name],
-                     beside=Beside([*cargo_calls.ALL, *pieces()], cargo_streams.CargoUpdates, 241))
+                     beside=Beside([*cargo_calls.ALL, *pieces()], cargo_streams.CargoUpdates, each_piece, 241))
     row.title = BEGIN + row.title
     yield row
 
@@ -54,6 +54,14 @@ def pieces():
     for k in range(CASES):
         yield functools.partial(plain_update, "32", k)
         yield functools.partial(xxh3_update, cargo_streams.CargoUpdates, k)
+
+
+def each_piece(cpu):
+    """Yields calls that prove each case of chunks, of which `pieces` has some."""
+    for one in list(cargo_streams.CargoUpdates(cpu).all_updates()):
+        yield functools.partial(lambda one, cpu: cargo_streams.CargoUpdates(cpu).update(*one), one)
+    for one in any_updates.updates("32"):
+        yield functools.partial(lambda one, cpu: any_updates.AnyUpdates(cpu, "32").update(one), one)
 
 
 def is_widened(section):
