@@ -1,6 +1,7 @@
 """Chooses the rows on the verifier itself: planted faults, disabled checks, changes of instructions, and the table
 compared with the processor. They can only fail: no proof of a source depends on them."""
 import functools
+import itertools
 import tempfile
 
 from . import (any_updates, cargo_calls, cargo_planted, cargo_streams, changes, on_processor, planted, planted_checks,
@@ -58,10 +59,19 @@ def pieces():
 
 def each_piece(cpu):
     """Yields calls that prove each case of chunks, of which `pieces` has some."""
-    for one in list(cargo_streams.CargoUpdates(cpu).all_updates()):
-        yield functools.partial(lambda one, cpu: cargo_streams.CargoUpdates(cpu).update(*one), one)
+    for k, _ in enumerate(cargo_streams.CargoUpdates(cpu).all_updates()):
+        yield functools.partial(xxh3_piece, k)
     for one in any_updates.updates("32"):
-        yield functools.partial(lambda one, cpu: any_updates.AnyUpdates(cpu, "32").update(one), one)
+        yield functools.partial(plain_piece, one)
+
+
+def xxh3_piece(k, cpu):
+    proof = cargo_streams.CargoUpdates(cpu)
+    proof.update(*next(itertools.islice(proof.all_updates(), k, None)))
+
+
+def plain_piece(one, cpu):
+    any_updates.AnyUpdates(cpu, "32").update(one)
 
 
 def is_widened(section):
