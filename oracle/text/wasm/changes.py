@@ -35,6 +35,12 @@ KEPT = 2
 MORE_CUTS = 1, 31, 500, 33, 65, 256, 257
 MORE_PIECES = [(70, 30), (1500, 300, 1000), (1100, 600, 900), (1100, 500, 1090), (520, 500), (513, 512), (514, 500),
                (700, 505), (970, 500, 520)]
+# Streams whose last chunk completes a buffered stripe with each of FILLS bytes, the edges of the copies; in the last two
+# a block ends within the buffer. For plain hashes, each number of buffered bytes. Then short chunks after one byte.
+FILLS = 1, 2, 3, 4, 5, 7, 8, 9, 15, 16, 17, 31, 32, 33, 63
+FILLED = [*((n, 64 - fill) for n in (1000, 2300) for fill in FILLS), (2020, 600, 1020), (3120, 600, 1020)]
+PLAIN_FILLED = [(80, waiting) for waiting in range(1, 32)]
+SHORT_PIECES = [(1 + n, 1) for n in range(1, 65)]
 STREAM_LENGTHS = 3, 0, 5, 33, 70, 12, 257, 1500, 520, 700, 200, 600
 STREAM_CUTS = [], [1], [33], [64, 65], [255, 256], [300, 1000], [500]
 STEPS = 100_000               # maximum number of instructions of a changed module's call
@@ -225,7 +231,8 @@ def differs(request, a, b):
 
 
 def more(questions):
-    """Yields requests of the same kinds with EDGES, and for one one-shot and one stream with many short lengths."""
+    """Yields requests of the same kinds with EDGES, for one one-shot and one stream with many short lengths, for one
+    stream of each family with more chunks, and for XXH3 more invalid records."""
     found = dict.fromkeys(kind_of(question)[:4] for question in questions)
     # Instructions that only refused calls run are tested by streams too.
     kinds = [kind for kind in found if kind[3] not in REFUSING] or [(*kind[:3], calls.stream) for kind in found][:1]
@@ -237,6 +244,12 @@ def more(questions):
     for hash_name, way, secret, answer in kinds:
         for n, *cuts in MORE_PIECES if answer is calls.stream else ():
             yield Request(hash_name, way, n, secret, cuts=cuts), answer
+    streams = {calls.family(kind[0]): kind for kind in kinds if kind[3] is calls.stream}
+    for family, (hash_name, way, secret, answer) in streams.items():
+        for n, *cuts in [*(FILLED if family == "xxh3" else PLAIN_FILLED), *SHORT_PIECES]:
+            yield Request(hash_name, way, n, secret, cuts=cuts), answer
+    for wrong in refusals.more_wrong_records() if "xxh3" in streams else ():
+        yield wrong, refusals.refuse_record
 
 
 def of_lengths(kind, lengths):

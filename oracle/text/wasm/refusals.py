@@ -40,6 +40,11 @@ WRONG_RECORDS = [
     ("3-64", 700, "another length", (680, 8, 699)), ("3-64", 700, "a stripe fewer", (152, 8, 6)),
     ("3-64", 5, "513 bytes are said to wait and to have been taken", (672, 8, 513), (680, 8, 513)),
 ]
+# More, each after the length of its secret, or None. Only changes that nothing else detects are tested with these.
+NO_BYTE_WAITS = "3-64", 700, "no byte waits, and the length is that of the stripes", (672, 8, 0), (680, 8, 576)
+OWN_SECRET = 140
+MORE_WRONG_RECORDS = [(None, *NO_BYTE_WAITS), (OWN_SECRET, *NO_BYTE_WAITS),
+                      (OWN_SECRET, "3-64", 700, "a place behind a secret of 4 bytes more than stripes", (80, 8, 9))]
 
 
 def one_shots_with_short_secrets(machines):
@@ -112,8 +117,8 @@ def expect_refused(it, code):
 class WrongRecord(Request):
     """A stream of `taken` bytes with some fields changed afterwards."""
 
-    def __init__(self, hash_name, taken, what, *fields):
-        super().__init__(hash_name, "seed", taken, seed=7)
+    def __init__(self, hash_name, taken, what, *fields, secret_length=None):
+        super().__init__(hash_name, "both" if secret_length else "seed", taken, secret_length, seed=7)
         self.what, self.fields = what, fields
 
 
@@ -124,11 +129,16 @@ def refuse_record(vm, wrong):
     expect_refused(it, NOT_A_STREAM)
 
 
+def more_wrong_records():
+    return [WrongRecord(*wrong, secret_length=length) for length, *wrong in MORE_WRONG_RECORDS]
+
+
 def wrong_records(machines):
+    asked = [*(WrongRecord(*wrong) for wrong in WRONG_RECORDS), *more_wrong_records()]
     for vm in machines.values():
-        for wrong in WRONG_RECORDS:
-            refuse_record(vm, WrongRecord(*wrong))
-    return f"{len(WRONG_RECORDS) * len(machines)} refused", []
+        for wrong in asked:
+            refuse_record(vm, wrong)
+    return f"{len(asked) * len(machines)} refused", []
 
 
 # ---- counters
