@@ -14,7 +14,8 @@ use Rattle.xxhsum_program.specs.GoodList.{GoodMeansEqual, IsWell}
 use Rattle.xxhsum_program.specs.HashNames.{SaysNames, name_events}
 use Rattle.xxhsum_program.specs.Lines.{lines_of, step_text, told_line, written_line}
 use Rattle.xxhsum_program.specs.ListEnd.{ListEnd}
-use Rattle.xxhsum_program.specs.Order.{EmitsAll, EmitsTo, EmitsUnlessFailed, Event, StreamRules, Streams, printed_of, reported_of}
+use Rattle.xxhsum_program.specs.Order.{EmitsAll, EmitsTo, EmitsUnlessFailed, Event, StreamRules, printed_of, reported_of}
+use Rattle.xxhsum_program.specs.declared.streams.Streams.{Streams}
 use Rattle.xxhsum_program.specs.Outcomes.{Comes, are_digested, reason_text}
 use Rattle.xxhsum_program.specs.Run.{status_of}
 use Rattle.xxhsum_program.specs.Said.{list_events}

@@ -23,7 +23,8 @@ ghost use Rattle.xxhsum_program.specs.Lines.{lines_of, told_line, written_line};
 ghost use Rattle.xxhsum_program.specs.ListEnd.{ListEnd};
 ghost use Rattle.xxhsum_program.specs.Outcomes.{Comes, IsValueOf, are_digested};
 ghost use Rattle.xxhsum_program.specs.PrintedIsGood.{PrintedIsGood};
-ghost use Rattle.xxhsum_program.specs.Order.{EmitsAll, EmitsTo, Event, Streams, printed_of, reported_of, rules_of};
+ghost use Rattle.xxhsum_program.specs.Order.{EmitsAll, EmitsTo, Event, printed_of, reported_of, rules_of};
+ghost use Rattle.xxhsum_program.specs.declared.streams.Streams.{Streams};
 ghost use Rattle.xxhsum_program.specs.Run.{status_of};
 ghost use Rattle.xxhsum_program.specs.Said.{list_events, named_text, printed_finding};
 

@@ -6,7 +6,9 @@ use Rattle.xxhsum_program.specs.CheckList.{AnswersList, AnswersOutcome, Checked,
 use Rattle.xxhsum_program.specs.Findings.{Finding, Proper, count_proper}
 use Rattle.xxhsum_program.specs.Lines.{PrintsLine}
 use Rattle.xxhsum_program.specs.ListEnd.{ListEnd}
-use Rattle.xxhsum_program.specs.Order.{EmitsAll, EmitsTo, StreamRules, Streams, streams}
+use Rattle.xxhsum_program.specs.Order.{EmitsAll, EmitsTo, StreamRules}
+use Rattle.xxhsum_program.specs.declared.streams.Streams.{Streams}
+use Rattle.xxhsum_program.specs.Streams.{streams_of}
 use Rattle.xxhsum_program.specs.Report.{passes}
 use Rattle.xxhsum_program.specs.Said.{break_events, finding_events, found_text, is_silent, lines_events, list_events, numbered, printed_finding, summary_events}
 use Rattle.xxhsum_program.proofs.CheckFacts.{Stands, some-read}
@@ -35,7 +37,7 @@ silent-prints options list number name found silent = rw silent refl
 -- Lemma: a file's result is printed, unless the run stops.
 pub line-said : {W E : Type 0} (is_finding : Finding → Type 0) (rules : StreamRules W E) (options : Options) (list : List ℕ) (number : ℕ) (name shown : List ℕ) (found : Found) (r_old r_new : Report) (old : Streams W E) (out : W) (result : Result (Unit {0}) Stop)
     → is_silent options found ≡ false → shown ≡ name → is_finding (Proper name found) → r_new ≡ count_proper options.ignores_missing r_old found → PrintsLine rules.writing (found_text options.is_quiet list number shown found) old.out out result
-    → ChecksLine is_finding rules options list number r_old r_new old (streams out old.err) result
+    → ChecksLine is_finding rules options list number r_old r_new old (streams_of out old.err) result
 line-said is_finding rules options list number name shown found r_old r_new old out (Ok x) speaks same is counted prints =
     let text : found_text options.is_quiet list number shown found ≡ printed_finding options list number (Proper name found) = rw (speaks, same) refl in
     (Proper name found, is, counted, emits-line {T = Unit {0}} rules (printed_finding options list number (Proper name found)) old out (Ok tt) (subst (λ bytes. PrintsLine {T = Unit {0}} rules.writing bytes old.out out (Ok tt)) text prints) tt)

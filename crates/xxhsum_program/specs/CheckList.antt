@@ -6,7 +6,8 @@ use Rattle.xxhsum_program.specs.Findings.{Finding, IsFinding, count_one}
 use Rattle.xxhsum_program.specs.Lines.{lines_of}
 use Rattle.xxhsum_program.specs.ListEnd.{ListEnd, Whole, TooMany, Endless, FailedRead, report_at}
 use Rattle.xxhsum_program.specs.ListLines.{FailsAfter, IsEndless, IsLastLine, end_piece}
-use Rattle.xxhsum_program.specs.Order.{EmitsAll, EmitsTo, EmitsUnlessFailed, Event, Reported, StreamRules, Streams}
+use Rattle.xxhsum_program.specs.Order.{EmitsAll, EmitsTo, EmitsUnlessFailed, Event, Reported, StreamRules}
+use Rattle.xxhsum_program.specs.declared.streams.Streams.{Streams}
 use Rattle.xxhsum_program.specs.Report.{passes}
 use Rattle.xxhsum_program.specs.Said.{finding_events, list_events, told_refusal}
 
@@ -74,7 +75,7 @@ ChecksLine is_finding rules options list number r_old r_new old new (Err WriteFa
     (finding : Finding) × is_finding finding
     × EmitsTo {T = Unit {0}} rules (finding_events options list number finding) old new (Err WriteFailed)
 ChecksLine is_finding rules options list number r_old r_new old new (Err OutOfMemory) =
-    (new.out ≡ old.out) × (new.err ≡ old.err)
+    EmitsAll rules [] old new
 
 -- True if the list is good; false before its end is reached.
 abbrev pub is_good_list : Options → List Finding → Option ListEnd → Bool

@@ -21,6 +21,7 @@ pub mod Report
 pub mod Run
 pub mod Said
 pub mod Screen
+pub mod Streams
 pub mod Task
 pub mod Told
 pub mod ToldLines

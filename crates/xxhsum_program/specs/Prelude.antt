@@ -19,6 +19,7 @@ pub use Rattle.xxhsum_program.specs.declared.outcome.Outcome.TheVariants.{Digest
 pub use Rattle.xxhsum_program.specs.declared.outcome.Reason.{Reason}
 pub use Rattle.xxhsum_program.specs.declared.stop.Stop.{Stop}
 pub use Rattle.xxhsum_program.specs.declared.stop.Stop.TheVariants.{OutOfMemory, WriteFailed}
+pub use Rattle.xxhsum_program.specs.declared.streams.Streams.{Streams}
 pub use Rattle.xxhsum_program.specs.declared.watched.Watched.{Watched}
 pub use Rattle.xxhsum_program.specs.declared.watched.ProgressDisplay.{ProgressDisplay}
 pub use Rattle.xxhsum_words.specs.declared.options.Options.{Options}

@@ -3,7 +3,9 @@ use Rattle.std.specs.Prelude.{◌≡◌, ℕ, Bool, true, false, List, [], codes
 use Rattle.xxhsum_program.specs.Prelude.{Options, OutOfMemory, SinkRules, SourceRules, Stop, StoreRules, Style, TellsOn, WriteFailed}
 use Rattle.xxhsum_program.specs.CheckList.{SaysList, SaysLists}
 use Rattle.xxhsum_program.specs.HashNames.{SaysInput, SaysNames}
-use Rattle.xxhsum_program.specs.Order.{StreamRules, Streams}
+use Rattle.xxhsum_program.specs.Order.{StreamRules}
+use Rattle.xxhsum_program.specs.declared.streams.Streams.{Streams}
+use Rattle.xxhsum_program.specs.Streams.{err_of}
 use Rattle.xxhsum_program.specs.Task.{Reads, Task, Tells}
 
 abbrev pub style_of : Options → Style
@@ -32,7 +34,7 @@ PerformsAs opening reading input_reading rules store options names source old ne
 abbrev pub DoesTask : {W E : Type 0} → (Options → List (List ℕ) → Type 0) → SinkRules E → Task → Streams W E
     → Streams W E → Result Bool Stop → Type 0
 DoesTask performs telling (Tells text good) old new result =
-    (result ≡ Ok good) × (new.out ≡ old.out) × TellsOn telling text old.err new.err
+    (result ≡ Ok good) × (new.out ≡ old.out) × TellsOn telling text (err_of old) (err_of new)
 DoesTask performs telling (Reads options words) old new result = performs options words
 
 -- ---- the end

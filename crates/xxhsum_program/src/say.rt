@@ -1,8 +1,8 @@
 //! Lines on standard output. A lost line is an error.
 
-ghost use Rattle.std.specs.Prelude.{◌≡◌, ◌++◌, [], false, Bool, Result, IfOk, IfErr};
-ghost use Rattle.xxhsum_program.specs.Prelude.{Took, one_line};
-ghost use Rattle.xxhsum_program.specs.Finish.{Finishes, IsWritten};
+ghost use Rattle.std.specs.Prelude.{◌≡◌, ◌++◌, false, Bool, Result, IfOk, IfErr};
+ghost use Rattle.xxhsum_program.specs.Prelude.{one_line};
+ghost use Rattle.xxhsum_program.specs.Finish.{Finishes};
 ghost use Rattle.xxhsum_program.specs.Joined.{joined};
 ghost use Rattle.xxhsum_program.specs.Lines.{PrintsLine};
 
@@ -62,16 +62,6 @@ pub fn print<W: Sink>(bytes: &[u8], out: &mut W) -> Result<(), Stop>
         Ok(()) => Ok(()),
         Err(_) => Err(Stop::WriteFailed),
     }
-}
-
-// Writes the bytes that the output holds. Called before a message.
-pub(crate) fn release<W: Output>(out: &mut W)
-    requires { W.has_failed out.old ≡ false }
-    ensures prints { Took W.Sink [] out.old out.new }
-    ensures written { IsWritten W.held W.has_lost out.new }
-    ensures works { W.has_failed out.new ≡ false }
-{
-    out.release();
 }
 
 /// Writes the bytes that the output holds at the end of a run. If that fails, the result is [`Stop::WriteFailed`],

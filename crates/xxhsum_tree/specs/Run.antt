@@ -3,7 +3,7 @@ use Rattle.std.specs.Prelude.{◌≡◌, ℕ, Bool, true, false, ◌&&◌, ◌�
 use Rattle.xxhsum_tree.specs.Prelude.{FolderRules, Options, OutOfMemory, SinkRules, SourceRules, Stop, StoreRules, StreamRules, Streams}
 use Rattle.xxhsum_program.specs.declared.process.Terminals.{Terminals}
 use Rattle.xxhsum_program.specs.HashNames.{SaysNames}
-use Rattle.xxhsum_program.specs.Order.{streams}
+use Rattle.xxhsum_program.specs.Streams.{streams_of}
 use Rattle.xxhsum_program.specs.Run.{DoesTask, PerformsAs, style_of}
 use Rattle.xxhsum_program.specs.Task.{IsProgram, has_none, task_of}
 use Rattle.xxhsum_tree.specs.Audits.{Audits}
@@ -32,7 +32,7 @@ abbrev pub WalksFolders : {S F W E : Type 0} → StoreRules S F → FolderRules 
 WalksFolders {S} {F} {W} {E} opening folders reading rules store options names old new result =
     ((files : List (List ℕ)) × (are_all : Bool) × (told : E) × (done : Result Bool Stop)
     × WalksAll (tree_of opening folders store) rules.telling names files are_all old.err told
-    × SaysNames opening reading rules store options.kind (style_of options) files (streams old.out told) new done
+    × SaysNames opening reading rules store options.kind (style_of options) files (streams_of old.out told) new done
     × (result ≡ all_well are_all done))
     ⊎ ((stop : Stop) × WalksSome (tree_of opening folders store) rules.telling names old.err new.err stop
     × (new.out ≡ old.out) × (result ≡ Err stop))
@@ -43,7 +43,7 @@ abbrev pub AuditsBelow : {S F W E : Type 0} → StoreRules S F → FolderRules S
 AuditsBelow {S} {F} {W} {E} opening folders reading rules store options list names old new result =
     let tree = tree_of opening folders store in
     ((files : List (List ℕ)) × (told : E) × WalksAll tree rules.telling names files true old.err told
-    × Audits opening reading rules.writing rules.telling store options list files (streams old.out told) new result)
+    × Audits opening reading rules.writing rules.telling store options list files (streams_of old.out told) new result)
     ⊎ (((files : List (List ℕ)) × WalksAll tree rules.telling names files false old.err new.err
     × (new.out ≡ old.out) × (result ≡ Ok false))
     ⊎ ((stop : Stop) × WalksSome tree rules.telling names old.err new.err stop × (new.out ≡ old.out)

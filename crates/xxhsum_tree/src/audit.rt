@@ -4,7 +4,7 @@ ghost use Rattle.std.specs.Prelude.{◌≡◌, false, IfOk, map};
 ghost use Rattle.xxhsum_audit.specs.Item.{items_of, texts_of};
 ghost use Rattle.xxhsum_audit.specs.List.{said_by};
 ghost use Rattle.xxhsum_audit.specs.Order.{IsOrder, Rises, clash_in, compare_lines, compare_paths, rank_lines, rank_names};
-ghost use Rattle.xxhsum_program.specs.Order.{streams};
+
 ghost use Rattle.xxhsum_program.specs.Told.{TellsOn};
 ghost use Rattle.xxhsum_tree.specs.AuditLaws.{AuditMeansEqual};
 ghost use Rattle.xxhsum_tree.specs.Audits.{Audits, AuditsItems, AuditsSides, TellsTwice, twice_text};
@@ -41,18 +41,17 @@ pub fn audit_names<S: Store, T: Ticks, W: Sink, E: Sink>(
     job: &Job<'_, S, T>,
     list: &[u8],
     names: &[Vec<u8>],
-    out: &mut W,
-    err: &mut E,
+    streams: &mut Streams<W, E>,
 ) -> Result<bool, Stop>
-    requires { W.has_failed out.old ≡ false }
+    requires { W.has_failed streams.old.out ≡ false }
     ensures { Audits S.Store S.File.Source W.Sink E.Sink job.now.store.now job.now.options list.now
-        (map (λ name. name.items) names.now) (streams out.old err.old)
-        (streams out.new err.new) result }
+        (map (λ name. name.items) names.now) streams.old
+        streams.new result }
 {
     let Some(said) = said_named(job, list, err)? else {
         return Ok(false);
     };
-    audit_lines(job, list, &said, names, out, err)
+    audit_lines(job, list, &said, names, streams)
 }
 
 // Compares the names with the entries of a list.
@@ -61,14 +60,13 @@ fn audit_lines<S: Store, T: Ticks, W: Sink, E: Sink>(
     list: &[u8],
     said: &[Entry],
     names: &[Vec<u8>],
-    out: &mut W,
-    err: &mut E,
+    streams: &mut Streams<W, E>,
 ) -> Result<bool, Stop>
-    requires { W.has_failed out.old ≡ false }
+    requires { W.has_failed streams.old.out ≡ false }
     ensures { AuditsItems S.Store S.File.Source W.Sink E.Sink job.now.store.now job.now.options
         list.now (map said_by said.now) (map (λ name. name.items) names.now)
-        (streams out.old err.old)
-        (streams out.new err.new) result }
+        streams.old
+        streams.new result }
 {
     let lines = lines_in_order(job.alloc, said)?;
     let asked = names_in_order(job.alloc, names)?;
@@ -79,7 +77,7 @@ fn audit_lines<S: Store, T: Ticks, W: Sink, E: Sink>(
     if tell_twice(b"Error", &asked, err) {
         return Ok(false);
     }
-    audit_sides(job, &lines, &asked, out, err)
+    audit_sides(job, &lines, &asked, streams)
 }
 
 // Returns the entries, ordered by name.
@@ -152,15 +150,14 @@ fn audit_sides<S: Store, T: Ticks, W: Sink, E: Sink>(
     job: &Job<'_, S, T>,
     lines: &[FileDigest<'_>],
     asked: &[&[u8]],
-    out: &mut W,
-    err: &mut E,
+    streams: &mut Streams<W, E>,
 ) -> Result<bool, Stop>
-    requires works { W.has_failed out.old ≡ false }
+    requires works { W.has_failed streams.old.out ≡ false }
     requires lines { Rises compare_lines (items_of lines.now) }
     requires names { Rises compare_paths (texts_of asked.now) }
     ensures { AuditsSides S.Store S.File.Source W.Sink E.Sink job.now.store.now job.now.options
-        (items_of lines.now) (texts_of asked.now) (streams out.old err.old)
-        (streams out.new err.new) result }
+        (items_of lines.now) (texts_of asked.now) streams.old
+        streams.new result }
 {
     let kind = kind_of_new(lines, job.options.kind);
     let compared = digests_of(job, kind, lines, asked, err)?;

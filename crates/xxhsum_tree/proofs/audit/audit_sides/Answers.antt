@@ -2,7 +2,7 @@ use Rattle.std.proofs.Common.{Ok, Err, false, ap, subst, sym, ◌∙◌}
 use Rattle.xxhsum_audit.specs.Found.{founds_of}
 use Rattle.xxhsum_audit.specs.Item.{items_of, texts_of}
 use Rattle.xxhsum_tree.specs.Report.{PrintsReport, are_same}
-use Rattle.xxhsum_program.specs.Order.{streams}
+use Rattle.xxhsum_program.specs.Streams.{streams_of}
 use Rattle.xxhsum_program.proofs.HashFacts.{is-err}
 use Rattle.xxhsum_tree.proofs.ReportFacts.{report-stops, stop-answers}
 use Rattle.xxhsum_tree.proofs.RowFacts.{answers-all, answers-not-same, says-audit}
@@ -15,7 +15,7 @@ returns-in_err-print_report g c =
     let is = is-err result stop c.from_residual-in_err-print_report.ensures.1 in
     let found = founds_of c.in_ok-found.found.items in
     let prints = subst (λ some. PrintsReport {T = Unit {0}} g.W.Sink c.args.job.now.options (founds_of some) c.args.out.now c.print_report.new.out (Err stop)) c.deref.ensures.value c.in_err-print_report.ensures in
-    says-audit g.S.Store g.S.File.Source g.W.Sink g.E.Sink c.args.job.now.store.now c.args.job.now.options (items_of c.args.lines.now) (texts_of c.args.asked.now) _ _ found (streams c.args.out.now c.args.err.now) (streams c.print_report.new.out c.digests_of.new.err) result
+    says-audit g.S.Store g.S.File.Source g.W.Sink g.E.Sink c.args.job.now.store.now c.args.job.now.options (items_of c.args.lines.now) (texts_of c.args.asked.now) _ _ found c.args.streams.now (streams_of c.print_report.new.out c.digests_of.new.err) result
     c.requires.lines c.requires.names c.kind_of_new-kind.ensures c.in_ok-compared.ensures c.in_ok-found.ensures
     (report-stops (Unit {0}) g.W.Sink c.args.job.now.options found _ _ stop result is prints) (λ rows all. stop-answers rows found stop result is)
 
@@ -23,7 +23,7 @@ pub returns-then-not-are_same : goal.returns-then-not-are_same
 returns-then-not-are_same g c =
     let found = founds_of c.in_ok-found.found.items in
     let prints = subst (λ some. PrintsReport {T = Unit {0}} g.W.Sink c.args.job.now.options (founds_of some) c.args.out.now c.print_report.new.out (Ok tt)) c.deref.ensures.value c.in_ok-print_report.ensures in
-    says-audit g.S.Store g.S.File.Source g.W.Sink g.E.Sink c.args.job.now.store.now c.args.job.now.options (items_of c.args.lines.now) (texts_of c.args.asked.now) _ _ found (streams c.args.out.now c.args.err.now) (streams c.print_report.new.out c.digests_of.new.err) (Ok false)
+    says-audit g.S.Store g.S.File.Source g.W.Sink g.E.Sink c.args.job.now.store.now c.args.job.now.options (items_of c.args.lines.now) (texts_of c.args.asked.now) _ _ found c.args.streams.now (streams_of c.print_report.new.out c.digests_of.new.err) (Ok false)
     c.requires.lines c.requires.names c.kind_of_new-kind.ensures c.in_ok-compared.ensures c.in_ok-found.ensures prints
     (λ rows all. answers-not-same rows found (sym (ap (λ some. are_same (founds_of some)) c.deref-2.ensures.value) ∙ sym c.are_same.ensures ∙ c.if-not-are_same.true))
 
@@ -31,6 +31,6 @@ pub returns : goal.returns
 returns g c =
     let found = founds_of c.in_ok-found.found.items in
     let prints = subst (λ some. PrintsReport {T = Unit {0}} g.W.Sink c.args.job.now.options (founds_of some) c.args.out.now c.print_report.new.out (Ok tt)) c.deref.ensures.value c.in_ok-print_report.ensures in
-    says-audit g.S.Store g.S.File.Source g.W.Sink g.E.Sink c.args.job.now.store.now c.args.job.now.options (items_of c.args.lines.now) (texts_of c.args.asked.now) _ _ found (streams c.args.out.now c.args.err.now) (streams c.print_report.new.out c.digests_of.new.err) (Ok c.in_ok-compared.compared.are_all)
+    says-audit g.S.Store g.S.File.Source g.W.Sink g.E.Sink c.args.job.now.store.now c.args.job.now.options (items_of c.args.lines.now) (texts_of c.args.asked.now) _ _ found c.args.streams.now (streams_of c.print_report.new.out c.digests_of.new.err) (Ok c.in_ok-compared.compared.are_all)
     c.requires.lines c.requires.names c.kind_of_new-kind.ensures c.in_ok-compared.ensures c.in_ok-found.ensures prints
     (λ rows all. answers-all rows found _ (sym (ap (λ some. are_same (founds_of some)) c.deref-2.ensures.value) ∙ sym c.are_same.ensures ∙ c.if-not-are_same.false) all)

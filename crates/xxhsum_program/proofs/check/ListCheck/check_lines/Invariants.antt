@@ -1,7 +1,8 @@
 use Rattle.std.proofs.Common.{◌≡◌, ◌+◌, List, ℕ, length, false}
 use Rattle.xxhsum_program.specs.Prelude.{EachHas}
 use Rattle.xxhsum_program.specs.Findings.{Finding, IsFinding, report_of}
-use Rattle.xxhsum_program.specs.Order.{EmitsAll, rules_of, streams}
+use Rattle.xxhsum_program.specs.Order.{EmitsAll, rules_of}
+use Rattle.xxhsum_program.specs.Streams.{streams_of}
 use Rattle.xxhsum_program.specs.Said.{finding_events, numbered}
 use Rattle.xxhsum_program.proofs.CheckFacts.{Stands}
 use Rattle.xxhsum_program.specs.Watched.{source_of}
@@ -17,6 +18,6 @@ invariant-loop-number g l = record {
   lines : length read + 1 ≡ l.number;
   count : l.number ≡ 1 + length findings;
   stands : Stands g.R.Source (source_of l.fn.source) l.lines read;
-  emits : EmitsAll (rules_of g.W.Sink g.W.Output.held g.W.Output.has_lost g.E.Sink) (numbered (finding_events l.fn.self.options l.fn.self.name.now) 1 findings) (streams l.initial.out l.initial.err) (streams l.out l.err);
-  works : g.W.Sink.has_failed l.out ≡ false;
+  emits : EmitsAll (rules_of g.W.Sink g.W.Output.held g.W.Output.has_lost g.E.Sink) (numbered (finding_events l.fn.self.options l.fn.self.name.now) 1 findings) l.initial.streams l.streams;
+  works : g.W.Sink.has_failed l.streams.out ≡ false;
 }
