@@ -6,6 +6,7 @@
 ghost use Rattle.std.specs.Prelude.{◌≡◌, ◌↔◌, ◌++◌, Bool, List, ℕ, Option, Result, true, codes, IsPermutation};
 ghost use Rattle.std.specs.List.{AllByRecursion, flat_map};
 ghost use Rattle.xxhsum_program.specs.Prelude.{EachHas, Kind, Options, Refused, Shape, Style, TellsOn, Took};
+ghost use Rattle.xxhsum_program.specs.declared.streams.Streams.{Streams};
 ghost use Rattle.xxhsum_program.specs.declared.outcome.Outcome.{Outcome};
 ghost use Rattle.xxhsum_program.specs.declared.stop.Stop.{Stop};
 ghost use Rattle.xxhsum_program.specs.declared.stop.Stop.TheVariants.{WriteFailed};
@@ -24,7 +25,7 @@ ghost use Rattle.xxhsum_program.specs.ListEnd.{ListEnd};
 ghost use Rattle.xxhsum_program.specs.Outcomes.{Comes, IsValueOf, are_digested};
 ghost use Rattle.xxhsum_program.specs.PrintedIsGood.{PrintedIsGood};
 ghost use Rattle.xxhsum_program.specs.Order.{EmitsAll, EmitsTo, Event, printed_of, reported_of, rules_of};
-ghost use Rattle.xxhsum_program.specs.declared.streams.Streams.{Streams};
+ghost use Rattle.xxhsum_program.specs.Streams.{err_of};
 ghost use Rattle.xxhsum_program.specs.Run.{status_of};
 ghost use Rattle.xxhsum_program.specs.Said.{list_events, named_text, printed_finding};
 
@@ -55,7 +56,7 @@ pub fn each_name_once<S: Store, W: Sink, E: Sink>()
         → (outcomes : List Outcome)
         × EachHas (Comes S.Store S.File.Source store kind) names outcomes
         × Took W.Sink (lines_of (written_line kind style) names outcomes) old.out new.out
-        × TellsOn E.Sink (lines_of told_line names outcomes) old.err new.err
+        × TellsOn E.Sink (lines_of told_line names outcomes) (err_of old) (err_of new)
         × (all ≡ are_digested outcomes) }
 {}
 
@@ -65,12 +66,12 @@ pub fn each_stream<W: Sink, E: Sink>()
     ensures ends { (held : W → List ℕ) (has_lost : W → Bool) (events : List Event)
         → (old new : Streams W E) → EmitsAll (rules_of W.Sink held has_lost E.Sink) events old new
         → Took W.Sink (printed_of events) old.out new.out
-        × TellsOn E.Sink (reported_of events) old.err new.err }
+        × TellsOn E.Sink (reported_of events) (err_of old) (err_of new) }
     ensures stops { (held : W → List ℕ) (has_lost : W → Bool) (events : List Event)
         → (old new : Streams W E)
         → EmitsTo {T = Bool} (rules_of W.Sink held has_lost E.Sink) events old new (Err WriteFailed)
         → Refused W.Sink (printed_of events) old.out new.out
-        × TellsOn E.Sink (reported_of events) old.err new.err }
+        × TellsOn E.Sink (reported_of events) (err_of old) (err_of new) }
 {}
 
 /// Whatever bytes a name has, its outcome is one line and no message, or one message and no line.

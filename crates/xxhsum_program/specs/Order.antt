@@ -27,6 +27,11 @@ Emits rules (Reported bytes) old new =
     Took rules.writing [] old.out new.out × IsWritten rules.held rules.has_lost new.out
     × TellsOn rules.telling bytes (err_of old) (err_of new)
 
+-- The bytes that the output holds are written, or were lost, and nothing is printed or reported.
+abbrev pub Releases : {W E : Type 0} → StreamRules W E → Streams W E → Streams W E → Type 0
+Releases rules old new =
+    Took rules.writing [] old.out new.out × IsWritten rules.held rules.has_lost new.out × (err_of new ≡ err_of old)
+
 -- One event after another.
 abbrev pub EmitsAll : {W E : Type 0} → StreamRules W E → List Event → Streams W E → Streams W E → Type 0
 EmitsAll rules [] old new = (new.out ≡ old.out) × (err_of new ≡ err_of old)

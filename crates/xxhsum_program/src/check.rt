@@ -286,12 +286,7 @@ impl<S: Store, T: Ticks> ListCheck<'_, S, T> {
     }
 
     // Reports what is wrong with line `number`.
-    fn report_line<W: Output, E: Sink>(
-        &self,
-        number: u64,
-        what: &[u8],
-        streams: &mut Streams<W, E>,
-    )
+    fn report_line<W: Output, E: Sink>(&self, number: u64, what: &[u8], streams: &mut Streams<W, E>)
         requires { W.has_failed streams.old.out ≡ false }
         ensures reports { Emits (rules_of W.Sink W.held W.has_lost E.Sink)
             (Reported (told_of_line self.now.name.now number what.now)) streams.old streams.new }

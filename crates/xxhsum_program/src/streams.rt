@@ -1,8 +1,8 @@
 //! Standard output and standard error.
 
-ghost use Rattle.std.specs.Prelude.{◌≡◌, [], false};
+ghost use Rattle.std.specs.Prelude.{◌≡◌, false};
 ghost use Rattle.std.specs.Borrow.{sem};
-ghost use Rattle.xxhsum_program.specs.Prelude.{Took, one_line};
+ghost use Rattle.xxhsum_program.specs.Prelude.{one_line};
 ghost use Rattle.xxhsum_program.specs.Finish.{IsWritten};
 ghost use Rattle.xxhsum_program.specs.Joined.{joined};
 
@@ -22,7 +22,7 @@ pub struct Streams<W, E> {
 }
 
 impl<W: Output, E: Sink> Streams<W, E> {
-    ghost use Rattle.xxhsum_program.specs.Order.{Emits, Reported, rules_of};
+    ghost use Rattle.xxhsum_program.specs.Order.{Emits, Releases, Reported, rules_of};
     ghost use Rattle.xxhsum_program.specs.Streams.{LendsMessages, err_of, streams_of};
 
     /// Returns these streams.
@@ -37,10 +37,8 @@ impl<W: Output, E: Sink> Streams<W, E> {
     /// The caller shows that no write to it has failed.
     pub fn release(&mut self)
         requires { W.has_failed self.old.out ≡ false }
-        ensures prints { Took W.Sink [] self.old.out self.new.out }
-        ensures written { IsWritten W.held W.has_lost self.new.out }
+        ensures releases { Releases (rules_of W.Sink W.held W.has_lost E.Sink) self.old self.new }
         ensures works { W.has_failed self.new.out ≡ false }
-        ensures silent { err_of self.new ≡ err_of self.old }
     {
         self.out.release();
     }

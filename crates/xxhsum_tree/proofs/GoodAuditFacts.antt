@@ -1,7 +1,7 @@
 -- Proves that if an audit is good, the lines and the files match each other.
 use Rattle.std.proofs.Common.{◌≡◌, ℕ, true, List, [], ◌∷◌, Option, Some, None, refl, sym, ap, subst, ◌∙◌, inl, inr, Ok}
 use Rattle.std.proofs.lemmas.List.Sorted.{IsPermutation-sym}
-use Rattle.xxhsum_tree.specs.Prelude.{Digested, IsDirectory, Kind, Options, Outcome, SinkRules, SourceRules, StoreRules, Streams, Unread}
+use Rattle.xxhsum_tree.specs.Prelude.{Digested, IsDirectory, Kind, Options, Outcome, SourceRules, StoreRules, StreamRules, Streams, Unread}
 use Rattle.xxhsum_audit.proofs.AmongFacts.{among_permutation}
 use Rattle.xxhsum_audit.proofs.EqualFacts.{same_means_equal}
 use Rattle.xxhsum_audit.proofs.TurnFacts.{by_turns}
@@ -109,7 +109,7 @@ module _ {S F : Type 0} (opening : StoreRules S F) (reading : SourceRules F) (st
 
 -- ---- the meaning of a good audit
 
-module _ {S F W E : Type 0} (opening : StoreRules S F) (reading : SourceRules F) (writing : SinkRules W) (telling : SinkRules E)
+module _ {S F W E : Type 0} (opening : StoreRules S F) (reading : SourceRules F) (rules : StreamRules W E)
     (store : S) (options : Options) (list : List ℕ) (old new : Streams W E) where
   abbrev Agree : List Item → List (List ℕ) → Type 0
   Agree lines names =
@@ -124,7 +124,7 @@ module _ {S F W E : Type 0} (opening : StoreRules S F) (reading : SourceRules F)
         (subst (λ v. IsValueOf opening reading store (kind_of s) (name_of s) v) (sym value) is),
   )
 
-  sides-agree : (lines : List Item) (asked : List (List ℕ)) → AuditsSides opening reading writing telling store options lines asked old new (Ok true)
+  sides-agree : (lines : List Item) (asked : List (List ℕ)) → AuditsSides opening reading rules store options lines asked old new (Ok true)
       → Agree lines asked
   sides-agree lines asked (inr fails) = let no = fails.3 in let none : ⊥ = cc in absurd none
   sides-agree lines asked (inl (rows, found, are, told, audit, prints, answers)) =
@@ -146,12 +146,12 @@ module _ {S F W E : Type 0} (opening : StoreRules S F) (reading : SourceRules F)
       )
 
   unless-agree : (lines : List Item) (asked : List (List ℕ)) (first second : Option (List ℕ))
-      → AuditsUnlessTwice opening reading writing telling store options list lines asked old new (Ok true) first second → Agree lines asked
+      → AuditsUnlessTwice opening reading rules store options list lines asked old new (Ok true) first second → Agree lines asked
   unless-agree lines asked None None audits = sides-agree lines asked audits
   unless-agree lines asked None (Some name) tells = let no = tells.0 in let none : ⊥ = cc in absurd none
   unless-agree lines asked (Some name) second tells = let no = tells.0 in let none : ⊥ = cc in absurd none
 
-  items-agree : (said : List Item) (names : List (List ℕ)) → AuditsItems opening reading writing telling store options list said names old new (Ok true)
+  items-agree : (said : List Item) (names : List (List ℕ)) → AuditsItems opening reading rules store options list said names old new (Ok true)
       → Agree said names
   items-agree said names (inr fails) = let no = fails.0 in let none : ⊥ = cc in absurd none
   items-agree said names (inl (lines, asked, order, order', audits)) =
@@ -164,12 +164,12 @@ module _ {S F W E : Type 0} (opening : StoreRules S F) (reading : SourceRules F)
             (there.0, among_permutation lines said there.0 (IsPermutation-sym said lines order.0) there.1, there.2),
       )
 
-pub audit-means-equal : {S F W E : Type 0} (opening : StoreRules S F) (reading : SourceRules F) (writing : SinkRules W) (telling : SinkRules E)
-    → AuditMeansEqual opening reading writing telling
-audit-means-equal opening reading writing telling store options list names old new (inl (said, says, audits)) =
-    let agree = items-agree opening reading writing telling store options list old new said names audits in
+pub audit-means-equal : {S F W E : Type 0} (opening : StoreRules S F) (reading : SourceRules F) (rules : StreamRules W E)
+    → AuditMeansEqual opening reading rules
+audit-means-equal opening reading rules store options list names old new (start, begun, inl (said, says, audits)) =
+    let agree = items-agree opening reading rules store options list start new said names audits in
     (said, says, agree.0, agree.1)
-audit-means-equal opening reading writing telling store options list names old new (inr (inl (text, why, tells))) =
+audit-means-equal opening reading rules store options list names old new (start, begun, inr (inl (text, why, tells))) =
     let no = tells.0 in let none : ⊥ = cc in absurd none
-audit-means-equal opening reading writing telling store options list names old new (inr (inr fails)) =
+audit-means-equal opening reading rules store options list names old new (start, begun, inr (inr fails)) =
     let no = fails.0 in let none : ⊥ = cc in absurd none

@@ -3,7 +3,7 @@ use Rattle.std.proofs.Common.{◌≡◌, ℕ, Bool, true, false, ◌&&◌, List,
 use Rattle.std.specs.declared.alloc.AllocError.{AllocError}
 use Rattle.std.proofs.lemmas.List.{map-append}
 use Rattle.std.proofs.lemmas.List.Concat.{flat_map-append}
-use Rattle.xxhsum_tree.specs.Prelude.{Digested, IsDirectory, Kind, Options, Outcome, SinkRules, SourceRules, Stop, StoreRules, Streams, Unread}
+use Rattle.xxhsum_tree.specs.Prelude.{Digested, IsDirectory, Kind, Options, Outcome, SourceRules, Stop, StoreRules, StreamRules, Streams, Unread}
 use Rattle.xxhsum_audit.proofs.FoundFacts.{met_is}
 use Rattle.xxhsum_audit.specs.declared.digest.FileDigest.{FileDigest}
 use Rattle.xxhsum_audit.specs.declared.moves.Compared.{Compared}
@@ -100,12 +100,12 @@ fails-rows is fails (Err e) err fact = fact
 
 -- ---- an audit of all rows
 
-pub says-audit : {S F W E : Type 0} (opening : StoreRules S F) (reading : SourceRules F) (writing : SinkRules W) (telling : SinkRules E) (store : S) (options : Options) (lines : List Item) (names : List (List ℕ)) (kind : Kind) (compared : Compared) (found : List Found) (old new : Streams W E) (result : Result Bool Stop)
+pub says-audit : {S F W E : Type 0} (opening : StoreRules S F) (reading : SourceRules F) (rules : StreamRules W E) (store : S) (options : Options) (lines : List Item) (names : List (List ℕ)) (kind : Kind) (compared : Compared) (found : List Found) (old new : Streams W E) (result : Result Bool Stop)
     → Rises compare_lines lines → Rises compare_paths names → kind ≡ kind_of_new options.kind lines
-    → DigestsRows opening reading telling store kind (by_path lines names) compared old.err new.err
+    → DigestsRows opening reading rules.telling store kind (by_path lines names) compared old.err new.err
     → HasMoves (founds_of compared.settled.items) (items_of compared.gone.items) (items_of compared.come.items) found
-    → PrintsReport writing options found old.out new.out result → ((rows : List Row) → compared.are_all ≡ are_read rows → AnswersAudit rows found result) → AuditsSides opening reading writing telling store options lines names old new result
-says-audit {S} {F} {W} {E} opening reading writing telling store options lines names kind compared found old new result up up' kinds digests moves prints answers =
+    → PrintsReport rules.writing options found old.out new.out result → ((rows : List Row) → compared.are_all ≡ are_read rows → AnswersAudit rows found result) → AuditsSides opening reading rules store options lines names old new result
+says-audit {S} {F} {W} {E} opening reading rules store options lines names kind compared found old new result up up' kinds digests moves prints answers =
     let rows = digests.0 in
     let holds = digests.2 in
     let moved = subst (λ s. HasMoves s (missing_in (first_in kind rows)) (new_in (first_in kind rows)) found) holds.settled

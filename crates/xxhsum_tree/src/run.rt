@@ -2,11 +2,11 @@
 
 ghost use Rattle.std.specs.Prelude.{◌≡◌, false, Bool, List, ℕ, Option, Some, Result, drop, map, IfSome};
 ghost use Rattle.xxhsum_program.specs.Arguments.{AreArguments};
-ghost use Rattle.xxhsum_program.specs.Finish.{Finishes};
-ghost use Rattle.xxhsum_program.specs.Order.{rules_of};
-ghost use Rattle.xxhsum_program.specs.declared.streams.Streams.{Streams};
+ghost use Rattle.xxhsum_program.specs.Finish.{Finishes, IsWritten};
+ghost use Rattle.xxhsum_program.specs.Order.{Releases, rules_of};
 ghost use Rattle.xxhsum_program.specs.Run.{end_text, status_of};
-ghost use Rattle.xxhsum_tree.specs.Prelude.{Options, Stop, TellsOn};
+ghost use Rattle.xxhsum_program.specs.Streams.{err_of};
+ghost use Rattle.xxhsum_tree.specs.Prelude.{Options, Stop, Streams, TellsOn};
 ghost use Rattle.xxhsum_tree.specs.Run.{AuditsBelow, AuditsWords, DoesArguments, PerformsWords, WalksFolders, WalksNames, all_well};
 ghost use Rattle.xxhsum_words.specs.Options.{are_listed};
 
@@ -28,6 +28,7 @@ use xxhsum_program::process::{
 };
 use xxhsum_program::screen::Ticks;
 use xxhsum_program::stop::Stop;
+use xxhsum_program::streams::Streams;
 use xxhsum_program::tell::tell;
 use xxhsum_program::watched::ProgressDisplay;
 use xxhsum_words::name::default_kind;
@@ -54,15 +55,16 @@ where
     requires reader { R.has_failed console.input ≡ false }
     requires writer { W.has_failed streams.old.out ≡ false }
     ensures { (args : Option (List (List ℕ))) × (done ended : Result Bool Stop)
-        × (met : Streams W E) × IfSome args (AreArguments A.holds A.ends arguments.now)
+        × (start met : Streams W E) × IfSome args (AreArguments A.holds A.ends arguments.now)
+        × Releases (rules_of W.Sink W.held W.has_lost E.Sink) streams.old start
         × DoesArguments (PerformsWords S.Store S.Folders S.File.Source R.Source
-        (rules_of W.Sink W.held W.has_lost E.Sink)
-        store.now console.input streams.old met done)
-        E.Sink console.terminals args streams.old met done
+        (rules_of W.Sink W.held W.has_lost E.Sink) store.now console.input start met done)
+        E.Sink console.terminals args start met done
         × Finishes W.Sink W.held W.has_lost done met.out streams.new.out ended
-        × TellsOn E.Sink (end_text ended) met.err err.new
+        × TellsOn E.Sink (end_text ended) (err_of met) (err_of streams.new)
         × (result ≡ status_of ended) }
 {
+    streams.release();
     match all_arguments(alloc, arguments) {
         Ok(args) => {
             let done = run_arguments(alloc, &args, store, console, streams);
@@ -88,6 +90,7 @@ where
     T: Ticks,
     requires reader { R.has_failed console.input ≡ false }
     requires writer { W.has_failed streams.old.out ≡ false }
+    requires written { IsWritten W.held W.has_lost streams.old.out }
     ensures { DoesArguments (PerformsWords S.Store S.Folders S.File.Source R.Source
         (rules_of W.Sink W.held W.has_lost E.Sink)
         store.now console.input streams.old streams.new result)
@@ -103,12 +106,12 @@ where
     let words = arguments_behind_name(args);
     let asked = asked_by(default_kind(program), words);
     let Some(found) = run_asked(asked) else {
-        return Ok(tell_answer(program, words, asked, err));
+        return Ok(tell_answer(program, words, asked, streams.messages()));
     };
     let (options, place) = found;
     let names = words_behind(words, place);
     if waits_for_terminal(terminals, options, names) {
-        tell_wrong(&[b"Wrong parameters"], program, err);
+        tell_wrong(&[b"Wrong parameters"], program, streams.messages());
         return Ok(false);
     }
     let job = Job {
@@ -135,6 +138,7 @@ where
     E: Sink,
     requires reader { R.has_failed input ≡ false }
     requires writer { W.has_failed streams.old.out ≡ false }
+    requires written { IsWritten W.held W.has_lost streams.old.out }
     ensures { PerformsWords S.Store S.Folders S.File.Source R.Source
         (rules_of W.Sink W.held W.has_lost E.Sink)
         job.now.store.now input streams.old streams.new result
@@ -167,6 +171,7 @@ where
     E: Sink,
     requires reader { R.has_failed input ≡ false }
     requires writer { W.has_failed streams.old.out ≡ false }
+    requires written { IsWritten W.held W.has_lost streams.old.out }
     ensures { AuditsWords S.Store S.Folders S.File.Source R.Source
         (rules_of W.Sink W.held W.has_lost E.Sink)
         job.now.store.now input streams.old streams.new result
@@ -174,7 +179,7 @@ where
         (are_listed job.now.options.names_from) }
 {
     let Some((list, rest)) = words.split_first() else {
-        tell(b"Error: --audit needs a list.\n", err);
+        tell(b"Error: --audit needs a list.\n", streams.messages());
         return Ok(false);
     };
     if job.options.walks {
@@ -183,7 +188,7 @@ where
     if !job.options.names_from.are_listed() {
         return audit_names(job, list, rest, streams);
     }
-    let Some(names) = names_listed(job, rest, input, err)? else {
+    let Some(names) = names_listed(job, rest, input, streams.messages())? else {
         return Ok(false);
     };
     audit_names(job, list, &names, streams)
@@ -197,12 +202,13 @@ fn audit_below<S: Store + Folders, T: Ticks, W: Output, E: Sink>(
     names: &[Vec<u8>],
     streams: &mut Streams<W, E>,
 ) -> Result<bool, Stop>
-    requires { W.has_failed streams.old.out ≡ false }
+    requires writer { W.has_failed streams.old.out ≡ false }
+    requires written { IsWritten W.held W.has_lost streams.old.out }
     ensures { AuditsBelow S.Store S.Folders S.File.Source (rules_of W.Sink W.held W.has_lost E.Sink)
         job.now.store.now job.now.options list.now (map (λ name. name.items) names.now)
         streams.old streams.new result }
 {
-    match files_below(job.alloc, job.store, names, err) {
+    match files_below(job.alloc, job.store, names, streams.messages()) {
         Ok(walked) => {
             if !walked.are_all {
                 return Ok(false);
@@ -219,12 +225,13 @@ fn walk_folders<S: Store + Folders, T: Ticks, W: Output, E: Sink>(
     names: &[Vec<u8>],
     streams: &mut Streams<W, E>,
 ) -> Result<bool, Stop>
-    requires { W.has_failed streams.old.out ≡ false }
+    requires writer { W.has_failed streams.old.out ≡ false }
+    requires written { IsWritten W.held W.has_lost streams.old.out }
     ensures { WalksFolders S.Store S.Folders S.File.Source (rules_of W.Sink W.held W.has_lost E.Sink)
         job.now.store.now job.now.options (map (λ name. name.items) names.now)
         streams.old streams.new result }
 {
-    match files_below(job.alloc, job.store, names, err) {
+    match files_below(job.alloc, job.store, names, streams.messages()) {
         Ok(walked) => {
             let done = hash_names(job, &walked.files, streams);
             all_well(walked.are_all, done)
@@ -253,11 +260,12 @@ fn walk_names<S: Store, T: Ticks, R: Source + Drop, W: Output, E: Sink>(
 ) -> Result<bool, Stop>
     requires reader { R.has_failed input ≡ false }
     requires writer { W.has_failed streams.old.out ≡ false }
+    requires written { IsWritten W.held W.has_lost streams.old.out }
     ensures { WalksNames S.Store S.File.Source R.Source (rules_of W.Sink W.held W.has_lost E.Sink)
         job.now.store.now input streams.old streams.new result
         job.now.options (map (λ list. list.items) lists.now) }
 {
-    let Some(names) = names_listed(job, lists, input, err)? else {
+    let Some(names) = names_listed(job, lists, input, streams.messages())? else {
         return Ok(false);
     };
     if job.options.checks {

@@ -3,7 +3,6 @@ use Rattle.xxhsum_program.specs.Prelude.{EachHas}
 use Rattle.xxhsum_program.specs.CheckList.{AreAllDone, IsListOutcome, ListOutcome, are_good, outcome_events}
 use Rattle.xxhsum_program.specs.Lines.{lines_of}
 use Rattle.xxhsum_program.specs.Order.{EmitsAll, rules_of}
-use Rattle.xxhsum_program.specs.Streams.{streams_of}
 use Rattle.xxhsum_program.proofs.check.check_lists.Given as goal
 
 -- Invariant: an outcome for each list so far, and the events of all of them.

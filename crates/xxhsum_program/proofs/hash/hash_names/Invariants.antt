@@ -3,7 +3,6 @@ use Rattle.xxhsum_program.specs.Prelude.{EachHas, Outcome}
 use Rattle.xxhsum_program.specs.HashNames.{name_events}
 use Rattle.xxhsum_program.specs.Lines.{lines_of}
 use Rattle.xxhsum_program.specs.Order.{EmitsAll, rules_of}
-use Rattle.xxhsum_program.specs.Streams.{streams_of}
 use Rattle.xxhsum_program.specs.Outcomes.{Comes, are_digested}
 use Rattle.xxhsum_program.specs.Run.{style_of}
 use Rattle.xxhsum_program.proofs.hash.hash_names.Given as goal

@@ -13,4 +13,4 @@ returns-in-Digested-clause-emits g c =
 pub returns-in-IsDirectory-clause-emits : goal.returns-in-IsDirectory-clause-emits
 returns-in-IsDirectory-clause-emits g c =
     let none : is_digested c.args.outcome.now ≡ false = search rules in
-    emits-message (rules_of g.W.Sink g.W.Output.held g.W.Output.has_lost g.E.Sink) c.args.options.kind (style_of c.args.options) c.args.name.now c.args.outcome.now c.args.streams.now _ none (c.release.ensures.prints, c.release.ensures.written, rw (c.messages.ensures.value, c.release.ensures.silent) at c.tell_outcome.ensures)
+    emits-message (rules_of g.W.Sink g.W.Output.held g.W.Output.has_lost g.E.Sink) c.args.options.kind (style_of c.args.options) c.args.name.now c.args.outcome.now c.args.streams.now _ none (c.release.ensures.releases.0, c.release.ensures.releases.1, rw (c.messages.ensures.value, c.release.ensures.releases.2) at c.tell_outcome.ensures)

@@ -1,7 +1,6 @@
 use Rattle.std.proofs.Common.{◌∙◌, subst, sym}
 use Rattle.xxhsum_program.specs.HashNames.{SaysInput}
 use Rattle.xxhsum_program.specs.Order.{rules_of}
-use Rattle.xxhsum_program.specs.Streams.{streams_of}
 use Rattle.xxhsum_program.specs.Run.{PerformsAs, input_name, style_of}
 use Rattle.xxhsum_program.specs.Watched.{source_of}
 use Rattle.xxhsum_program.proofs.process.perform.Goals as goal

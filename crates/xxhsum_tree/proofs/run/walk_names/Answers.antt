@@ -9,8 +9,8 @@ unfolding PerformsAs
 returns-then-job g c =
     let lists = map (λ list. list.items) c.args.lists.now in
     let listed = found-is g.E.Sink (λ all. ListNames g.S.Store g.S.File.Source g.R.Source c.args.job.now.store.now c.args.input (end_of c.args.job.now.options.names_from) lists (map (λ name. name.items) all.items))
-    (ListNone g.S.Store g.S.File.Source g.R.Source c.args.job.now.store.now c.args.input lists) c.args.err.now c.names_listed.new.err c.in_ok-names.field-0 c.in-Some.names c.in-Some.is c.in_ok-names.ensures in
-    let says = rw (c.deref.ensures.value, listed.1) at c.check_lists.ensures in
+    (ListNone g.S.Store g.S.File.Source g.R.Source c.args.job.now.store.now c.args.input lists) c.messages.result.now c.names_listed.new.err c.in_ok-names.field-0 c.in-Some.names c.in-Some.is c.in_ok-names.ensures in
+    let says = rw (c.deref.ensures.value, listed.1, c.messages.ensures.value) at c.check_lists.ensures in
     inl (map (λ name. name.items) c.in-Some.names.items, listed.0, rw c.if-job.true says)
 
 pub returns : goal.returns
@@ -18,6 +18,6 @@ unfolding PerformsAs
 returns g c =
     let lists = map (λ list. list.items) c.args.lists.now in
     let listed = found-is g.E.Sink (λ all. ListNames g.S.Store g.S.File.Source g.R.Source c.args.job.now.store.now c.args.input (end_of c.args.job.now.options.names_from) lists (map (λ name. name.items) all.items))
-    (ListNone g.S.Store g.S.File.Source g.R.Source c.args.job.now.store.now c.args.input lists) c.args.err.now c.names_listed.new.err c.in_ok-names.field-0 c.in-Some.names c.in-Some.is c.in_ok-names.ensures in
-    let says = rw (c.deref-2.ensures.value, listed.1) at c.hash_names.ensures in
+    (ListNone g.S.Store g.S.File.Source g.R.Source c.args.job.now.store.now c.args.input lists) c.messages.result.now c.names_listed.new.err c.in_ok-names.field-0 c.in-Some.names c.in-Some.is c.in_ok-names.ensures in
+    let says = rw (c.deref-2.ensures.value, listed.1, c.messages.ensures.value) at c.hash_names.ensures in
     inl (map (λ name. name.items) c.in-Some.names.items, listed.0, rw c.if-job.false says)

@@ -3,7 +3,6 @@ use Rattle.xxhsum_program.specs.Findings.{IsFinding}
 use Rattle.xxhsum_program.proofs.HashFacts.{is-err}
 use Rattle.xxhsum_program.proofs.StopFacts.{check-begins-not, check-ends, check-stops, check-summary-stops}
 use Rattle.xxhsum_program.specs.Order.{rules_of}
-use Rattle.xxhsum_program.specs.Streams.{streams_of}
 use Rattle.xxhsum_program.specs.Watched.{source_of}
 use Rattle.xxhsum_program.proofs.check.ListCheck.check.Goals as goal
 

@@ -3,7 +3,6 @@ use Rattle.xxhsum_line.specs.Meaning.{Means}
 use Rattle.xxhsum_program.specs.Findings.{Ignored, Improper, IsFinding, Proper, TooLong}
 use Rattle.xxhsum_program.specs.LinesView.{IsGiven}
 use Rattle.xxhsum_program.specs.Order.{rules_of}
-use Rattle.xxhsum_program.specs.Streams.{streams_of}
 use Rattle.xxhsum_program.proofs.StopFacts.{line-said, silent-prints}
 use Rattle.xxhsum_program.proofs.ToldFacts.{tells-nothing}
 use Rattle.xxhsum_program.proofs.check.ListCheck.check_line.Goals as goal

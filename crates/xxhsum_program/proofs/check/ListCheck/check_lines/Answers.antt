@@ -3,7 +3,6 @@ use Rattle.std.proofs.lemmas.List.{length_push}
 use Rattle.xxhsum_program.specs.Findings.{IsFinding, count_one, no_findings, report_of, with_broken_end}
 use Rattle.xxhsum_program.specs.ListEnd.{Whole, TooMany, Endless, FailedRead}
 use Rattle.xxhsum_program.specs.Order.{rules_of}
-use Rattle.xxhsum_program.specs.Streams.{streams_of}
 use Rattle.xxhsum_program.specs.Said.{finding_events}
 use Rattle.xxhsum_program.proofs.CheckFacts.{add_up-push, breaks-endless, breaks-failed, ends-well, some-read, stands-line, stands-new}
 use Rattle.xxhsum_program.proofs.EachFacts.{EachHas-push}

@@ -2,7 +2,6 @@ use Rattle.std.proofs.Common.{◌≡◌, ◌+◌, List, ℕ, length, false}
 use Rattle.xxhsum_program.specs.Prelude.{EachHas}
 use Rattle.xxhsum_program.specs.Findings.{Finding, IsFinding, report_of}
 use Rattle.xxhsum_program.specs.Order.{EmitsAll, rules_of}
-use Rattle.xxhsum_program.specs.Streams.{streams_of}
 use Rattle.xxhsum_program.specs.Said.{finding_events, numbered}
 use Rattle.xxhsum_program.proofs.CheckFacts.{Stands}
 use Rattle.xxhsum_program.specs.Watched.{source_of}

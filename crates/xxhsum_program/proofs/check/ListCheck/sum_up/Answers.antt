@@ -1,5 +1,4 @@
 use Rattle.xxhsum_program.specs.Order.{rules_of}
-use Rattle.xxhsum_program.specs.Streams.{streams_of}
 use Rattle.xxhsum_program.proofs.LineEndFacts.{none-is, summary-printed, summary-reported}
 use Rattle.xxhsum_program.proofs.check.ListCheck.sum_up.Goals as goal
 use Rattle.xxhsum_program.proofs.check.ListCheck.sum_up.Goals.{then-report-eq0, else-report-eq0}
