@@ -1,6 +1,6 @@
 -- Lemmas on a run over names and on the check of a list.
 use Rattle.std.proofs.Common.{◌≡◌, ℕ, Bool, true, false, List, [], ◌∷◌, ◌++◌, Option, Some, None, inl, inr, refl, sym, ap, ◌∙◌, subst, append-nil, codes, ◌↔◌, Result, Ok, Err}
-use Rattle.xxhsum_program.specs.Prelude.{AllByRecursion, EachHas, Kind, Options, Shape, SourceRules, StoreRules, Style, TellsOn, Took, concat}
+use Rattle.xxhsum_program.specs.Prelude.{AllByRecursion, EachHas, Kind, Options, Shape, SourceRules, StoreRules, Style, TellsOn, Took, concat, files_of}
 use Rattle.xxhsum_program.specs.declared.outcome.Outcome.{Outcome}
 use Rattle.xxhsum_program.specs.declared.outcome.Outcome.TheVariants.{Digested, IsDirectory, Unread}
 use Rattle.xxhsum_program.specs.declared.stop.Stop.{Stop}
@@ -47,14 +47,14 @@ reported-names kind style (name ∷ names) (Unread reason ∷ outcomes) =
 
 pub each-name-once : {S F W E : Type 0} (opening : StoreRules S F) (reading : SourceRules F) (rules : StreamRules W E) (store : S) (kind : Kind) (style : Style) (names : List (List ℕ)) (old new : Streams W E) (all : Bool)
     → SaysNames opening reading rules store kind style names old new (Ok all)
-    → (outcomes : List Outcome) × EachHas (Comes opening reading store kind) names outcomes
+    → (outcomes : List Outcome) × EachHas (Comes (files_of opening reading store) kind) names outcomes
     × Took rules.writing (lines_of (written_line kind style) names outcomes) old.out new.out
     × TellsOn rules.telling (lines_of told_line names outcomes) old.err new.err × (all ≡ are_digested outcomes)
 each-name-once opening reading rules store kind style names old new all (outcomes, done, rest, (parts, each, (none, is)), emits) =
     let whole : done ≡ names = sym (append-nil done) ∙ ap (λ r. done ++ r) (sym none) ∙ sym parts in
     let events = subst (λ n. EmitsAll rules (lines_of (name_events kind style) n outcomes) old new) whole emits in (
       outcomes,
-      subst (λ n. EachHas (Comes opening reading store kind) n outcomes) whole each,
+      subst (λ n. EachHas (Comes (files_of opening reading store) kind) n outcomes) whole each,
       subst (λ bytes. Took rules.writing bytes old.out new.out) (printed-names kind style names outcomes) (emits-prints rules _ old new events),
       subst (λ bytes. TellsOn rules.telling bytes old.err new.err) (reported-names kind style names outcomes) (emits-reports rules _ old new events),
       is,
@@ -87,7 +87,7 @@ unless-failed rules events old new stop (inr (failed, same, silent, is)) =
 pub names-stop : {S F W E : Type 0} (opening : StoreRules S F) (reading : SourceRules F) (rules : StreamRules W E) (store : S) (kind : Kind) (style : Style) (names : List (List ℕ)) (old new : Streams W E) (stop : Stop)
     → SaysNames opening reading rules store kind style names old new (Err stop)
     → (done rest : List (List ℕ)) × (outcomes : List Outcome) × (names ≡ done ++ rest)
-    × EachHas (Comes opening reading store kind) done outcomes
+    × EachHas (Comes (files_of opening reading store) kind) done outcomes
     × PrintsBeginning rules.writing (lines_of (written_line kind style) done outcomes) old.out new.out
 names-stop opening reading rules store kind style names old new stop (outcomes, done, rest, (parts, each, ends), emits) =
     (done, rest, outcomes, parts, each, subst (λ bytes. PrintsBeginning rules.writing bytes old.out new.out) (printed-names kind style done outcomes) (beginning rules _ old new stop emits))
@@ -105,7 +105,7 @@ pub good-means-equal : {S F R W E : Type 0} (opening : StoreRules S F) (reading 
     → (store : S) (options : Options) (name : List ℕ) (source : R) (old new : Streams W E)
     → SaysList opening reading list_reading rules store options name source old new (Ok true)
     → (lines : List (List ℕ)) × (end : ListEnd) × EndsAs list_reading source lines end
-    × AllByRecursion (IsWell opening reading store options) lines
+    × AllByRecursion (IsWell (files_of opening reading store) options) lines
 good-means-equal opening reading list_reading rules law store options name source old new (findings, None, finds, (ended, good), emits) = absurd ended
 good-means-equal opening reading list_reading rules law store options name source old new (findings, Some end, finds, (ended, good), emits) =
     let (lines, meets, well) = law store options source findings (Some end) finds (sym good) in (lines, end, meets, well)

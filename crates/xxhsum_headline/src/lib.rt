@@ -54,7 +54,7 @@ pub fn each_name_once<S: Store, W: Sink, E: Sink>()
         → SaysNames S.Store S.File.Source (rules_of W.Sink held has_lost E.Sink) store kind style
         names old new (Ok all)
         → (outcomes : List Outcome)
-        × EachHas (Comes S.Store S.File.Source store kind) names outcomes
+        × EachHas (Comes (files_of S.Store S.File.Source store) kind) names outcomes
         × Took W.Sink (lines_of (written_line kind style) names outcomes) old.out new.out
         × TellsOn E.Sink (lines_of told_line names outcomes) (err_of old) (err_of new)
         × (all ≡ are_digested outcomes) }
@@ -89,7 +89,7 @@ pub fn stops_early<S: Store, R: Source, W: Sink, E: Sink>()
         → SaysNames S.Store S.File.Source (rules_of W.Sink held has_lost E.Sink) store kind style
         names old new (Err stop)
         → (done rest : List (List ℕ)) × (outcomes : List Outcome) × (names ≡ done ++ rest)
-        × EachHas (Comes S.Store S.File.Source store kind) done outcomes
+        × EachHas (Comes (files_of S.Store S.File.Source store) kind) done outcomes
         × PrintsBeginning W.Sink (lines_of (written_line kind style) done outcomes)
         old.out new.out }
     ensures list { (held : W → List ℕ) (has_lost : W → Bool) (store : S) (options : Options)
@@ -108,10 +108,10 @@ pub fn stops_early<S: Store, R: Source, W: Sink, E: Sink>()
 pub fn ok_means_equal<S: Store>()
     ensures { (store : S) (options : Options) (list : List ℕ) (number : ℕ) (line : List ℕ)
         → (finding : Finding) (name : List ℕ)
-        → IsFinding S.Store S.File.Source store options.is_little_endian line finding
+        → IsFinding (files_of S.Store S.File.Source store) options.is_little_endian line finding
         → printed_finding options list number finding ≡ named_text name (codes ": OK")
         → (kind : Kind) × (value : ℕ) × Says options.is_little_endian line kind value name
-        × IsValueOf S.Store S.File.Source store kind name value }
+        × IsValueOf (files_of S.Store S.File.Source store) kind name value }
 {
     good_lists::ok_means_equal::<S>();
 }
@@ -124,7 +124,7 @@ pub fn good_means_equal<S: Store, R: Source, W: Sink, E: Sink>()
         → SaysList S.Store S.File.Source R.Source (rules_of W.Sink held has_lost E.Sink) store
         options name source old new (Ok true)
         → (lines : List (List ℕ)) × (end : ListEnd) × EndsAs R.Source source lines end
-        × AllByRecursion (IsWell S.Store S.File.Source store options) lines }
+        × AllByRecursion (IsWell (files_of S.Store S.File.Source store) options) lines }
 {
     good_lists::good_means_equal::<S, R>();
 }

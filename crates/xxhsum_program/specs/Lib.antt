@@ -1,6 +1,7 @@
 pub mod Arguments
 pub mod CheckList
 pub mod EachHas
+pub mod Files
 pub mod Findings
 pub mod Finish
 pub mod Found

@@ -52,12 +52,26 @@ EmitsOrNone rules events old new (Ok _) = EmitsAll rules events old new
 EmitsOrNone rules events old new (Err WriteFailed) = EmitsTo {T = Unit {0}} rules events old new (Err WriteFailed)
 EmitsOrNone rules events old new (Err OutOfMemory) = EmitsAll rules [] old new
 
--- As `EmitsTo`; or a write to standard output had failed before, and nothing is written.
-abbrev pub EmitsUnlessFailed : {W E T : Type 0} → StreamRules W E → List Event → Streams W E → Streams W E
-    → Result T Stop → Type 0
-EmitsUnlessFailed rules events old new result =
-    EmitsTo rules events old new result
-    ⊎ ((rules.writing.has_failed old.out ≡ true) × (new.out ≡ old.out) × (err_of new ≡ err_of old) × (result ≡ Err WriteFailed))
+-- A part of a run: the streams before and after it, and its result.
+pub record Effect (W E : Type 0) : Type 1 where
+  pub rules : StreamRules W E
+  pub old : Streams W E
+  pub new : Streams W E
+  pub result : Result Bool Stop
+
+abbrev pub effect_of : {W E : Type 0} → StreamRules W E → Streams W E → Streams W E → Result Bool Stop → Effect W E
+effect_of rules old new result = record { rules = rules; old = old; new = new; result = result }
+
+-- Exactly these events, up to a failed write.
+abbrev pub HasEvents : {W E : Type 0} → Effect W E → List Event → Type 0
+HasEvents effect events = EmitsTo effect.rules events effect.old effect.new effect.result
+
+-- The same; or a write to standard output had failed before, and nothing is written.
+abbrev pub EmitsUnlessFailed : {W E : Type 0} → Effect W E → List Event → Type 0
+EmitsUnlessFailed effect events =
+    HasEvents effect events
+    ⊎ ((effect.rules.writing.has_failed effect.old.out ≡ true) × (effect.new.out ≡ effect.old.out)
+    × (err_of effect.new ≡ err_of effect.old) × (effect.result ≡ Err WriteFailed))
 
 -- The bytes that the events print.
 abbrev pub printed_of : List Event → List ℕ

@@ -3,11 +3,12 @@
 ghost use Rattle.std.specs.Prelude.{◌≡◌, ◌<◌, ◌≤◌, [], true, List, ℕ, Option, false, length, map, nat_eq, IfErr, IfOk, if◌then◌else◌};
 ghost use Rattle.xxhsum_program.specs.Prelude.{TellsOn};
 ghost use Rattle.xxhsum_program.specs.CheckList.{AnswersList, AnswersOutcome, ChecksLine, FindsLines, IsListOutcome, ListOutcome, ReportsLines, SaysList, SaysLists, outcome_events};
+ghost use Rattle.xxhsum_program.specs.Files.{files_of, input_of};
 ghost use Rattle.xxhsum_program.specs.Findings.{Finding, Improper, IsFinding, TooLong, count_one, count_proper, no_findings, with_broken_end};
 ghost use Rattle.xxhsum_program.specs.Lines.{PrintsLine};
 ghost use Rattle.xxhsum_program.specs.LinesView.{IsGiven};
 ghost use Rattle.xxhsum_program.specs.ListEnd.{FailedRead, ListEnd};
-ghost use Rattle.xxhsum_program.specs.Order.{Emits, EmitsAll, EmitsTo, Reported, rules_of};
+ghost use Rattle.xxhsum_program.specs.Order.{Emits, EmitsAll, EmitsTo, Reported, effect_of, rules_of};
 ghost use Rattle.xxhsum_program.specs.Report.{is_good, is_unverified, passes};
 ghost use Rattle.xxhsum_program.specs.Said.{break_events, count_text, finding_events, found_text, is_silent, lines_events, list_events, printed_summary, summary_events, summary_text, told_of_line, unread_text, unverified_line, unverified_text};
 ghost use Rattle.xxhsum_program.specs.Watched.{source_of};
@@ -149,7 +150,7 @@ impl<S: Store, T: Ticks> ListCheck<'_, S, T> {
     ) -> Result<bool, Stop>
         requires { W.has_failed streams.old.out ≡ false }
         ensures checks { (findings : List Finding) × (end : Option ListEnd)
-            × FindsLines (IsFinding S.Store S.File.Source self.now.store.now
+            × FindsLines (IsFinding (files_of S.Store S.File.Source self.now.store.now)
             self.now.options.is_little_endian) R.Source (source_of source) findings end
             × AnswersList self.now.options findings end result
             × EmitsTo (rules_of W.Sink W.held W.has_lost E.Sink)
@@ -171,7 +172,7 @@ impl<S: Store, T: Ticks> ListCheck<'_, S, T> {
     ) -> Result<Report, Stop>
         requires { W.has_failed streams.old.out ≡ false }
         ensures checks { (findings : List Finding) × (end : Option ListEnd)
-            × FindsLines (IsFinding S.Store S.File.Source self.now.store.now
+            × FindsLines (IsFinding (files_of S.Store S.File.Source self.now.store.now)
             self.now.options.is_little_endian) R.Source (source_of source) findings end
             × ReportsLines self.now.options.ignores_missing findings end result
             × EmitsTo (rules_of W.Sink W.held W.has_lost E.Sink)
@@ -216,7 +217,7 @@ impl<S: Store, T: Ticks> ListCheck<'_, S, T> {
         requires room { 0 < length buf.old }
         requires writer { W.has_failed streams.old.out ≡ false }
         ensures checks { (text : List ℕ) → IsGiven text line.entry.text → ChecksLine
-            (IsFinding S.Store S.File.Source self.now.store.now self.now.options.is_little_endian
+            (IsFinding (files_of S.Store S.File.Source self.now.store.now) self.now.options.is_little_endian
             text) (rules_of W.Sink W.held W.has_lost E.Sink) self.now.options self.now.name.now
             line.entry.number report.old report.new streams.old
             streams.new result }
@@ -535,9 +536,9 @@ pub fn check_list<S: Store, T: Ticks, R: Source + Drop, W: Output, E: Sink>(
     source: R,
     streams: &mut Streams<W, E>,
 ) -> Result<bool, Stop>
-    ensures { SaysList S.Store S.File.Source R.Source (rules_of W.Sink W.held W.has_lost E.Sink)
-        job.now.store.now job.now.options name.now source streams.old
-        streams.new result }
+    ensures { SaysList (files_of S.Store S.File.Source job.now.store.now) (input_of R.Source source)
+        (effect_of (rules_of W.Sink W.held W.has_lost E.Sink) streams.old streams.new result)
+        job.now.options name.now }
 {
     if streams.out.failed() {
         return Err(Stop::WriteFailed);
@@ -560,7 +561,7 @@ fn check_named<S: Store, T: Ticks, W: Output, E: Sink>(
 ) -> Result<bool, Stop>
     requires { W.has_failed streams.old.out ≡ false }
     ensures checks { (outcome : ListOutcome)
-        × IsListOutcome S.Store S.File.Source job.now.store.now job.now.options.is_little_endian
+        × IsListOutcome (files_of S.Store S.File.Source job.now.store.now) job.now.options.is_little_endian
         name.now outcome
         × AnswersOutcome job.now.options outcome result
         × EmitsTo (rules_of W.Sink W.held W.has_lost E.Sink)
@@ -596,9 +597,9 @@ pub fn check_lists<S: Store, T: Ticks, W: Output, E: Sink>(
     names: &[Vec<u8>],
     streams: &mut Streams<W, E>,
 ) -> Result<bool, Stop>
-    ensures { SaysLists S.Store S.File.Source (rules_of W.Sink W.held W.has_lost E.Sink)
-        job.now.store.now job.now.options (map (λ name. name.items) names.now)
-        streams.old streams.new result }
+    ensures { SaysLists (files_of S.Store S.File.Source job.now.store.now)
+        (effect_of (rules_of W.Sink W.held W.has_lost E.Sink) streams.old streams.new result)
+        job.now.options (map (λ name. name.items) names.now) }
 {
     if streams.out.failed() {
         return Err(Stop::WriteFailed);

@@ -2,9 +2,10 @@
 
 ghost use Rattle.std.specs.Prelude.{◌≡◌, false, map, IfOk};
 ghost use Rattle.xxhsum_line.specs.Printed.{styled_line};
+ghost use Rattle.xxhsum_program.specs.Files.{files_of, input_of};
 ghost use Rattle.xxhsum_program.specs.HashNames.{SaysInput, SaysNames, name_events};
 ghost use Rattle.xxhsum_program.specs.Lines.{PrintsLine, told_line};
-ghost use Rattle.xxhsum_program.specs.Order.{EmitsOrNone, rules_of};
+ghost use Rattle.xxhsum_program.specs.Order.{EmitsOrNone, effect_of, rules_of};
 ghost use Rattle.xxhsum_program.specs.Run.{style_of};
 ghost use Rattle.xxhsum_program.specs.Told.{TellsOn};
 ghost use Rattle.xxhsum_program.specs.Watched.{source_of};
@@ -42,10 +43,9 @@ pub fn hash_names<S: Store, T: Ticks, W: Output, E: Sink>(
 
     // Each name has one outcome, in order. Standard output has the lines of names with a value, and standard error the
     // messages of the others, in one sequence: when a message is written, all lines before it are written, or were lost.
-    ensures { SaysNames S.Store S.File.Source (rules_of W.Sink W.held W.has_lost E.Sink)
-        job.now.store.now job.now.options.kind (style_of job.now.options)
-        (map (λ name. name.items) names.now) streams.old streams.new
-        result }
+    ensures { SaysNames (files_of S.Store S.File.Source job.now.store.now)
+        (effect_of (rules_of W.Sink W.held W.has_lost E.Sink) streams.old streams.new result)
+        job.now.options.kind (style_of job.now.options) (map (λ name. name.items) names.now) }
 {
     let mut buf = [0; OFFERED];
     let mut all = true;
@@ -74,9 +74,9 @@ pub fn hash_input<R: Source, T: Ticks, W: Output, E: Sink>(
 ) -> Result<bool, Stop>
     requires reader { R.has_failed (source_of input.old) ≡ false }
     requires writer { W.has_failed streams.old.out ≡ false }
-    ensures { SaysInput R.Source (rules_of W.Sink W.held W.has_lost E.Sink)
-        options.kind (style_of options) name.now (source_of input.old) (source_of input.new)
-        streams.old streams.new result }
+    ensures { SaysInput (input_of R.Source (source_of input.old)) (source_of input.new)
+        (effect_of (rules_of W.Sink W.held W.has_lost E.Sink) streams.old streams.new result)
+        options.kind (style_of options) name.now }
 {
     match input.value(options.kind, &mut [0; OFFERED]) {
         Ok(value) => {

@@ -1,11 +1,10 @@
 //! Decides what the arguments ask for, and runs over files and lists.
 
 ghost use Rattle.std.specs.Prelude.{◌≡◌, false, Bool, List, ℕ, Option, Result, [], drop, get_or, map, IfSome};
-ghost use Rattle.xxhsum_program.specs.Finish.{Finishes};
+ghost use Rattle.xxhsum_program.specs.Files.{files_of, input_of};
 ghost use Rattle.xxhsum_program.specs.Joined.{joined};
-ghost use Rattle.xxhsum_program.specs.Order.{rules_of};
-ghost use Rattle.xxhsum_program.specs.Streams.{err_of};
-ghost use Rattle.xxhsum_program.specs.Run.{PerformsAs, end_text, status_of, stop_text};
+ghost use Rattle.xxhsum_program.specs.Order.{effect_of, rules_of};
+ghost use Rattle.xxhsum_program.specs.Run.{Ends, PerformsAs, end_text, status_of, stop_text};
 ghost use Rattle.xxhsum_program.specs.Task.{IsProgram, answer_text, has_none, is_tree, is_well, run_asked, shows_progress, usage_text, waits_for_terminal, wrong_text};
 ghost use Rattle.xxhsum_program.specs.Prelude.{Stop, TellsOn};
 
@@ -227,10 +226,9 @@ where
     E: Sink,
     requires reader { R.has_failed input ≡ false }
     requires writer { W.has_failed streams.old.out ≡ false }
-    ensures { let given = map (λ name. name.items) names.now in
-        PerformsAs S.Store S.File.Source R.Source (rules_of W.Sink W.held W.has_lost E.Sink)
-        job.now.store.now job.now.options given input streams.old
-        streams.new result job.now.options.checks (has_none given) }
+    ensures { PerformsAs (files_of S.Store S.File.Source job.now.store.now) (input_of R.Source input)
+        (effect_of (rules_of W.Sink W.held W.has_lost E.Sink) streams.old streams.new result)
+        job.now.options (map (λ name. name.items) names.now) }
 {
     if job.options.checks {
         if has_none(names) {
@@ -269,10 +267,7 @@ fn conclude<E: Sink>(done: Result<bool, Stop>, err: &mut E) -> u8
 /// Ends a run: writes the bytes that the output holds, and then reports why the run stops, if it does. Returns the exit
 /// status.
 pub fn end<W: Output, E: Sink>(done: Result<bool, Stop>, streams: &mut Streams<W, E>) -> u8
-    ensures { (ended : Result Bool Stop)
-        × Finishes W.Sink W.held W.has_lost done streams.old.out streams.new.out ended
-        × TellsOn E.Sink (end_text ended) (err_of streams.old) (err_of streams.new)
-        × (result ≡ status_of ended) }
+    ensures { Ends (rules_of W.Sink W.held W.has_lost E.Sink) done streams.old streams.new result }
 {
     let ended = finish(done, &mut streams.out);
     conclude(ended, streams.messages())

@@ -1,7 +1,7 @@
 -- Proves that if an audit is good, the lines and the files match each other.
 use Rattle.std.proofs.Common.{◌≡◌, ℕ, true, List, [], ◌∷◌, Option, Some, None, refl, sym, ap, subst, ◌∙◌, inl, inr, Ok}
 use Rattle.std.proofs.lemmas.List.Sorted.{IsPermutation-sym}
-use Rattle.xxhsum_tree.specs.Prelude.{Digested, IsDirectory, Kind, Options, Outcome, SourceRules, StoreRules, StreamRules, Streams, Unread}
+use Rattle.xxhsum_tree.specs.Prelude.{Digested, IsDirectory, Kind, Options, Outcome, SourceRules, StoreRules, StreamRules, Streams, Unread, files_of}
 use Rattle.xxhsum_audit.proofs.AmongFacts.{among_permutation}
 use Rattle.xxhsum_audit.proofs.EqualFacts.{same_means_equal}
 use Rattle.xxhsum_audit.proofs.TurnFacts.{by_turns}
@@ -48,7 +48,7 @@ module _ {S F : Type 0} (opening : StoreRules S F) (reading : SourceRules F) (st
   )
 
   there-name : (n : List ℕ) (ls : List Item) (ns : List (List ℕ)) (rows : List Row) (outcome : Outcome) → is_digested outcome ≡ true
-      → Comes opening reading store kind n outcome → AllThere ls ns rows → AllThere ls (n ∷ ns) (Come n outcome ∷ rows)
+      → Comes (files_of opening reading store) kind n outcome → AllThere ls ns rows → AllThere ls (n ∷ ns) (Come n outcome ∷ rows)
   there-name n ls ns rows (Digested v) is comes ih = (
     ih.0,
     ih.1,
@@ -63,7 +63,7 @@ module _ {S F : Type 0} (opening : StoreRules S F) (reading : SourceRules F) (st
   there-name n ls ns rows (Unread reason) is comes ih = let no : ⊥ = cc in absurd no
 
   there-both : (l : Item) (n : List ℕ) (ls : List Item) (ns : List (List ℕ)) (rows : List Row) (outcome : Outcome) → is_digested outcome ≡ true
-      → Comes opening reading store (kind_of l) n outcome → AllThere ls ns rows → AllThere (l ∷ ls) (n ∷ ns) (Met l n outcome ∷ rows)
+      → Comes (files_of opening reading store) (kind_of l) n outcome → AllThere ls ns rows → AllThere (l ∷ ls) (n ∷ ns) (Met l n outcome ∷ rows)
   there-both l n ls ns rows (Digested v) is comes ih = (
     λ k h. elim h [ inl e ↦ inl e | inr b ↦ inr (ih.0 k b) ],
     λ k h. elim h [ inl e ↦ inl e | inr b ↦ inr (ih.1 k b) ],
@@ -78,7 +78,7 @@ module _ {S F : Type 0} (opening : StoreRules S F) (reading : SourceRules F) (st
   there-both l n ls ns rows (Unread reason) is comes ih = let no : ⊥ = cc in absurd no
 
   abbrev AllRead : List Item → List (List ℕ) → List (Side Item (List ℕ)) → Type 0
-  AllRead ls ns sides = (rows : List Row) → AreRows opening reading store kind sides rows → are_read rows ≡ true → AllThere ls ns rows
+  AllRead ls ns sides = (rows : List Row) → AreRows (files_of opening reading store) kind sides rows → are_read rows ≡ true → AllThere ls ns rows
 
   read-line : (l : Item) (ls : List Item) (ns : List (List ℕ)) (s : List (Side Item (List ℕ))) → AllRead ls ns s → AllRead (l ∷ ls) ns (Line l ∷ s)
   read-line l ls ns s ih rows are read =
@@ -117,11 +117,11 @@ module _ {S F W E : Type 0} (opening : StoreRules S F) (reading : SourceRules F)
       × ((name : List ℕ) → IsAmong names name → (line : Item) × IsAmong lines line × IsFileOf opening reading store line name)
 
   file-of : (line s : Item) → (path_of line ≡ path_of s) → (kind_of line ≡ kind_of s) → (value_of line ≡ value_of s)
-      → IsValueOf opening reading store (kind_of s) (name_of s) (value_of s) → IsFileOf opening reading store line (name_of s)
+      → IsValueOf (files_of opening reading store) (kind_of s) (name_of s) (value_of s) → IsFileOf (files_of opening reading store) line (name_of s)
   file-of line s path kind value is = (
     path,
-    subst (λ k. IsValueOf opening reading store k (name_of s) (value_of line)) (sym kind)
-        (subst (λ v. IsValueOf opening reading store (kind_of s) (name_of s) v) (sym value) is),
+    subst (λ k. IsValueOf (files_of opening reading store) k (name_of s) (value_of line)) (sym kind)
+        (subst (λ v. IsValueOf (files_of opening reading store) (kind_of s) (name_of s) v) (sym value) is),
   )
 
   sides-agree : (lines : List Item) (asked : List (List ℕ)) → AuditsSides opening reading rules store options lines asked old new (Ok true)
@@ -129,7 +129,7 @@ module _ {S F W E : Type 0} (opening : StoreRules S F) (reading : SourceRules F)
   sides-agree lines asked (inr fails) = let no = fails.3 in let none : ⊥ = cc in absurd none
   sides-agree lines asked (inl (rows, found, are, told, audit, prints, answers)) =
       let both = both-true (are_same found) (are_read rows) (sym answers) in
-      let there = all-there opening reading store _ lines asked rows are both.1 in
+      let there = all-there (files_of opening reading store) _ lines asked rows are both.1 in
       let equal = same_means_equal (kept_in rows) _ found audit (all-same found both.0) in (
         λ line h.
             let beside = equal.0 line (there.0 line h) in
@@ -141,7 +141,7 @@ module _ {S F W E : Type 0} (opening : StoreRules S F) (reading : SourceRules F)
             let seen = there.3 given.0 given.1 in (
               beside.0,
               there.1 beside.0 beside.1,
-              subst (IsFileOf opening reading store beside.0) given.2 (file-of beside.0 given.0 beside.2.0 beside.2.1.0 beside.2.1.1 seen.1),
+              subst (IsFileOf (files_of opening reading store) beside.0) given.2 (file-of beside.0 given.0 beside.2.0 beside.2.1.0 beside.2.1.1 seen.1),
             ),
       )
 

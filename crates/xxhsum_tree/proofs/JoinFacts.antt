@@ -1,7 +1,7 @@
 -- Proves that rows of rising lines and names have the results of merging the lines and the digests.
 use Rattle.std.proofs.Common.{◌≡◌, ℕ, List, [], ◌∷◌, map, refl, sym, ap, subst, ◌∙◌, inl, inr, Less, Equal, Greater}
 use Rattle.std.proofs.lemmas.List.Sorted.{IsPermutation-refl}
-use Rattle.xxhsum_tree.specs.Prelude.{Digested, IsDirectory, Kind, Outcome, SourceRules, StoreRules, Unread}
+use Rattle.xxhsum_tree.specs.Prelude.{Digested, IsDirectory, Kind, Outcome, SourceRules, StoreRules, Unread, files_of}
 use Rattle.xxhsum_audit.proofs.OrderFacts.{ahead, back, paths_total}
 use Rattle.xxhsum_audit.proofs.TurnFacts.{by_turns}
 use Rattle.xxhsum_audit.specs.declared.side.Side.{Side}
@@ -157,7 +157,7 @@ module _ {S F : Type 0} (opening : StoreRules S F) (reading : SourceRules F) (st
       (λ l n ls ns s greater ih. come n (l ∷ ls) ns s (λ up k h. after-lines l n ls greater up k h) ih)
 
   pub is-audit : (lines : List Item) (names : List (List ℕ)) (rows : List Row) (found : List Found) → Rises compare_lines lines
-      → Rises compare_paths names → AreRows opening reading store kind (by_path lines names) rows
+      → Rises compare_paths names → AreRows (files_of opening reading store) kind (by_path lines names) rows
       → HasMoves (settled_in (first_in kind rows)) (missing_in (first_in kind rows)) (new_in (first_in kind rows)) found
       → IsAudit (kept_in rows) (seen_in kind rows) found
   is-audit lines names rows found up up' are moves =

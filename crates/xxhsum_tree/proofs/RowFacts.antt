@@ -3,7 +3,7 @@ use Rattle.std.proofs.Common.{◌≡◌, ℕ, Bool, true, false, ◌&&◌, List,
 use Rattle.std.specs.declared.alloc.AllocError.{AllocError}
 use Rattle.std.proofs.lemmas.List.{map-append}
 use Rattle.std.proofs.lemmas.List.Concat.{flat_map-append}
-use Rattle.xxhsum_tree.specs.Prelude.{Digested, IsDirectory, Kind, Options, Outcome, SourceRules, Stop, StoreRules, StreamRules, Streams, Unread}
+use Rattle.xxhsum_tree.specs.Prelude.{Digested, Files, IsDirectory, Kind, Options, Outcome, SourceRules, Stop, StoreRules, StreamRules, Streams, Unread, files_of}
 use Rattle.xxhsum_audit.proofs.FoundFacts.{met_is}
 use Rattle.xxhsum_audit.specs.declared.digest.FileDigest.{FileDigest}
 use Rattle.xxhsum_audit.specs.declared.moves.Compared.{Compared}
@@ -22,15 +22,15 @@ use Rattle.xxhsum_tree.specs.Digests.{DigestsRows, Grows}
 use Rattle.xxhsum_tree.specs.Report.{PrintsReport, are_same}
 use Rattle.xxhsum_tree.specs.Rows.{AreRows, IsRow, Row, are_read, digest_of, first_in, first_of, kept_in, kind_of_new, seen_in}
 
-pub rows-more : {S F : Type 0} (opening : StoreRules S F) (reading : SourceRules F) (store : S) (kind : Kind) (sides : List (Side Item (List ℕ))) (rows : List Row) (side : Side Item (List ℕ)) (row : Row) → AreRows opening reading store kind sides rows → IsRow opening reading store kind side row → AreRows opening reading store kind (sides ++ side ∷ []) (rows ++ row ∷ [])
-rows-more opening reading store kind [] rows side row none is =
+pub rows-more : {S F : Type 0} (files : Files S F) (kind : Kind) (sides : List (Side Item (List ℕ))) (rows : List Row) (side : Side Item (List ℕ)) (row : Row) → AreRows files kind sides rows → IsRow files kind side row → AreRows files kind (sides ++ side ∷ []) (rows ++ row ∷ [])
+rows-more files kind [] rows side row none is =
     (row, [], ap (λ x. x ++ row ∷ []) none, is, refl)
-rows-more opening reading store kind (s ∷ sides) rows side row are is = (
+rows-more files kind (s ∷ sides) rows side row are is = (
   are.0,
   are.1 ++ row ∷ [],
   ap (λ x. x ++ row ∷ []) are.2,
   are.3,
-  rows-more opening reading store kind sides are.1 side row are.4 is,
+  rows-more files kind sides are.1 side row are.4 is,
 )
 
 -- Lemma: one more element appends its result.
@@ -111,11 +111,11 @@ says-audit {S} {F} {W} {E} opening reading rules store options lines names kind 
     let moved = subst (λ s. HasMoves s (missing_in (first_in kind rows)) (new_in (first_in kind rows)) found) holds.settled
     (subst (λ g. HasMoves (founds_of compared.settled.items) g (new_in (first_in kind rows)) found) holds.gone
     (subst (λ c. HasMoves (founds_of compared.settled.items) (items_of compared.gone.items) c found) holds.come moves)) in
-    let audit = is-audit opening reading store kind lines names rows found up up' digests.1 moved in
+    let audit = is-audit (files_of opening reading store) kind lines names rows found up up' digests.1 moved in
     inl (
       rows,
       found,
-      subst (λ k. AreRows opening reading store k (by_path lines names) rows) kinds digests.1,
+      subst (λ k. AreRows (files_of opening reading store) k (by_path lines names) rows) kinds digests.1,
       digests.3,
       subst (λ k. IsAudit (kept_in rows) (seen_in k rows) found) kinds audit,
       prints,

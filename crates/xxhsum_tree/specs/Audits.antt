@@ -1,6 +1,6 @@
 -- An audit of names against the list of a name.
 use Rattle.std.specs.Prelude.{◌≡◌, ◌⊎◌, ℕ, Bool, true, false, ◌&&◌, List, [], ◌∷◌, Option, Some, None, codes, Result, Ok, Err}
-use Rattle.xxhsum_tree.specs.Prelude.{Options, OutOfMemory, SinkRules, SourceRules, Stop, StoreRules, StreamRules, Streams, TellsOn, concat, one_line}
+use Rattle.xxhsum_tree.specs.Prelude.{Options, OutOfMemory, SinkRules, SourceRules, Stop, StoreRules, StreamRules, Streams, TellsOn, concat, files_of, one_line}
 use Rattle.xxhsum_audit.specs.Audit.{IsAudit}
 use Rattle.xxhsum_audit.specs.Found.{Found}
 use Rattle.xxhsum_audit.specs.Item.{Item, names_of}
@@ -36,7 +36,7 @@ abbrev pub AuditsSides : {S F W E : Type 0} → StoreRules S F → SourceRules F
 AuditsSides opening reading rules store options lines names old new result =
     let kind = kind_of_new options.kind lines in
     let sides = by_path lines names in
-    ((rows : List Row) × (found : List Found) × AreRows opening reading store kind sides rows
+    ((rows : List Row) × (found : List Found) × AreRows (files_of opening reading store) kind sides rows
     × TellsOn rules.telling (told_in rows) (err_of old) (err_of new) × IsAudit (kept_in rows) (seen_in kind rows) found
     × PrintsReport rules.writing options found old.out new.out result × AnswersAudit rows found result)
     ⊎ ((rows : List Row) × TellsRows opening reading rules.telling store kind sides rows (err_of old) (err_of new)
@@ -67,8 +67,8 @@ AuditsItems opening reading rules store options list said names old new result =
 abbrev pub AuditsList : {S F W E : Type 0} → StoreRules S F → SourceRules F → StreamRules W E → S → Options → List ℕ
     → List (List ℕ) → Streams W E → Streams W E → Result Bool Stop → Type 0
 AuditsList opening reading rules store options list names old new result =
-    GoesOn rules.telling (ListSays opening reading store options.is_little_endian list)
-    (ListSaysNothing opening reading store options.is_little_endian list)
+    GoesOn rules.telling (ListSays (files_of opening reading store) options.is_little_endian list)
+    (ListSaysNothing (files_of opening reading store) options.is_little_endian list)
     (λ said. AuditsItems opening reading rules store options list said names old new result) old new result
 
 -- The bytes that the output holds are written first, so that no message appears before them.

@@ -1,7 +1,7 @@
 -- The digests of names, collected side by side. No public clause uses them.
 use Rattle.std.specs.Prelude.{◌≡◌, ℕ, Bool, false, ◌&&◌, List, [], ◌++◌, Option, Some, None, Result, Ok, Err}
 use Rattle.std.specs.declared.alloc.AllocError.{AllocError}
-use Rattle.xxhsum_tree.specs.Prelude.{Digested, Kind, Outcome, SinkRules, SourceRules, StoreRules, TellsOn}
+use Rattle.xxhsum_tree.specs.Prelude.{Digested, Kind, Outcome, SinkRules, SourceRules, StoreRules, TellsOn, files_of}
 use Rattle.xxhsum_audit.specs.declared.digest.FileDigest.{FileDigest}
 use Rattle.xxhsum_audit.specs.declared.moves.Compared.{Compared}
 use Rattle.xxhsum_audit.specs.declared.side.Side.{Side}
@@ -16,10 +16,10 @@ use Rattle.xxhsum_tree.specs.Rows.{AreRows, Row, TellsRows, are_read, first_in, 
 abbrev pub DigestsName : {S F E : Type 0} → StoreRules S F → SourceRules F → SinkRules E → S → Kind → List ℕ → E → E
     → Option FileDigest → Type 0
 DigestsName opening reading telling store kind name e_old e_new (Some found) =
-    (value : ℕ) × (item_of found ≡ Says name kind value) × Comes opening reading store kind name (Digested value)
+    (value : ℕ) × (item_of found ≡ Says name kind value) × Comes (files_of opening reading store) kind name (Digested value)
     × TellsOn telling [] e_old e_new
 DigestsName opening reading telling store kind name e_old e_new None =
-    (outcome : Outcome) × (is_digested outcome ≡ false) × Comes opening reading store kind name outcome
+    (outcome : Outcome) × (is_digested outcome ≡ false) × Comes (files_of opening reading store) kind name outcome
     × TellsOn telling (told_line name outcome) e_old e_new
 
 -- The results were appended to the known ones.
@@ -47,7 +47,7 @@ pub record HoldsRows (kind : Kind) (rows : List Row) (compared : Compared) : Typ
 abbrev pub DigestsRows : {S F E : Type 0} → StoreRules S F → SourceRules F → SinkRules E → S → Kind
     → List (Side Item (List ℕ)) → Compared → E → E → Type 0
 DigestsRows opening reading telling store kind sides compared e_old e_new =
-    (rows : List Row) × AreRows opening reading store kind sides rows × HoldsRows kind rows compared
+    (rows : List Row) × AreRows (files_of opening reading store) kind sides rows × HoldsRows kind rows compared
     × TellsOn telling (told_in rows) e_old e_new
 
 -- The first sides have rows, and the messages of the rows were reported.

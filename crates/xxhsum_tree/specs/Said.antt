@@ -1,6 +1,6 @@
 -- The meaning of the lines of an audited list.
 use Rattle.std.specs.Prelude.{◌≡◌, ◌⊎◌, ℕ, ◌+◌, ◌≤◌, Bool, List, [], ◌∷◌, ◌++◌, codes, length}
-use Rattle.xxhsum_tree.specs.Prelude.{AllByRecursion, Refusal, SourceRules, StoreRules}
+use Rattle.xxhsum_tree.specs.Prelude.{AllByRecursion, Files, Refusal, SourceRules, StoreRules}
 use Rattle.xxhsum_audit.specs.Item.{Item}
 use Rattle.xxhsum_audit.specs.List.{SayAll}
 use Rattle.xxhsum_line.specs.Entry.{SaysNothing}
@@ -38,12 +38,12 @@ SourceSaysNothing reading is_little list source told =
     × IsFault is_little list (length lines + 1) line told)))
 
 -- The list can be read to its end, and the items of its lines are these.
-abbrev pub ListSays : {S F : Type 0} → StoreRules S F → SourceRules F → S → Bool → List ℕ → List Item → Type 0
-ListSays {S} {F} opening reading store is_little list items =
-    (file : F) × opening.opens store list file × SourceSays reading is_little file items
+abbrev pub ListSays : {S F : Type 0} → Files S F → Bool → List ℕ → List Item → Type 0
+ListSays {S} {F} files is_little list items =
+    (file : F) × files.opening.opens files.store list file × SourceSays files.reading is_little file items
 
 -- The list can't be opened, or a read of it fails, or a line has a fault. `told` is the message about it.
-abbrev pub ListSaysNothing : {S F : Type 0} → StoreRules S F → SourceRules F → S → Bool → List ℕ → List ℕ → Type 0
-ListSaysNothing {S} {F} opening reading store is_little list told =
-    ((why : Refusal) × opening.refuses store list why × (told ≡ unopened_text list why))
-    ⊎ ((file : F) × opening.opens store list file × SourceSaysNothing reading is_little list file told)
+abbrev pub ListSaysNothing : {S F : Type 0} → Files S F → Bool → List ℕ → List ℕ → Type 0
+ListSaysNothing {S} {F} files is_little list told =
+    ((why : Refusal) × files.opening.refuses files.store list why × (told ≡ unopened_text list why))
+    ⊎ ((file : F) × files.opening.opens files.store list file × SourceSaysNothing files.reading is_little list file told)

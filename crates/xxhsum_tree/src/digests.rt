@@ -60,7 +60,7 @@ fn add_side<'n, S: Store, T: Ticks, E: Sink>(
     err: &mut E,
 ) -> Result<(), AllocError>
     requires { 0 < length buf.old }
-    ensures { AddsRow E.Sink (IsRow S.Store S.File.Source job.now.store.now kind (path_side side.entry))
+    ensures { AddsRow E.Sink (IsRow (files_of S.Store S.File.Source job.now.store.now) kind (path_side side.entry))
         kind compared.old compared.new err.old err.new result }
 {
     match side {

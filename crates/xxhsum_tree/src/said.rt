@@ -27,9 +27,9 @@ pub(crate) fn said_named<S: Store, T: Ticks, E: Sink>(
     err: &mut E,
 ) -> Result<Option<Vec<Entry>>, Stop>
     ensures { Finds result E.Sink
-        (λ said. ListSays S.Store S.File.Source job.now.store.now
+        (λ said. ListSays (files_of S.Store S.File.Source job.now.store.now)
         job.now.options.is_little_endian list.now (map said_by said.items))
-        (ListSaysNothing S.Store S.File.Source job.now.store.now job.now.options.is_little_endian
+        (ListSaysNothing (files_of S.Store S.File.Source job.now.store.now) job.now.options.is_little_endian
         list.now) err.old err.new }
 {
     match job.progress.open(job.store, list) {

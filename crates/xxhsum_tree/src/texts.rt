@@ -33,8 +33,8 @@ pub fn text_named<S: Store, T: Ticks, E: Sink>(
     err: &mut E,
 ) -> Result<Option<Vec<u8>>, Stop>
     ensures { Finds result E.Sink
-        (λ text. GivesText S.Store S.File.Source job.now.store.now name.now text.items)
-        (HasNoText S.Store S.File.Source job.now.store.now name.now) err.old err.new }
+        (λ text. GivesText (files_of S.Store S.File.Source job.now.store.now) name.now text.items)
+        (HasNoText (files_of S.Store S.File.Source job.now.store.now) name.now) err.old err.new }
 {
     match job.progress.open(job.store, name) {
         Ok(file) => text_of(job.alloc, name, file, err),
@@ -156,9 +156,9 @@ fn texts_of_files<S: Store, T: Ticks, E: Sink>(
     err: &mut E,
 ) -> Result<Option<Vec<Vec<u8>>>, Stop>
     ensures { let given = map (λ name. name.items) names.now in Finds result E.Sink
-        (λ texts. EachHas (GivesText S.Store S.File.Source job.now.store.now) given
+        (λ texts. EachHas (GivesText (files_of S.Store S.File.Source job.now.store.now)) given
         (map (λ text. text.items) texts.items))
-        (LacksOne S.Store S.File.Source job.now.store.now given) err.old err.new }
+        (LacksOne (files_of S.Store S.File.Source job.now.store.now) given) err.old err.new }
 {
     let mut texts = Vec::new(job.alloc);
     for name in names {

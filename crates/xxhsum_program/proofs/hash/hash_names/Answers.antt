@@ -1,4 +1,5 @@
 use Rattle.std.proofs.Common.{◌≡◌, ◌+◌, ◌∷◌, ◌++◌, [], Err, map, take, drop, refl, sym, subst}
+use Rattle.xxhsum_program.specs.Prelude.{files_of}
 use Rattle.xxhsum_program.specs.HashNames.{name_events}
 use Rattle.xxhsum_program.specs.Order.{EmitsOrNone, rules_of}
 use Rattle.xxhsum_program.specs.Outcomes.{Comes, is_digested}
@@ -52,7 +53,7 @@ returns-in_err-write_outcome g c =
     let style = style_of c.args.job.now.options in
     let stop = c.in_err-write_outcome.field-0.0 in
     rw (is-err c.from_residual.result stop c.from_residual.ensures.1)
-    (names-stop (rules_of g.W.Sink g.W.Output.held g.W.Output.has_lost g.E.Sink) (Comes g.S.Store g.S.File.Source c.args.job.now.store.now kind) kind style _ (map (λ name. name.items) (take k c.args.names.now)) (map (λ name. name.items) (drop (k + 1) c.args.names.now)) so_far.outcomes c.name-item.result.items c.outcome_of-outcome.result c.args.streams.now c.loop-name.streams c.write_outcome.new.streams stop
+    (names-stop (rules_of g.W.Sink g.W.Output.held g.W.Output.has_lost g.E.Sink) (Comes (files_of g.S.Store g.S.File.Source c.args.job.now.store.now) kind) kind style _ (map (λ name. name.items) (take k c.args.names.now)) (map (λ name. name.items) (drop (k + 1) c.args.names.now)) so_far.outcomes c.name-item.result.items c.outcome_of-outcome.result c.args.streams.now c.loop-name.streams c.write_outcome.new.streams stop
     (map-split (λ name. name.items) c.args.names.now k c.name-item.result c.loop-name-test.true c.name-item.is)
     so_far.each (rw c.deref.ensures.value at c.outcome_of-outcome.ensures) so_far.emits
     (subst (λ bytes. EmitsOrNone {T = Unit {0}} (rules_of g.W.Sink g.W.Output.held g.W.Output.has_lost g.E.Sink) (name_events kind style bytes c.outcome_of-outcome.result) c.loop-name.streams c.write_outcome.new.streams (Err stop)) c.deref-in-loop-name.ensures.value c.in_err-write_outcome.ensures.emits))

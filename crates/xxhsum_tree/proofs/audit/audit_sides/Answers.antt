@@ -8,7 +8,7 @@ use Rattle.xxhsum_program.proofs.HashFacts.{is-err}
 use Rattle.xxhsum_tree.proofs.ReportFacts.{report-stops, stop-answers}
 use Rattle.xxhsum_tree.proofs.RowFacts.{answers-all, answers-not-same, says-audit}
 use Rattle.xxhsum_audit.specs.Side.{by_path}
-use Rattle.xxhsum_tree.specs.Prelude.{OutOfMemory}
+use Rattle.xxhsum_tree.specs.Prelude.{OutOfMemory, files_of}
 use Rattle.xxhsum_tree.specs.Rows.{AreRows}
 use Rattle.xxhsum_tree.proofs.audit.audit_sides.Goals as goal
 
@@ -42,4 +42,4 @@ returns g c =
 pub returns-in_err-found : goal.returns-in_err-found
 returns-in_err-found g c =
     let digests = rw c.messages.ensures.value at c.in_ok-compared.ensures in
-    inr (digests.0, (by_path (items_of c.args.lines.now) (texts_of c.args.asked.now), [], sym (append-nil _), subst (λ k. AreRows g.S.Store g.S.File.Source c.args.job.now.store.now k (by_path (items_of c.args.lines.now) (texts_of c.args.asked.now)) digests.0) c.kind_of_new-kind.ensures digests.1, digests.3), refl, is-err c.from_residual-in_err-found.result OutOfMemory c.from_residual-in_err-found.ensures.1)
+    inr (digests.0, (by_path (items_of c.args.lines.now) (texts_of c.args.asked.now), [], sym (append-nil _), subst (λ k. AreRows (files_of g.S.Store g.S.File.Source c.args.job.now.store.now) k (by_path (items_of c.args.lines.now) (texts_of c.args.asked.now)) digests.0) c.kind_of_new-kind.ensures digests.1, digests.3), refl, is-err c.from_residual-in_err-found.result OutOfMemory c.from_residual-in_err-found.ensures.1)

@@ -1,6 +1,6 @@
 use Rattle.std.proofs.Common.{◌∷◌, ◌++◌, ◌+◌, [], ap, drop, map, subst, sym, take, ◌∙◌}
 use Rattle.std.proofs.lemmas.List.{map-append}
-use Rattle.xxhsum_tree.specs.Prelude.{EachHas, TellsOn}
+use Rattle.xxhsum_tree.specs.Prelude.{EachHas, TellsOn, files_of}
 use Rattle.xxhsum_tree.specs.Texts.{GivesText, HasNoText}
 use Rattle.xxhsum_program.proofs.EachFacts.{EachHas-push, map-more, map-split}
 use Rattle.xxhsum_tree.proofs.FindFacts.{found-is, lost-is}
@@ -12,8 +12,8 @@ loop-name-preserved g c =
     let names = c.args.names.now in
     let k = c.loop-name.name-index in
     let text = c.in-Some.text in
-    let has = GivesText g.S.Store g.S.File.Source c.args.job.now.store.now in
-    let found = found-is g.E.Sink (λ text. has c.deref.result.now text.items) (HasNoText g.S.Store g.S.File.Source c.args.job.now.store.now c.deref.result.now) c.loop-name.err c.text_named.new.err c.in_ok-text.field-0 text c.in-Some.is c.in_ok-text.ensures in
+    let has = GivesText (files_of g.S.Store g.S.File.Source c.args.job.now.store.now) in
+    let found = found-is g.E.Sink (λ text. has c.deref.result.now text.items) (HasNoText (files_of g.S.Store g.S.File.Source c.args.job.now.store.now) c.deref.result.now) c.loop-name.err c.text_named.new.err c.in_ok-text.field-0 text c.in-Some.is c.in_ok-text.ensures in
     let longer = map-more (λ name. name.items) names k c.name-item.result c.loop-name-test.true c.name-item.is in
     let each = EachHas-push has (map (λ name. name.items) (take k names)) (map (λ text. text.items) c.loop-name.texts.items) c.name-item.result.items text.items so_far.each
     (subst (λ name. has name text.items) c.deref.ensures.value found.0) in

@@ -1,4 +1,5 @@
 use Rattle.std.proofs.Common.{◌∙◌, sym, [], refl, subst}
+use Rattle.xxhsum_program.specs.Prelude.{files_of}
 use Rattle.xxhsum_line.specs.Meaning.{Means}
 use Rattle.xxhsum_program.specs.Findings.{Ignored, Improper, IsFinding, Proper, TooLong}
 use Rattle.xxhsum_program.specs.LinesView.{IsGiven}
@@ -35,4 +36,4 @@ returns-clause-checks g c = λ text given.
     let is = subst (IsGiven text) c.in-Some.is given in
     let means = subst (Means c.args.self.now.options.is_little_endian text) c.in-Entry.is (rw is.1 at c.in_ok-entry.ensures.meaning) in
     let entry = c.in-Entry.entry in
-    line-said (IsFinding g.S.Store g.S.File.Source c.args.self.now.store.now c.args.self.now.options.is_little_endian text) (rules_of g.W.Sink g.W.Output.held g.W.Output.has_lost g.E.Sink) c.args.self.now.options c.args.self.now.name.now c.args.line.number entry.name.items c.deref.result.now c.compare-found.result c.args.report.now c.count.new.self c.args.streams.now c.say_found.new.out c.say_found.result (sym c.is_silent.ensures ∙ c.if-is_silent.false) c.deref.ensures.value (is.0, entry.kind, entry.value, means, c.compare-found.ensures) c.count.ensures c.say_found.ensures.prints
+    line-said (IsFinding (files_of g.S.Store g.S.File.Source c.args.self.now.store.now) c.args.self.now.options.is_little_endian text) (rules_of g.W.Sink g.W.Output.held g.W.Output.has_lost g.E.Sink) c.args.self.now.options c.args.self.now.name.now c.args.line.number entry.name.items c.deref.result.now c.compare-found.result c.args.report.now c.count.new.self c.args.streams.now c.say_found.new.out c.say_found.result (sym c.is_silent.ensures ∙ c.if-is_silent.false) c.deref.ensures.value (is.0, entry.kind, entry.value, means, c.compare-found.ensures) c.count.ensures c.say_found.ensures.prints

@@ -1,5 +1,6 @@
 use Rattle.std.proofs.Common.{◌≡◌, ◌+◌, ◌-◌, ◌^◌, ◌∷◌, ◌++◌, [], length, Some, refl, sym, ap, ◌∙◌, arith}
 use Rattle.std.proofs.lemmas.List.{length_push}
+use Rattle.xxhsum_program.specs.Prelude.{files_of}
 use Rattle.xxhsum_program.specs.Findings.{IsFinding, count_one, no_findings, report_of, with_broken_end}
 use Rattle.xxhsum_program.specs.ListEnd.{Whole, TooMany, Endless, FailedRead}
 use Rattle.xxhsum_program.specs.Order.{rules_of}
@@ -107,6 +108,6 @@ returns-in_err-check_line-in-Line-clause-checks g c =
     let stop = c.in_err-check_line-in-Line.field-0.0 in
     let (line, held, stands) = stands-line g.R.Source (source_of c.args.source) c.loop-number.lines state so_far.read so_far.stands c.in-Line.ensures.next c.in-Line.ensures.ended in
     let checked = c.in_err-check_line-in-Line.ensures.checks line (c.line.ensures line held) in
-    let is_finding = IsFinding g.S.Store g.S.File.Source c.args.self.now.store.now c.args.self.now.options.is_little_endian in
+    let is_finding = IsFinding (files_of g.S.Store g.S.File.Source c.args.self.now.store.now) c.args.self.now.options.is_little_endian in
     rw (is-err c.from_residual.result stop c.from_residual.ensures.1)
     (lines-stop is_finding g.R.Source (rules_of g.W.Sink g.W.Output.held g.W.Output.has_lost g.E.Sink) c.args.self.now.options c.args.self.now.name.now (source_of c.args.source) c.args.streams.now c.loop-number.streams c.check_line.new.streams c.loop-number.lines state so_far.read so_far.findings line c.loop-number.number c.loop-number.report c.check_line.new.report stop so_far.each so_far.stands stands so_far.count so_far.emits checked)

@@ -1,5 +1,5 @@
 use Rattle.std.proofs.Common.{◌≡◌, ◌+◌, List, ℕ, length, false}
-use Rattle.xxhsum_program.specs.Prelude.{EachHas}
+use Rattle.xxhsum_program.specs.Prelude.{EachHas, files_of}
 use Rattle.xxhsum_program.specs.Findings.{Finding, IsFinding, report_of}
 use Rattle.xxhsum_program.specs.Order.{EmitsAll, rules_of}
 use Rattle.xxhsum_program.specs.Said.{finding_events, numbered}
@@ -12,7 +12,7 @@ abbrev pub invariant-loop-number : goal.invariant-loop-number
 invariant-loop-number g l = record {
   read : List (List ℕ);
   findings : List Finding;
-  each : EachHas (IsFinding g.S.Store g.S.File.Source l.fn.self.store.now l.fn.self.options.is_little_endian) read findings;
+  each : EachHas (IsFinding (files_of g.S.Store g.S.File.Source l.fn.self.store.now) l.fn.self.options.is_little_endian) read findings;
   report : l.report ≡ report_of l.fn.self.options.ignores_missing findings;
   lines : length read + 1 ≡ l.number;
   count : l.number ≡ 1 + length findings;
