@@ -1,7 +1,7 @@
 -- Proves that rows of rising lines and names have the results of merging the lines and the digests.
 use Rattle.std.proofs.Common.{◌≡◌, ℕ, List, [], ◌∷◌, map, refl, sym, ap, subst, ◌∙◌, inl, inr, Less, Equal, Greater}
 use Rattle.std.proofs.lemmas.List.Sorted.{IsPermutation-refl}
-use Rattle.xxhsum_tree.specs.Prelude.{Digested, IsDirectory, Kind, Outcome, SourceRules, StoreRules, Unread, files_of}
+use Rattle.xxhsum_tree.specs.Prelude.{Digested, Files, IsDirectory, Kind, Outcome, SourceRules, StoreRules, Unread, files_of}
 use Rattle.xxhsum_audit.proofs.OrderFacts.{ahead, back, paths_total}
 use Rattle.xxhsum_audit.proofs.TurnFacts.{by_turns}
 use Rattle.xxhsum_audit.specs.declared.side.Side.{Side}
@@ -123,10 +123,10 @@ after-lines l n ls greater up k (inr h) =
     ahead compare_paths paths_total n (name_of k)
     (paths_total.trans n (name_of l) (name_of k) (back compare_paths paths_total (name_of l) n greater) (up.0 k h))
 
-module _ {S F : Type 0} (opening : StoreRules S F) (reading : SourceRules F) (store : S) (kind : Kind) where
+module _ {S F : Type 0} (files : Files S F) (kind : Kind) where
   abbrev Joins : List Item → List (List ℕ) → List (Side Item (List ℕ)) → Type 0
   Joins ls ns sides =
-      (rows : List Row) → AreRows opening reading store kind sides rows → Rises compare_lines ls → Rises compare_paths ns
+      (rows : List Row) → AreRows files kind sides rows → Rises compare_lines ls → Rises compare_paths ns
       → Joined kind ls ns rows
 
   gone : (l : Item) (ls : List Item) (ns : List (List ℕ)) (s : List (Side Item (List ℕ)))
@@ -157,7 +157,7 @@ module _ {S F : Type 0} (opening : StoreRules S F) (reading : SourceRules F) (st
       (λ l n ls ns s greater ih. come n (l ∷ ls) ns s (λ up k h. after-lines l n ls greater up k h) ih)
 
   pub is-audit : (lines : List Item) (names : List (List ℕ)) (rows : List Row) (found : List Found) → Rises compare_lines lines
-      → Rises compare_paths names → AreRows (files_of opening reading store) kind (by_path lines names) rows
+      → Rises compare_paths names → AreRows files kind (by_path lines names) rows
       → HasMoves (settled_in (first_in kind rows)) (missing_in (first_in kind rows)) (new_in (first_in kind rows)) found
       → IsAudit (kept_in rows) (seen_in kind rows) found
   is-audit lines names rows found up up' are moves =

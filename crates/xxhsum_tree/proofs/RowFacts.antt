@@ -3,6 +3,8 @@ use Rattle.std.proofs.Common.{◌≡◌, ℕ, Bool, true, false, ◌&&◌, List,
 use Rattle.std.specs.declared.alloc.AllocError.{AllocError}
 use Rattle.std.proofs.lemmas.List.{map-append}
 use Rattle.std.proofs.lemmas.List.Concat.{flat_map-append}
+use Rattle.xxhsum_program.specs.Order.{Effect}
+use Rattle.xxhsum_program.specs.Streams.{err_of}
 use Rattle.xxhsum_tree.specs.Prelude.{Digested, Files, IsDirectory, Kind, Options, Outcome, SourceRules, Stop, StoreRules, StreamRules, Streams, Unread, files_of}
 use Rattle.xxhsum_audit.proofs.FoundFacts.{met_is}
 use Rattle.xxhsum_audit.specs.declared.digest.FileDigest.{FileDigest}
@@ -100,22 +102,22 @@ fails-rows is fails (Err e) err fact = fact
 
 -- ---- an audit of all rows
 
-pub says-audit : {S F W E : Type 0} (opening : StoreRules S F) (reading : SourceRules F) (rules : StreamRules W E) (store : S) (options : Options) (lines : List Item) (names : List (List ℕ)) (kind : Kind) (compared : Compared) (found : List Found) (old new : Streams W E) (result : Result Bool Stop)
+pub says-audit : {S F W E : Type 0} (files : Files S F) (effect : Effect W E) (options : Options) (lines : List Item) (names : List (List ℕ)) (kind : Kind) (compared : Compared) (found : List Found)
     → Rises compare_lines lines → Rises compare_paths names → kind ≡ kind_of_new options.kind lines
-    → DigestsRows opening reading rules.telling store kind (by_path lines names) compared old.err new.err
+    → DigestsRows files effect.rules.telling kind (by_path lines names) compared (err_of effect.old) (err_of effect.new)
     → HasMoves (founds_of compared.settled.items) (items_of compared.gone.items) (items_of compared.come.items) found
-    → PrintsReport rules.writing options found old.out new.out result → ((rows : List Row) → compared.are_all ≡ are_read rows → AnswersAudit rows found result) → AuditsSides opening reading rules store options lines names old new result
-says-audit {S} {F} {W} {E} opening reading rules store options lines names kind compared found old new result up up' kinds digests moves prints answers =
+    → PrintsReport effect.rules.writing options found effect.old.out effect.new.out effect.result → ((rows : List Row) → compared.are_all ≡ are_read rows → AnswersAudit rows found effect.result) → AuditsSides files effect options lines names
+says-audit files effect options lines names kind compared found up up' kinds digests moves prints answers =
     let rows = digests.0 in
     let holds = digests.2 in
     let moved = subst (λ s. HasMoves s (missing_in (first_in kind rows)) (new_in (first_in kind rows)) found) holds.settled
     (subst (λ g. HasMoves (founds_of compared.settled.items) g (new_in (first_in kind rows)) found) holds.gone
     (subst (λ c. HasMoves (founds_of compared.settled.items) (items_of compared.gone.items) c found) holds.come moves)) in
-    let audit = is-audit (files_of opening reading store) kind lines names rows found up up' digests.1 moved in
+    let audit = is-audit files kind lines names rows found up up' digests.1 moved in
     inl (
       rows,
       found,
-      subst (λ k. AreRows (files_of opening reading store) k (by_path lines names) rows) kinds digests.1,
+      subst (λ k. AreRows files k (by_path lines names) rows) kinds digests.1,
       digests.3,
       subst (λ k. IsAudit (kept_in rows) (seen_in k rows) found) kinds audit,
       prints,

@@ -1,6 +1,6 @@
 -- The meaning of a good audit.
 use Rattle.std.specs.Prelude.{◌≡◌, ℕ, true, List, Ok}
-use Rattle.xxhsum_tree.specs.Prelude.{Files, Options, SourceRules, StoreRules, StreamRules, Streams, files_of}
+use Rattle.xxhsum_tree.specs.Prelude.{Files, Options, SourceRules, StoreRules, StreamRules, Streams, effect_of, files_of}
 use Rattle.xxhsum_audit.specs.Item.{IsAmong, Item, bare, kind_of, path_of, value_of}
 use Rattle.xxhsum_program.specs.Outcomes.{IsValueOf}
 use Rattle.xxhsum_tree.specs.Audits.{Audits}
@@ -15,7 +15,8 @@ IsFileOf files line name =
 abbrev pub AuditMeansEqual : {S F W E : Type 0} → StoreRules S F → SourceRules F → StreamRules W E → Type 0
 AuditMeansEqual {S} {F} {W} {E} opening reading rules =
     (store : S) (options : Options) (list : List ℕ) (names : List (List ℕ)) (old new : Streams W E)
-    → Audits opening reading rules store options list names old new (Ok true)
-    → (lines : List Item) × ListSays (files_of opening reading store) options.is_little_endian list lines
-    × ((line : Item) → IsAmong lines line → (name : List ℕ) × IsAmong names name × IsFileOf (files_of opening reading store) line name)
-    × ((name : List ℕ) → IsAmong names name → (line : Item) × IsAmong lines line × IsFileOf (files_of opening reading store) line name)
+    → let files = files_of opening reading store in
+    Audits files (effect_of rules old new (Ok true)) options list names
+    → (lines : List Item) × ListSays files options.is_little_endian list lines
+    × ((line : Item) → IsAmong lines line → (name : List ℕ) × IsAmong names name × IsFileOf files line name)
+    × ((name : List ℕ) → IsAmong names name → (line : Item) × IsAmong lines line × IsFileOf files line name)

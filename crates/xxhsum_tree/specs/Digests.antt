@@ -1,7 +1,7 @@
 -- The digests of names, collected side by side. No public clause uses them.
 use Rattle.std.specs.Prelude.{◌≡◌, ℕ, Bool, false, ◌&&◌, List, [], ◌++◌, Option, Some, None, Result, Ok, Err}
 use Rattle.std.specs.declared.alloc.AllocError.{AllocError}
-use Rattle.xxhsum_tree.specs.Prelude.{Digested, Kind, Outcome, SinkRules, SourceRules, StoreRules, TellsOn, files_of}
+use Rattle.xxhsum_tree.specs.Prelude.{Digested, Files, Kind, Outcome, SinkRules, TellsOn}
 use Rattle.xxhsum_audit.specs.declared.digest.FileDigest.{FileDigest}
 use Rattle.xxhsum_audit.specs.declared.moves.Compared.{Compared}
 use Rattle.xxhsum_audit.specs.declared.side.Side.{Side}
@@ -13,13 +13,13 @@ use Rattle.xxhsum_program.specs.Outcomes.{Comes, is_digested}
 use Rattle.xxhsum_tree.specs.Rows.{AreRows, Row, TellsRows, are_read, first_in, first_of, is_read, told_in, told_of}
 
 -- The name has this digest, and nothing is reported. Or it has none, and the reason is reported.
-abbrev pub DigestsName : {S F E : Type 0} → StoreRules S F → SourceRules F → SinkRules E → S → Kind → List ℕ → E → E
+abbrev pub DigestsName : {S F E : Type 0} → Files S F → SinkRules E → Kind → List ℕ → E → E
     → Option FileDigest → Type 0
-DigestsName opening reading telling store kind name e_old e_new (Some found) =
-    (value : ℕ) × (item_of found ≡ Says name kind value) × Comes (files_of opening reading store) kind name (Digested value)
+DigestsName files telling kind name e_old e_new (Some found) =
+    (value : ℕ) × (item_of found ≡ Says name kind value) × Comes files kind name (Digested value)
     × TellsOn telling [] e_old e_new
-DigestsName opening reading telling store kind name e_old e_new None =
-    (outcome : Outcome) × (is_digested outcome ≡ false) × Comes (files_of opening reading store) kind name outcome
+DigestsName files telling kind name e_old e_new None =
+    (outcome : Outcome) × (is_digested outcome ≡ false) × Comes files kind name outcome
     × TellsOn telling (told_line name outcome) e_old e_new
 
 -- The results were appended to the known ones.
@@ -44,14 +44,14 @@ pub record HoldsRows (kind : Kind) (rows : List Row) (compared : Compared) : Typ
   pub all : compared.are_all ≡ are_read rows
 
 -- Each side has a row. `compared` holds the results of the rows, and their messages were reported.
-abbrev pub DigestsRows : {S F E : Type 0} → StoreRules S F → SourceRules F → SinkRules E → S → Kind
+abbrev pub DigestsRows : {S F E : Type 0} → Files S F → SinkRules E → Kind
     → List (Side Item (List ℕ)) → Compared → E → E → Type 0
-DigestsRows opening reading telling store kind sides compared e_old e_new =
-    (rows : List Row) × AreRows (files_of opening reading store) kind sides rows × HoldsRows kind rows compared
+DigestsRows files telling kind sides compared e_old e_new =
+    (rows : List Row) × AreRows files kind sides rows × HoldsRows kind rows compared
     × TellsOn telling (told_in rows) e_old e_new
 
 -- The first sides have rows, and the messages of the rows were reported.
-abbrev pub FailsRows : {S F E : Type 0} → StoreRules S F → SourceRules F → SinkRules E → S → Kind
+abbrev pub FailsRows : {S F E : Type 0} → Files S F → SinkRules E → Kind
     → List (Side Item (List ℕ)) → E → E → Type 0
-FailsRows opening reading telling store kind sides e_old e_new =
-    (rows : List Row) × TellsRows opening reading telling store kind sides rows e_old e_new
+FailsRows files telling kind sides e_old e_new =
+    (rows : List Row) × TellsRows files telling kind sides rows e_old e_new

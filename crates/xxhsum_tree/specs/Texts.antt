@@ -1,6 +1,6 @@
 -- The texts of lists: of files, or of the input.
 use Rattle.std.specs.Prelude.{◌≡◌, ◌⊎◌, ℕ, Bool, true, false, List, [], ◌∷◌, ◌++◌, codes}
-use Rattle.xxhsum_tree.specs.Prelude.{EachHas, Files, Refusal, SourceRules, StoreRules, concat, files_of, one_line}
+use Rattle.xxhsum_tree.specs.Prelude.{EachHas, Files, Input, Refusal, SourceRules, concat, one_line}
 use Rattle.xxhsum_audit.specs.Read.{BreaksOff, GivesAll}
 use Rattle.xxhsum_files.specs.Refusal.{refusal_text}
 use Rattle.xxhsum_program.specs.Run.{input_name}
@@ -33,12 +33,9 @@ HasNoText {S} {F} files name told =
     ⊎ ((file : F) × files.opening.opens files.store name file × Breaks files.reading file × (told ≡ unread_text name))
 
 -- Each name leads to a file of its text. If there is no name, the input has the only text.
-abbrev pub GiveTexts : {S F R : Type 0} → StoreRules S F → SourceRules F → SourceRules R → S → R → List (List ℕ)
-    → List (List ℕ) → Bool → Type 0
-GiveTexts opening reading input_reading store input names texts true =
-    (text : List ℕ) × HasText input_reading input text × (texts ≡ text ∷ [])
-GiveTexts opening reading input_reading store input names texts false =
-    EachHas (GivesText (files_of opening reading store)) names texts
+abbrev pub GiveTexts : {S F R : Type 0} → Files S F → Input R → List (List ℕ) → List (List ℕ) → Bool → Type 0
+GiveTexts files input names texts true = (text : List ℕ) × HasText input.reading input.source text × (texts ≡ text ∷ [])
+GiveTexts files input names texts false = EachHas (GivesText files) names texts
 
 -- A name has no text, and the names before it have texts. `told` is the message about it.
 abbrev pub LacksOne : {S F : Type 0} → Files S F → List (List ℕ) → List ℕ → Type 0
@@ -47,8 +44,6 @@ LacksOne files names told =
     × EachHas (GivesText files) before texts × HasNoText files name told
 
 -- One of the names has no text, and `told` is the message about it. If there is no name, the input has none.
-abbrev pub LackText : {S F R : Type 0} → StoreRules S F → SourceRules F → SourceRules R → S → R → List (List ℕ) → List ℕ
-    → Bool → Type 0
-LackText opening reading input_reading store input names told true =
-    Breaks input_reading input × (told ≡ unread_text input_name)
-LackText opening reading input_reading store input names told false = LacksOne (files_of opening reading store) names told
+abbrev pub LackText : {S F R : Type 0} → Files S F → Input R → List (List ℕ) → List ℕ → Bool → Type 0
+LackText files input names told true = Breaks input.reading input.source × (told ≡ unread_text input_name)
+LackText files input names told false = LacksOne files names told

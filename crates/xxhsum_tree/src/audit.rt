@@ -4,8 +4,9 @@ ghost use Rattle.std.specs.Prelude.{◌≡◌, false, IfOk, map};
 ghost use Rattle.xxhsum_audit.specs.Item.{items_of, texts_of};
 ghost use Rattle.xxhsum_audit.specs.List.{said_by};
 ghost use Rattle.xxhsum_audit.specs.Order.{IsOrder, Rises, clash_in, compare_lines, compare_paths, rank_lines, rank_names};
+ghost use Rattle.xxhsum_program.specs.Files.{files_of};
 ghost use Rattle.xxhsum_program.specs.Finish.{IsWritten};
-ghost use Rattle.xxhsum_program.specs.Order.{rules_of};
+ghost use Rattle.xxhsum_program.specs.Order.{effect_of, rules_of};
 ghost use Rattle.xxhsum_program.specs.Told.{TellsOn};
 ghost use Rattle.xxhsum_tree.specs.AuditLaws.{AuditMeansEqual};
 ghost use Rattle.xxhsum_tree.specs.Audits.{Audits, AuditsItems, AuditsList, AuditsSides, TellsTwice, twice_text};
@@ -47,9 +48,9 @@ pub fn audit_names<S: Store, T: Ticks, W: Output, E: Sink>(
     streams: &mut Streams<W, E>,
 ) -> Result<bool, Stop>
     requires { W.has_failed streams.old.out ≡ false }
-    ensures { Audits S.Store S.File.Source (rules_of W.Sink W.held W.has_lost E.Sink) job.now.store.now job.now.options list.now
-        (map (λ name. name.items) names.now) streams.old
-        streams.new result }
+    ensures { Audits (files_of S.Store S.File.Source job.now.store.now)
+        (effect_of (rules_of W.Sink W.held W.has_lost E.Sink) streams.old streams.new result)
+        job.now.options list.now (map (λ name. name.items) names.now) }
 {
     streams.release();
     audit_list(job, list, names, streams)
@@ -64,9 +65,9 @@ fn audit_list<S: Store, T: Ticks, W: Output, E: Sink>(
 ) -> Result<bool, Stop>
     requires writer { W.has_failed streams.old.out ≡ false }
     requires written { IsWritten W.held W.has_lost streams.old.out }
-    ensures { AuditsList S.Store S.File.Source (rules_of W.Sink W.held W.has_lost E.Sink)
-        job.now.store.now job.now.options list.now (map (λ name. name.items) names.now)
-        streams.old streams.new result }
+    ensures { AuditsList (files_of S.Store S.File.Source job.now.store.now)
+        (effect_of (rules_of W.Sink W.held W.has_lost E.Sink) streams.old streams.new result)
+        job.now.options list.now (map (λ name. name.items) names.now) }
 {
     let Some(said) = said_named(job, list, streams.messages())? else {
         return Ok(false);
@@ -84,10 +85,9 @@ fn audit_lines<S: Store, T: Ticks, W: Output, E: Sink>(
 ) -> Result<bool, Stop>
     requires writer { W.has_failed streams.old.out ≡ false }
     requires written { IsWritten W.held W.has_lost streams.old.out }
-    ensures { AuditsItems S.Store S.File.Source (rules_of W.Sink W.held W.has_lost E.Sink) job.now.store.now job.now.options
-        list.now (map said_by said.now) (map (λ name. name.items) names.now)
-        streams.old
-        streams.new result }
+    ensures { AuditsItems (files_of S.Store S.File.Source job.now.store.now)
+        (effect_of (rules_of W.Sink W.held W.has_lost E.Sink) streams.old streams.new result)
+        job.now.options list.now (map said_by said.now) (map (λ name. name.items) names.now) }
 {
     let lines = lines_in_order(job.alloc, said)?;
     let asked = names_in_order(job.alloc, names)?;
@@ -178,9 +178,9 @@ fn audit_sides<S: Store, T: Ticks, W: Output, E: Sink>(
     requires written { IsWritten W.held W.has_lost streams.old.out }
     requires lines { Rises compare_lines (items_of lines.now) }
     requires names { Rises compare_paths (texts_of asked.now) }
-    ensures { AuditsSides S.Store S.File.Source (rules_of W.Sink W.held W.has_lost E.Sink) job.now.store.now job.now.options
-        (items_of lines.now) (texts_of asked.now) streams.old
-        streams.new result }
+    ensures { AuditsSides (files_of S.Store S.File.Source job.now.store.now)
+        (effect_of (rules_of W.Sink W.held W.has_lost E.Sink) streams.old streams.new result)
+        job.now.options (items_of lines.now) (texts_of asked.now) }
 {
     let kind = kind_of_new(lines, job.options.kind);
     let compared = digests_of(job, kind, lines, asked, streams.messages())?;

@@ -1,6 +1,7 @@
 //! Hashes names and merges them with the lines of a list.
 
 ghost use Rattle.std.specs.Prelude.{◌<◌, MatchResult, length};
+ghost use Rattle.xxhsum_program.specs.Files.{files_of};
 ghost use Rattle.xxhsum_audit.specs.Item.{items_of, texts_of};
 ghost use Rattle.xxhsum_audit.specs.Side.{by_path, path_side};
 ghost use Rattle.xxhsum_tree.specs.Digests.{AddsRow, DigestsName, DigestsRows, FailsRows};
@@ -29,9 +30,9 @@ pub(crate) fn digests_of<'n, S: Store, T: Ticks, E: Sink>(
     err: &mut E,
 ) -> Result<Compared<'n>, AllocError>
     ensures { let sides = by_path (items_of lines.now) (texts_of names.now) in MatchResult result
-        (λ compared. DigestsRows S.Store S.File.Source E.Sink job.now.store.now kind sides compared
+        (λ compared. DigestsRows (files_of S.Store S.File.Source job.now.store.now) E.Sink kind sides compared
         err.old err.new)
-        (λ _. FailsRows S.Store S.File.Source E.Sink job.now.store.now kind sides err.old err.new) }
+        (λ _. FailsRows (files_of S.Store S.File.Source job.now.store.now) E.Sink kind sides err.old err.new) }
 {
     let mut compared = Compared {
         settled: Vec::new(job.alloc),
@@ -86,7 +87,7 @@ fn digest_name<'n, S: Store, T: Ticks, E: Sink>(
     err: &mut E,
 ) -> Option<FileDigest<'n>>
     requires { 0 < length buf.old }
-    ensures { DigestsName S.Store S.File.Source E.Sink job.now.store.now kind name.now
+    ensures { DigestsName (files_of S.Store S.File.Source job.now.store.now) E.Sink kind name.now
         err.old err.new result }
 {
     let outcome = outcome_of(job, kind, name, buf);

@@ -2,12 +2,13 @@
 
 ghost use Rattle.std.specs.Prelude.{◌≡◌, false, Bool, List, ℕ, Option, Some, Result, drop, map, IfSome};
 ghost use Rattle.xxhsum_program.specs.Arguments.{AreArguments};
-ghost use Rattle.xxhsum_program.specs.Finish.{Finishes, IsWritten};
-ghost use Rattle.xxhsum_program.specs.Order.{Releases, rules_of};
-ghost use Rattle.xxhsum_program.specs.Run.{end_text, status_of};
-ghost use Rattle.xxhsum_program.specs.Streams.{err_of};
-ghost use Rattle.xxhsum_tree.specs.Prelude.{Options, Stop, Streams, TellsOn};
+ghost use Rattle.xxhsum_program.specs.Files.{files_of, input_of};
+ghost use Rattle.xxhsum_program.specs.Finish.{IsWritten};
+ghost use Rattle.xxhsum_program.specs.Order.{Releases, effect_of, rules_of};
+ghost use Rattle.xxhsum_program.specs.Run.{Ends};
+ghost use Rattle.xxhsum_tree.specs.Prelude.{Stop, Streams};
 ghost use Rattle.xxhsum_tree.specs.Run.{AuditsBelow, AuditsWords, DoesArguments, PerformsWords, WalksFolders, WalksNames, all_well};
+ghost use Rattle.xxhsum_tree.specs.Walk.{tree_of};
 ghost use Rattle.xxhsum_words.specs.Options.{are_listed};
 
 use crate::audit::audit_names;
@@ -54,15 +55,15 @@ where
     T: Ticks,
     requires reader { R.has_failed console.input ≡ false }
     requires writer { W.has_failed streams.old.out ≡ false }
-    ensures { (args : Option (List (List ℕ))) × (done ended : Result Bool Stop)
+    ensures { (args : Option (List (List ℕ))) × (done : Result Bool Stop)
         × (start met : Streams W E) × IfSome args (AreArguments A.holds A.ends arguments.now)
         × Releases (rules_of W.Sink W.held W.has_lost E.Sink) streams.old start
-        × DoesArguments (PerformsWords S.Store S.Folders S.File.Source R.Source
-        (rules_of W.Sink W.held W.has_lost E.Sink) store.now console.input start met done)
-        E.Sink console.terminals args start met done
-        × Finishes W.Sink W.held W.has_lost done met.out streams.new.out ended
-        × TellsOn E.Sink (end_text ended) (err_of met) (err_of streams.new)
-        × (result ≡ status_of ended) }
+        × DoesArguments (PerformsWords (tree_of S.Store S.Folders store.now)
+        (files_of S.Store S.File.Source store.now) (input_of R.Source console.input)
+        (effect_of (rules_of W.Sink W.held W.has_lost E.Sink) start met done))
+        (effect_of (rules_of W.Sink W.held W.has_lost E.Sink) start met done)
+        console.terminals args
+        × Ends (rules_of W.Sink W.held W.has_lost E.Sink) done met streams.new result }
 {
     streams.release();
     match all_arguments(alloc, arguments) {
@@ -91,11 +92,11 @@ where
     requires reader { R.has_failed console.input ≡ false }
     requires writer { W.has_failed streams.old.out ≡ false }
     requires written { IsWritten W.held W.has_lost streams.old.out }
-    ensures { DoesArguments (PerformsWords S.Store S.Folders S.File.Source R.Source
-        (rules_of W.Sink W.held W.has_lost E.Sink)
-        store.now console.input streams.old streams.new result)
-        E.Sink console.terminals (Some (map (λ argument. argument.items) args.now))
-        streams.old streams.new result }
+    ensures { let effect = effect_of (rules_of W.Sink W.held W.has_lost E.Sink)
+        streams.old streams.new result in
+        DoesArguments (PerformsWords (tree_of S.Store S.Folders store.now)
+        (files_of S.Store S.File.Source store.now) (input_of R.Source console.input) effect)
+        effect console.terminals (Some (map (λ argument. argument.items) args.now)) }
 {
     let Console {
         input,
@@ -139,9 +140,9 @@ where
     requires reader { R.has_failed input ≡ false }
     requires writer { W.has_failed streams.old.out ≡ false }
     requires written { IsWritten W.held W.has_lost streams.old.out }
-    ensures { PerformsWords S.Store S.Folders S.File.Source R.Source
-        (rules_of W.Sink W.held W.has_lost E.Sink)
-        job.now.store.now input streams.old streams.new result
+    ensures { PerformsWords (tree_of S.Store S.Folders job.now.store.now)
+        (files_of S.Store S.File.Source job.now.store.now) (input_of R.Source input)
+        (effect_of (rules_of W.Sink W.held W.has_lost E.Sink) streams.old streams.new result)
         job.now.options (map (λ word. word.items) words.now) }
 {
     if job.options.audits {
@@ -172,11 +173,10 @@ where
     requires reader { R.has_failed input ≡ false }
     requires writer { W.has_failed streams.old.out ≡ false }
     requires written { IsWritten W.held W.has_lost streams.old.out }
-    ensures { AuditsWords S.Store S.Folders S.File.Source R.Source
-        (rules_of W.Sink W.held W.has_lost E.Sink)
-        job.now.store.now input streams.old streams.new result
-        job.now.options (map (λ word. word.items) words.now) job.now.options.walks
-        (are_listed job.now.options.names_from) }
+    ensures { AuditsWords (tree_of S.Store S.Folders job.now.store.now)
+        (files_of S.Store S.File.Source job.now.store.now) (input_of R.Source input)
+        (effect_of (rules_of W.Sink W.held W.has_lost E.Sink) streams.old streams.new result)
+        job.now.options (map (λ word. word.items) words.now) }
 {
     let Some((list, rest)) = words.split_first() else {
         tell(b"Error: --audit needs a list.\n", streams.messages());
@@ -204,9 +204,10 @@ fn audit_below<S: Store + Folders, T: Ticks, W: Output, E: Sink>(
 ) -> Result<bool, Stop>
     requires writer { W.has_failed streams.old.out ≡ false }
     requires written { IsWritten W.held W.has_lost streams.old.out }
-    ensures { AuditsBelow S.Store S.Folders S.File.Source (rules_of W.Sink W.held W.has_lost E.Sink)
-        job.now.store.now job.now.options list.now (map (λ name. name.items) names.now)
-        streams.old streams.new result }
+    ensures { AuditsBelow (tree_of S.Store S.Folders job.now.store.now)
+        (files_of S.Store S.File.Source job.now.store.now)
+        (effect_of (rules_of W.Sink W.held W.has_lost E.Sink) streams.old streams.new result)
+        job.now.options list.now (map (λ name. name.items) names.now) }
 {
     match files_below(job.alloc, job.store, names, streams.messages()) {
         Ok(walked) => {
@@ -227,9 +228,10 @@ fn walk_folders<S: Store + Folders, T: Ticks, W: Output, E: Sink>(
 ) -> Result<bool, Stop>
     requires writer { W.has_failed streams.old.out ≡ false }
     requires written { IsWritten W.held W.has_lost streams.old.out }
-    ensures { WalksFolders S.Store S.Folders S.File.Source (rules_of W.Sink W.held W.has_lost E.Sink)
-        job.now.store.now job.now.options (map (λ name. name.items) names.now)
-        streams.old streams.new result }
+    ensures { WalksFolders (tree_of S.Store S.Folders job.now.store.now)
+        (files_of S.Store S.File.Source job.now.store.now)
+        (effect_of (rules_of W.Sink W.held W.has_lost E.Sink) streams.old streams.new result)
+        job.now.options (map (λ name. name.items) names.now) }
 {
     match files_below(job.alloc, job.store, names, streams.messages()) {
         Ok(walked) => {
@@ -261,8 +263,8 @@ fn walk_names<S: Store, T: Ticks, R: Source + Drop, W: Output, E: Sink>(
     requires reader { R.has_failed input ≡ false }
     requires writer { W.has_failed streams.old.out ≡ false }
     requires written { IsWritten W.held W.has_lost streams.old.out }
-    ensures { WalksNames S.Store S.File.Source R.Source (rules_of W.Sink W.held W.has_lost E.Sink)
-        job.now.store.now input streams.old streams.new result
+    ensures { WalksNames (files_of S.Store S.File.Source job.now.store.now) (input_of R.Source input)
+        (effect_of (rules_of W.Sink W.held W.has_lost E.Sink) streams.old streams.new result)
         job.now.options (map (λ list. list.items) lists.now) }
 {
     let Some(names) = names_listed(job, lists, input, streams.messages())? else {

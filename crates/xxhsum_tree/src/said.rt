@@ -1,6 +1,7 @@
 //! Reads the entries of a list.
 
 ghost use Rattle.std.specs.Prelude.{map};
+ghost use Rattle.xxhsum_program.specs.Files.{files_of};
 ghost use Rattle.xxhsum_audit.specs.List.{said_by};
 ghost use Rattle.xxhsum_program.specs.Watched.{source_of};
 ghost use Rattle.xxhsum_tree.specs.Finds.{Finds};

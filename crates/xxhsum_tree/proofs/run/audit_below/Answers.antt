@@ -8,7 +8,7 @@ returns-then-not-walked g c =
     let files = map (λ file. file.items) c.in-Ok.walked.files.items in
     let walks = subst (λ all. WalksAll (tree_of g.S.Store g.S.Folders c.args.job.now.store.now) g.E.Sink names files all c.messages.result.now c.files_below.new.err) c.if-not-walked.true c.in-Ok.ensures in
     let told = rw c.messages.ensures.value at walks in
-    inr (inl (files, told, refl, refl))
+    inr (inl (files, (told, refl), refl))
 
 pub returns-else-not-walked : goal.returns-else-not-walked
 returns-else-not-walked g c =

@@ -34,6 +34,6 @@ returns-in_default g c =
     let behind = map (λ name. name.items) (drop (k + 1) names) in
     let texts = map (λ text. text.items) c.loop-name.texts.items in
     let split = map-split (λ name. name.items) names k c.name-item.result c.loop-name-test.true c.name-item.is in
-    let lost = lost-is g.E.Sink (λ text. GivesText g.S.Store g.S.File.Source store c.deref.result.now text.items) (HasNoText g.S.Store g.S.File.Source store c.deref.result.now) c.loop-name.err c.text_named.new.err c.in_ok-text.field-0 c.in_default.is c.in_ok-text.ensures in
-    let why = subst (λ name. HasNoText g.S.Store g.S.File.Source store name lost.0) c.deref.ensures.value lost.1 in
+    let lost = lost-is g.E.Sink (λ text. GivesText (files_of g.S.Store g.S.File.Source store) c.deref.result.now text.items) (HasNoText (files_of g.S.Store g.S.File.Source store) c.deref.result.now) c.loop-name.err c.text_named.new.err c.in_ok-text.field-0 c.in_default.is c.in_ok-text.ensures in
+    let why = subst (λ name. HasNoText (files_of g.S.Store g.S.File.Source store) name lost.0) c.deref.ensures.value lost.1 in
     (lost.0, (before, behind, texts, c.name-item.result.items, split, so_far.each, why), subst (λ e. TellsOn g.E.Sink lost.0 e c.text_named.new.err) so_far.silent lost.2)
