@@ -24,7 +24,8 @@ ghost use Rattle.xxhsum_program.specs.Lines.{lines_of, told_line, written_line};
 ghost use Rattle.xxhsum_program.specs.ListEnd.{ListEnd};
 ghost use Rattle.xxhsum_program.specs.Outcomes.{Comes, IsValueOf, are_digested};
 ghost use Rattle.xxhsum_program.specs.PrintedIsGood.{PrintedIsGood};
-ghost use Rattle.xxhsum_program.specs.Order.{EmitsAll, EmitsTo, Event, printed_of, reported_of, rules_of};
+ghost use Rattle.xxhsum_program.specs.Files.{files_of, input_of};
+ghost use Rattle.xxhsum_program.specs.Order.{EmitsAll, EmitsTo, Event, effect_of, printed_of, reported_of, rules_of};
 ghost use Rattle.xxhsum_program.specs.Streams.{err_of};
 ghost use Rattle.xxhsum_program.specs.Run.{status_of};
 ghost use Rattle.xxhsum_program.specs.Said.{list_events, named_text, printed_finding};
@@ -51,8 +52,8 @@ pub fn status()
 pub fn each_name_once<S: Store, W: Sink, E: Sink>()
     ensures { (held : W → List ℕ) (has_lost : W → Bool) (store : S) (kind : Kind) (style : Style)
         → (names : List (List ℕ)) (old new : Streams W E) (all : Bool)
-        → SaysNames S.Store S.File.Source (rules_of W.Sink held has_lost E.Sink) store kind style
-        names old new (Ok all)
+        → SaysNames (files_of S.Store S.File.Source store)
+        (effect_of (rules_of W.Sink held has_lost E.Sink) old new (Ok all)) kind style names
         → (outcomes : List Outcome)
         × EachHas (Comes (files_of S.Store S.File.Source store) kind) names outcomes
         × Took W.Sink (lines_of (written_line kind style) names outcomes) old.out new.out
@@ -86,16 +87,16 @@ pub fn one_line_a_name()
 pub fn stops_early<S: Store, R: Source, W: Sink, E: Sink>()
     ensures names { (held : W → List ℕ) (has_lost : W → Bool) (store : S) (kind : Kind)
         → (style : Style) (names : List (List ℕ)) (old new : Streams W E) (stop : Stop)
-        → SaysNames S.Store S.File.Source (rules_of W.Sink held has_lost E.Sink) store kind style
-        names old new (Err stop)
+        → SaysNames (files_of S.Store S.File.Source store)
+        (effect_of (rules_of W.Sink held has_lost E.Sink) old new (Err stop)) kind style names
         → (done rest : List (List ℕ)) × (outcomes : List Outcome) × (names ≡ done ++ rest)
         × EachHas (Comes (files_of S.Store S.File.Source store) kind) done outcomes
         × PrintsBeginning W.Sink (lines_of (written_line kind style) done outcomes)
         old.out new.out }
     ensures list { (held : W → List ℕ) (has_lost : W → Bool) (store : S) (options : Options)
         → (name : List ℕ) (source : R) (old new : Streams W E) (stop : Stop)
-        → SaysList S.Store S.File.Source R.Source (rules_of W.Sink held has_lost E.Sink) store
-        options name source old new (Err stop)
+        → SaysList (files_of S.Store S.File.Source store) (input_of R.Source source)
+        (effect_of (rules_of W.Sink held has_lost E.Sink) old new (Err stop)) options name
         → (findings : List Finding) × (end : Option ListEnd)
         × PrintsBeginning W.Sink (printed_of (list_events options name findings end))
         old.out new.out }
@@ -121,8 +122,8 @@ pub fn ok_means_equal<S: Store>()
 pub fn good_means_equal<S: Store, R: Source, W: Sink, E: Sink>()
     ensures { (held : W → List ℕ) (has_lost : W → Bool) (store : S) (options : Options)
         → (name : List ℕ) (source : R) (old new : Streams W E)
-        → SaysList S.Store S.File.Source R.Source (rules_of W.Sink held has_lost E.Sink) store
-        options name source old new (Ok true)
+        → SaysList (files_of S.Store S.File.Source store) (input_of R.Source source)
+        (effect_of (rules_of W.Sink held has_lost E.Sink) old new (Ok true)) options name
         → (lines : List (List ℕ)) × (end : ListEnd) × EndsAs R.Source source lines end
         × AllByRecursion (IsWell (files_of S.Store S.File.Source store) options) lines }
 {
