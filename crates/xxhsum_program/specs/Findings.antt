@@ -1,7 +1,7 @@
 -- The findings of a list's lines, and the report of them.
 use Rattle.std.specs.Prelude.{◌≡◌, ℕ, ◌+◌, ◌-◌, ◌≤◌, ◌^◌, Bool, true, false, ◌&&◌, List, [], ◌∷◌, length, min, if◌then◌else◌}
 use Rattle.xxhsum_line.specs.Entry.{Says, SaysNothing, is_comment}
-use Rattle.xxhsum_program.specs.Prelude.{Files, Found, Kind, Report, SourceRules, StoreRules}
+use Rattle.xxhsum_program.specs.Prelude.{Files, Found, Kind, Report}
 use Rattle.xxhsum_program.specs.declared.entry.Found.TheVariants.{Same, Different, Unread}
 use Rattle.xxhsum_program.specs.Found.{IsFound}
 use Rattle.xxhsum_program.specs.ListLines.{IsTooLong}

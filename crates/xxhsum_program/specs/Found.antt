@@ -1,6 +1,6 @@
 -- The state of a line's file, compared with the line.
 use Rattle.std.specs.Prelude.{◌≢◌, ℕ, Bool, false, ◌&&◌, List}
-use Rattle.xxhsum_program.specs.Prelude.{Files, Found, Kind, SourceRules, StoreRules}
+use Rattle.xxhsum_program.specs.Prelude.{Files, Found, Kind}
 use Rattle.xxhsum_program.specs.declared.entry.Found.TheVariants.{Same, Different, Unread}
 use Rattle.xxhsum_program.specs.Outcomes.{HasNoValue, IsValueOf, has_no_file}
 

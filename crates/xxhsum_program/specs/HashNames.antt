@@ -7,7 +7,6 @@ use Rattle.xxh_program.specs.Kind.{value_of}
 use Rattle.xxh_program.specs.States.{most_reads}
 use Rattle.xxhsum_program.specs.Outcomes.{Comes, are_digested}
 use Rattle.xxhsum_program.specs.Order.{Effect, Event, HasEvents, Printed, Reported}
-use Rattle.xxhsum_program.specs.declared.streams.Streams.{Streams}
 use Rattle.xxhsum_program.specs.Lines.{lines_of, printed_input, told_input, told_line, written_line}
 
 -- If the run reaches its end, no name is left, and the result is true if each has a value. Only a failed write or a

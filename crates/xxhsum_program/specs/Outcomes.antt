@@ -1,7 +1,7 @@
 -- The outcomes of the names of a hashing run.
 use Rattle.std.specs.Prelude.{◌≡◌, ℕ, Bool, true, false, List, codes, Result, Ok, Err}
 use Rattle.std.specs.List.{list_all}
-use Rattle.xxhsum_program.specs.Prelude.{Digested, Files, IsDirectory, Kind, Outcome, Reason, SourceRules, StoreRules, Unread, concat}
+use Rattle.xxhsum_program.specs.Prelude.{Digested, Files, IsDirectory, Kind, Outcome, Reason, Unread, concat}
 use Rattle.xxh_io.specs.declared.error.DigestError.{DigestError}
 use Rattle.xxh_io.specs.declared.error.DigestError.TheVariants.{ReadFailed, WriteFailed, TooLong}
 use Rattle.xxh_io.specs.Digest.{ReadsTo}

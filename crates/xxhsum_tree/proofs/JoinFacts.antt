@@ -1,7 +1,7 @@
 -- Proves that rows of rising lines and names have the results of merging the lines and the digests.
 use Rattle.std.proofs.Common.{◌≡◌, ℕ, List, [], ◌∷◌, map, refl, sym, ap, subst, ◌∙◌, inl, inr, Less, Equal, Greater}
 use Rattle.std.proofs.lemmas.List.Sorted.{IsPermutation-refl}
-use Rattle.xxhsum_tree.specs.Prelude.{Digested, Files, IsDirectory, Kind, Outcome, SourceRules, StoreRules, Unread, files_of}
+use Rattle.xxhsum_tree.specs.Prelude.{Digested, Files, IsDirectory, Kind, Outcome, Unread}
 use Rattle.xxhsum_audit.proofs.OrderFacts.{ahead, back, paths_total}
 use Rattle.xxhsum_audit.proofs.TurnFacts.{by_turns}
 use Rattle.xxhsum_audit.specs.declared.side.Side.{Side}

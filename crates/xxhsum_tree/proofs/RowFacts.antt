@@ -5,7 +5,7 @@ use Rattle.std.proofs.lemmas.List.{map-append}
 use Rattle.std.proofs.lemmas.List.Concat.{flat_map-append}
 use Rattle.xxhsum_program.specs.Order.{Effect}
 use Rattle.xxhsum_program.specs.Streams.{err_of}
-use Rattle.xxhsum_tree.specs.Prelude.{Digested, Files, IsDirectory, Kind, Options, Outcome, SourceRules, Stop, StoreRules, StreamRules, Streams, Unread, files_of}
+use Rattle.xxhsum_tree.specs.Prelude.{Digested, Files, IsDirectory, Kind, Options, Outcome, Unread}
 use Rattle.xxhsum_audit.proofs.FoundFacts.{met_is}
 use Rattle.xxhsum_audit.specs.declared.digest.FileDigest.{FileDigest}
 use Rattle.xxhsum_audit.specs.declared.moves.Compared.{Compared}

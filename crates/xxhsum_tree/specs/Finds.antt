@@ -1,5 +1,5 @@
 -- A value is found, or reported missing.
-use Rattle.std.specs.Prelude.{◌≡◌, ◌⊎◌, ℕ, Bool, false, List, Option, Some, None, Result, Ok, Err}
+use Rattle.std.specs.Prelude.{◌≡◌, ◌⊎◌, ℕ, false, List, Option, Some, None, Result, Ok, Err}
 use Rattle.xxhsum_program.specs.Streams.{err_of}
 use Rattle.xxhsum_tree.specs.Prelude.{Effect, OutOfMemory, SinkRules, Stop, TellsOn}
 

@@ -1,6 +1,6 @@
 -- The meaning of the lines of an audited list.
 use Rattle.std.specs.Prelude.{◌≡◌, ◌⊎◌, ℕ, ◌+◌, ◌≤◌, Bool, List, [], ◌∷◌, ◌++◌, codes, length}
-use Rattle.xxhsum_tree.specs.Prelude.{AllByRecursion, Files, Refusal, SourceRules, StoreRules}
+use Rattle.xxhsum_tree.specs.Prelude.{AllByRecursion, Files, Refusal, SourceRules}
 use Rattle.xxhsum_audit.specs.Item.{Item}
 use Rattle.xxhsum_audit.specs.List.{SayAll}
 use Rattle.xxhsum_line.specs.Entry.{SaysNothing}

@@ -1,4 +1,3 @@
-use Rattle.std.proofs.Common.{rules}
 use Rattle.xxhsum_program.proofs.process.end.Goals as goal
 
 pub returns : goal.returns
