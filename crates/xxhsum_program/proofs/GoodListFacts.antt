@@ -1,13 +1,9 @@
 -- Proves that all lines are well if the report has no different file, no unread file and no line that is too long.
 use Rattle.std.proofs.Common.{◌≡◌, ◌&&◌, ℕ, Bool, true, false, List, [], ◌∷◌, Some, None, refl, arith, if◌then◌else◌, inl, inr}
 use Rattle.xxhsum_program.specs.Prelude.{AllByRecursion, EachHas, Files, Options, Reason, Report, SourceRules, StoreRules, files_of}
-use Rattle.xxhsum_program.specs.declared.entry.Found.TheVariants.{Same, Different, Unread}
+use Rattle.xxhsum_program.proofs.Prelude.{Different, Endless, FailedRead, GoodMeansEqual, HasNoValue, IsPassedOver, IsWell, ListEnd, Same, TooMany, Unread, Whole, has_no_file, passes, report_at}
 use Rattle.xxhsum_program.specs.declared.outcome.Reason.TheVariants as Why
 use Rattle.xxhsum_program.specs.Findings.{Finding, Ignored, Improper, IsFinding, Proper, TooLong, add_up, count_one, no_findings, one_more}
-use Rattle.xxhsum_program.specs.GoodList.{GoodMeansEqual, IsPassedOver, IsWell}
-use Rattle.xxhsum_program.specs.ListEnd.{ListEnd, Whole, TooMany, Endless, FailedRead, report_at}
-use Rattle.xxhsum_program.specs.Outcomes.{HasNoValue, has_no_file}
-use Rattle.xxhsum_program.specs.Report.{passes}
 
 -- A report with no different file, no unread file and no line that is too long.
 abbrev Clean : Report → Type 0

@@ -1,14 +1,8 @@
 -- Lemmas on a hashing run, at a name and where it stops.
 use Rattle.std.proofs.Common.{◌≡◌, ℕ, Bool, false, List, [], ◌∷◌, ◌++◌, refl, sym, ap, ◌∙◌, subst, append-nil, append_assoc, Ok, Err, Result, IsErrAnd}
 use Rattle.xxhsum_program.specs.Prelude.{Digested, EachHas, IsDirectory, Kind, OutOfMemory, Outcome, Stop, Style, Unread, WriteFailed}
-use Rattle.xxhsum_line.specs.Printed.{styled_line}
-use Rattle.xxhsum_program.specs.HashNames.{EndsWith, input_events, name_events}
-use Rattle.xxhsum_program.specs.Lines.{PrintsLine, lines_of, told_line}
-use Rattle.xxhsum_program.specs.Order.{Emits, EmitsAll, EmitsOrNone, EmitsTo, Reported, StreamRules}
+use Rattle.xxhsum_program.proofs.Prelude.{Emits, EmitsAll, EmitsOrNone, EmitsTo, EndsWith, PrintsLine, Reported, StreamRules, Streams, input_events, is_digested, lines_of, name_events, streams_of, styled_line, told_line}
 use Rattle.xxhsum_program.proofs.OrderFacts.{emits-append, emits-join}
-use Rattle.xxhsum_program.specs.declared.streams.Streams.{Streams}
-use Rattle.xxhsum_program.specs.Streams.{streams_of}
-use Rattle.xxhsum_program.specs.Outcomes.{is_digested}
 use Rattle.xxhsum_program.proofs.EachFacts.{EachHas-push}
 use Rattle.xxhsum_program.proofs.OutcomeFacts.{lines-push}
 

@@ -1,20 +1,12 @@
 -- Lemmas on the buffered bytes of a list, if bytes are taken from them or appended to them.
 use Rattle.std.proofs.Common.{◌≡◌, ℕ, ◌+◌, ◌-◌, ◌<◌, ◌≤◌, ◌^◌, Bool, true, false, List, [], ◌∷◌, ◌++◌, length, length-append, take, drop, slice_range, slice_index, nat_eq, refl, sym, ap, ◌∙◌, subst, inl, inr, Some, None, Ok, Err, arith, append-nil, append_assoc, rules, if◌then◌else◌, IsErrAnd, Option, Result}
 use Rattle.std.specs.List.{concat, copy_within}
-use Rattle.std.proofs.lemmas.Bool.Decides.{eqb_tells}
+use Rattle.xxhsum_program.proofs.Prelude.{Failed, FailsAfter, IsFirstByte, Lacks, Lines, NoneEmpty, NoneEmpty-push, Pieces, Pieces-push, SourceRules, concat-push, end_piece, eqb_tells, is_byte, length-between, take-append-add}
 use Rattle.std.proofs.lemmas.List.{take-take, take_at, take-append-le, drop-take, drop-drop, length-take-le, nil_from_length}
-use Rattle.std.proofs.lemmas.List.Edits.{length-between}
-use Rattle.std.proofs.Math.Seq.{take-append-add}
 use borrow.Rule.Slice.PartMut.{put_mid}
-use Rattle.memchr.specs.Find.{IsFirstByte, is_byte}
-use Rattle.xxh_io.specs.declared.ends.Failed.{Failed}
-use Rattle.xxhsum_program.specs.Prelude.{Lacks, NoneEmpty, Pieces, SourceRules}
-use Rattle.xxh_io.proofs.PieceFacts.{Pieces-push, NoneEmpty-push, concat-push}
 use Rattle.xxhsum_line.proofs.LackFacts.{at_place, lacks_before, lacks_both, lacks_by_place}
-use Rattle.xxhsum_program.specs.declared.lines.Lines.{Lines}
 use Rattle.xxhsum_program.specs.declared.lines.Next.TheVariants as Variant
 use Rattle.xxhsum_program.specs.LinesView.{HasRead, IsAtEnd, IsBeforeLineFeed, IsHeld, IsNext, IsTaken, ReadsBehind, StopsAt, line_of, most_reads_left, waiting}
-use Rattle.xxhsum_program.specs.ListLines.{FailsAfter, end_piece}
 
 -- ---- parts of the buffered bytes
 

@@ -2,16 +2,8 @@
 use Rattle.std.proofs.Common.{◌≡◌, ◌≢◌, ◌+◌, ℕ, Bool, true, false, List, [], ◌∷◌, ◌++◌, refl, sym, ap, ◌∙◌, subst, arith, codes, decimal, drop, length, if◌then◌else◌}
 use Rattle.xxhsum_program.specs.Prelude.{Found, SourceRules, StoreRules, concat, files_of}
 use Rattle.std.proofs.lemmas.List.{append_assoc, append_cancel_right, length_push, same_from_push}
-use Rattle.std.proofs.lemmas.Option.{same_Some}
-use Rattle.xxhsum_line.specs.Entry.{Says}
+use Rattle.xxhsum_program.proofs.Prelude.{Different, EscapeIsUndone, Ignored, Improper, IsFound, IsValueOf, OkMeansEqual, PlainNamesStay, Proper, Same, Says, TooLong, Unread, found_text, is_silent, named_text, reason_text, same_Some}
 use Rattle.xxhsum_line.specs.Escapes.{escaped, mark_of, needs_escape, one_line, unescaped}
-use Rattle.xxhsum_line.specs.Laws.{EscapeIsUndone, PlainNamesStay}
-use Rattle.xxhsum_program.specs.Findings.{Ignored, Improper, Proper, TooLong}
-use Rattle.xxhsum_program.specs.Found.{IsFound}
-use Rattle.xxhsum_program.specs.GoodList.{OkMeansEqual}
-use Rattle.xxhsum_program.specs.Outcomes.{IsValueOf, reason_text}
-use Rattle.xxhsum_program.specs.Said.{found_text, is_silent, named_text}
-use Rattle.xxhsum_program.specs.declared.entry.Found.TheVariants.{Same, Different, Unread}
 
 -- ---- the text of a line, which is unique
 

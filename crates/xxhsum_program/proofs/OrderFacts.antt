@@ -1,11 +1,7 @@
 -- Lemmas on events of both streams.
 use Rattle.std.proofs.Common.{◌≡◌, ℕ, List, [], ◌∷◌, ◌++◌, refl, sym, ap, ◌∙◌, subst, append-nil, append_assoc, Ok, Err, IfErr, Result}
-use Rattle.xxh_io.proofs.WriteFacts.{Refused-join, Took-join}
-use Rattle.xxhsum_program.specs.Prelude.{OutOfMemory, Refused, Stop, TellsOn, Took, WriteFailed}
-use Rattle.xxhsum_program.specs.Lines.{PrintsLine}
+use Rattle.xxhsum_program.proofs.Prelude.{OutOfMemory, PrintsLine, Refused, Refused-join, Stop, Streams, TellsOn, Took, Took-join, WriteFailed, streams_of}
 use Rattle.xxhsum_program.specs.Order.{Emits, EmitsAll, EmitsOrNone, EmitsTo, Event, Printed, Reported, StreamRules, printed_of, reported_of}
-use Rattle.xxhsum_program.specs.declared.streams.Streams.{Streams}
-use Rattle.xxhsum_program.specs.Streams.{streams_of}
 use Rattle.xxhsum_program.proofs.ToldFacts.{tells-more, tells-nothing}
 
 emits-from : {W E : Type 0} (rules : StreamRules W E) (event : Event) (old mid new : Streams W E) → mid.out ≡ old.out → mid.err ≡ old.err → Emits rules event mid new → Emits rules event old new

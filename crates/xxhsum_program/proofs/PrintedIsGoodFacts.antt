@@ -1,20 +1,11 @@
 -- Proves that a hashing run prints a good list while the files stay unchanged.
 use Rattle.std.proofs.Common.{◌≡◌, ℕ, ◌+◌, ◌<◌, Bool, true, false, List, [], ◌∷◌, ◌++◌, length, refl, sym, ap, subst, ◌∙◌, arith, ◌^◌, nat_eq, nat_lt}
-use Rattle.std.proofs.lemmas.Bool.Decides.{nat_tests}
+use Rattle.xxhsum_program.proofs.Prelude.{Comes, Different, FilesStay, IsName, PrintedIsGood, Same, digits_of, entries_of, is_good, is_unverified, line_of, lines_of, nat_tests, passes, printed_line, report_at, value-lt}
 use Rattle.xxhsum_program.specs.Prelude.{AllByRecursion, Digested, EachHas, Files, Found, IsDirectory, Kind, Options, Outcome, Report, Shape, SourceRules, StoreRules, Unread, concat, files_of}
-use Rattle.xxh_io.specs.Kind.{digits_of}
-use Rattle.xxhsum_line.specs.Printed.{line_of}
 use Rattle.xxhsum_program.specs.Findings.{Finding, Proper, add_up, no_findings, one_more}
-use Rattle.xxhsum_program.specs.Lines.{lines_of, printed_line}
-use Rattle.xxhsum_program.specs.ListEnd.{report_at}
-use Rattle.xxhsum_program.specs.Outcomes.{Comes}
-use Rattle.xxhsum_program.specs.PrintedIsGood.{FilesStay, IsName, PrintedIsGood, entries_of}
 use Rattle.xxhsum_program.specs.PrintedList.{AreListed, AreFindingsOf, Holds, Listed, printed_list}
-use Rattle.xxhsum_program.specs.Report.{is_good, is_unverified, passes}
-use Rattle.xxhsum_program.specs.declared.entry.Found.TheVariants.{Same, Different}
 use Rattle.xxhsum_program.specs.declared.entry.Found.TheVariants as Is
 use Rattle.xxhsum_program.proofs.PrintedListFacts.{checks_printed, short_names_fit}
-use Rattle.xxh_program.proofs.ValueFacts.{value-lt}
 
 -- Lemma: the printed lines are the list of the entries.
 printed_text : (kind : Kind) (shape : Shape) (names : List (List ℕ)) (outcomes : List Outcome)

@@ -1,20 +1,11 @@
 -- Lemmas on the lines that are found in a printed list.
 use Rattle.std.proofs.Common.{◌≡◌, ℕ, ◌+◌, ◌<◌, Bool, true, false, List, [], ◌∷◌, ◌++◌, length, map, refl, sym, ap, subst, ◌∙◌, inl, inr, append-nil, append_assoc, length-append, arith}
-use Rattle.std.proofs.lemmas.Bool.{both_ways, false≢true}
-use Rattle.std.proofs.lemmas.List.{length-map}
+use Rattle.xxhsum_program.proofs.Prelude.{IsFound, IsLastLine, Says, SliceSource, both_ways, end_piece, false≢true, first_same, is_comment, lacks_not, length-map, says_same, slice-end, slice-pieces, slice_reading, slice_rest}
 use Rattle.xxhsum_program.specs.Prelude.{AllByRecursion, EachHas, Files, Lacks, NoneEmpty, Pieces, SourceRules, StoreRules, concat, files_of}
-use Rattle.xxh_io.specs.Script.{slice_reading, slice_rest}
-use Rattle.xxh_io.proofs.MemoryFacts.{slice-end, slice-pieces}
-use Rattle.xxh_io.specs.declared.script_source.SliceSource.{SliceSource}
-use Rattle.xxhsum_line.specs.Entry.{Says, is_comment}
-use Rattle.xxhsum_line.proofs.EntryFacts.{says_same}
-use Rattle.xxhsum_line.proofs.LackFacts.{first_same, lacks_not}
 use Rattle.xxhsum_line.proofs.PrintedFacts.{printed_is_accepted, printed_is_no_comment, printed_is_one_line, printed_length}
 use Rattle.xxhsum_program.specs.CheckList.{EndsWell, HasLines, ReadsLines, with_line_feeds}
 use Rattle.xxhsum_program.specs.Findings.{Finding, Ignored, Improper, IsFinding, Proper, TooLong}
-use Rattle.xxhsum_program.specs.Found.{IsFound}
 use Rattle.xxhsum_program.specs.ListEnd.{Endless, FailedRead, TooMany, Whole}
-use Rattle.xxhsum_program.specs.ListLines.{IsLastLine, end_piece}
 use Rattle.xxhsum_program.specs.PrintedList.{AreListed, BeginsTooLong, ChecksPrinted, FindsPrintedFiles, FindsPrintedLines, HasJustLines, Holds, HoldsPrintedLines, IsFindingOf, IsLineOf, IsListed, Listed, ShortNamesFit, printed_list, text_of_listed}
 
 -- ---- the lines and the rest of a text

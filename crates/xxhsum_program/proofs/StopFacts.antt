@@ -1,15 +1,8 @@
 -- Lemmas on the check of a list, at the lines where it stops and at its end.
 use Rattle.std.proofs.Common.{◌≡◌, ℕ, ◌+◌, Bool, true, false, List, [], ◌∷◌, ◌++◌, length, Option, Some, None, Ok, Err, refl, sym, subst, inl, Result}
 use Rattle.xxhsum_program.specs.Prelude.{EachHas, Found, Options, OutOfMemory, Report, SourceRules, Stop, WriteFailed}
-use Rattle.xxhsum_program.specs.declared.lines.Lines.{Lines}
+use Rattle.xxhsum_program.proofs.Prelude.{EmitsAll, EmitsTo, Finding, Lines, ListEnd, PrintsLine, Proper, StreamRules, Streams, count_proper, passes, streams_of}
 use Rattle.xxhsum_program.specs.CheckList.{AnswersList, AnswersOutcome, Checked, ChecksLine, FindsLines, ReportsLines}
-use Rattle.xxhsum_program.specs.Findings.{Finding, Proper, count_proper}
-use Rattle.xxhsum_program.specs.Lines.{PrintsLine}
-use Rattle.xxhsum_program.specs.ListEnd.{ListEnd}
-use Rattle.xxhsum_program.specs.Order.{EmitsAll, EmitsTo, StreamRules}
-use Rattle.xxhsum_program.specs.declared.streams.Streams.{Streams}
-use Rattle.xxhsum_program.specs.Streams.{streams_of}
-use Rattle.xxhsum_program.specs.Report.{passes}
 use Rattle.xxhsum_program.specs.Said.{break_events, finding_events, found_text, is_silent, lines_events, list_events, numbered, printed_finding, summary_events}
 use Rattle.xxhsum_program.proofs.CheckFacts.{Stands, some-read}
 use Rattle.xxhsum_program.proofs.EachFacts.{EachHas-push}

@@ -1,21 +1,11 @@
 -- Proves that if an audit is good, the lines and the files match each other.
 use Rattle.std.proofs.Common.{◌≡◌, ℕ, true, List, [], ◌∷◌, Option, Some, None, refl, sym, ap, subst, ◌∙◌, inl, inr, Ok}
-use Rattle.std.proofs.lemmas.List.Sorted.{IsPermutation-sym}
-use Rattle.xxhsum_program.specs.Order.{Effect, effect_of}
+use Rattle.xxhsum_tree.proofs.Prelude.{AuditMeansEqual, Both, Effect, IsFileOf, IsPermutation-sym, Line, Name, Side, among_permutation, are_same, both-true, by_path, by_turns, compare_to_name, effect_of, same_means_equal}
 use Rattle.xxhsum_tree.specs.Prelude.{Digested, Files, IsDirectory, Kind, Options, Outcome, SourceRules, StoreRules, StreamRules, Streams, Unread, files_of}
-use Rattle.xxhsum_audit.proofs.AmongFacts.{among_permutation}
-use Rattle.xxhsum_audit.proofs.EqualFacts.{same_means_equal}
-use Rattle.xxhsum_audit.proofs.TurnFacts.{by_turns}
-use Rattle.xxhsum_audit.specs.declared.side.Side.{Side}
-use Rattle.xxhsum_audit.specs.declared.side.Side.TheVariants.{Line, Name, Both}
 use Rattle.xxhsum_audit.specs.Found.{Changed, Copied, Found, Missing, Moved, New, Same}
 use Rattle.xxhsum_audit.specs.Item.{IsAmong, Item, Says, kind_of, name_of, path_of, value_of}
-use Rattle.xxhsum_audit.specs.Side.{by_path, compare_to_name}
 use Rattle.xxhsum_program.specs.Outcomes.{Comes, IsValueOf, is_digested}
-use Rattle.xxhsum_program.proofs.EachFacts.{both-true}
-use Rattle.xxhsum_tree.specs.AuditLaws.{AuditMeansEqual, IsFileOf}
 use Rattle.xxhsum_tree.specs.Audits.{AuditsItems, AuditsSides, OnlyTellsTwice}
-use Rattle.xxhsum_tree.specs.Report.{are_same}
 use Rattle.xxhsum_tree.specs.Rows.{AreRows, Come, Gone, Met, Row, are_read, kept_in, seen_in}
 
 all-same : (f : List Found) → are_same f ≡ true → (one : Found) → IsAmong f one → (line name : Item) × (one ≡ Same line name)

@@ -1,15 +1,8 @@
 -- Proves that rows of rising lines and names have the results of merging the lines and the digests.
 use Rattle.std.proofs.Common.{◌≡◌, ℕ, List, [], ◌∷◌, map, refl, sym, ap, subst, ◌∙◌, inl, inr, Less, Equal, Greater}
-use Rattle.std.proofs.lemmas.List.Sorted.{IsPermutation-refl}
+use Rattle.xxhsum_tree.proofs.Prelude.{Both, Found, IsAmong, IsPermutation-refl, Item, Line, Missing, Name, New, Rises, Says, Side, ahead, back, by_turns, compare_lines, compare_paths, kind_of, met, name_of, paths_total}
 use Rattle.xxhsum_tree.specs.Prelude.{Digested, Files, IsDirectory, Kind, Outcome, Unread}
-use Rattle.xxhsum_audit.proofs.OrderFacts.{ahead, back, paths_total}
-use Rattle.xxhsum_audit.proofs.TurnFacts.{by_turns}
-use Rattle.xxhsum_audit.specs.declared.side.Side.{Side}
-use Rattle.xxhsum_audit.specs.declared.side.Side.TheVariants.{Line, Name, Both}
 use Rattle.xxhsum_audit.specs.Audit.{HasMoves, IsAudit, as_found, compared, missing_in, new_in, settled_in}
-use Rattle.xxhsum_audit.specs.Found.{Found, Missing, New, met}
-use Rattle.xxhsum_audit.specs.Item.{IsAmong, Item, Says, kind_of, name_of}
-use Rattle.xxhsum_audit.specs.Order.{Rises, compare_lines, compare_paths}
 use Rattle.xxhsum_audit.specs.Side.{against, beside, by_path, compare_to_name, in_turn}
 use Rattle.xxhsum_tree.specs.Rows.{AreRows, Come, Gone, Met, Row, first_in, kept_in, seen_in}
 

@@ -1,27 +1,13 @@
 -- Lemmas on rows and their results, after one more row.
 use Rattle.std.proofs.Common.{◌≡◌, ℕ, Bool, true, false, ◌&&◌, List, [], ◌∷◌, ◌++◌, append-nil, refl, sym, ap, subst, inl, ◌∙◌, Ok, Err, IsErr, MatchResult, Result, flat_map}
-use Rattle.std.specs.declared.alloc.AllocError.{AllocError}
-use Rattle.std.proofs.lemmas.List.{map-append}
-use Rattle.std.proofs.lemmas.List.Concat.{flat_map-append}
-use Rattle.xxhsum_program.specs.Order.{Effect}
-use Rattle.xxhsum_program.specs.Streams.{err_of}
+use Rattle.xxhsum_tree.proofs.Prelude.{AllocError, Compared, DigestsRows, Effect, FileDigest, Grows, PrintsReport, Side, Verdict, and-false, and-true, are_same, by_path, err_of, flat_map-append, is_digested, map-append, met_is}
 use Rattle.xxhsum_tree.specs.Prelude.{Digested, Files, IsDirectory, Kind, Options, Outcome, Unread}
-use Rattle.xxhsum_audit.proofs.FoundFacts.{met_is}
-use Rattle.xxhsum_audit.specs.declared.digest.FileDigest.{FileDigest}
-use Rattle.xxhsum_audit.specs.declared.moves.Compared.{Compared}
-use Rattle.xxhsum_audit.specs.declared.side.Side.{Side}
-use Rattle.xxhsum_audit.specs.declared.verdict.Verdict.{Verdict}
 use Rattle.xxhsum_audit.specs.Audit.{HasMoves, IsAudit, missing_in, new_in, settled_in}
 use Rattle.xxhsum_audit.specs.Found.{Found, Missing, New, found_of, founds_of, met}
 use Rattle.xxhsum_audit.specs.Item.{Item, item_of, items_of}
 use Rattle.xxhsum_audit.specs.Order.{Rises, compare_lines, compare_paths}
-use Rattle.xxhsum_audit.specs.Side.{by_path}
-use Rattle.xxhsum_program.proofs.EachFacts.{and-false, and-true}
-use Rattle.xxhsum_program.specs.Outcomes.{is_digested}
 use Rattle.xxhsum_tree.proofs.JoinFacts.{is-audit}
 use Rattle.xxhsum_tree.specs.Audits.{AnswersAudit, AuditsSides}
-use Rattle.xxhsum_tree.specs.Digests.{DigestsRows, Grows}
-use Rattle.xxhsum_tree.specs.Report.{PrintsReport, are_same}
 use Rattle.xxhsum_tree.specs.Rows.{AreRows, IsRow, Row, are_read, digest_of, first_in, first_of, kept_in, kind_of_new, seen_in}
 
 pub rows-more : {S F : Type 0} (files : Files S F) (kind : Kind) (sides : List (Side Item (List ℕ))) (rows : List Row) (side : Side Item (List ℕ)) (row : Row) → AreRows files kind sides rows → IsRow files kind side row → AreRows files kind (sides ++ side ∷ []) (rows ++ row ∷ [])

@@ -1,9 +1,5 @@
 -- Lemmas on the items of texts and lines, after one more text or line.
-use Rattle.std.proofs.Common.{◌≤◌, ℕ, Bool, List, [], ◌∷◌, ◌++◌, append-nil, append_assoc, length, refl, sym, ap, ◌∙◌, subst, true}
-use Rattle.xxhsum_audit.specs.Item.{Item}
-use Rattle.xxhsum_audit.specs.List.{GiveAll, SayAll, SaysOne, TakesLine}
-use Rattle.xxhsum_program.proofs.EachFacts.{all-push}
-use Rattle.xxhsum_tree.specs.Said.{HaveSaid}
+use Rattle.xxhsum_tree.proofs.Prelude.{[], ◌++◌, ◌∙◌, ◌∷◌, ◌≤◌, Bool, GiveAll, HaveSaid, Item, List, SayAll, SaysOne, TakesLine, all-push, ap, append-nil, append_assoc, length, refl, subst, sym, true, ℕ}
 
 pub give-more : {X : Type 0} (gives : List ℕ → List X → Type 0) (texts : List (List ℕ)) (text : List ℕ) (all more : List X) → GiveAll gives texts all
     → gives text more → GiveAll gives (texts ++ text ∷ []) (all ++ more)

@@ -1,15 +1,7 @@
 -- Lemmas on walks after one more name, and on the files that walks find.
 use Rattle.std.proofs.Common.{◌≡◌, ◌⊎◌, ℕ, ◌+◌, ◌<◌, Bool, true, false, List, [], ◌∷◌, ◌++◌, map, get_or, length, refl, sym, ap, subst, inl, inr, Ok, Err, arith, ◌∙◌, IsSorted, is_lt, nat_cmp, reverse, Result}
-use Rattle.std.proofs.lemmas.List.{get_or-map, length-map, reverse-append}
-use Rattle.std.proofs.lemmas.List.Sorted.{IsPermutation-sym, IsPermutation-trans}
-use Rattle.std.specs.Cmp.Lexicographic.{slice_cmp}
-use Rattle.xxhsum_tree.specs.Prelude.{SinkRules, Stop}
+use Rattle.xxhsum_tree.proofs.Prelude.{File, Folder, IsAmong, IsPermutation-sym, IsPermutation-trans, Other, PathKind, SinkRules, Stop, Unknown, Walked, both-true, get_or-map, length-map, reverse-append, slice_cmp}
 use Rattle.xxhsum_audit.proofs.AmongFacts.{among_either, among_left, among_permutation, among_right}
-use Rattle.xxhsum_audit.specs.Item.{IsAmong}
-use Rattle.xxhsum_files.specs.declared.folders.PathKind.{PathKind}
-use Rattle.xxhsum_files.specs.declared.folders.PathKind.TheVariants.{File, Folder, Other, Unknown}
-use Rattle.xxhsum_program.proofs.EachFacts.{both-true}
-use Rattle.xxhsum_tree.specs.declared.walk.Walked.{Walked}
 use Rattle.xxhsum_tree.specs.Walk.{Closed, HasKind, IsIn, IsSeen, Leaf, Lost, Opened, Passed, Place, Seen, SeesOne, Tree, Visits, are_open, below, below_of, file_of, files_in, given, is_open, with_slash}
 use Rattle.xxhsum_tree.specs.WalkLaws.{FindsEachFile, FindsNoOther, IsSteady, LeadsTo}
 

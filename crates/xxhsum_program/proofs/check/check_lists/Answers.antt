@@ -1,6 +1,4 @@
-use Rattle.std.proofs.Common.{◌≡◌, ◌+◌, ◌∷◌, ◌++◌, [], Err, inl, inr, Bool, map, take, drop, refl, sym, ◌∙◌, append_assoc, subst, rules}
-use Rattle.xxhsum_program.specs.CheckList.{IsDone, is_good_outcome, outcome_events}
-use Rattle.xxhsum_program.specs.Order.{EmitsTo, rules_of}
+use Rattle.xxhsum_program.proofs.Prelude.{[], ◌++◌, ◌+◌, ◌∙◌, ◌∷◌, ◌≡◌, Bool, EmitsTo, Err, IsDone, append_assoc, drop, inl, inr, is_good_outcome, map, outcome_events, refl, rules, rules_of, subst, sym, take}
 use Rattle.xxhsum_program.proofs.EachFacts.{EachHas-push, all-push, list_all-push, map-more, map-split}
 use Rattle.xxhsum_program.proofs.HashFacts.{is-err}
 use Rattle.xxhsum_program.proofs.OrderFacts.{emits-append, emits-join}

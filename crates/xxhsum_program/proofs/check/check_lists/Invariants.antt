@@ -1,8 +1,4 @@
-use Rattle.std.proofs.Common.{◌≡◌, List, take, map, false}
-use Rattle.xxhsum_program.specs.Prelude.{EachHas, files_of}
-use Rattle.xxhsum_program.specs.CheckList.{AreAllDone, IsListOutcome, ListOutcome, are_good, outcome_events}
-use Rattle.xxhsum_program.specs.Lines.{lines_of}
-use Rattle.xxhsum_program.specs.Order.{EmitsAll, rules_of}
+use Rattle.xxhsum_program.proofs.Prelude.{◌≡◌, AreAllDone, EachHas, EmitsAll, IsListOutcome, List, ListOutcome, are_good, false, files_of, lines_of, map, outcome_events, rules_of, take}
 use Rattle.xxhsum_program.proofs.check.check_lists.Given as goal
 
 -- Invariant: an outcome for each list so far, and the events of all of them.

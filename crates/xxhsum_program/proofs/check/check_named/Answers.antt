@@ -1,7 +1,5 @@
-use Rattle.std.proofs.Common.{refl}
-use Rattle.xxhsum_program.specs.CheckList.{Checked, Unopened}
+use Rattle.xxhsum_program.proofs.Prelude.{Checked, Unopened, refl, source_of}
 use Rattle.xxhsum_program.proofs.StopFacts.{answers-outcome}
-use Rattle.xxhsum_program.specs.Watched.{source_of}
 use Rattle.xxhsum_program.proofs.check.check_named.Goals as goal
 
 pub returns-in-Ok-clause-checks : goal.returns-in-Ok-clause-checks

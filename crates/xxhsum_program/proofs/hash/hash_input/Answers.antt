@@ -1,9 +1,4 @@
-use Rattle.std.proofs.Common.{Ok, Err, refl, subst}
-use Rattle.xxhsum_line.specs.Printed.{styled_line}
-use Rattle.xxhsum_program.specs.Lines.{PrintsLine}
-use Rattle.xxhsum_program.specs.Order.{rules_of}
-use Rattle.xxhsum_program.specs.Streams.{streams_of}
-use Rattle.xxhsum_program.specs.Run.{style_of}
+use Rattle.xxhsum_program.proofs.Prelude.{Err, Ok, PrintsLine, refl, rules_of, streams_of, style_of, styled_line, subst}
 use Rattle.xxhsum_program.proofs.HashFacts.{input-stops, is-err}
 use Rattle.xxhsum_program.proofs.ToldFacts.{tells-nothing}
 use Rattle.xxhsum_program.proofs.hash.hash_input.Goals as goal

@@ -1,9 +1,4 @@
-use Rattle.std.proofs.Common.{◌≡◌, ◌+◌, ◌∷◌, ◌++◌, [], Err, map, take, drop, refl, sym, subst}
-use Rattle.xxhsum_program.specs.Prelude.{files_of}
-use Rattle.xxhsum_program.specs.HashNames.{name_events}
-use Rattle.xxhsum_program.specs.Order.{EmitsOrNone, rules_of}
-use Rattle.xxhsum_program.specs.Outcomes.{Comes, is_digested}
-use Rattle.xxhsum_program.specs.Run.{style_of}
+use Rattle.xxhsum_program.proofs.Prelude.{[], ◌++◌, ◌+◌, ◌∷◌, ◌≡◌, Comes, EmitsOrNone, Err, drop, files_of, is_digested, map, name_events, refl, rules_of, style_of, subst, sym, take}
 use Rattle.xxhsum_program.proofs.EachFacts.{EachHas-push, list_all-push, map-more, map-split}
 use Rattle.xxhsum_program.proofs.HashFacts.{is-err, names-stop}
 use Rattle.xxhsum_program.proofs.OrderFacts.{emits-append}

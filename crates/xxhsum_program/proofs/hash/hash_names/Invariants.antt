@@ -1,10 +1,4 @@
-use Rattle.std.proofs.Common.{◌≡◌, List, take, map, false}
-use Rattle.xxhsum_program.specs.Prelude.{EachHas, Outcome, files_of}
-use Rattle.xxhsum_program.specs.HashNames.{name_events}
-use Rattle.xxhsum_program.specs.Lines.{lines_of}
-use Rattle.xxhsum_program.specs.Order.{EmitsAll, rules_of}
-use Rattle.xxhsum_program.specs.Outcomes.{Comes, are_digested}
-use Rattle.xxhsum_program.specs.Run.{style_of}
+use Rattle.xxhsum_program.proofs.Prelude.{◌≡◌, Comes, EachHas, EmitsAll, List, Outcome, are_digested, false, files_of, lines_of, map, name_events, rules_of, style_of, take}
 use Rattle.xxhsum_program.proofs.hash.hash_names.Given as goal
 
 -- Invariant: an outcome for each name so far, and the events of all of them.

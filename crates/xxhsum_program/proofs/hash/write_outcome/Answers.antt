@@ -1,7 +1,4 @@
-use Rattle.std.proofs.Common.{◌≡◌, false, rules}
-use Rattle.xxhsum_program.specs.Order.{rules_of}
-use Rattle.xxhsum_program.specs.Outcomes.{is_digested}
-use Rattle.xxhsum_program.specs.Run.{style_of}
+use Rattle.xxhsum_program.proofs.Prelude.{◌≡◌, false, is_digested, rules, rules_of, style_of}
 use Rattle.xxhsum_program.proofs.HashFacts.{emits-message}
 use Rattle.xxhsum_program.proofs.OrderFacts.{emits-line-or-none}
 use Rattle.xxhsum_program.proofs.hash.write_outcome.Goals as goal

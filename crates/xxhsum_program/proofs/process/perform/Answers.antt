@@ -1,9 +1,5 @@
-use Rattle.std.proofs.Common.{◌∙◌, subst, sym}
-use Rattle.xxhsum_program.specs.Files.{input_of}
-use Rattle.xxhsum_program.specs.HashNames.{SaysInput}
-use Rattle.xxhsum_program.specs.Order.{effect_of, rules_of}
+use Rattle.xxhsum_program.proofs.Prelude.{◌∙◌, SaysInput, effect_of, input_of, rules_of, source_of, subst, sym}
 use Rattle.xxhsum_program.specs.Run.{PerformsAs, input_name, style_of}
-use Rattle.xxhsum_program.specs.Watched.{source_of}
 use Rattle.xxhsum_program.proofs.process.perform.Goals as goal
 
 pub returns-then-has_none-2 : goal.returns-then-has_none-2

@@ -1,10 +1,6 @@
 use Rattle.std.proofs.Common.{◌≡◌, ℕ, Bool, true, false, List, Option, Some, None, codes, refl, inl, sym, ap, subst, ◌∙◌}
 use Rattle.xxhsum_tree.specs.Prelude.{SinkRules, TellsOn}
-use Rattle.std.proofs.lemmas.List.{map-id}
-use Rattle.xxhsum_audit.proofs.TwiceFacts.{rises}
-use Rattle.xxhsum_audit.specs.Item.{Item, items_of, name_of, names_of, texts_of}
-use Rattle.xxhsum_audit.specs.Order.{IsOrder, Rises, clash_in, compare_lines, compare_paths, rank_lines, rank_names}
-use Rattle.xxhsum_tree.specs.Audits.{TellsTwice, twice_text}
+use Rattle.xxhsum_tree.proofs.Prelude.{IsOrder, Item, Rises, TellsTwice, clash_in, compare_lines, compare_paths, items_of, map-id, name_of, names_of, rank_lines, rank_names, rises, texts_of, twice_text}
 use Rattle.xxhsum_tree.proofs.audit.audit_lines.Goals as goal
 
 -- Lemmas on two names with one path: one of them is reported, or there are none.

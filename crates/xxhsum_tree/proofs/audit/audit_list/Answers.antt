@@ -1,7 +1,4 @@
-use Rattle.std.proofs.Common.{inl, map}
-use Rattle.xxhsum_tree.specs.Prelude.{files_of}
-use Rattle.xxhsum_audit.specs.List.{said_by}
-use Rattle.xxhsum_tree.specs.Said.{ListSays, ListSaysNothing}
+use Rattle.xxhsum_tree.proofs.Prelude.{ListSays, ListSaysNothing, files_of, inl, map, said_by}
 use Rattle.xxhsum_tree.proofs.FindFacts.{found-is}
 use Rattle.xxhsum_tree.proofs.audit.audit_list.Goals as goal
 

@@ -1,15 +1,7 @@
 use Rattle.std.proofs.Common.{[], Ok, Err, false, append-nil, ap, inr, refl, subst, sym, ◌∙◌}
-use Rattle.xxhsum_audit.specs.Found.{founds_of}
-use Rattle.xxhsum_audit.specs.Item.{items_of, texts_of}
-use Rattle.xxhsum_tree.specs.Report.{PrintsReport, are_same}
-use Rattle.xxhsum_program.specs.Order.{effect_of, rules_of}
-use Rattle.xxhsum_program.specs.Streams.{streams_of}
-use Rattle.xxhsum_program.proofs.HashFacts.{is-err}
+use Rattle.xxhsum_tree.proofs.Prelude.{AreRows, OutOfMemory, PrintsReport, are_same, by_path, effect_of, files_of, founds_of, is-err, items_of, rules_of, streams_of, texts_of}
 use Rattle.xxhsum_tree.proofs.ReportFacts.{report-stops, stop-answers}
 use Rattle.xxhsum_tree.proofs.RowFacts.{answers-all, answers-not-same, says-audit}
-use Rattle.xxhsum_audit.specs.Side.{by_path}
-use Rattle.xxhsum_tree.specs.Prelude.{OutOfMemory, files_of}
-use Rattle.xxhsum_tree.specs.Rows.{AreRows}
 use Rattle.xxhsum_tree.proofs.audit.audit_sides.Goals as goal
 
 pub returns-in_err-print_report : goal.returns-in_err-print_report

@@ -1,13 +1,5 @@
-use Rattle.std.proofs.Common.{Ok, ap, false, map, refl, sym, subst, ◌∙◌}
-use Rattle.xxhsum_tree.specs.Prelude.{files_of}
-use Rattle.xxhsum_audit.specs.declared.moves.Compared.{Compared}
-use Rattle.xxhsum_audit.specs.Found.{New, met}
-use Rattle.xxhsum_audit.specs.Item.{Says, item_of}
-use Rattle.xxhsum_audit.specs.Side.{path_side}
-use Rattle.xxhsum_program.proofs.ToldFacts.{tells-nothing}
+use Rattle.xxhsum_tree.proofs.Prelude.{◌∙◌, AddsRow, Come, Compared, Gone, IsRow, Met, New, Ok, Says, ap, false, files_of, item_of, map, met, path_side, refl, subst, sym, tells-nothing}
 use Rattle.xxhsum_program.specs.declared.outcome.Outcome.TheVariants.{Digested}
-use Rattle.xxhsum_tree.specs.Digests.{AddsRow}
-use Rattle.xxhsum_tree.specs.Rows.{Come, Gone, IsRow, Met}
 use Rattle.xxhsum_tree.proofs.RowFacts.{grows-come, grows-gone, grows-met, grows-nothing, not-digested}
 use Rattle.xxhsum_tree.proofs.digests.add_side.Goals as goal
 

@@ -1,13 +1,6 @@
 use Rattle.std.proofs.Common.{rules, ◌∷◌, ◌++◌, ◌&&◌, [], ap, append-nil, append_assoc, drop, length, refl, subst, sym, take, ◌-◌, ◌∙◌}
-use Rattle.std.proofs.lemmas.List.{take_rest}
-use Rattle.xxhsum_tree.specs.Prelude.{files_of}
-use Rattle.xxhsum_audit.specs.Audit.{missing_in, missing_one, new_in, new_one, settled_in, settled_one}
-use Rattle.xxhsum_audit.specs.Item.{items_of, texts_of}
+use Rattle.xxhsum_tree.proofs.Prelude.{AreRows, TellsOn, files_of, first_of, is_read, items_of, list_all-push, missing_in, missing_one, new_in, new_one, settled_in, settled_one, take_rest, tells-more, tells-nothing, texts_of, told_of}
 use Rattle.xxhsum_audit.specs.Side.{by_path, lines_of, names_of, path_side}
-use Rattle.xxhsum_program.specs.Told.{TellsOn}
-use Rattle.xxhsum_program.proofs.EachFacts.{list_all-push}
-use Rattle.xxhsum_program.proofs.ToldFacts.{tells-more, tells-nothing}
-use Rattle.xxhsum_tree.specs.Rows.{AreRows, first_of, is_read, told_of}
 use Rattle.xxhsum_tree.proofs.RowFacts.{fails-rows, first-push, flat-push, rows-more}
 use Rattle.xxhsum_tree.proofs.digests.digests_of.Goals as goal
 

@@ -1,11 +1,4 @@
-use Rattle.std.proofs.Common.{◌≡◌, ◌++◌, ℕ, List, length}
-use Rattle.xxhsum_tree.specs.Prelude.{files_of}
-use Rattle.xxhsum_audit.specs.declared.side.Side.{Side}
-use Rattle.xxhsum_audit.specs.Item.{Item, items_of, texts_of}
-use Rattle.xxhsum_audit.specs.Side.{by_path}
-use Rattle.xxhsum_program.specs.Told.{TellsOn}
-use Rattle.xxhsum_tree.specs.Digests.{HoldsRows}
-use Rattle.xxhsum_tree.specs.Rows.{AreRows, Row, told_in}
+use Rattle.xxhsum_tree.proofs.Prelude.{◌++◌, ◌≡◌, AreRows, HoldsRows, Item, List, Row, Side, TellsOn, by_path, files_of, items_of, length, texts_of, told_in, ℕ}
 use Rattle.xxhsum_tree.proofs.digests.digests_of.Given as goal
 
 -- Invariant: one row for each side so far, and their results

@@ -1,5 +1,4 @@
-use Rattle.std.proofs.Common.{inl, inr, map, refl, subst}
-use Rattle.xxhsum_tree.specs.Walk.{WalksAll, tree_of}
+use Rattle.xxhsum_tree.proofs.Prelude.{WalksAll, inl, inr, map, refl, subst, tree_of}
 use Rattle.xxhsum_tree.proofs.run.audit_below.Goals as goal
 
 pub returns-then-not-walked : goal.returns-then-not-walked

@@ -1,9 +1,4 @@
-use Rattle.std.proofs.Common.{◌≡◌, ℕ, true, false, List, Option, Some, None, codes, drop, refl, Ok, map, sym, ap, ◌∙◌}
-use Rattle.xxhsum_tree.specs.Prelude.{Kind, Options}
-use Rattle.xxhsum_words.specs.Name.{kind_of_program}
-use Rattle.xxhsum_words.specs.Options.{asked_of}
-use Rattle.xxhsum_words.specs.declared.options.Asked.{Asked}
-use Rattle.xxhsum_program.specs.declared.process.Terminals.{Terminals}
+use Rattle.xxhsum_tree.proofs.Prelude.{◌∙◌, ◌≡◌, Asked, Kind, List, None, Ok, Option, Options, Some, Terminals, ap, asked_of, codes, drop, false, kind_of_program, map, refl, sym, true, ℕ}
 use Rattle.xxhsum_program.specs.Task.{Reads, Tells, answer_text, is_well, run_asked, task_from, task_of, waits_for_terminal, wrong_text}
 use Rattle.xxhsum_tree.proofs.run.run_arguments.Goals as goal
 

@@ -1,6 +1,4 @@
-use Rattle.std.proofs.Common.{◌≡◌, ◌∷◌, List, [], inl, length, map, refl, sym, ◌∙◌}
-use Rattle.xxhsum_tree.specs.Prelude.{files_of, input_of}
-use Rattle.xxhsum_tree.specs.Names.{ListNames, ListNone, end_of}
+use Rattle.xxhsum_tree.proofs.Prelude.{[], ◌∙◌, ◌∷◌, ◌≡◌, List, ListNames, ListNone, end_of, files_of, inl, input_of, length, map, refl, sym}
 use Rattle.xxhsum_tree.proofs.FindFacts.{found-is}
 use Rattle.xxhsum_tree.proofs.run.walk_audit.Goals as goal
 

@@ -1,7 +1,5 @@
-use Rattle.std.proofs.Common.{inl, map}
-use Rattle.xxhsum_tree.specs.Prelude.{files_of, input_of}
+use Rattle.xxhsum_tree.proofs.Prelude.{ListNames, ListNone, end_of, files_of, inl, input_of, map}
 use Rattle.xxhsum_program.specs.Run.{PerformsAs}
-use Rattle.xxhsum_tree.specs.Names.{ListNames, ListNone, end_of}
 use Rattle.xxhsum_tree.proofs.FindFacts.{found-is}
 use Rattle.xxhsum_tree.proofs.run.walk_names.Goals as goal
 

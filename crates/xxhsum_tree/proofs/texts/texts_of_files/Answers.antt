@@ -1,8 +1,5 @@
-use Rattle.std.proofs.Common.{◌∷◌, ◌++◌, ◌+◌, [], ap, drop, map, subst, sym, take, ◌∙◌}
-use Rattle.std.proofs.lemmas.List.{map-append}
+use Rattle.xxhsum_tree.proofs.Prelude.{[], ◌++◌, ◌+◌, ◌∙◌, ◌∷◌, EachHas-push, GivesText, HasNoText, ap, drop, map, map-append, map-more, map-split, subst, sym, take}
 use Rattle.xxhsum_tree.specs.Prelude.{EachHas, TellsOn, files_of}
-use Rattle.xxhsum_tree.specs.Texts.{GivesText, HasNoText}
-use Rattle.xxhsum_program.proofs.EachFacts.{EachHas-push, map-more, map-split}
 use Rattle.xxhsum_tree.proofs.FindFacts.{found-is, lost-is}
 use Rattle.xxhsum_tree.proofs.texts.texts_of_files.Goals as goal
 

@@ -1,7 +1,4 @@
-use Rattle.std.proofs.Common.{◌≡◌, map, take}
-use Rattle.xxhsum_tree.specs.Prelude.{files_of}
-use Rattle.xxhsum_program.specs.EachHas.{EachHas}
-use Rattle.xxhsum_tree.specs.Texts.{GivesText}
+use Rattle.xxhsum_tree.proofs.Prelude.{◌≡◌, EachHas, GivesText, files_of, map, take}
 use Rattle.xxhsum_tree.proofs.texts.texts_of_files.Given as goal
 
 -- Invariant: one text for each name so far, and nothing is reported

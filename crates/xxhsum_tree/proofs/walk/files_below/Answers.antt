@@ -1,8 +1,4 @@
-use Rattle.std.proofs.Common.{true, ◌&&◌, [], ◌∷◌, ◌++◌, ◌≡◌, append-nil, ap, map, refl, subst, sym, ◌∙◌, option_to_list, reverse, MatchResult}
-use Rattle.std.proofs.lemmas.List.{map-append}
-use Rattle.xxhsum_program.proofs.EachFacts.{list_all-push}
-use Rattle.xxhsum_program.proofs.HashFacts.{is-err}
-use Rattle.xxhsum_program.proofs.ToldFacts.{tells-more, tells-nothing}
+use Rattle.xxhsum_tree.proofs.Prelude.{[], ◌&&◌, ◌++◌, ◌∙◌, ◌∷◌, ◌≡◌, MatchResult, ap, append-nil, is-err, list_all-push, map, map-append, option_to_list, refl, reverse, subst, sym, tells-more, tells-nothing, true}
 use Rattle.xxhsum_tree.specs.Prelude.{OutOfMemory, TellsOn}
 use Rattle.xxhsum_tree.proofs.RowFacts.{flat-push}
 use Rattle.xxhsum_tree.proofs.VisitFacts.{reverse-push, visits-more}

@@ -1,8 +1,4 @@
-use Rattle.std.proofs.Common.{append-nil, refl, subst, sym, ◌∙◌}
-use Rattle.xxhsum_program.proofs.EachFacts.{and-false, and-true}
-use Rattle.xxhsum_program.proofs.ToldFacts.{tells-nothing}
-use Rattle.xxhsum_program.specs.Told.{TellsOn}
-use Rattle.xxhsum_tree.specs.Walk.{closed_text, IsIn, IsSeen, Leaf, Lost, Passed, Tree, place_of, tree_of, waiting_in}
+use Rattle.xxhsum_tree.proofs.Prelude.{◌∙◌, IsIn, IsSeen, Leaf, Lost, Passed, TellsOn, Tree, and-false, and-true, append-nil, closed_text, place_of, refl, subst, sym, tells-nothing, tree_of, waiting_in}
 use Rattle.xxhsum_tree.proofs.VisitFacts.{folder-seen, sees-as}
 use Rattle.xxhsum_tree.proofs.walk.see.Goals as goal
 

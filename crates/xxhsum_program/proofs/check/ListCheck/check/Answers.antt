@@ -1,10 +1,7 @@
-use Rattle.xxhsum_program.specs.Prelude.{files_of}
+use Rattle.xxhsum_program.proofs.Prelude.{IsFinding, files_of, rules_of, source_of}
 use Rattle.xxhsum_program.specs.declared.stop.Stop.TheVariants.{OutOfMemory}
-use Rattle.xxhsum_program.specs.Findings.{IsFinding}
 use Rattle.xxhsum_program.proofs.HashFacts.{is-err}
 use Rattle.xxhsum_program.proofs.StopFacts.{check-begins-not, check-ends, check-stops, check-summary-stops}
-use Rattle.xxhsum_program.specs.Order.{rules_of}
-use Rattle.xxhsum_program.specs.Watched.{source_of}
 use Rattle.xxhsum_program.proofs.check.ListCheck.check.Goals as goal
 
 pub returns-in_err-unverified-clause-checks : goal.returns-in_err-unverified-clause-checks

@@ -1,9 +1,4 @@
-use Rattle.std.proofs.Common.{◌∙◌, sym, [], refl, subst}
-use Rattle.xxhsum_program.specs.Prelude.{files_of}
-use Rattle.xxhsum_line.specs.Meaning.{Means}
-use Rattle.xxhsum_program.specs.Findings.{Ignored, Improper, IsFinding, Proper, TooLong}
-use Rattle.xxhsum_program.specs.LinesView.{IsGiven}
-use Rattle.xxhsum_program.specs.Order.{rules_of}
+use Rattle.xxhsum_program.proofs.Prelude.{[], ◌∙◌, Ignored, Improper, IsFinding, IsGiven, Means, Proper, TooLong, files_of, refl, rules_of, subst, sym}
 use Rattle.xxhsum_program.proofs.StopFacts.{line-said, silent-prints}
 use Rattle.xxhsum_program.proofs.ToldFacts.{tells-nothing}
 use Rattle.xxhsum_program.proofs.check.ListCheck.check_line.Goals as goal

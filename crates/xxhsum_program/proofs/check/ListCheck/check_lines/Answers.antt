@@ -1,17 +1,11 @@
 use Rattle.std.proofs.Common.{◌≡◌, ◌+◌, ◌-◌, ◌^◌, ◌∷◌, ◌++◌, [], length, Some, refl, sym, ap, ◌∙◌, arith}
-use Rattle.std.proofs.lemmas.List.{length_push}
-use Rattle.xxhsum_program.specs.Prelude.{files_of}
-use Rattle.xxhsum_program.specs.Findings.{IsFinding, count_one, no_findings, report_of, with_broken_end}
-use Rattle.xxhsum_program.specs.ListEnd.{Whole, TooMany, Endless, FailedRead}
-use Rattle.xxhsum_program.specs.Order.{rules_of}
-use Rattle.xxhsum_program.specs.Said.{finding_events}
+use Rattle.xxhsum_program.proofs.Prelude.{Endless, FailedRead, IsFinding, TooMany, Whole, count_one, files_of, finding_events, length_push, no_findings, report_of, rules_of, source_of, with_broken_end}
 use Rattle.xxhsum_program.proofs.CheckFacts.{add_up-push, breaks-endless, breaks-failed, ends-well, some-read, stands-line, stands-new}
 use Rattle.xxhsum_program.proofs.EachFacts.{EachHas-push}
 use Rattle.xxhsum_program.proofs.HashFacts.{is-err}
 use Rattle.xxhsum_program.proofs.OrderFacts.{emits-append}
 use Rattle.xxhsum_program.proofs.SaidFacts.{numbered-push}
 use Rattle.xxhsum_program.proofs.StopFacts.{emits-break, lines-stop}
-use Rattle.xxhsum_program.specs.Watched.{source_of}
 use Rattle.xxhsum_program.proofs.check.ListCheck.check_lines.Goals as goal
 
 pub loop-number-init : goal.loop-number-init

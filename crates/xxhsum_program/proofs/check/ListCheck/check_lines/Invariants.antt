@@ -1,10 +1,5 @@
-use Rattle.std.proofs.Common.{◌≡◌, ◌+◌, List, ℕ, length, false}
-use Rattle.xxhsum_program.specs.Prelude.{EachHas, files_of}
-use Rattle.xxhsum_program.specs.Findings.{Finding, IsFinding, report_of}
-use Rattle.xxhsum_program.specs.Order.{EmitsAll, rules_of}
-use Rattle.xxhsum_program.specs.Said.{finding_events, numbered}
+use Rattle.xxhsum_program.proofs.Prelude.{◌+◌, ◌≡◌, EachHas, EmitsAll, Finding, IsFinding, List, false, files_of, finding_events, length, numbered, report_of, rules_of, source_of, ℕ}
 use Rattle.xxhsum_program.proofs.CheckFacts.{Stands}
-use Rattle.xxhsum_program.specs.Watched.{source_of}
 use Rattle.xxhsum_program.proofs.check.ListCheck.check_lines.Given as goal
 
 -- Invariant: a finding for each line so far, counted in the report, and the events of all of them.
