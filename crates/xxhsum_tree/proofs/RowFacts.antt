@@ -1,5 +1,6 @@
 -- Lemmas on rows and their results, after one more row.
 use Rattle.std.proofs.Common.{◌≡◌, ℕ, Bool, true, false, ◌&&◌, List, [], ◌∷◌, ◌++◌, append-nil, refl, sym, ap, subst, inl, ◌∙◌, Ok, Err, IsErr, MatchResult, Result, flat_map}
+use Rattle.xxhsum_tree.specs.Messages.{effect_messages}
 use Rattle.xxhsum_tree.proofs.Prelude.{AllocError, Compared, DigestsRows, Effect, FileDigest, Grows, PrintsReport, Side, Verdict, and-false, and-true, are_same, by_path, err_of, flat_map-append, is_digested, map-append, met_is}
 use Rattle.xxhsum_tree.specs.Prelude.{Digested, Files, IsDirectory, Kind, Options, Outcome, Unread}
 use Rattle.xxhsum_audit.specs.Audit.{HasMoves, IsAudit, missing_in, new_in, settled_in}
@@ -90,7 +91,7 @@ fails-rows is fails (Err e) err fact = fact
 
 pub says-audit : {S F W E : Type 0} (files : Files S F) (effect : Effect W E) (options : Options) (lines : List Item) (names : List (List ℕ)) (kind : Kind) (compared : Compared) (found : List Found)
     → Rises compare_lines lines → Rises compare_paths names → kind ≡ kind_of_new options.kind lines
-    → DigestsRows files effect.rules.telling kind (by_path lines names) compared (err_of effect.old) (err_of effect.new)
+    → DigestsRows files (effect_messages effect) kind (by_path lines names) compared
     → HasMoves (founds_of compared.settled.items) (items_of compared.gone.items) (items_of compared.come.items) found
     → PrintsReport effect.rules.writing options found effect.old.out effect.new.out effect.result → ((rows : List Row) → compared.are_all ≡ are_read rows → AnswersAudit rows found effect.result) → AuditsSides files effect options lines names
 says-audit files effect options lines names kind compared found up up' kinds digests moves prints answers =

@@ -9,6 +9,7 @@ use Rattle.xxhsum_audit.specs.Side.{by_path}
 use Rattle.xxhsum_program.specs.Order.{Effect, Releases}
 use Rattle.xxhsum_program.specs.Streams.{err_of}
 use Rattle.xxhsum_tree.specs.Finds.{GoesOn, HasNoRoom, OnlyTells}
+use Rattle.xxhsum_tree.specs.Messages.{Reports, effect_messages}
 use Rattle.xxhsum_tree.specs.Report.{PrintsReport, are_same}
 use Rattle.xxhsum_tree.specs.Rows.{AreRows, Row, TellsRows, are_read, kept_in, kind_of_new, seen_in, told_in}
 use Rattle.xxhsum_tree.specs.Said.{ListSays, ListSaysNothing}
@@ -36,12 +37,12 @@ AuditsSides files effect options lines names =
     let kind = kind_of_new options.kind lines in
     let sides = by_path lines names in
     ((rows : List Row) × (found : List Found) × AreRows files kind sides rows
-    × TellsOn effect.rules.telling (told_in rows) (err_of effect.old) (err_of effect.new)
+    × Reports (effect_messages effect) (told_in rows)
     × IsAudit (kept_in rows) (seen_in kind rows) found
     × PrintsReport effect.rules.writing options found effect.old.out effect.new.out effect.result
     × AnswersAudit rows found effect.result)
     ⊎ ((rows : List Row)
-    × TellsRows files effect.rules.telling kind sides rows (err_of effect.old) (err_of effect.new)
+    × TellsRows files (effect_messages effect) kind sides rows
     × (effect.new.out ≡ effect.old.out) × (effect.result ≡ Err OutOfMemory))
 
 -- If two lines of the list, or two names, lead to one path, only that is reported.

@@ -1,6 +1,7 @@
 -- A value is found, or reported missing.
 use Rattle.std.specs.Prelude.{◌≡◌, ◌⊎◌, ℕ, false, List, Option, Some, None, Result, Ok, Err}
 use Rattle.xxhsum_program.specs.Streams.{err_of}
+use Rattle.xxhsum_tree.specs.Messages.{Reports, effect_messages}
 use Rattle.xxhsum_tree.specs.Prelude.{Effect, OutOfMemory, SinkRules, Stop, TellsOn}
 
 -- It is found; or a message reports why it isn't; or memory ran out, and nothing is reported.
@@ -13,7 +14,7 @@ Finds (Err stop) telling is_found is_why old new = (stop ≡ OutOfMemory) × (ne
 abbrev pub OnlyTells : {W E : Type 0} → Effect W E → List ℕ → Type 0
 OnlyTells effect text =
     (effect.result ≡ Ok false) × (effect.new.out ≡ effect.old.out)
-    × TellsOn effect.rules.telling text (err_of effect.old) (err_of effect.new)
+    × Reports (effect_messages effect) text
 
 -- Out of memory: nothing is printed or reported.
 abbrev pub HasNoRoom : {W E : Type 0} → Effect W E → Type 0

@@ -1,12 +1,13 @@
 -- Merged lines and names, with the outcomes of the names.
 use Rattle.std.specs.Prelude.{◌≡◌, ℕ, Bool, true, List, [], ◌∷◌, ◌++◌, map, flat_map}
 use Rattle.std.specs.List.{list_all}
-use Rattle.xxhsum_tree.specs.Prelude.{Digested, Files, IsDirectory, Kind, Outcome, SinkRules, TellsOn, Unread}
+use Rattle.xxhsum_tree.specs.Prelude.{Digested, Files, IsDirectory, Kind, Outcome, Unread}
 use Rattle.xxhsum_audit.specs.declared.side.Side.{Side}
 use Rattle.xxhsum_audit.specs.declared.side.Side.TheVariants.{Line, Name, Both}
 use Rattle.xxhsum_audit.specs.Found.{Found, Missing, New, met}
 use Rattle.xxhsum_audit.specs.Item.{Item, Says, kind_of}
 use Rattle.xxhsum_program.specs.Lines.{told_line}
+use Rattle.xxhsum_tree.specs.Messages.{Messages, Reports}
 use Rattle.xxhsum_program.specs.Outcomes.{Comes, is_digested}
 
 -- A line whose name was not given, a line and its given name, or a name that no line has.
@@ -88,7 +89,7 @@ abbrev pub are_read : List Row → Bool
 are_read rows = list_all is_read rows
 
 -- The first sides have these rows, and the messages of the rows were reported.
-abbrev pub TellsRows : {S F E : Type 0} → Files S F → SinkRules E → Kind → List (Side Item (List ℕ)) → List Row → E → E → Type 0
-TellsRows files telling kind sides rows e_old e_new =
+abbrev pub TellsRows : {S F E : Type 0} → Files S F → Messages E → Kind → List (Side Item (List ℕ)) → List Row → Type 0
+TellsRows files messages kind sides rows =
     (done rest : List (Side Item (List ℕ))) × (sides ≡ done ++ rest) × AreRows files kind done rows
-    × TellsOn telling (told_in rows) e_old e_new
+    × Reports messages (told_in rows)

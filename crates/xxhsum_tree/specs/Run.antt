@@ -8,6 +8,7 @@ use Rattle.xxhsum_program.specs.Run.{DoesTask, PerformsAs, PerformsOn, style_of}
 use Rattle.xxhsum_program.specs.Task.{IsProgram, task_of}
 use Rattle.xxhsum_tree.specs.Audits.{Audits}
 use Rattle.xxhsum_tree.specs.Finds.{GoesOn, HasNoRoom, OnlyTells}
+use Rattle.xxhsum_tree.specs.Messages.{effect_messages, messages_of}
 use Rattle.xxhsum_tree.specs.Names.{ListNames, ListNone, end_of}
 use Rattle.xxhsum_tree.specs.Walk.{Tree, WalksAll, WalksSome}
 use Rattle.xxhsum_words.specs.Options.{are_listed}
@@ -23,30 +24,26 @@ abbrev pub all_well : Bool → Result Bool Stop → Result Bool Stop
 all_well are_all (Ok all) = Ok (are_all && all)
 all_well are_all (Err stop) = Err stop
 
--- Only the messages of a walk are reported, and nothing is printed.
-abbrev pub OnlyWalks : {W E : Type 0} → Effect W E → (E → E → Type 0) → Type 0
-OnlyWalks effect walks = walks (err_of effect.old) (err_of effect.new) × (effect.new.out ≡ effect.old.out)
-
 -- Below folders, the files are hashed after all folders were read; or memory ran out before.
 abbrev pub WalksFolders : {S F W E : Type 0} → Tree → Files S F → Effect W E → Options → List (List ℕ) → Type 0
 WalksFolders {E = E} tree files effect options names =
     ((found : List (List ℕ)) × (are_all : Bool) × (told : E) × (done : Result Bool Stop)
-    × WalksAll tree effect.rules.telling names found are_all (err_of effect.old) told
+    × WalksAll tree (messages_of effect.rules.telling (err_of effect.old) told) names found are_all
     × SaysNames files (record effect { old = streams_of effect.old.out told; result = done }) options.kind
     (style_of options) found
     × (effect.result ≡ all_well are_all done))
-    ⊎ ((stop : Stop) × OnlyWalks effect (λ old new. WalksSome tree effect.rules.telling names old new stop)
+    ⊎ ((stop : Stop) × WalksSome tree (effect_messages effect) names stop × (effect.new.out ≡ effect.old.out)
     × (effect.result ≡ Err stop))
 
 -- An audit of the files below folders. If the names in a folder can't be read, there is no audit.
 abbrev pub AuditsBelow : {S F W E : Type 0} → Tree → Files S F → Effect W E → Options → List ℕ → List (List ℕ) → Type 0
 AuditsBelow {E = E} tree files effect options list names =
     ((found : List (List ℕ)) × (told : E)
-    × WalksAll tree effect.rules.telling names found true (err_of effect.old) told
+    × WalksAll tree (messages_of effect.rules.telling (err_of effect.old) told) names found true
     × Audits files (record effect { old = streams_of effect.old.out told }) options list found)
-    ⊎ (((found : List (List ℕ)) × OnlyWalks effect (WalksAll tree effect.rules.telling names found false)
-    × (effect.result ≡ Ok false))
-    ⊎ ((stop : Stop) × OnlyWalks effect (λ old new. WalksSome tree effect.rules.telling names old new stop)
+    ⊎ (((found : List (List ℕ)) × WalksAll tree (effect_messages effect) names found false
+    × (effect.new.out ≡ effect.old.out) × (effect.result ≡ Ok false))
+    ⊎ ((stop : Stop) × WalksSome tree (effect_messages effect) names stop × (effect.new.out ≡ effect.old.out)
     × (effect.result ≡ Err stop)))
 
 -- An audit: the first word is the list, and the words after it are the names, or lists of names.
