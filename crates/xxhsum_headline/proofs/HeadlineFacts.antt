@@ -50,7 +50,7 @@ pub each-name-once : {S F W E : Type 0} (files : Files S F) (rules : StreamRules
     → (outcomes : List Outcome) × EachHas (Comes files kind) names outcomes
     × Took rules.writing (lines_of (written_line kind style) names outcomes) old.out new.out
     × TellsOn rules.telling (lines_of told_line names outcomes) old.err new.err × (all ≡ are_digested outcomes)
-each-name-once files rules kind style names old new all (outcomes, done, rest, (parts, each, (none, is)), emits) =
+each-name-once files rules kind style names old new all (outcomes, done, rest, parts, each, (none, is), emits) =
     let whole : done ≡ names = sym (append-nil done) ∙ ap (λ r. done ++ r) (sym none) ∙ sym parts in
     let events = subst (λ n. EmitsAll rules (lines_of (name_events kind style) n outcomes) old new) whole emits in (
       outcomes,
@@ -89,7 +89,7 @@ pub names-stop : {S F W E : Type 0} (files : Files S F) (rules : StreamRules W E
     → (done rest : List (List ℕ)) × (outcomes : List Outcome) × (names ≡ done ++ rest)
     × EachHas (Comes files kind) done outcomes
     × PrintsBeginning rules.writing (lines_of (written_line kind style) done outcomes) old.out new.out
-names-stop files rules kind style names old new stop (outcomes, done, rest, (parts, each, ends), emits) =
+names-stop files rules kind style names old new stop (outcomes, done, rest, parts, each, ends, emits) =
     (done, rest, outcomes, parts, each, subst (λ bytes. PrintsBeginning rules.writing bytes old.out new.out) (printed-names kind style done outcomes) (beginning rules _ old new stop emits))
 
 pub list-stops : {S F R W E : Type 0} (files : Files S F) (input : Input R) (rules : StreamRules W E) (options : Options) (name : List ℕ) (old new : Streams W E) (stop : Stop)

@@ -19,14 +19,16 @@ emits-message rules kind style name (Unread reason) old new none emits = (new, e
 -- Lemma: a run stops at a name whose line can't be written.
 pub names-stop : {W E : Type 0} (rules : StreamRules W E) (comes : List ℕ → Outcome → Type 0) (kind : Kind) (style : Style) (all names after : List (List ℕ)) (outcomes : List Outcome) (name : List ℕ) (outcome : Outcome) (old mid new : Streams W E) (stop : Stop)
     → all ≡ names ++ name ∷ after → EachHas comes names outcomes → comes name outcome → EmitsAll rules (lines_of (name_events kind style) names outcomes) old mid → EmitsOrNone {T = Unit {0}} rules (name_events kind style name outcome) mid new (Err stop)
-    → (done_outcomes : List Outcome) × (done rest : List (List ℕ)) × ((all ≡ done ++ rest) × EachHas comes done done_outcomes × EndsWith rest done_outcomes (Err stop)) × EmitsTo {T = Bool} rules (lines_of (name_events kind style) done done_outcomes) old new (Err stop)
+    → (done_outcomes : List Outcome) × (done rest : List (List ℕ)) × (all ≡ done ++ rest) × EachHas comes done done_outcomes × EndsWith rest done_outcomes (Err stop) × EmitsTo {T = Bool} rules (lines_of (name_events kind style) done done_outcomes) old new (Err stop)
 names-stop rules comes kind style all names after outcomes name outcome old mid new OutOfMemory parts each came emits none =
-    (outcomes, names, name ∷ after, (parts, each, tt), subst (λ events. EmitsAll rules events old new) (append-nil _) (emits-append rules _ [] old mid new emits none))
+    (outcomes, names, name ∷ after, parts, each, tt, subst (λ events. EmitsAll rules events old new) (append-nil _) (emits-append rules _ [] old mid new emits none))
 names-stop rules comes kind style all names after outcomes name outcome old mid new WriteFailed parts each came emits refused = (
   outcomes ++ outcome ∷ [],
   names ++ name ∷ [],
   after,
-  (parts ∙ sym (append_assoc names (name ∷ []) after), EachHas-push comes names outcomes name outcome each came, tt),
+  parts ∙ sym (append_assoc names (name ∷ []) after),
+  EachHas-push comes names outcomes name outcome each came,
+  tt,
   subst (λ events. EmitsTo {T = Bool} rules events old new (Err WriteFailed)) (sym (lines-push comes (name_events kind style) names outcomes name outcome each)) (emits-join {T = Bool} rules _ _ old mid new (Err WriteFailed) emits refused),
 )
 

@@ -148,13 +148,6 @@ AnswersLists options rest outcomes (Ok all) =
     (rest ≡ []) × AreAllDone outcomes × (all ≡ are_good options outcomes)
 AnswersLists options rest outcomes (Err stop) = AreDoneButLast outcomes
 
--- The names are the lists that are done, each with its outcome, followed by the rest.
-abbrev pub ChecksLists : {S F : Type 0} → Files S F → Options → List (List ℕ) → List (List ℕ) → List (List ℕ)
-    → List ListOutcome → Result Bool Stop → Type 0
-ChecksLists files options names done rest outcomes result =
-    (names ≡ done ++ rest) × EachHas (IsListOutcome files options.is_little_endian) done outcomes
-    × AnswersLists options rest outcomes result
-
 -- ---- findings and their events
 
 -- The lines of a list have their findings, and exactly the events of these happen, in their order.
@@ -165,9 +158,11 @@ SaysList files input effect options name =
     × AnswersList options findings end effect.result
     × EmitsUnlessFailed effect (list_events options name findings end)
 
--- Each list has its outcome, and exactly the events of these happen, list after list.
+-- The names are the lists that are done, each with its outcome, followed by the rest. Exactly the events of the outcomes
+-- happen, list after list.
 abbrev pub SaysLists : {S F W E : Type 0} → Files S F → Effect W E → Options → List (List ℕ) → Type 0
 SaysLists files effect options names =
-    (outcomes : List ListOutcome) × (done rest : List (List ℕ))
-    × ChecksLists files options names done rest outcomes effect.result
+    (outcomes : List ListOutcome) × (done rest : List (List ℕ)) × (names ≡ done ++ rest)
+    × EachHas (IsListOutcome files options.is_little_endian) done outcomes
+    × AnswersLists options rest outcomes effect.result
     × EmitsUnlessFailed effect (lines_of (outcome_events options) done outcomes)

@@ -15,14 +15,6 @@ abbrev pub EndsWith : List (List ℕ) → List Outcome → Result Bool Stop → 
 EndsWith rest outcomes (Ok all) = (rest ≡ []) × (all ≡ are_digested outcomes)
 EndsWith rest outcomes (Err stop) = Unit {0}
 
--- The names are those that are done, each with its outcome, followed by the rest.
-abbrev pub HashesNames : {S F : Type 0} → Files S F → Kind → List (List ℕ) → List (List ℕ)
-    → List (List ℕ) → List Outcome → Result Bool Stop → Type 0
-HashesNames files kind names done rest outcomes result =
-    (names ≡ done ++ rest)
-    × EachHas (Comes files kind) done outcomes
-    × EndsWith rest outcomes result
-
 -- ---- the events of names
 
 -- A name has its line, or its message.
@@ -31,11 +23,12 @@ name_events kind style name (Digested value) = Printed (written_line kind style 
 name_events kind style name IsDirectory = Reported (told_line name IsDirectory) ∷ []
 name_events kind style name (Unread reason) = Reported (told_line name (Unread reason)) ∷ []
 
--- Each of the names has its outcome, and its line or its message is written before those of the next name.
+-- The names are those that are done, each with its outcome, followed by the rest. The line or the message of each is
+-- written before those of the next name.
 abbrev pub SaysNames : {S F W E : Type 0} → Files S F → Effect W E → Kind → Style → List (List ℕ) → Type 0
 SaysNames files effect kind style names =
-    (outcomes : List Outcome) × (done rest : List (List ℕ))
-    × HashesNames files kind names done rest outcomes effect.result
+    (outcomes : List Outcome) × (done rest : List (List ℕ)) × (names ≡ done ++ rest)
+    × EachHas (Comes files kind) done outcomes × EndsWith rest outcomes effect.result
     × HasEvents effect (lines_of (name_events kind style) done outcomes)
 
 -- ---- the events of standard input

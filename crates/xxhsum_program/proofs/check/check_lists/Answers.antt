@@ -61,14 +61,12 @@ returns-in_err-good g c =
       so_far.outcomes ++ outcome ∷ [],
       names ++ name ∷ [],
       after,
-      (
-        map-split (λ name. name.items) c.args.names.now k c.name-item.result c.loop-name-test.true c.name-item.is ∙ sym (append_assoc names (name ∷ []) after),
-        EachHas-push _ names so_far.outcomes name outcome so_far.each checked.1,
-        inr (so_far.outcomes, outcome, refl, so_far.finished),
-      ),
+      map-split (λ name. name.items) c.args.names.now k c.name-item.result c.loop-name-test.true c.name-item.is ∙ sym (append_assoc names (name ∷ []) after),
+      EachHas-push _ names so_far.outcomes name outcome so_far.each checked.1,
+      inr (so_far.outcomes, outcome, refl, so_far.finished),
       inl (subst (λ events. EmitsTo {T = Bool} rules events old new (Err stop)) (sym (lines-push _ (outcome_events options) names so_far.outcomes name outcome so_far.each)) (emits-join {T = Bool} rules _ _ old mid new (Err stop) so_far.emits (subst (λ bytes. EmitsTo {T = Bool} rules (outcome_events options bytes outcome) mid new (Err stop)) c.deref.ensures.value checked.3))),
     )
 
 pub returns-then-failed : goal.returns-then-failed
 returns-then-failed g c =
-    ([], [], map (λ name. name.items) c.args.names.now, (refl, tt, inl tt), inr (sym c.failed.ensures ∙ c.if-failed.true, refl, refl, refl))
+    ([], [], map (λ name. name.items) c.args.names.now, refl, tt, inl tt, inr (sym c.failed.ensures ∙ c.if-failed.true, refl, refl, refl))
