@@ -64,18 +64,32 @@ abbrev pub FindsLines : {R : Type 0} → (List ℕ → Finding → Type 0) → S
 FindsLines is_finding reading source findings end =
     (lines : List (List ℕ)) × EachHas is_finding lines findings × MeetsLines reading source lines end
 
--- A line has a finding, which is counted, and its events. If a write failed, a prefix of its line is printed; if out of
+-- A line of a list, by its number, and the counts before and after it.
+pub record LineCheck : Type 0 where
+  pub options : Options
+  pub list : List ℕ
+  pub number : ℕ
+  pub old : Report
+  pub new : Report
+
+abbrev pub line_check : Options → List ℕ → ℕ → Report → Report → LineCheck
+line_check options list number old new =
+    record { options = options; list = list; number = number; old = old; new = new }
+
+abbrev pub line_events : LineCheck → Finding → List Event
+line_events line finding = finding_events line.options line.list line.number finding
+
+-- The line has a finding, which is counted, and its events. If a write failed, a prefix of its line is printed; if out of
 -- memory, there are no events.
-abbrev pub ChecksLine : {W E : Type 0} → (Finding → Type 0) → StreamRules W E → Options → List ℕ → ℕ → Report → Report
-    → Streams W E → Streams W E → Result (Unit {0}) Stop → Type 0
-ChecksLine is_finding rules options list number r_old r_new old new (Ok _) =
-    (finding : Finding) × is_finding finding × (r_new ≡ count_one options.ignores_missing r_old finding)
-    × EmitsAll rules (finding_events options list number finding) old new
-ChecksLine is_finding rules options list number r_old r_new old new (Err WriteFailed) =
+abbrev pub ChecksLine : {W E : Type 0} → (Finding → Type 0) → LineCheck → StreamRules W E → Streams W E → Streams W E
+    → Result (Unit {0}) Stop → Type 0
+ChecksLine is_finding line rules old new (Ok _) =
+    (finding : Finding) × is_finding finding × (line.new ≡ count_one line.options.ignores_missing line.old finding)
+    × EmitsAll rules (line_events line finding) old new
+ChecksLine is_finding line rules old new (Err WriteFailed) =
     (finding : Finding) × is_finding finding
-    × EmitsTo {T = Unit {0}} rules (finding_events options list number finding) old new (Err WriteFailed)
-ChecksLine is_finding rules options list number r_old r_new old new (Err OutOfMemory) =
-    EmitsAll rules [] old new
+    × EmitsTo {T = Unit {0}} rules (line_events line finding) old new (Err WriteFailed)
+ChecksLine is_finding line rules old new (Err OutOfMemory) = EmitsAll rules [] old new
 
 -- True if the list is good; false before its end is reached.
 abbrev pub is_good_list : Options → List Finding → Option ListEnd → Bool

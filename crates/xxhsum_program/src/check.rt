@@ -2,7 +2,7 @@
 
 ghost use Rattle.std.specs.Prelude.{◌≡◌, ◌<◌, ◌≤◌, [], true, List, ℕ, Option, false, length, map, nat_eq, IfErr, IfOk, if◌then◌else◌};
 ghost use Rattle.xxhsum_program.specs.Prelude.{TellsOn};
-ghost use Rattle.xxhsum_program.specs.CheckList.{AnswersList, AnswersOutcome, ChecksLine, FindsLines, IsListOutcome, ListOutcome, ReportsLines, SaysList, SaysLists, outcome_events};
+ghost use Rattle.xxhsum_program.specs.CheckList.{AnswersList, AnswersOutcome, ChecksLine, FindsLines, IsListOutcome, ListOutcome, ReportsLines, SaysList, SaysLists, line_check, outcome_events};
 ghost use Rattle.xxhsum_program.specs.Files.{files_of, input_of};
 ghost use Rattle.xxhsum_program.specs.Findings.{Finding, Improper, IsFinding, TooLong, count_one, count_proper, no_findings, with_broken_end};
 ghost use Rattle.xxhsum_program.specs.Lines.{PrintsLine};
@@ -217,10 +217,10 @@ impl<S: Store, T: Ticks> ListCheck<'_, S, T> {
         requires room { 0 < length buf.old }
         requires writer { W.has_failed streams.old.out ≡ false }
         ensures checks { (text : List ℕ) → IsGiven text line.entry.text → ChecksLine
-            (IsFinding (files_of S.Store S.File.Source self.now.store.now) self.now.options.is_little_endian
-            text) (rules_of W.Sink W.held W.has_lost E.Sink) self.now.options self.now.name.now
-            line.entry.number report.old report.new streams.old
-            streams.new result }
+            (IsFinding (files_of S.Store S.File.Source self.now.store.now)
+            self.now.options.is_little_endian text)
+            (line_check self.now.options self.now.name.now line.entry.number report.old report.new)
+            (rules_of W.Sink W.held W.has_lost E.Sink) streams.old streams.new result }
         ensures works { IfOk result (λ _. W.has_failed streams.new.out ≡ false) }
     {
         let Some(text) = line.text else {

@@ -1,7 +1,7 @@
 -- Lemmas on rows and their results, after one more row.
 use Rattle.std.proofs.Common.{◌≡◌, ℕ, Bool, true, false, ◌&&◌, List, [], ◌∷◌, ◌++◌, append-nil, refl, sym, ap, subst, inl, ◌∙◌, Ok, Err, IsErr, MatchResult, Result, flat_map}
 use Rattle.xxhsum_tree.specs.Messages.{effect_messages}
-use Rattle.xxhsum_tree.proofs.Prelude.{AllocError, Compared, DigestsRows, Effect, FileDigest, Grows, PrintsReport, Side, Verdict, and-false, and-true, are_same, by_path, err_of, flat_map-append, is_digested, map-append, met_is}
+use Rattle.xxhsum_tree.proofs.Prelude.{AllocError, Compared, DigestsRows, Effect, FileDigest, Grows, PrintsReport, Side, Verdict, and-false, and-true, are_same, by_path, flat_map-append, is_digested, map-append, met_is}
 use Rattle.xxhsum_tree.specs.Prelude.{Digested, Files, IsDirectory, Kind, Options, Outcome, Unread}
 use Rattle.xxhsum_audit.specs.Audit.{HasMoves, IsAudit, missing_in, new_in, settled_in}
 use Rattle.xxhsum_audit.specs.Found.{Found, Missing, New, found_of, founds_of, met}

@@ -1,7 +1,7 @@
 -- Lemmas on walks after one more name, and on the files that walks find.
 use Rattle.std.proofs.Common.{◌≡◌, ◌⊎◌, ℕ, ◌+◌, ◌<◌, Bool, true, false, List, [], ◌∷◌, ◌++◌, map, get_or, length, refl, sym, ap, subst, inl, inr, Ok, Err, arith, ◌∙◌, IsSorted, is_lt, nat_cmp, reverse, Result}
 use Rattle.xxhsum_tree.specs.Messages.{Messages}
-use Rattle.xxhsum_tree.proofs.Prelude.{File, Folder, IsAmong, IsPermutation-sym, IsPermutation-trans, Other, PathKind, SinkRules, Stop, Unknown, Walked, both-true, get_or-map, length-map, reverse-append, slice_cmp}
+use Rattle.xxhsum_tree.proofs.Prelude.{File, Folder, IsAmong, IsPermutation-sym, IsPermutation-trans, Other, PathKind, Stop, Unknown, both-true, get_or-map, length-map, reverse-append, slice_cmp}
 use Rattle.xxhsum_audit.proofs.AmongFacts.{among_either, among_left, among_permutation, among_right}
 use Rattle.xxhsum_tree.specs.Walk.{Closed, HasKind, IsIn, IsSeen, Leaf, Lost, Opened, Passed, Place, Seen, SeesOne, Tree, Visits, WalkState, are_open, below, below_of, file_of, files_in, given, is_open, with_slash}
 use Rattle.xxhsum_tree.specs.WalkLaws.{FindsEachFile, FindsNoOther, IsSteady, LeadsTo}

@@ -7,7 +7,6 @@ use Rattle.xxhsum_audit.specs.Item.{Item, names_of}
 use Rattle.xxhsum_audit.specs.Order.{IsOrder, clash_in, rank_lines, rank_names}
 use Rattle.xxhsum_audit.specs.Side.{by_path}
 use Rattle.xxhsum_program.specs.Order.{Effect, Releases}
-use Rattle.xxhsum_program.specs.Streams.{err_of}
 use Rattle.xxhsum_tree.specs.Finds.{GoesOn, HasNoRoom, OnlyTells}
 use Rattle.xxhsum_tree.specs.Messages.{Reports, effect_messages}
 use Rattle.xxhsum_tree.specs.Report.{PrintsReport, are_same}

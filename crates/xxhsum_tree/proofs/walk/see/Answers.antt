@@ -1,6 +1,6 @@
 use Rattle.xxhsum_tree.specs.Walk.{state_of}
 use Rattle.xxhsum_tree.specs.Messages.{messages_of}
-use Rattle.xxhsum_tree.proofs.Prelude.{◌∙◌, IsIn, IsSeen, Leaf, Lost, Passed, TellsOn, Tree, and-false, and-true, append-nil, closed_text, place_of, refl, subst, sym, tells-nothing, tree_of, waiting_in}
+use Rattle.xxhsum_tree.proofs.Prelude.{◌∙◌, IsIn, IsSeen, Leaf, Lost, Passed, TellsOn, Tree, and-false, and-true, append-nil, closed_text, place_of, refl, subst, sym, tells-nothing, tree_of}
 use Rattle.xxhsum_tree.proofs.VisitFacts.{folder-seen, sees-as}
 use Rattle.xxhsum_tree.proofs.walk.see.Goals as goal
 
