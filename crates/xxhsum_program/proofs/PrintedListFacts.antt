@@ -1,5 +1,6 @@
 -- Lemmas on the lines that are found in a printed list.
 use Rattle.std.proofs.Common.{◌≡◌, ℕ, ◌+◌, ◌<◌, Bool, true, false, List, [], ◌∷◌, ◌++◌, length, map, refl, sym, ap, subst, ◌∙◌, inl, inr, append-nil, append_assoc, length-append, arith}
+use Rattle.xxhsum_program.specs.ListLines.{longest_line}
 use Rattle.xxhsum_program.proofs.Prelude.{IsFound, IsLastLine, Says, SliceSource, both_ways, end_piece, false≢true, first_same, is_comment, lacks_not, length-map, says_same, slice-end, slice-pieces, slice_reading, slice_rest}
 use Rattle.xxhsum_program.specs.Prelude.{AllByRecursion, EachHas, Files, Lacks, NoneEmpty, Pieces, SourceRules, StoreRules, concat, files_of}
 use Rattle.xxhsum_line.proofs.PrintedFacts.{printed_is_accepted, printed_is_no_comment, printed_is_one_line, printed_length}
@@ -12,7 +13,7 @@ use Rattle.xxhsum_program.specs.PrintedList.{AreListed, BeginsTooLong, ChecksPri
 
 -- A printed line.
 abbrev pub IsLine : List ℕ → Type 0
-IsLine line = Lacks 10 line × (length line < 32767)
+IsLine line = Lacks 10 line × (length line < longest_line)
 
 -- The first lines of a text, with the rest of the text.
 abbrev pub Beginning : List (List ℕ) → List (List ℕ) → List ℕ → Type 0
@@ -168,11 +169,11 @@ holds_printed_lines reading is_little entries source all holds =
     (subst (Holds reading source) (printed_lines entries) holds)
 
 found_one : {S F : Type 0} (files : Files S F) (is_little : Bool) (line : List ℕ) (e : Listed) (finding : Finding)
-    → length line < 32767 → IsLineOf is_little line e → IsFinding files is_little line finding
+    → length line < longest_line → IsLineOf is_little line e → IsFinding files is_little line finding
     → IsFindingOf files e finding
 found_one files is_little line e Ignored short of is = absurd (both_ways (is_comment line) of.1 is.1)
 found_one files is_little line e Improper short of is = absurd (is.1.1 e.kind e.value e.name of.2)
-found_one files is_little line e TooLong short of is = let long : 32767 < length line = is in absurd (omega (arith, short, long))
+found_one files is_little line e TooLong short of is = let long : longest_line < length line = is in absurd (omega (arith, short, long))
 found_one files is_little line e (Proper name found) short of (within, kind, value, says, is) =
     let same = of.3 kind value name says in
     let at_kind = subst (λ k. IsFound files k value name found) same.0 is in

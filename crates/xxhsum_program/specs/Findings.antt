@@ -4,7 +4,7 @@ use Rattle.xxhsum_line.specs.Entry.{Says, SaysNothing, is_comment}
 use Rattle.xxhsum_program.specs.Prelude.{Files, Found, Kind, Report}
 use Rattle.xxhsum_program.specs.declared.entry.Found.TheVariants.{Same, Different, Unread}
 use Rattle.xxhsum_program.specs.Found.{IsFound}
-use Rattle.xxhsum_program.specs.ListLines.{IsTooLong}
+use Rattle.xxhsum_program.specs.ListLines.{IsTooLong, longest_line}
 use Rattle.xxhsum_program.specs.Outcomes.{has_no_file}
 
 -- The finding of a line: a comment, malformed, too long to be checked, or an entry with the state of its file.
@@ -16,11 +16,11 @@ pub data Finding : Type 0 where
 
 -- The line has this finding. A line that is too long is not parsed.
 abbrev pub IsFinding : {S F : Type 0} → Files S F → Bool → List ℕ → Finding → Type 0
-IsFinding files is_little line Ignored = (length line ≤ 32767) × (is_comment line ≡ true)
-IsFinding files is_little line Improper = (length line ≤ 32767) × SaysNothing is_little line
+IsFinding files is_little line Ignored = (length line ≤ longest_line) × (is_comment line ≡ true)
+IsFinding files is_little line Improper = (length line ≤ longest_line) × SaysNothing is_little line
 IsFinding files is_little line TooLong = IsTooLong line
 IsFinding files is_little line (Proper name found) =
-    (length line ≤ 32767) × (kind : Kind) × (value : ℕ) × Says is_little line kind value name
+    (length line ≤ longest_line) × (kind : Kind) × (value : ℕ) × Says is_little line kind value name
     × IsFound files kind value name found
 
 -- The count plus 1, saturating at 2^64 - 1.

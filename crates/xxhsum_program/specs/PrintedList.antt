@@ -8,13 +8,13 @@ use Rattle.xxhsum_program.specs.CheckList.{EndsWell, FindsLines, HasLines, Reads
 use Rattle.xxhsum_program.specs.ListEnd.{ListEnd, Whole}
 use Rattle.xxhsum_program.specs.Findings.{Finding, IsFinding, Proper}
 use Rattle.xxhsum_program.specs.Found.{IsFound}
-use Rattle.xxhsum_program.specs.ListLines.{CantRead, FailsAfter}
+use Rattle.xxhsum_program.specs.ListLines.{CantRead, FailsAfter, longest_line}
 
 -- There are more than 32,767 bytes, and the first 32,767 have no line feed.
 abbrev pub BeginsTooLong : List ℕ → Type 0
 BeginsTooLong bytes =
-    (front rest : List ℕ) × (bytes ≡ front ++ rest) × Lacks 10 front × (32767 ≤ length front)
-    × (32767 < length bytes)
+    (front rest : List ℕ) × (bytes ≡ front ++ rest) × Lacks 10 front × (longest_line ≤ length front)
+    × (longest_line < length bytes)
 
 -- The entry that a line is printed from.
 abbrev pub Listed : Type 0
@@ -33,7 +33,7 @@ printed_list (e ∷ es) = line_of e.kind e.shape e.value e.name ++ printed_list 
 -- digits have the byte order that the check expects in plain lines.
 abbrev pub IsListed : Bool → Listed → Type 0
 IsListed is_little e =
-    (e.value < 16 ^ digits_of e.kind) × Lacks 0 e.name × (length (text_of_listed e) < 32767)
+    (e.value < 16 ^ digits_of e.kind) × Lacks 0 e.name × (length (text_of_listed e) < longest_line)
     × (e.shape.is_little ≡ is_little)
 
 abbrev pub AreListed : Bool → List Listed → Type 0
@@ -43,7 +43,7 @@ AreListed is_little entries = AllByRecursion (IsListed is_little) entries
 abbrev pub ShortNamesFit : Type 0
 ShortNamesFit =
     (kind : Kind) (shape : Shape) (value : ℕ) (name : List ℕ) → length name ≤ 16359
-    → length (text_of kind shape value name) < 32767
+    → length (text_of kind shape value name) < longest_line
 
 -- ---- the lines
 
