@@ -17,16 +17,13 @@ EVER = 'for _ in 0..u64::MAX {'
 BELOW, DEEP = 'files below a folder', 'a list, both streams one pipe'
 TREE = 'a tree of many names'
 RUN, SHOWN = 'xxhsum_tree/src/run.rt', 'ProgressDisplay::new(screen, terminals, options)'
-TELLS_NONE = ('tell_line_after(\n                &[\n                    self.name,\n                    b": no properly formatted xxHash '
-              'checksum lines found",\n                ],\n                out,\n                err,\n            );')
-TELLS_IMPROPER = ('tell_of_line_after(\n                self.name,\n                number,\n                b"Improperly formatted '
-                  'checksum line",\n                out,\n                err,\n            );')
+NONE = 'b": no properly formatted xxHash checksum lines found"'
+REPORTS_NONE = f'streams.report(&[\n                self.name,\n                {NONE},\n            ]);'
 
 
-def turned(file, first, second, indent, check, row):
-    """Two statements in the opposite order."""
-    between = '\n' + ' ' * indent
-    return Wrong(file, first + between + second, second + between + first, check, row)
+def before_output(old, call, check, row):
+    """A message that is written before the output that waits."""
+    return Wrong(CHECK, old, f'{call}, streams.messages());\n            streams.release();', check, row)
 
 
 WRONG = {
@@ -63,12 +60,13 @@ WRONG = {
         'xxhsum_audit/src/read.rt', EVER, 'for _ in 0..100_000 {', 'many', 'a list in many reads'),
     'all_arguments has no memory past 20,000': Wrong(
         'xxhsum_program/src/arguments.rt', 'for index in 0..usize::MAX {', 'for index in 0..20_000 {', 'many', 'many arguments'),
-    'sum_up reports a list with no line before the output that waits': turned(
-        CHECK, 'release(out);', TELLS_NONE, 12, 'pipes', 'output before messages about lists with no line'),
-    'tell_of_failure reports a list that breaks off before the output that waits': turned(
-        CHECK, 'release(out);', 'tell_of_line_after(self.name, number, READ_FAILED, out, err);', 12, 'failing', DEEP),
-    'count_improper reports a line before the output that waits': turned(
-        CHECK, 'release(out);', TELLS_IMPROPER, 12, 'failing', DEEP),
+    'sum_up reports a list with no line before the output that waits': before_output(
+        REPORTS_NONE, f'tell_line(&[self.name, {NONE}]', 'pipes', 'output before messages about lists with no line'),
+    'tell_of_failure reports a list that breaks off before the output that waits': before_output(
+        'self.report_line(number, READ_FAILED, streams);', 'tell_of_line(self.name, number, READ_FAILED', 'failing', DEEP),
+    'count_improper reports a line before the output that waits': before_output(
+        'self.report_line(number, b"Improperly formatted checksum line", streams);',
+        'tell_of_line(self.name, number, b"Improperly formatted checksum line"', 'failing', DEEP),
     'digest_line has no memory past 16,000 bytes': Wrong(
         'xxhsum_line/src/printed.rt', '    put_formed(&mut line, kind, shape, value, name, false)?;',
         '    if name.len() > 16000 { return Err(AllocError); }\n    put_formed(&mut line, kind, shape, value, name, false)?;',

@@ -15,6 +15,7 @@ pub mod BlockEnds
 pub mod BlockState
 pub mod Blocks
 pub mod Feeding
+pub mod Filter
 pub mod Kind
 pub mod Run
 pub mod StateFaults

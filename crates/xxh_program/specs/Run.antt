@@ -7,40 +7,30 @@ use Rattle.xxh_io.specs.declared.command.Command.{Command}
 use Rattle.xxh_io.specs.declared.command.Command.TheVariants.{Hash, Save32, Save64, Resume32, Resume64, Blocks}
 use Rattle.xxh_io.specs.Pieces.{NoneEmpty}
 use Rattle.xxh_io.specs.Digest.{ReadsTo, Writes}
+use Rattle.xxh_program.specs.Filter.{Filter}
 use Rattle.xxh_program.specs.BlockEnds.{DigestsBlocks}
 use Rattle.xxh_io.specs.Hex.{hex_line}
-use Rattle.xxh_io.specs.Rules.{SourceRules, SinkRules}
 use Rattle.xxh_program.specs.Kind.{digits_of, value_of}
 use Rattle.xxh_program.specs.States.{most_reads, digest_answer, Saves32, Saves64, Resumes32, Resumes64}
 pub use Rattle.xxh_io.specs.Tells.{Tells, status_after}
 
 -- The lines of the input's blocks were printed, as by block digests.
-abbrev pub DigestsInput : {R W : Type 0} → SourceRules R → SinkRules W → ℕ → R → R → W → W
-    → Result (Unit {0}) DigestError → Type 0
-DigestsInput reading writing size r_old r_new w_old w_new digested =
-    (pieces : List (List ℕ)) × NoneEmpty pieces
-    × DigestsBlocks reading writing size most_reads pieces
-    r_old r_new w_old w_new digested
+abbrev pub DigestsInput : {R W : Type 0} → Filter R W → ℕ → Result (Unit {0}) DigestError → Type 0
+DigestsInput filter size digested =
+    (pieces : List (List ℕ)) × NoneEmpty pieces × DigestsBlocks filter size most_reads pieces digested
 
 -- The reads and writes of the program with this result. Invalid arguments cause none. `hash` and `blocks` read and
 -- write as a digest does. The other commands do as defined in `States`.
-abbrev pub Performs : {R W : Type 0} → SourceRules R → SinkRules W → Result Command Fault → R → R
-    → W → W → Result (Unit {0}) Fault → Type 0
-Performs reading writing (Err fault) r_old r_new w_old w_new answer =
-    (answer ≡ Err fault) × (r_new ≡ r_old) × (w_new ≡ w_old)
-Performs reading writing (Ok (Hash kind seed)) r_old r_new w_old w_new answer =
+abbrev pub Performs : {R W : Type 0} → Filter R W → Result Command Fault → Result (Unit {0}) Fault → Type 0
+Performs filter (Err fault) answer =
+    (answer ≡ Err fault) × (filter.rest ≡ filter.source) × (filter.new ≡ filter.old)
+Performs filter (Ok (Hash kind seed)) answer =
     (digested : Result (Unit {0}) DigestError) × (answer ≡ digest_answer digested)
-    × ((pieces : List (List ℕ)) × ReadsTo reading most_reads pieces r_old r_new digested
-    × Writes writing (hex_line (digits_of kind) (value_of kind seed (concat pieces)))
-    w_old w_new digested)
-Performs reading writing (Ok (Save32 seed)) r_old r_new w_old w_new answer =
-    Saves32 reading writing seed r_old r_new w_old w_new answer
-Performs reading writing (Ok (Save64 seed)) r_old r_new w_old w_new answer =
-    Saves64 reading writing seed r_old r_new w_old w_new answer
-Performs reading writing (Ok (Resume32 json)) r_old r_new w_old w_new answer =
-    Resumes32 reading writing json.now r_old r_new w_old w_new answer
-Performs reading writing (Ok (Resume64 json)) r_old r_new w_old w_new answer =
-    Resumes64 reading writing json.now r_old r_new w_old w_new answer
-Performs reading writing (Ok (Blocks size)) r_old r_new w_old w_new answer =
-    (digested : Result (Unit {0}) DigestError) × (answer ≡ digest_answer digested)
-    × DigestsInput reading writing size r_old r_new w_old w_new digested
+    × ((pieces : List (List ℕ)) × ReadsTo filter.reading most_reads pieces filter.source filter.rest digested
+    × Writes filter.writing (hex_line (digits_of kind) (value_of kind seed (concat pieces))) filter.old filter.new digested)
+Performs filter (Ok (Save32 seed)) answer = Saves32 filter seed answer
+Performs filter (Ok (Save64 seed)) answer = Saves64 filter seed answer
+Performs filter (Ok (Resume32 json)) answer = Resumes32 filter json.now answer
+Performs filter (Ok (Resume64 json)) answer = Resumes64 filter json.now answer
+Performs filter (Ok (Blocks size)) answer =
+    (digested : Result (Unit {0}) DigestError) × (answer ≡ digest_answer digested) × DigestsInput filter size digested

@@ -15,7 +15,8 @@ use Rattle.xxh_io.specs.declared.fault.Fault.{Fault}
 use Rattle.xxh_io.specs.declared.fault.Fault.TheVariants.{BadState, OutOfMemory, Digest}
 use Rattle.xxh_io.specs.Digest.{ReadsTo, Writes}
 use Rattle.xxh_io.specs.Hex.{hex_line}
-use Rattle.xxh_io.specs.Rules.{SourceRules, SinkRules}
+use Rattle.xxh_io.specs.Rules.{SinkRules}
+use Rattle.xxh_program.specs.Filter.{Filter}
 
 -- The program's maximum number of reads.
 abbrev pub most_reads : ℕ
@@ -36,34 +37,34 @@ Prints writing text old new (Err (Digest WriteFailed)) =
 Prints writing text old new (Err OutOfMemory) = new ≡ old
 Prints writing text old new (Err _) = ⊥
 
+-- A kind of record: the bytes that a record represents, its seed, and its saved text.
+pub record SavedForm (S : Type 0) : Type 1 where
+  pub stands_for : S → List ℕ → Type 0
+  pub seed_of : S → ℕ
+  pub text_of : S → List ℕ
+
 -- The saved text of a record with this seed was printed. The record represents the bytes m. If the input was not read
 -- to its end, nothing was printed.
-abbrev pub PrintsState : {S W : Type 0} → (S → List ℕ → Type 0) → (S → ℕ) → (S → List ℕ)
-    → SinkRules W → ℕ → List ℕ → W → W → Result S DigestError → Result (Unit {0}) Fault → Type 0
-PrintsState stands_for seed_of text_of writing seed m old new (Ok state) answer =
-    (seed_of state ≡ seed) × stands_for state m
-    × Prints writing (text_of state ++ 10 ∷ []) old new answer
-PrintsState stands_for seed_of text_of writing seed m old new (Err e) answer =
-    (answer ≡ Err (Digest e)) × (new ≡ old)
-
-abbrev pub Saves : {S R W : Type 0} → (S → List ℕ → Type 0) → (S → ℕ) → (S → List ℕ) → SourceRules R
-    → SinkRules W → ℕ → R → R → W → W → Result (Unit {0}) Fault → Type 0
-Saves {S} stands_for seed_of text_of reading writing seed r_old r_new w_old w_new answer =
-    (read : Result S DigestError) × ((pieces : List (List ℕ)) × ReadsTo reading most_reads pieces r_old r_new read
-    × PrintsState stands_for seed_of text_of writing seed (concat pieces)
-    w_old w_new read answer)
-
-abbrev pub Saves32 : {R W : Type 0} → SourceRules R → SinkRules W → ℕ → R → R → W → W
+abbrev pub PrintsState : {S R W : Type 0} → SavedForm S → Filter R W → ℕ → List ℕ → Result S DigestError
     → Result (Unit {0}) Fault → Type 0
-Saves32 reading writing seed r_old r_new w_old w_new answer =
-    Saves Record32.StandsFor (λ s. s.seed) Saved32.saved_text reading writing seed
-    r_old r_new w_old w_new answer
+PrintsState form filter seed m (Ok state) answer =
+    (form.seed_of state ≡ seed) × form.stands_for state m
+    × Prints filter.writing (form.text_of state ++ 10 ∷ []) filter.old filter.new answer
+PrintsState form filter seed m (Err e) answer = (answer ≡ Err (Digest e)) × (filter.new ≡ filter.old)
 
-abbrev pub Saves64 : {R W : Type 0} → SourceRules R → SinkRules W → ℕ → R → R → W → W
-    → Result (Unit {0}) Fault → Type 0
-Saves64 reading writing seed r_old r_new w_old w_new answer =
-    Saves Record64.StandsFor (λ s. s.seed) Saved64.saved_text reading writing seed
-    r_old r_new w_old w_new answer
+abbrev pub Saves : {S R W : Type 0} → SavedForm S → Filter R W → ℕ → Result (Unit {0}) Fault → Type 0
+Saves {S} form filter seed answer =
+    (read : Result S DigestError) × ((pieces : List (List ℕ))
+    × ReadsTo filter.reading most_reads pieces filter.source filter.rest read
+    × PrintsState form filter seed (concat pieces) read answer)
+
+abbrev pub Saves32 : {R W : Type 0} → Filter R W → ℕ → Result (Unit {0}) Fault → Type 0
+Saves32 filter seed answer =
+    Saves (record { stands_for = Record32.StandsFor; seed_of = λ s. s.seed; text_of = Saved32.saved_text }) filter seed answer
+
+abbrev pub Saves64 : {R W : Type 0} → Filter R W → ℕ → Result (Unit {0}) Fault → Type 0
+Saves64 filter seed answer =
+    Saves (record { stands_for = Record64.StandsFor; seed_of = λ s. s.seed; text_of = Saved64.saved_text }) filter seed answer
 
 -- ---- resume
 
@@ -87,27 +88,23 @@ Restores64 text restored =
 
 -- A digest was continued from the record, for every list that the record represents. If its reads failed or were too
 -- many, nothing was written. If there is no record, nothing was read or written.
-abbrev pub GoesOn : {S R W : Type 0} → (S → List ℕ → Type 0) → (S → List ℕ → List ℕ) → SourceRules R
-    → SinkRules W → Result S Fault → R → R → W → W → Result (Unit {0}) Fault → Type 0
-GoesOn stands_for line_of reading writing (Ok state) r_old r_new w_old w_new answer =
+abbrev pub GoesOn : {S R W : Type 0} → (S → List ℕ → Type 0) → (S → List ℕ → List ℕ) → Filter R W → Result S Fault
+    → Result (Unit {0}) Fault → Type 0
+GoesOn stands_for line_of filter (Ok state) answer =
     (digested : Result (Unit {0}) DigestError) × (answer ≡ digest_answer digested)
-    × ((digested ≡ Err ReadFailed) ⊎ (digested ≡ Err TooLong) → w_new ≡ w_old)
-    × ((pieces : List (List ℕ)) × ReadsTo reading most_reads pieces r_old r_new digested
+    × ((digested ≡ Err ReadFailed) ⊎ (digested ≡ Err TooLong) → filter.new ≡ filter.old)
+    × ((pieces : List (List ℕ)) × ReadsTo filter.reading most_reads pieces filter.source filter.rest digested
     × ((m : List ℕ) → stands_for state m
-    → Writes writing (line_of state (m ++ concat pieces)) w_old w_new digested))
-GoesOn stands_for line_of reading writing (Err fault) r_old r_new w_old w_new answer =
-    (answer ≡ Err fault) × (r_new ≡ r_old) × (w_new ≡ w_old)
+    → Writes filter.writing (line_of state (m ++ concat pieces)) filter.old filter.new digested))
+GoesOn stands_for line_of filter (Err fault) answer =
+    (answer ≡ Err fault) × (filter.rest ≡ filter.source) × (filter.new ≡ filter.old)
 
-abbrev pub Resumes32 : {R W : Type 0} → SourceRules R → SinkRules W → List ℕ → R → R → W → W
-    → Result (Unit {0}) Fault → Type 0
-Resumes32 reading writing text r_old r_new w_old w_new answer =
+abbrev pub Resumes32 : {R W : Type 0} → Filter R W → List ℕ → Result (Unit {0}) Fault → Type 0
+Resumes32 filter text answer =
     (restored : Result State32 Fault) × Restores32 text restored
-    × GoesOn Record32.StandsFor (λ s m. hex_line 8 (xxh32 s.seed m)) reading writing
-    restored r_old r_new w_old w_new answer
+    × GoesOn Record32.StandsFor (λ s m. hex_line 8 (xxh32 s.seed m)) filter restored answer
 
-abbrev pub Resumes64 : {R W : Type 0} → SourceRules R → SinkRules W → List ℕ → R → R → W → W
-    → Result (Unit {0}) Fault → Type 0
-Resumes64 reading writing text r_old r_new w_old w_new answer =
+abbrev pub Resumes64 : {R W : Type 0} → Filter R W → List ℕ → Result (Unit {0}) Fault → Type 0
+Resumes64 filter text answer =
     (restored : Result State64 Fault) × Restores64 text restored
-    × GoesOn Record64.StandsFor (λ s m. hex_line 16 (xxh64 s.seed m)) reading writing
-    restored r_old r_new w_old w_new answer
+    × GoesOn Record64.StandsFor (λ s m. hex_line 16 (xxh64 s.seed m)) filter restored answer

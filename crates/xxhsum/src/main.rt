@@ -12,6 +12,7 @@ use xxhsum_output::whole_lines::WholeLines;
 use xxhsum_program::arguments::ProcessArguments;
 use xxhsum_program::process::{Console, Terminals};
 use xxhsum_program::screen::Screen;
+use xxhsum_program::streams::Streams;
 use xxhsum_tree::run::run;
 
 // Passes the process's arguments, files and streams to the program.
@@ -27,12 +28,15 @@ fn main(rt: HostRuntime) -> ExitCode {
     };
     // On a terminal control characters are made visible, and each line is written at once.
     let output = Visible::new(FromWrite::new(rt.stdout()), shows_output);
+    let mut streams = Streams::new(
+        WholeLines::new(output, !shows_output),
+        Visible::new(FromWrite::new(rt.stderr()), shows_errors),
+    );
     ExitCode::from(run(
         rt.alloc(),
         &ProcessArguments::new(&rt),
         &SystemFiles::new(&rt),
         console,
-        &mut WholeLines::new(output, !shows_output),
-        &mut Visible::new(FromWrite::new(rt.stderr()), shows_errors),
+        &mut streams,
     ))
 }

@@ -1,6 +1,6 @@
 -- Lemmas on a run over names and on the check of a list.
 use Rattle.std.proofs.Common.{◌≡◌, ℕ, Bool, true, false, List, [], ◌∷◌, ◌++◌, Option, Some, None, inl, inr, refl, sym, ap, ◌∙◌, subst, append-nil, codes, ◌↔◌, Result, Ok, Err}
-use Rattle.xxhsum_program.specs.Prelude.{AllByRecursion, EachHas, Kind, Options, Shape, SourceRules, StoreRules, Style, TellsOn, Took, concat}
+use Rattle.xxhsum_program.specs.Prelude.{AllByRecursion, EachHas, Files, Input, Kind, Options, Shape, SourceRules, StoreRules, Style, TellsOn, Took, concat, files_of, input_of}
 use Rattle.xxhsum_program.specs.declared.outcome.Outcome.{Outcome}
 use Rattle.xxhsum_program.specs.declared.outcome.Outcome.TheVariants.{Digested, IsDirectory, Unread}
 use Rattle.xxhsum_program.specs.declared.stop.Stop.{Stop}
@@ -14,7 +14,8 @@ use Rattle.xxhsum_program.specs.GoodList.{GoodMeansEqual, IsWell}
 use Rattle.xxhsum_program.specs.HashNames.{SaysNames, name_events}
 use Rattle.xxhsum_program.specs.Lines.{lines_of, step_text, told_line, written_line}
 use Rattle.xxhsum_program.specs.ListEnd.{ListEnd}
-use Rattle.xxhsum_program.specs.Order.{EmitsAll, EmitsTo, EmitsUnlessFailed, Event, StreamRules, Streams, printed_of, reported_of}
+use Rattle.xxhsum_program.specs.Order.{EmitsAll, EmitsTo, EmitsUnlessFailed, Event, StreamRules, effect_of, printed_of, reported_of}
+use Rattle.xxhsum_program.specs.declared.streams.Streams.{Streams}
 use Rattle.xxhsum_program.specs.Outcomes.{Comes, are_digested, reason_text}
 use Rattle.xxhsum_program.specs.Run.{status_of}
 use Rattle.xxhsum_program.specs.Said.{list_events}
@@ -44,16 +45,16 @@ reported-names kind style (name ∷ names) (IsDirectory ∷ outcomes) =
 reported-names kind style (name ∷ names) (Unread reason ∷ outcomes) =
     ap (λ (rest : List ℕ). told_line name (Unread reason) ++ rest) (reported-names kind style names outcomes)
 
-pub each-name-once : {S F W E : Type 0} (opening : StoreRules S F) (reading : SourceRules F) (rules : StreamRules W E) (store : S) (kind : Kind) (style : Style) (names : List (List ℕ)) (old new : Streams W E) (all : Bool)
-    → SaysNames opening reading rules store kind style names old new (Ok all)
-    → (outcomes : List Outcome) × EachHas (Comes opening reading store kind) names outcomes
+pub each-name-once : {S F W E : Type 0} (files : Files S F) (rules : StreamRules W E) (kind : Kind) (style : Style) (names : List (List ℕ)) (old new : Streams W E) (all : Bool)
+    → SaysNames files (effect_of rules old new (Ok all)) kind style names
+    → (outcomes : List Outcome) × EachHas (Comes files kind) names outcomes
     × Took rules.writing (lines_of (written_line kind style) names outcomes) old.out new.out
     × TellsOn rules.telling (lines_of told_line names outcomes) old.err new.err × (all ≡ are_digested outcomes)
-each-name-once opening reading rules store kind style names old new all (outcomes, done, rest, (parts, each, (none, is)), emits) =
+each-name-once files rules kind style names old new all (outcomes, done, rest, parts, each, (none, is), emits) =
     let whole : done ≡ names = sym (append-nil done) ∙ ap (λ r. done ++ r) (sym none) ∙ sym parts in
     let events = subst (λ n. EmitsAll rules (lines_of (name_events kind style) n outcomes) old new) whole emits in (
       outcomes,
-      subst (λ n. EachHas (Comes opening reading store kind) n outcomes) whole each,
+      subst (λ n. EachHas (Comes files kind) n outcomes) whole each,
       subst (λ bytes. Took rules.writing bytes old.out new.out) (printed-names kind style names outcomes) (emits-prints rules _ old new events),
       subst (λ bytes. TellsOn rules.telling bytes old.err new.err) (reported-names kind style names outcomes) (emits-reports rules _ old new events),
       is,
@@ -78,23 +79,23 @@ beginning rules events old new WriteFailed emits =
 beginning rules events old new OutOfMemory emits =
     (printed_of events, [], new.out, sym (append-nil (printed_of events)), emits-prints rules events old new emits, inl refl)
 
-unless-failed : {W E : Type 0} (rules : StreamRules W E) (events : List Event) (old new : Streams W E) (stop : Stop) → EmitsUnlessFailed {T = Bool} rules events old new (Err stop) → PrintsBeginning rules.writing (printed_of events) old.out new.out
+unless-failed : {W E : Type 0} (rules : StreamRules W E) (events : List Event) (old new : Streams W E) (stop : Stop) → EmitsUnlessFailed (effect_of rules old new (Err stop)) events → PrintsBeginning rules.writing (printed_of events) old.out new.out
 unless-failed rules events old new stop (inl emits) = beginning rules events old new stop emits
 unless-failed rules events old new stop (inr (failed, same, silent, is)) =
     ([], printed_of events, old.out, refl, ([], refl, refl), inl same)
 
-pub names-stop : {S F W E : Type 0} (opening : StoreRules S F) (reading : SourceRules F) (rules : StreamRules W E) (store : S) (kind : Kind) (style : Style) (names : List (List ℕ)) (old new : Streams W E) (stop : Stop)
-    → SaysNames opening reading rules store kind style names old new (Err stop)
+pub names-stop : {S F W E : Type 0} (files : Files S F) (rules : StreamRules W E) (kind : Kind) (style : Style) (names : List (List ℕ)) (old new : Streams W E) (stop : Stop)
+    → SaysNames files (effect_of rules old new (Err stop)) kind style names
     → (done rest : List (List ℕ)) × (outcomes : List Outcome) × (names ≡ done ++ rest)
-    × EachHas (Comes opening reading store kind) done outcomes
+    × EachHas (Comes files kind) done outcomes
     × PrintsBeginning rules.writing (lines_of (written_line kind style) done outcomes) old.out new.out
-names-stop opening reading rules store kind style names old new stop (outcomes, done, rest, (parts, each, ends), emits) =
+names-stop files rules kind style names old new stop (outcomes, done, rest, parts, each, ends, emits) =
     (done, rest, outcomes, parts, each, subst (λ bytes. PrintsBeginning rules.writing bytes old.out new.out) (printed-names kind style done outcomes) (beginning rules _ old new stop emits))
 
-pub list-stops : {S F R W E : Type 0} (opening : StoreRules S F) (reading : SourceRules F) (list_reading : SourceRules R) (rules : StreamRules W E) (store : S) (options : Options) (name : List ℕ) (source : R) (old new : Streams W E) (stop : Stop)
-    → SaysList opening reading list_reading rules store options name source old new (Err stop)
+pub list-stops : {S F R W E : Type 0} (files : Files S F) (input : Input R) (rules : StreamRules W E) (options : Options) (name : List ℕ) (old new : Streams W E) (stop : Stop)
+    → SaysList files input (effect_of rules old new (Err stop)) options name
     → (findings : List Finding) × (end : Option ListEnd) × PrintsBeginning rules.writing (printed_of (list_events options name findings end)) old.out new.out
-list-stops opening reading list_reading rules store options name source old new stop (findings, end, finds, answers, emits) =
+list-stops files input rules options name old new stop (findings, end, finds, answers, emits) =
     (findings, end, unless-failed rules _ old new stop emits)
 
 -- ---- good lists
@@ -102,9 +103,9 @@ list-stops opening reading list_reading rules store options name source old new 
 pub good-means-equal : {S F R W E : Type 0} (opening : StoreRules S F) (reading : SourceRules F) (list_reading : SourceRules R) (rules : StreamRules W E)
     → GoodMeansEqual opening reading list_reading
     → (store : S) (options : Options) (name : List ℕ) (source : R) (old new : Streams W E)
-    → SaysList opening reading list_reading rules store options name source old new (Ok true)
+    → SaysList (files_of opening reading store) (input_of list_reading source) (effect_of rules old new (Ok true)) options name
     → (lines : List (List ℕ)) × (end : ListEnd) × EndsAs list_reading source lines end
-    × AllByRecursion (IsWell opening reading store options) lines
+    × AllByRecursion (IsWell (files_of opening reading store) options) lines
 good-means-equal opening reading list_reading rules law store options name source old new (findings, None, finds, (ended, good), emits) = absurd ended
 good-means-equal opening reading list_reading rules law store options name source old new (findings, Some end, finds, (ended, good), emits) =
     let (lines, meets, well) = law store options source findings (Some end) finds (sym good) in (lines, end, meets, well)

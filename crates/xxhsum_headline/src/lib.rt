@@ -6,6 +6,7 @@
 ghost use Rattle.std.specs.Prelude.{◌≡◌, ◌↔◌, ◌++◌, Bool, List, ℕ, Option, Result, true, codes, IsPermutation};
 ghost use Rattle.std.specs.List.{AllByRecursion, flat_map};
 ghost use Rattle.xxhsum_program.specs.Prelude.{EachHas, Kind, Options, Refused, Shape, Style, TellsOn, Took};
+ghost use Rattle.xxhsum_program.specs.declared.streams.Streams.{Streams};
 ghost use Rattle.xxhsum_program.specs.declared.outcome.Outcome.{Outcome};
 ghost use Rattle.xxhsum_program.specs.declared.stop.Stop.{Stop};
 ghost use Rattle.xxhsum_program.specs.declared.stop.Stop.TheVariants.{WriteFailed};
@@ -23,7 +24,9 @@ ghost use Rattle.xxhsum_program.specs.Lines.{lines_of, told_line, written_line};
 ghost use Rattle.xxhsum_program.specs.ListEnd.{ListEnd};
 ghost use Rattle.xxhsum_program.specs.Outcomes.{Comes, IsValueOf, are_digested};
 ghost use Rattle.xxhsum_program.specs.PrintedIsGood.{PrintedIsGood};
-ghost use Rattle.xxhsum_program.specs.Order.{EmitsAll, EmitsTo, Event, Streams, printed_of, reported_of, rules_of};
+ghost use Rattle.xxhsum_program.specs.Files.{files_of, input_of};
+ghost use Rattle.xxhsum_program.specs.Order.{EmitsAll, EmitsTo, Event, effect_of, printed_of, reported_of, rules_of};
+ghost use Rattle.xxhsum_program.specs.Streams.{err_of};
 ghost use Rattle.xxhsum_program.specs.Run.{status_of};
 ghost use Rattle.xxhsum_program.specs.Said.{list_events, named_text, printed_finding};
 
@@ -49,12 +52,12 @@ pub fn status()
 pub fn each_name_once<S: Store, W: Sink, E: Sink>()
     ensures { (held : W → List ℕ) (has_lost : W → Bool) (store : S) (kind : Kind) (style : Style)
         → (names : List (List ℕ)) (old new : Streams W E) (all : Bool)
-        → SaysNames S.Store S.File.Source (rules_of W.Sink held has_lost E.Sink) store kind style
-        names old new (Ok all)
+        → SaysNames (files_of S.Store S.File.Source store)
+        (effect_of (rules_of W.Sink held has_lost E.Sink) old new (Ok all)) kind style names
         → (outcomes : List Outcome)
-        × EachHas (Comes S.Store S.File.Source store kind) names outcomes
+        × EachHas (Comes (files_of S.Store S.File.Source store) kind) names outcomes
         × Took W.Sink (lines_of (written_line kind style) names outcomes) old.out new.out
-        × TellsOn E.Sink (lines_of told_line names outcomes) old.err new.err
+        × TellsOn E.Sink (lines_of told_line names outcomes) (err_of old) (err_of new)
         × (all ≡ are_digested outcomes) }
 {}
 
@@ -64,12 +67,12 @@ pub fn each_stream<W: Sink, E: Sink>()
     ensures ends { (held : W → List ℕ) (has_lost : W → Bool) (events : List Event)
         → (old new : Streams W E) → EmitsAll (rules_of W.Sink held has_lost E.Sink) events old new
         → Took W.Sink (printed_of events) old.out new.out
-        × TellsOn E.Sink (reported_of events) old.err new.err }
+        × TellsOn E.Sink (reported_of events) (err_of old) (err_of new) }
     ensures stops { (held : W → List ℕ) (has_lost : W → Bool) (events : List Event)
         → (old new : Streams W E)
         → EmitsTo {T = Bool} (rules_of W.Sink held has_lost E.Sink) events old new (Err WriteFailed)
         → Refused W.Sink (printed_of events) old.out new.out
-        × TellsOn E.Sink (reported_of events) old.err new.err }
+        × TellsOn E.Sink (reported_of events) (err_of old) (err_of new) }
 {}
 
 /// Whatever bytes a name has, its outcome is one line and no message, or one message and no line.
@@ -84,16 +87,16 @@ pub fn one_line_a_name()
 pub fn stops_early<S: Store, R: Source, W: Sink, E: Sink>()
     ensures names { (held : W → List ℕ) (has_lost : W → Bool) (store : S) (kind : Kind)
         → (style : Style) (names : List (List ℕ)) (old new : Streams W E) (stop : Stop)
-        → SaysNames S.Store S.File.Source (rules_of W.Sink held has_lost E.Sink) store kind style
-        names old new (Err stop)
+        → SaysNames (files_of S.Store S.File.Source store)
+        (effect_of (rules_of W.Sink held has_lost E.Sink) old new (Err stop)) kind style names
         → (done rest : List (List ℕ)) × (outcomes : List Outcome) × (names ≡ done ++ rest)
-        × EachHas (Comes S.Store S.File.Source store kind) done outcomes
+        × EachHas (Comes (files_of S.Store S.File.Source store) kind) done outcomes
         × PrintsBeginning W.Sink (lines_of (written_line kind style) done outcomes)
         old.out new.out }
     ensures list { (held : W → List ℕ) (has_lost : W → Bool) (store : S) (options : Options)
         → (name : List ℕ) (source : R) (old new : Streams W E) (stop : Stop)
-        → SaysList S.Store S.File.Source R.Source (rules_of W.Sink held has_lost E.Sink) store
-        options name source old new (Err stop)
+        → SaysList (files_of S.Store S.File.Source store) (input_of R.Source source)
+        (effect_of (rules_of W.Sink held has_lost E.Sink) old new (Err stop)) options name
         → (findings : List Finding) × (end : Option ListEnd)
         × PrintsBeginning W.Sink (printed_of (list_events options name findings end))
         old.out new.out }
@@ -106,10 +109,10 @@ pub fn stops_early<S: Store, R: Source, W: Sink, E: Sink>()
 pub fn ok_means_equal<S: Store>()
     ensures { (store : S) (options : Options) (list : List ℕ) (number : ℕ) (line : List ℕ)
         → (finding : Finding) (name : List ℕ)
-        → IsFinding S.Store S.File.Source store options.is_little_endian line finding
+        → IsFinding (files_of S.Store S.File.Source store) options.is_little_endian line finding
         → printed_finding options list number finding ≡ named_text name (codes ": OK")
         → (kind : Kind) × (value : ℕ) × Says options.is_little_endian line kind value name
-        × IsValueOf S.Store S.File.Source store kind name value }
+        × IsValueOf (files_of S.Store S.File.Source store) kind name value }
 {
     good_lists::ok_means_equal::<S>();
 }
@@ -119,10 +122,10 @@ pub fn ok_means_equal<S: Store>()
 pub fn good_means_equal<S: Store, R: Source, W: Sink, E: Sink>()
     ensures { (held : W → List ℕ) (has_lost : W → Bool) (store : S) (options : Options)
         → (name : List ℕ) (source : R) (old new : Streams W E)
-        → SaysList S.Store S.File.Source R.Source (rules_of W.Sink held has_lost E.Sink) store
-        options name source old new (Ok true)
+        → SaysList (files_of S.Store S.File.Source store) (input_of R.Source source)
+        (effect_of (rules_of W.Sink held has_lost E.Sink) old new (Ok true)) options name
         → (lines : List (List ℕ)) × (end : ListEnd) × EndsAs R.Source source lines end
-        × AllByRecursion (IsWell S.Store S.File.Source store options) lines }
+        × AllByRecursion (IsWell (files_of S.Store S.File.Source store) options) lines }
 {
     good_lists::good_means_equal::<S, R>();
 }

@@ -1,14 +1,9 @@
 -- Lemmas on the findings of lines and on the end of a list.
 use Rattle.std.proofs.Common.{◌≡◌, ◌⊎◌, ℕ, Bool, true, List, [], ◌∷◌, ◌++◌, refl, sym, ap, subst, ◌∙◌, inl, inr, append-nil, append_assoc}
 use Rattle.xxhsum_program.specs.Prelude.{AllByRecursion, Lacks, Pieces, Report, SourceRules, concat}
-use Rattle.xxhsum_program.specs.declared.lines.Lines.{Lines}
+use Rattle.xxhsum_program.proofs.Prelude.{Endless, FailedRead, FailsAfter, Finding, HasRead, IsAtEnd, IsHeld, IsNext, IsRead, Lines, add_up, count_one, end_piece, source_of, waiting}
 use Rattle.xxhsum_program.specs.declared.lines.Next.TheVariants as Variant
 use Rattle.xxhsum_program.specs.CheckList.{EndsAs, EndsInLine, EndsWell, HasLines, ReadsSome, with_line_feeds}
-use Rattle.xxhsum_program.specs.Findings.{Finding, add_up, count_one}
-use Rattle.xxhsum_program.specs.LinesView.{HasRead, IsAtEnd, IsHeld, IsNext, IsRead, waiting}
-use Rattle.xxhsum_program.specs.Watched.{source_of}
-use Rattle.xxhsum_program.specs.ListEnd.{Endless, FailedRead}
-use Rattle.xxhsum_program.specs.ListLines.{FailsAfter, end_piece}
 use Rattle.xxhsum_program.proofs.EachFacts.{all-push}
 
 pub add_up-push : (ignores : Bool) (report : Report) (findings : List Finding) (finding : Finding) → add_up ignores report (findings ++ finding ∷ []) ≡ count_one ignores (add_up ignores report findings) finding

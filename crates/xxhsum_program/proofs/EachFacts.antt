@@ -1,8 +1,6 @@
 -- Lemmas on lists with one result for each name or line, after one more.
 use Rattle.std.proofs.Common.{◌≡◌, ℕ, ◌+◌, ◌<◌, ◌&&◌, Bool, true, false, List, [], ◌∷◌, ◌++◌, length, map, take, drop, get_or, refl, sym, ap, ◌∙◌, take-append-drop}
-use Rattle.std.specs.List.{list_all}
-use Rattle.std.proofs.lemmas.List.{drop_more, map-append, take_more}
-use Rattle.xxhsum_program.specs.Prelude.{AllByRecursion, EachHas}
+use Rattle.xxhsum_program.proofs.Prelude.{AllByRecursion, EachHas, drop_more, list_all, map-append, take_more}
 
 pub EachHas-push : {T : Type 0} (has : List ℕ → T → Type 0) (lines : List (List ℕ)) (xs : List T) (line : List ℕ) (x : T) → EachHas has lines xs → has line x → EachHas has (lines ++ line ∷ []) (xs ++ x ∷ [])
 EachHas-push has [] [] line x each more = (more, tt)

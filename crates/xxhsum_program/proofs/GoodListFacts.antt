@@ -1,13 +1,9 @@
 -- Proves that all lines are well if the report has no different file, no unread file and no line that is too long.
 use Rattle.std.proofs.Common.{◌≡◌, ◌&&◌, ℕ, Bool, true, false, List, [], ◌∷◌, Some, None, refl, arith, if◌then◌else◌, inl, inr}
-use Rattle.xxhsum_program.specs.Prelude.{AllByRecursion, EachHas, Options, Reason, Report, SourceRules, StoreRules}
-use Rattle.xxhsum_program.specs.declared.entry.Found.TheVariants.{Same, Different, Unread}
+use Rattle.xxhsum_program.specs.Prelude.{AllByRecursion, EachHas, Files, Options, Reason, Report, SourceRules, StoreRules, files_of}
+use Rattle.xxhsum_program.proofs.Prelude.{Different, Endless, FailedRead, GoodMeansEqual, HasNoValue, IsPassedOver, IsWell, ListEnd, Same, TooMany, Unread, Whole, has_no_file, passes, report_at}
 use Rattle.xxhsum_program.specs.declared.outcome.Reason.TheVariants as Why
 use Rattle.xxhsum_program.specs.Findings.{Finding, Ignored, Improper, IsFinding, Proper, TooLong, add_up, count_one, no_findings, one_more}
-use Rattle.xxhsum_program.specs.GoodList.{GoodMeansEqual, IsPassedOver, IsWell}
-use Rattle.xxhsum_program.specs.ListEnd.{ListEnd, Whole, TooMany, Endless, FailedRead, report_at}
-use Rattle.xxhsum_program.specs.Outcomes.{HasNoValue, has_no_file}
-use Rattle.xxhsum_program.specs.Report.{passes}
 
 -- A report with no different file, no unread file and no line that is too long.
 abbrev Clean : Report → Type 0
@@ -21,34 +17,34 @@ ignored : (is_ignored : Bool) (report : Report) → Clean (if is_ignored then re
 ignored true report clean = (clean, refl)
 ignored false report clean = absurd (more-than-none report.unread clean.1)
 
-passed_over : {S F : Type 0} (opening : StoreRules S F) (reading : SourceRules F) (store : S) (name : List ℕ) (ignores : Bool) (reason : Reason)
-    → HasNoValue opening reading store name reason → (ignores && has_no_file reason) ≡ true → IsPassedOver opening store ignores name
-passed_over opening reading store name false reason none is = let no : false ≡ true = is in cc
-passed_over opening reading store name true (Why.Unopened refusal) none is = (refl, refusal, none, is)
-passed_over opening reading store name true Why.ReadFailed none is = let no : false ≡ true = is in cc
-passed_over opening reading store name true Why.TooLong none is = let no : false ≡ true = is in cc
+passed_over : {S F : Type 0} (files : Files S F) (name : List ℕ) (ignores : Bool) (reason : Reason)
+    → HasNoValue files name reason → (ignores && has_no_file reason) ≡ true → IsPassedOver files ignores name
+passed_over files name false reason none is = let no : false ≡ true = is in cc
+passed_over files name true (Why.Unopened refusal) none is = (refl, refusal, none, is)
+passed_over files name true Why.ReadFailed none is = let no : false ≡ true = is in cc
+passed_over files name true Why.TooLong none is = let no : false ≡ true = is in cc
 
-one-well : {S F : Type 0} (opening : StoreRules S F) (reading : SourceRules F) (store : S) (options : Options) (line : List ℕ) (report : Report) (finding : Finding)
-    → IsFinding opening reading store options.is_little_endian line finding → Clean (count_one options.ignores_missing report finding)
-    → Clean report × IsWell opening reading store options line
-one-well opening reading store options line report Ignored is clean = (clean, inl is.1)
-one-well opening reading store options line report Improper is clean = (clean, inr (inl is.1))
-one-well opening reading store options line report TooLong is clean = let no : true ≡ false = clean.2 in cc
-one-well opening reading store options line report (Proper name Same) (short, kind, value, says, is) clean = (clean, inr (inr (kind, value, name, says, inl is)))
-one-well opening reading store options line report (Proper name Different) is clean = absurd (more-than-none report.different clean.0)
-one-well opening reading store options line report (Proper name (Unread reason)) (short, kind, value, says, none) clean =
+one-well : {S F : Type 0} (files : Files S F) (options : Options) (line : List ℕ) (report : Report) (finding : Finding)
+    → IsFinding files options.is_little_endian line finding → Clean (count_one options.ignores_missing report finding)
+    → Clean report × IsWell files options line
+one-well files options line report Ignored is clean = (clean, inl is.1)
+one-well files options line report Improper is clean = (clean, inr (inl is.1))
+one-well files options line report TooLong is clean = let no : true ≡ false = clean.2 in cc
+one-well files options line report (Proper name Same) (short, kind, value, says, is) clean = (clean, inr (inr (kind, value, name, says, inl is)))
+one-well files options line report (Proper name Different) is clean = absurd (more-than-none report.different clean.0)
+one-well files options line report (Proper name (Unread reason)) (short, kind, value, says, none) clean =
     let rest = ignored (options.ignores_missing && has_no_file reason) (record report { proper = one_more report.proper }) clean in
-    (rest.0, inr (inr (kind, value, name, says, inr (passed_over opening reading store name options.ignores_missing reason none rest.1))))
+    (rest.0, inr (inr (kind, value, name, says, inr (passed_over files name options.ignores_missing reason none rest.1))))
 
-all-well : {S F : Type 0} (opening : StoreRules S F) (reading : SourceRules F) (store : S) (options : Options) (report : Report) (lines : List (List ℕ)) (findings : List Finding)
-    → EachHas (IsFinding opening reading store options.is_little_endian) lines findings → Clean (add_up options.ignores_missing report findings)
-    → Clean report × AllByRecursion (IsWell opening reading store options) lines
-all-well opening reading store options report [] [] has clean = (clean, tt)
-all-well opening reading store options report [] (f ∷ fs) has clean = absurd has
-all-well opening reading store options report (line ∷ lines) [] has clean = absurd has
-all-well opening reading store options report (line ∷ lines) (f ∷ fs) has clean =
-    let rest = all-well opening reading store options (count_one options.ignores_missing report f) lines fs has.1 clean in
-    let one = one-well opening reading store options line report f has.0 rest.0 in
+all-well : {S F : Type 0} (files : Files S F) (options : Options) (report : Report) (lines : List (List ℕ)) (findings : List Finding)
+    → EachHas (IsFinding files options.is_little_endian) lines findings → Clean (add_up options.ignores_missing report findings)
+    → Clean report × AllByRecursion (IsWell files options) lines
+all-well files options report [] [] has clean = (clean, tt)
+all-well files options report [] (f ∷ fs) has clean = absurd has
+all-well files options report (line ∷ lines) [] has clean = absurd has
+all-well files options report (line ∷ lines) (f ∷ fs) has clean =
+    let rest = all-well files options (count_one options.ignores_missing report f) lines fs has.1 clean in
+    let one = one-well files options line report f has.0 rest.0 in
     (one.0, (one.1, rest.1))
 
 passes-clean : (options : Options) (report : Report) → passes options report ≡ true → Clean report
@@ -64,4 +60,4 @@ pub good-means-equal : {S F R : Type 0} (opening : StoreRules S F) (reading : So
 good-means-equal opening reading list_reading store options source findings None finds is = let no : false ≡ true = is in cc
 good-means-equal opening reading list_reading store options source findings (Some end) (lines, has, meets) is =
     let clean = at-clean options.ignores_missing end findings (passes-clean options (report_at options.ignores_missing end findings) is) in
-    (lines, meets, (all-well opening reading store options no_findings lines findings has clean).1)
+    (lines, meets, (all-well (files_of opening reading store) options no_findings lines findings has clean).1)

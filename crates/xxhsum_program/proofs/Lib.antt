@@ -7,6 +7,7 @@ mod LineFacts
 mod OkFacts
 pub mod OrderFacts
 mod OutcomeFacts
+mod Prelude
 mod PrintedIsGoodFacts
 mod PrintedListFacts
 mod ProgressFacts

@@ -1,12 +1,8 @@
 -- A line that is written in two parts, of which either may be refused.
 use Rattle.std.proofs.Common.{◌≡◌, ◌≢◌, ℕ, ◌<◌, List, [], ◌∷◌, ◌++◌, Bool, true, false, Ok, Err, IfErr, codes, nat_eq, ◌||◌, refl, sym, subst, if◌then◌else◌, arith, append-nil, ap, ◌∙◌, Result}
 use Rattle.xxhsum_program.specs.Prelude.{Options, OutOfMemory, Report, SinkRules, Stop, Took, WriteFailed, concat, one_line}
-use Rattle.xxh_io.proofs.WriteFacts.{Refused-join, Refused-more, Took-join}
-use Rattle.xxhsum_program.specs.Lines.{PrintsLine}
-use Rattle.xxhsum_program.specs.ListEnd.{FailedRead}
-use Rattle.xxhsum_program.specs.Order.{Emits, EmitsTo, Event, Printed, Reported, StreamRules, Streams, streams}
+use Rattle.xxhsum_program.proofs.Prelude.{Emits, EmitsTo, Event, FailedRead, Printed, PrintsLine, Refused-join, Refused-more, Reported, StreamRules, Streams, Took-join, is_unverified, streams_of}
 use Rattle.xxhsum_program.specs.Said.{break_events, count_text, printed_summary, summary_events, summary_text, told_break, told_of_line, told_summary, unverified_line, unverified_text}
-use Rattle.xxhsum_program.specs.Report.{is_unverified}
 use Rattle.xxhsum_program.proofs.OrderFacts.{emits-join, emits-line}
 
 -- Lemma: a line is refused if its first part is refused.
@@ -52,13 +48,13 @@ break-is list number report some =
     else-of report.proper (Reported (told_break list number report FailedRead) ∷ []) proper ∙ ap (λ (text : List ℕ). Reported text ∷ []) (else-of report.proper (told_of_line list number (codes "A failure occurred reading the list")) proper)
 
 -- Lemma: a list without a well-formed line is reported, and then its summary is printed.
-pub summary-reported : {W E T : Type 0} (rules : StreamRules W E) (options : Options) (list : List ℕ) (report : Report) (old : Streams W E) (met out : W) (err : E) (result : Result T Stop)
-    → report.proper ≡ 0 → Emits rules (Reported (told_summary list report)) old (streams met err) → PrintsLine rules.writing (summary_text options list report) met out result → IfErr result (λ stop. stop ≡ WriteFailed)
-    → EmitsTo rules (summary_events options list report) old (streams out err) result
-summary-reported rules options list report old met out err result none emits prints only =
+pub summary-reported : {W E T : Type 0} (rules : StreamRules W E) (options : Options) (list : List ℕ) (report : Report) (old met : Streams W E) (out : W) (result : Result T Stop)
+    → report.proper ≡ 0 → Emits rules (Reported (told_summary list report)) old met → PrintsLine rules.writing (summary_text options list report) met.out out result → IfErr result (λ stop. stop ≡ WriteFailed)
+    → EmitsTo rules (summary_events options list report) old (streams_of out met.err) result
+summary-reported rules options list report old met out result none emits prints only =
     let events : summary_events options list report ≡ Reported (told_summary list report) ∷ Printed (summary_text options list report) ∷ [] = rw none refl in
-    subst (λ all. EmitsTo rules all old (streams out err) result) (sym events)
-    (emits-join rules (Reported (told_summary list report) ∷ []) (Printed (summary_text options list report) ∷ []) old (streams met err) (streams out err) result (streams met err, emits, (refl, refl)) (emits-line rules (summary_text options list report) (streams met err) out result prints only))
+    subst (λ all. EmitsTo rules all old (streams_of out met.err) result) (sym events)
+    (emits-join rules (Reported (told_summary list report) ∷ []) (Printed (summary_text options list report) ∷ []) old met (streams_of out met.err) result (met, emits, (refl, refl)) (emits-line rules (summary_text options list report) met out result prints only))
 
 only-if : {T : Type 0} (count : ℕ) (items : List T) → count ≢ 0 → (if nat_eq count 0 then items else []) ≡ []
 only-if count items some = grind arith
@@ -66,11 +62,11 @@ only-if count items some = grind arith
 -- Lemma: the summary of any other list is printed.
 pub summary-printed : {W E T : Type 0} (rules : StreamRules W E) (options : Options) (list : List ℕ) (report : Report) (old : Streams W E) (out : W) (result : Result T Stop)
     → report.proper ≢ 0 → PrintsLine rules.writing (summary_text options list report) old.out out result → IfErr result (λ stop. stop ≡ WriteFailed)
-    → EmitsTo rules (summary_events options list report) old (streams out old.err) result
+    → EmitsTo rules (summary_events options list report) old (streams_of out old.err) result
 summary-printed rules options list report old out result some prints only =
     let events : summary_events options list report ≡ Printed (summary_text options list report) ∷ [] =
     ap (λ (all : List Event). all ++ Printed (summary_text options list report) ∷ []) (only-if report.proper (Reported (told_summary list report) ∷ []) some) in
-    subst (λ all. EmitsTo rules all old (streams out old.err) result) (sym events) (emits-line rules (summary_text options list report) old out result prints only)
+    subst (λ all. EmitsTo rules all old (streams_of out old.err) result) (sym events) (emits-line rules (summary_text options list report) old out result prints only)
 
 pub unverified-is : (options : Options) (list : List ℕ) (report : Report) → is_unverified options.ignores_missing report ≡ true → unverified_text options list report ≡ unverified_line list
 unverified-is options list report is = rw is refl

@@ -1,20 +1,13 @@
 -- Lemmas on the buffered bytes of a list, if bytes are taken from them or appended to them.
 use Rattle.std.proofs.Common.{◌≡◌, ℕ, ◌+◌, ◌-◌, ◌<◌, ◌≤◌, ◌^◌, Bool, true, false, List, [], ◌∷◌, ◌++◌, length, length-append, take, drop, slice_range, slice_index, nat_eq, refl, sym, ap, ◌∙◌, subst, inl, inr, Some, None, Ok, Err, arith, append-nil, append_assoc, rules, if◌then◌else◌, IsErrAnd, Option, Result}
 use Rattle.std.specs.List.{concat, copy_within}
-use Rattle.std.proofs.lemmas.Bool.Decides.{eqb_tells}
+use Rattle.xxhsum_program.specs.ListLines.{longest_line}
+use Rattle.xxhsum_program.proofs.Prelude.{Failed, FailsAfter, IsFirstByte, Lacks, Lines, NoneEmpty, NoneEmpty-push, Pieces, Pieces-push, SourceRules, concat-push, end_piece, eqb_tells, is_byte, length-between, take-append-add}
 use Rattle.std.proofs.lemmas.List.{take-take, take_at, take-append-le, drop-take, drop-drop, length-take-le, nil_from_length}
-use Rattle.std.proofs.lemmas.List.Edits.{length-between}
-use Rattle.std.proofs.Math.Seq.{take-append-add}
 use borrow.Rule.Slice.PartMut.{put_mid}
-use Rattle.memchr.specs.Find.{IsFirstByte, is_byte}
-use Rattle.xxh_io.specs.declared.ends.Failed.{Failed}
-use Rattle.xxhsum_program.specs.Prelude.{Lacks, NoneEmpty, Pieces, SourceRules}
-use Rattle.xxh_io.proofs.PieceFacts.{Pieces-push, NoneEmpty-push, concat-push}
 use Rattle.xxhsum_line.proofs.LackFacts.{at_place, lacks_before, lacks_both, lacks_by_place}
-use Rattle.xxhsum_program.specs.declared.lines.Lines.{Lines}
 use Rattle.xxhsum_program.specs.declared.lines.Next.TheVariants as Variant
 use Rattle.xxhsum_program.specs.LinesView.{HasRead, IsAtEnd, IsBeforeLineFeed, IsHeld, IsNext, IsTaken, ReadsBehind, StopsAt, line_of, most_reads_left, waiting}
-use Rattle.xxhsum_program.specs.ListLines.{FailsAfter, end_piece}
 
 -- ---- parts of the buffered bytes
 
@@ -113,19 +106,19 @@ line-taken reading from done old new len kept is_long stops taken read =
     stops.2 ∙ sym (append_assoc front (10 ∷ []) (slice_range old.buf (old.start + (len + 1)) old.end)) ∙ ap (λ bytes. front ++ 10 ∷ [] ++ bytes) (sym taken.3) in
     subst (λ bytes. HasRead reading from bytes new) (sym (append_assoc done front (10 ∷ []))) (moves-on reading from done (front ++ 10 ∷ []) old new read taken.1 taken.2 parts)
 
-pub comes-line : {R X : Type 0} (reading : SourceRules R) (from : R) (done : List ℕ) (old new : Lines R X) (len : ℕ) → old.end ≤ length old.buf → len ≤ 32767 → StopsAt (Some len) old → IsTaken len (len + 1) false old new → HasRead reading from done old → IsNext reading from done new Variant.Line
+pub comes-line : {R X : Type 0} (reading : SourceRules R) (from : R) (done : List ℕ) (old new : Lines R X) (len : ℕ) → old.end ≤ length old.buf → len ≤ longest_line → StopsAt (Some len) old → IsTaken len (len + 1) false old new → HasRead reading from done old → IsNext reading from done new Variant.Line
 comes-line reading from done old new len inside short stops taken read =
     let size = front-count old len inside stops in
     let held : IsHeld (front_of old len) new = rw taken.4 (omega (arith, size, short), taken.0) in
     (front_of old len, stops.1, held, inl (line-taken reading from done old new len len false stops taken read))
 
-pub comes-long-line : {R X : Type 0} (reading : SourceRules R) (from : R) (done : List ℕ) (old new : Lines R X) (len : ℕ) → old.end ≤ length old.buf → 32767 < len → StopsAt (Some len) old → IsTaken 0 (len + 1) true old new → HasRead reading from done old → IsNext reading from done new Variant.Line
+pub comes-long-line : {R X : Type 0} (reading : SourceRules R) (from : R) (done : List ℕ) (old new : Lines R X) (len : ℕ) → old.end ≤ length old.buf → longest_line < len → StopsAt (Some len) old → IsTaken 0 (len + 1) true old new → HasRead reading from done old → IsNext reading from done new Variant.Line
 comes-long-line reading from done old new len inside long stops taken read =
     let size = front-count old len inside stops in
     let held : IsHeld (front_of old len) new = rw taken.4 (omega (arith, size, long)) in
     (front_of old len, stops.1, held, inl (line-taken reading from done old new len 0 true stops taken read))
 
-pub comes-last-line : {R X : Type 0} (reading : SourceRules R) (from : R) (done : List ℕ) (old new : Lines R X) (len : ℕ) → old.end ≤ length old.buf → len ≡ old.end - old.start → 0 < len → len ≤ 32767 → StopsAt None old → IsTaken len len false old new → HasRead reading from done old → IsNext reading from done new Variant.Line
+pub comes-last-line : {R X : Type 0} (reading : SourceRules R) (from : R) (done : List ℕ) (old new : Lines R X) (len : ℕ) → old.end ≤ length old.buf → len ≡ old.end - old.start → 0 < len → len ≤ longest_line → StopsAt None old → IsTaken len len false old new → HasRead reading from done old → IsNext reading from done new Variant.Line
 comes-last-line reading from done old new len inside is some short stops taken read =
     let end : old.start + len ≡ old.end = omega (arith, is, some) in
     let whole : line_of new ≡ waiting old = taken.0 ∙ ap (λ k. slice_range old.buf old.start k) end in
@@ -145,14 +138,14 @@ not-at-end lines inside some at_end =
 
 -- ---- a line that is too long
 
--- An unfinished line after `done`, of over 32767 dropped or buffered bytes. Each of `reads` returned some, or the end.
+-- An unfinished line after `done`, of over 32,767 dropped or buffered bytes. Each of `reads` returned some, or the end.
 abbrev pub IsInside : {R X : Type 0} → SourceRules R → R → List ℕ → ℕ → Lines R X → Type 0
 IsInside reading from done reads lines =
     (gone : List ℕ) × HasRead reading from (done ++ gone) lines × Lacks 10 (gone ++ waiting lines)
-    × (32767 < length (gone ++ waiting lines))
+    × (longest_line < length (gone ++ waiting lines))
     × (reads ≤ length (gone ++ waiting lines) + (if lines.has_ended then 1 else 0))
 
-pub inside-new : {R X : Type 0} (reading : SourceRules R) (from : R) (done : List ℕ) (lines : Lines R X) → lines.end ≤ length lines.buf → 32767 < lines.end - lines.start → Lacks 10 (waiting lines) → HasRead reading from done lines → IsInside reading from done 0 lines
+pub inside-new : {R X : Type 0} (reading : SourceRules R) (from : R) (done : List ℕ) (lines : Lines R X) → lines.end ≤ length lines.buf → longest_line < lines.end - lines.start → Lacks 10 (waiting lines) → HasRead reading from done lines → IsInside reading from done 0 lines
 inside-new reading from done lines inside long lacks read =
     let size = waiting-count lines inside in
     ([], subst (λ bytes. HasRead reading from bytes lines) (sym (append-nil done)) read, lacks, omega (arith, size, long), omega arith)
@@ -160,7 +153,7 @@ inside-new reading from done lines inside long lacks read =
 -- A line after `done` that is too long and whose bytes were all dropped.
 abbrev pub IsEmptied : {R X : Type 0} → SourceRules R → R → List ℕ → ℕ → Lines R X → Type 0
 IsEmptied reading from done reads lines =
-    (gone : List ℕ) × HasRead reading from (done ++ gone) lines × Lacks 10 gone × (32767 < length gone)
+    (gone : List ℕ) × HasRead reading from (done ++ gone) lines × Lacks 10 gone × (longest_line < length gone)
     × (reads ≤ length gone + (if lines.has_ended then 1 else 0))
 
 pub none-waits : {R X : Type 0} (old new : Lines R X) → old.start ≤ old.end → old.end ≤ length old.buf → IsTaken 0 (old.end - old.start) true old new → waiting new ≡ []

@@ -1,17 +1,9 @@
 -- Proves that a line "NAME: OK" is printed only for a file with the line's value.
 use Rattle.std.proofs.Common.{◌≡◌, ◌≢◌, ◌+◌, ℕ, Bool, true, false, List, [], ◌∷◌, ◌++◌, refl, sym, ap, ◌∙◌, subst, arith, codes, decimal, drop, length, if◌then◌else◌}
-use Rattle.xxhsum_program.specs.Prelude.{Found, SourceRules, StoreRules, concat}
+use Rattle.xxhsum_program.specs.Prelude.{Found, SourceRules, StoreRules, concat, files_of}
 use Rattle.std.proofs.lemmas.List.{append_assoc, append_cancel_right, length_push, same_from_push}
-use Rattle.std.proofs.lemmas.Option.{same_Some}
-use Rattle.xxhsum_line.specs.Entry.{Says}
+use Rattle.xxhsum_program.proofs.Prelude.{Different, EscapeIsUndone, Ignored, Improper, IsFound, IsValueOf, OkMeansEqual, PlainNamesStay, Proper, Same, Says, TooLong, Unread, found_text, is_silent, named_text, reason_text, same_Some}
 use Rattle.xxhsum_line.specs.Escapes.{escaped, mark_of, needs_escape, one_line, unescaped}
-use Rattle.xxhsum_line.specs.Laws.{EscapeIsUndone, PlainNamesStay}
-use Rattle.xxhsum_program.specs.Findings.{Ignored, Improper, Proper, TooLong}
-use Rattle.xxhsum_program.specs.Found.{IsFound}
-use Rattle.xxhsum_program.specs.GoodList.{OkMeansEqual}
-use Rattle.xxhsum_program.specs.Outcomes.{IsValueOf, reason_text}
-use Rattle.xxhsum_program.specs.Said.{found_text, is_silent, named_text}
-use Rattle.xxhsum_program.specs.declared.entry.Found.TheVariants.{Same, Different, Unread}
 
 -- ---- the text of a line, which is unique
 
@@ -86,9 +78,9 @@ ok-means-equal opening reading undone stay store options list number line TooLon
 ok-means-equal opening reading undone stay store options list number line (Proper said found) name (short, kind, value, says, of_file) is =
     let shown = spoken (is_silent options found) (concat (name ∷ codes ": OK" ∷ [])) (found_text options.is_quiet list number said found) is in
     let same = found-same undone stay options.is_quiet list number said name found shown in
-    let equal : IsValueOf opening reading store kind said value = subst (λ f. IsFound opening reading store kind value said f) same.0 of_file in (
+    let equal : IsValueOf (files_of opening reading store) kind said value = subst (λ f. IsFound (files_of opening reading store) kind value said f) same.0 of_file in (
       kind,
       value,
       subst (λ n. Says options.is_little_endian line kind value n) same.1 says,
-      subst (λ n. IsValueOf opening reading store kind n value) same.1 equal,
+      subst (λ n. IsValueOf (files_of opening reading store) kind n value) same.1 equal,
     )

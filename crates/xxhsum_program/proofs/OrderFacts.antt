@@ -1,9 +1,7 @@
 -- Lemmas on events of both streams.
 use Rattle.std.proofs.Common.{◌≡◌, ℕ, List, [], ◌∷◌, ◌++◌, refl, sym, ap, ◌∙◌, subst, append-nil, append_assoc, Ok, Err, IfErr, Result}
-use Rattle.xxh_io.proofs.WriteFacts.{Refused-join, Took-join}
-use Rattle.xxhsum_program.specs.Prelude.{OutOfMemory, Refused, Stop, TellsOn, Took, WriteFailed}
-use Rattle.xxhsum_program.specs.Lines.{PrintsLine}
-use Rattle.xxhsum_program.specs.Order.{Emits, EmitsAll, EmitsTo, Event, Printed, Reported, StreamRules, Streams, printed_of, reported_of, streams}
+use Rattle.xxhsum_program.proofs.Prelude.{OutOfMemory, PrintsLine, Refused, Refused-join, Stop, Streams, TellsOn, Took, Took-join, WriteFailed, streams_of}
+use Rattle.xxhsum_program.specs.Order.{Emits, EmitsAll, EmitsOrNone, EmitsTo, Event, Printed, Reported, StreamRules, printed_of, reported_of}
 use Rattle.xxhsum_program.proofs.ToldFacts.{tells-more, tells-nothing}
 
 emits-from : {W E : Type 0} (rules : StreamRules W E) (event : Event) (old mid new : Streams W E) → mid.out ≡ old.out → mid.err ≡ old.err → Emits rules event mid new → Emits rules event old new
@@ -35,11 +33,17 @@ emits-stop S T rules events old new OutOfMemory emits =
 -- ---- one event
 
 -- Lemma: a line that is printed is one event.
-pub emits-line : {W E T : Type 0} (rules : StreamRules W E) (line : List ℕ) (old : Streams W E) (out : W) (result : Result T Stop) → PrintsLine rules.writing line old.out out result → IfErr result (λ stop. stop ≡ WriteFailed) → EmitsTo rules (Printed line ∷ []) old (streams out old.err) result
+pub emits-line : {W E T : Type 0} (rules : StreamRules W E) (line : List ℕ) (old : Streams W E) (out : W) (result : Result T Stop) → PrintsLine rules.writing line old.out out result → IfErr result (λ stop. stop ≡ WriteFailed) → EmitsTo rules (Printed line ∷ []) old (streams_of out old.err) result
 emits-line rules line old out (Ok x) prints only =
-    (streams out old.err, (prints, tells-nothing rules.telling old.err), (refl, refl))
+    (streams_of out old.err, (prints, tells-nothing rules.telling old.err), (refl, refl))
 emits-line rules line old out (Err WriteFailed) prints only = ([], line, old, refl, (refl, refl), prints, refl)
 emits-line rules line old out (Err OutOfMemory) prints only = cc
+
+-- Lemma: the same for a line for which memory may run out.
+pub emits-line-or-none : {W E T : Type 0} (rules : StreamRules W E) (line : List ℕ) (old : Streams W E) (out : W) (result : Result T Stop) → PrintsLine rules.writing line old.out out result → EmitsOrNone rules (Printed line ∷ []) old (streams_of out old.err) result
+emits-line-or-none rules line old out (Ok x) prints = emits-line rules line old out (Ok x) prints tt
+emits-line-or-none rules line old out (Err WriteFailed) prints = emits-line {T = Unit {0}} rules line old out (Err WriteFailed) prints refl
+emits-line-or-none rules line old out (Err OutOfMemory) same = (same, refl)
 
 -- ---- each stream
 

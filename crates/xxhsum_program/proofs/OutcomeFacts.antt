@@ -1,7 +1,5 @@
 -- Lemmas on names and their outcomes, if one more comes.
-use Rattle.std.proofs.Common.{◌≡◌, ℕ, List, [], ◌∷◌, ◌++◌, sym, ap, ◌∙◌, append-nil, append_assoc}
-use Rattle.xxhsum_program.specs.Prelude.{EachHas}
-use Rattle.xxhsum_program.specs.Lines.{lines_of}
+use Rattle.xxhsum_program.proofs.Prelude.{[], ◌++◌, ◌∙◌, ◌∷◌, ◌≡◌, EachHas, List, ap, append-nil, append_assoc, lines_of, sym, ℕ}
 
 pub lines-push : {T U : Type 0} (comes : List ℕ → T → Type 0) (line : List ℕ → T → List U) (names : List (List ℕ)) (outcomes : List T) (name : List ℕ) (outcome : T) → EachHas comes names outcomes → lines_of line (names ++ name ∷ []) (outcomes ++ outcome ∷ []) ≡ lines_of line names outcomes ++ line name outcome
 lines-push comes line [] [] name outcome each = append-nil (line name outcome)

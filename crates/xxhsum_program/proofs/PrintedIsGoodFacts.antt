@@ -1,20 +1,11 @@
 -- Proves that a hashing run prints a good list while the files stay unchanged.
 use Rattle.std.proofs.Common.{◌≡◌, ℕ, ◌+◌, ◌<◌, Bool, true, false, List, [], ◌∷◌, ◌++◌, length, refl, sym, ap, subst, ◌∙◌, arith, ◌^◌, nat_eq, nat_lt}
-use Rattle.std.proofs.lemmas.Bool.Decides.{nat_tests}
-use Rattle.xxhsum_program.specs.Prelude.{AllByRecursion, Digested, EachHas, Found, IsDirectory, Kind, Options, Outcome, Report, Shape, SourceRules, StoreRules, Unread, concat}
-use Rattle.xxh_io.specs.Kind.{digits_of}
-use Rattle.xxhsum_line.specs.Printed.{line_of}
+use Rattle.xxhsum_program.proofs.Prelude.{Comes, Different, FilesStay, IsName, PrintedIsGood, Same, digits_of, entries_of, is_good, is_unverified, line_of, lines_of, nat_tests, passes, printed_line, report_at, value-lt}
+use Rattle.xxhsum_program.specs.Prelude.{AllByRecursion, Digested, EachHas, Files, Found, IsDirectory, Kind, Options, Outcome, Report, Shape, SourceRules, StoreRules, Unread, concat, files_of}
 use Rattle.xxhsum_program.specs.Findings.{Finding, Proper, add_up, no_findings, one_more}
-use Rattle.xxhsum_program.specs.Lines.{lines_of, printed_line}
-use Rattle.xxhsum_program.specs.ListEnd.{report_at}
-use Rattle.xxhsum_program.specs.Outcomes.{Comes}
-use Rattle.xxhsum_program.specs.PrintedIsGood.{FilesStay, IsName, PrintedIsGood, entries_of}
 use Rattle.xxhsum_program.specs.PrintedList.{AreListed, AreFindingsOf, Holds, Listed, printed_list}
-use Rattle.xxhsum_program.specs.Report.{is_good, is_unverified, passes}
-use Rattle.xxhsum_program.specs.declared.entry.Found.TheVariants.{Same, Different}
 use Rattle.xxhsum_program.specs.declared.entry.Found.TheVariants as Is
 use Rattle.xxhsum_program.proofs.PrintedListFacts.{checks_printed, short_names_fit}
-use Rattle.xxh_program.proofs.ValueFacts.{value-lt}
 
 -- Lemma: the printed lines are the list of the entries.
 printed_text : (kind : Kind) (shape : Shape) (names : List (List ℕ)) (outcomes : List Outcome)
@@ -26,54 +17,54 @@ printed_text kind shape (name ∷ names) (IsDirectory ∷ outcomes) = printed_te
 printed_text kind shape (name ∷ names) (Unread reason ∷ outcomes) = printed_text kind shape names outcomes
 
 -- Lemma: the entries of names that are short enough are entries of a list.
-listed : {S F : Type 0} (opening : StoreRules S F) (reading : SourceRules F)
-    → (store : S) (kind : Kind) (shape : Shape) (names : List (List ℕ)) (outcomes : List Outcome) → AllByRecursion IsName names
-    → EachHas (Comes opening reading store kind) names outcomes → AreListed shape.is_little (entries_of kind shape names outcomes)
-listed opening reading store kind shape [] outcomes are come = tt
-listed opening reading store kind shape (name ∷ names) [] are come = absurd come
-listed opening reading store kind shape (name ∷ names) (Digested value ∷ outcomes) are ((free, (file, end, pieces, read, told, opened, on, is)), come) =
+listed : {S F : Type 0} (files : Files S F)
+    → (kind : Kind) (shape : Shape) (names : List (List ℕ)) (outcomes : List Outcome) → AllByRecursion IsName names
+    → EachHas (Comes files kind) names outcomes → AreListed shape.is_little (entries_of kind shape names outcomes)
+listed files kind shape [] outcomes are come = tt
+listed files kind shape (name ∷ names) [] are come = absurd come
+listed files kind shape (name ∷ names) (Digested value ∷ outcomes) are ((free, (file, end, pieces, read, told, opened, on, is)), come) =
     let small : value < 16 ^ digits_of kind = subst (λ v. v < 16 ^ digits_of kind) (sym is) (value-lt kind (concat pieces)) in
-    ((small, are.0.0, short_names_fit kind shape value name are.0.1, refl), listed opening reading store kind shape names outcomes are.1 come)
-listed opening reading store kind shape (name ∷ names) (IsDirectory ∷ outcomes) are come =
-    listed opening reading store kind shape names outcomes are.1 come.1
-listed opening reading store kind shape (name ∷ names) (Unread reason ∷ outcomes) are come =
-    listed opening reading store kind shape names outcomes are.1 come.1
+    ((small, are.0.0, short_names_fit kind shape value name are.0.1, refl), listed files kind shape names outcomes are.1 come)
+listed files kind shape (name ∷ names) (IsDirectory ∷ outcomes) are come =
+    listed files kind shape names outcomes are.1 come.1
+listed files kind shape (name ∷ names) (Unread reason ∷ outcomes) are come =
+    listed files kind shape names outcomes are.1 come.1
 
 -- ---- the findings
 
 abbrev IsSame : Finding → Type 0
 IsSame finding = (name : List ℕ) × (finding ≡ Proper name Same)
 
-one_same : {S F : Type 0} (opening : StoreRules S F) (reading : SourceRules F) (store : S) (e : Listed) (finding : Finding) (found : Found)
-    → FilesStay opening reading store e.kind → Rattle.xxhsum_program.specs.Outcomes.IsValueOf opening reading store e.kind e.name e.value
-    → finding ≡ Proper e.name found → Rattle.xxhsum_program.specs.Found.IsFound opening reading store e.kind e.value e.name found → IsSame finding
-one_same opening reading store e finding Same stay has is found = (e.name, is)
-one_same opening reading store e finding Different stay has is (other, value, differs) = absurd (differs ((stay e.name e.value has).0 other value))
-one_same opening reading store e finding (Is.Unread reason) stay has is none = absurd ((stay e.name e.value has).1 reason none)
+one_same : {S F : Type 0} (files : Files S F) (e : Listed) (finding : Finding) (found : Found)
+    → FilesStay files e.kind → Rattle.xxhsum_program.specs.Outcomes.IsValueOf files e.kind e.name e.value
+    → finding ≡ Proper e.name found → Rattle.xxhsum_program.specs.Found.IsFound files e.kind e.value e.name found → IsSame finding
+one_same files e finding Same stay has is found = (e.name, is)
+one_same files e finding Different stay has is (other, value, differs) = absurd (differs ((stay e.name e.value has).0 other value))
+one_same files e finding (Is.Unread reason) stay has is none = absurd ((stay e.name e.value has).1 reason none)
 
-all_same : {S F : Type 0} (opening : StoreRules S F) (reading : SourceRules F)
-    → (store : S) (kind : Kind) (shape : Shape) (names : List (List ℕ)) (outcomes : List Outcome) (findings : List Finding)
-    → EachHas (Comes opening reading store kind) names outcomes → FilesStay opening reading store kind
-    → AreFindingsOf opening reading store (entries_of kind shape names outcomes) findings → AllByRecursion IsSame findings
-all_same opening reading store kind shape [] outcomes [] come stay are = tt
-all_same opening reading store kind shape [] outcomes (f ∷ fs) come stay are = absurd are
-all_same opening reading store kind shape (name ∷ names) [] findings come stay are = absurd come
-all_same opening reading store kind shape (name ∷ names) (Digested value ∷ outcomes) [] come stay are = absurd are
-all_same opening reading store kind shape (name ∷ names) (Digested value ∷ outcomes) (f ∷ fs) come stay are = (
-  one_same opening reading store (record { kind = kind; shape = shape; value = value; name = name }) f are.0.0 stay come.0.1 are.0.1 are.0.2,
-  all_same opening reading store kind shape names outcomes fs come.1 stay are.1,
+all_same : {S F : Type 0} (files : Files S F)
+    → (kind : Kind) (shape : Shape) (names : List (List ℕ)) (outcomes : List Outcome) (findings : List Finding)
+    → EachHas (Comes files kind) names outcomes → FilesStay files kind
+    → AreFindingsOf files (entries_of kind shape names outcomes) findings → AllByRecursion IsSame findings
+all_same files kind shape [] outcomes [] come stay are = tt
+all_same files kind shape [] outcomes (f ∷ fs) come stay are = absurd are
+all_same files kind shape (name ∷ names) [] findings come stay are = absurd come
+all_same files kind shape (name ∷ names) (Digested value ∷ outcomes) [] come stay are = absurd are
+all_same files kind shape (name ∷ names) (Digested value ∷ outcomes) (f ∷ fs) come stay are = (
+  one_same files (record { kind = kind; shape = shape; value = value; name = name }) f are.0.0 stay come.0.1 are.0.1 are.0.2,
+  all_same files kind shape names outcomes fs come.1 stay are.1,
 )
-all_same opening reading store kind shape (name ∷ names) (IsDirectory ∷ outcomes) findings come stay are =
-    all_same opening reading store kind shape names outcomes findings come.1 stay are
-all_same opening reading store kind shape (name ∷ names) (Unread reason ∷ outcomes) findings come stay are =
-    all_same opening reading store kind shape names outcomes findings come.1 stay are
+all_same files kind shape (name ∷ names) (IsDirectory ∷ outcomes) findings come stay are =
+    all_same files kind shape names outcomes findings come.1 stay are
+all_same files kind shape (name ∷ names) (Unread reason ∷ outcomes) findings come stay are =
+    all_same files kind shape names outcomes findings come.1 stay are
 
-as_many : {S F : Type 0} (opening : StoreRules S F) (reading : SourceRules F) (store : S) (entries : List Listed) (findings : List Finding)
-    → AreFindingsOf opening reading store entries findings → length findings ≡ length entries
-as_many opening reading store [] [] are = refl
-as_many opening reading store [] (f ∷ fs) are = absurd are
-as_many opening reading store (e ∷ es) [] are = absurd are
-as_many opening reading store (e ∷ es) (f ∷ fs) are = let rest = as_many opening reading store es fs are.1 in omega (arith, rest)
+as_many : {S F : Type 0} (files : Files S F) (entries : List Listed) (findings : List Finding)
+    → AreFindingsOf files entries findings → length findings ≡ length entries
+as_many files [] [] are = refl
+as_many files [] (f ∷ fs) are = absurd are
+as_many files (e ∷ es) [] are = absurd are
+as_many files (e ∷ es) (f ∷ fs) are = let rest = as_many files es fs are.1 in omega (arith, rest)
 
 -- ---- their report
 
@@ -108,9 +99,9 @@ pub printed_is_good : {S F R : Type 0} (opening : StoreRules S F) (reading : Sou
 printed_is_good opening reading list_reading store kind shape names outcomes source findings end options come stay are some few holds finds =
     let entries = entries_of kind shape names outcomes in
     let held = subst (Holds list_reading source) (printed_text kind shape names outcomes) holds in
-    let found = checks_printed opening reading list_reading store shape.is_little entries source findings end (listed opening reading store kind shape names outcomes are come) few held finds in
-    let same = all_same opening reading store kind shape names outcomes findings come stay found.1 in
-    let some_findings : 0 < 0 + length findings = omega (arith, as_many opening reading store entries findings found.1, some) in
+    let found = checks_printed opening reading list_reading store shape.is_little entries source findings end (listed (files_of opening reading store) kind shape names outcomes are come) few held finds in
+    let same = all_same (files_of opening reading store) kind shape names outcomes findings come stay found.1 in
+    let some_findings : 0 < 0 + length findings = omega (arith, as_many (files_of opening reading store) entries findings found.1, some) in
     let sum : report_at options.ignores_missing end findings ≡ record { proper = proper_after 0 findings; improper = 0; unread = 0; same = proper_after 0 findings; different = 0; is_broken = false } =
     ap (λ e. report_at options.ignores_missing e findings) found.0 ∙ adds_up options.ignores_missing no_findings findings same in
     ap (passes options) sum ∙ passed options (proper_after 0 findings) (counted 0 findings some_findings)

@@ -1,27 +1,19 @@
 -- Lemmas on the lines that are found in a printed list.
 use Rattle.std.proofs.Common.{◌≡◌, ℕ, ◌+◌, ◌<◌, Bool, true, false, List, [], ◌∷◌, ◌++◌, length, map, refl, sym, ap, subst, ◌∙◌, inl, inr, append-nil, append_assoc, length-append, arith}
-use Rattle.std.proofs.lemmas.Bool.{both_ways, false≢true}
-use Rattle.std.proofs.lemmas.List.{length-map}
-use Rattle.xxhsum_program.specs.Prelude.{AllByRecursion, EachHas, Lacks, NoneEmpty, Pieces, SourceRules, StoreRules, concat}
-use Rattle.xxh_io.specs.Script.{slice_reading, slice_rest}
-use Rattle.xxh_io.proofs.MemoryFacts.{slice-end, slice-pieces}
-use Rattle.xxh_io.specs.declared.script_source.SliceSource.{SliceSource}
-use Rattle.xxhsum_line.specs.Entry.{Says, is_comment}
-use Rattle.xxhsum_line.proofs.EntryFacts.{says_same}
-use Rattle.xxhsum_line.proofs.LackFacts.{first_same, lacks_not}
+use Rattle.xxhsum_program.specs.ListLines.{longest_line}
+use Rattle.xxhsum_program.proofs.Prelude.{IsFound, IsLastLine, Says, SliceSource, both_ways, end_piece, false≢true, first_same, is_comment, lacks_not, length-map, says_same, slice-end, slice-pieces, slice_reading, slice_rest}
+use Rattle.xxhsum_program.specs.Prelude.{AllByRecursion, EachHas, Files, Lacks, NoneEmpty, Pieces, SourceRules, StoreRules, concat, files_of}
 use Rattle.xxhsum_line.proofs.PrintedFacts.{printed_is_accepted, printed_is_no_comment, printed_is_one_line, printed_length}
 use Rattle.xxhsum_program.specs.CheckList.{EndsWell, HasLines, ReadsLines, with_line_feeds}
 use Rattle.xxhsum_program.specs.Findings.{Finding, Ignored, Improper, IsFinding, Proper, TooLong}
-use Rattle.xxhsum_program.specs.Found.{IsFound}
 use Rattle.xxhsum_program.specs.ListEnd.{Endless, FailedRead, TooMany, Whole}
-use Rattle.xxhsum_program.specs.ListLines.{IsLastLine, end_piece}
 use Rattle.xxhsum_program.specs.PrintedList.{AreListed, BeginsTooLong, ChecksPrinted, FindsPrintedFiles, FindsPrintedLines, HasJustLines, Holds, HoldsPrintedLines, IsFindingOf, IsLineOf, IsListed, Listed, ShortNamesFit, printed_list, text_of_listed}
 
 -- ---- the lines and the rest of a text
 
 -- A printed line.
 abbrev pub IsLine : List ℕ → Type 0
-IsLine line = Lacks 10 line × (length line < 32767)
+IsLine line = Lacks 10 line × (length line < longest_line)
 
 -- The first lines of a text, with the rest of the text.
 abbrev pub Beginning : List (List ℕ) → List (List ℕ) → List ℕ → Type 0
@@ -176,17 +168,17 @@ holds_printed_lines reading is_little entries source all holds =
     holds_just_lines reading source (map text_of_listed entries) (listed_are_lines is_little entries all)
     (subst (Holds reading source) (printed_lines entries) holds)
 
-found_one : {S F : Type 0} (opening : StoreRules S F) (reading : SourceRules F) (store : S) (is_little : Bool) (line : List ℕ) (e : Listed) (finding : Finding)
-    → length line < 32767 → IsLineOf is_little line e → IsFinding opening reading store is_little line finding
-    → IsFindingOf opening reading store e finding
-found_one opening reading store is_little line e Ignored short of is = absurd (both_ways (is_comment line) of.1 is.1)
-found_one opening reading store is_little line e Improper short of is = absurd (is.1.1 e.kind e.value e.name of.2)
-found_one opening reading store is_little line e TooLong short of is = let long : 32767 < length line = is in absurd (omega (arith, short, long))
-found_one opening reading store is_little line e (Proper name found) short of (within, kind, value, says, is) =
+found_one : {S F : Type 0} (files : Files S F) (is_little : Bool) (line : List ℕ) (e : Listed) (finding : Finding)
+    → length line < longest_line → IsLineOf is_little line e → IsFinding files is_little line finding
+    → IsFindingOf files e finding
+found_one files is_little line e Ignored short of is = absurd (both_ways (is_comment line) of.1 is.1)
+found_one files is_little line e Improper short of is = absurd (is.1.1 e.kind e.value e.name of.2)
+found_one files is_little line e TooLong short of is = let long : longest_line < length line = is in absurd (omega (arith, short, long))
+found_one files is_little line e (Proper name found) short of (within, kind, value, says, is) =
     let same = of.3 kind value name says in
-    let at_kind = subst (λ k. IsFound opening reading store k value name found) same.0 is in
-    let at_value = subst (λ v. IsFound opening reading store e.kind v name found) same.1 at_kind in
-    (found, ap (λ n. Proper n found) same.2, subst (λ n. IsFound opening reading store e.kind e.value n found) same.2 at_value)
+    let at_kind = subst (λ k. IsFound files k value name found) same.0 is in
+    let at_value = subst (λ v. IsFound files e.kind v name found) same.1 at_kind in
+    (found, ap (λ n. Proper n found) same.2, subst (λ n. IsFound files e.kind e.value n found) same.2 at_value)
 
 pub finds_printed_files : {S F : Type 0} (opening : StoreRules S F) (reading : SourceRules F)
     → FindsPrintedFiles opening reading
@@ -194,7 +186,7 @@ finds_printed_files opening reading store is_little [] [] all each = tt
 finds_printed_files opening reading store is_little [] (finding ∷ findings) all each = absurd each
 finds_printed_files opening reading store is_little (e ∷ es) [] all each = absurd each
 finds_printed_files opening reading store is_little (e ∷ es) (finding ∷ findings) all each = (
-  found_one opening reading store is_little (text_of_listed e) e finding all.0.2 (is_line_of is_little e all.0) each.0,
+  found_one (files_of opening reading store) is_little (text_of_listed e) e finding all.0.2 (is_line_of is_little e all.0) each.0,
   finds_printed_files opening reading store is_little es findings all.1 each.1,
 )
 
@@ -204,7 +196,7 @@ checks_printed opening reading list_reading store is_little entries source findi
     let same = (holds_printed_lines list_reading is_little entries source all holds).0 lines well in (
       refl,
       finds_printed_files opening reading store is_little entries findings all
-          (subst (λ ls. EachHas (IsFinding opening reading store is_little) ls findings) (sym same) each),
+          (subst (λ ls. EachHas (IsFinding (files_of opening reading store) is_little) ls findings) (sym same) each),
     )
 checks_printed opening reading list_reading store is_little entries source findings TooMany all few holds (lines, each, (some, count)) =
     let texts = map text_of_listed entries in

@@ -1,7 +1,6 @@
 -- Lemmas on the progress line of a read, by its byte counts.
 use Rattle.std.proofs.Common.{◌≡◌, ◌≢◌, ℕ, ◌<◌, ◌≤◌, ◌/◌, ◌-◌, ◌++◌, Bool, true, false, Option, Some, [], ap, codes, decimal, nat_eq, nat_lt, refl, arith, if◌then◌else◌}
-use Rattle.std.proofs.lemmas.Bool.Decides.{nat_tests}
-use Rattle.xxhsum_program.specs.Progress.{cleared, count_after, empty_line, left_text, line_text, progress_line, rate_of, shown_text}
+use Rattle.xxhsum_program.proofs.Prelude.{cleared, count_after, empty_line, left_text, line_text, nat_tests, progress_line, rate_of, shown_text}
 
 -- Lemma: a line is displayed if a multiple of 64 MiB is between the counts.
 pub line-between : (size : Option ℕ) (millis before count : ℕ) → before / 67108864 < count / 67108864 → progress_line size millis before count ≡ line_text size count (rate_of count millis)

@@ -1,13 +1,8 @@
 -- Lemmas on the check of a list, at the lines where it stops and at its end.
 use Rattle.std.proofs.Common.{◌≡◌, ℕ, ◌+◌, Bool, true, false, List, [], ◌∷◌, ◌++◌, length, Option, Some, None, Ok, Err, refl, sym, subst, inl, Result}
 use Rattle.xxhsum_program.specs.Prelude.{EachHas, Found, Options, OutOfMemory, Report, SourceRules, Stop, WriteFailed}
-use Rattle.xxhsum_program.specs.declared.lines.Lines.{Lines}
-use Rattle.xxhsum_program.specs.CheckList.{AnswersList, AnswersOutcome, Checked, ChecksLine, FindsLines, ReportsLines}
-use Rattle.xxhsum_program.specs.Findings.{Finding, Proper, count_proper}
-use Rattle.xxhsum_program.specs.Lines.{PrintsLine}
-use Rattle.xxhsum_program.specs.ListEnd.{ListEnd}
-use Rattle.xxhsum_program.specs.Order.{EmitsAll, EmitsTo, StreamRules, Streams, streams}
-use Rattle.xxhsum_program.specs.Report.{passes}
+use Rattle.xxhsum_program.proofs.Prelude.{EmitsAll, EmitsTo, Finding, Lines, ListEnd, PrintsLine, Proper, StreamRules, Streams, count_proper, passes, streams_of}
+use Rattle.xxhsum_program.specs.CheckList.{AnswersList, AnswersOutcome, Checked, ChecksLine, FindsLines, ReportsLines, line_check}
 use Rattle.xxhsum_program.specs.Said.{break_events, finding_events, found_text, is_silent, lines_events, list_events, numbered, printed_finding, summary_events}
 use Rattle.xxhsum_program.proofs.CheckFacts.{Stands, some-read}
 use Rattle.xxhsum_program.proofs.EachFacts.{EachHas-push}
@@ -35,7 +30,7 @@ silent-prints options list number name found silent = rw silent refl
 -- Lemma: a file's result is printed, unless the run stops.
 pub line-said : {W E : Type 0} (is_finding : Finding → Type 0) (rules : StreamRules W E) (options : Options) (list : List ℕ) (number : ℕ) (name shown : List ℕ) (found : Found) (r_old r_new : Report) (old : Streams W E) (out : W) (result : Result (Unit {0}) Stop)
     → is_silent options found ≡ false → shown ≡ name → is_finding (Proper name found) → r_new ≡ count_proper options.ignores_missing r_old found → PrintsLine rules.writing (found_text options.is_quiet list number shown found) old.out out result
-    → ChecksLine is_finding rules options list number r_old r_new old (streams out old.err) result
+    → ChecksLine is_finding (line_check options list number r_old r_new) rules old (streams_of out old.err) result
 line-said is_finding rules options list number name shown found r_old r_new old out (Ok x) speaks same is counted prints =
     let text : found_text options.is_quiet list number shown found ≡ printed_finding options list number (Proper name found) = rw (speaks, same) refl in
     (Proper name found, is, counted, emits-line {T = Unit {0}} rules (printed_finding options list number (Proper name found)) old out (Ok tt) (subst (λ bytes. PrintsLine {T = Unit {0}} rules.writing bytes old.out out (Ok tt)) text prints) tt)
@@ -49,7 +44,7 @@ line-said is_finding rules options list number name shown found r_old r_new old 
 pub lines-stop : {R X W E : Type 0} (is_finding : List ℕ → Finding → Type 0) (reading : SourceRules R) (rules : StreamRules W E) (options : Options) (list : List ℕ) (source : R) (old mid new : Streams W E) (before after : Lines R X) (read : List (List ℕ)) (findings : List Finding) (line : List ℕ) (number : ℕ) (r_old r_new : Report) (stop : Stop)
     → EachHas is_finding read findings → Stands reading source before read → Stands reading source after (read ++ line ∷ []) → number ≡ 1 + length findings
     → EmitsAll rules (numbered (finding_events options list) 1 findings) old mid
-    → ChecksLine (is_finding line) rules options list number r_old r_new mid new (Err stop)
+    → ChecksLine (is_finding line) (line_check options list number r_old r_new) rules mid new (Err stop)
     → LinesChecked is_finding reading rules options list source old new (Err stop)
 lines-stop is_finding reading rules options list source old mid new before after read findings line number r_old r_new OutOfMemory each stood stands count emits none = (
   findings,

@@ -1,11 +1,7 @@
 -- Lemmas on messages that are followed by more messages.
 use Rattle.std.proofs.Common.{◌≡◌, ◌↔◌, ℕ, Bool, true, false, List, [], ◌++◌, refl, sym, ap, subst, append-nil, append_assoc, is_err, Ok, Err, IfErr, Result}
-use Rattle.xxh_io.specs.declared.error.DigestError.{DigestError}
+use Rattle.xxhsum_program.proofs.Prelude.{DigestError, Refused-more, SinkRules, TellsOn, Told, Writes, Writes-join}
 use Rattle.xxh_io.specs.declared.error.DigestError.TheVariants.{ReadFailed, WriteFailed, TooLong}
-use Rattle.xxh_io.specs.Digest.{Writes}
-use Rattle.xxhsum_program.specs.Prelude.{SinkRules, TellsOn}
-use Rattle.xxh_io.specs.Tells.{Told}
-use Rattle.xxh_io.proofs.WriteFacts.{Writes-join, Refused-more}
 
 -- Lemma: `a ++ b` is reported if `a` is reported and the sink has failed.
 pub Told-failed : {E : Type 0} (telling : SinkRules E) (a b : List ℕ) (old new : E) → telling.has_failed new ≡ true → Told telling a old new → Told telling (a ++ b) old new

@@ -1,8 +1,5 @@
 -- Lemmas on texts that are one line, or empty.
-use Rattle.std.proofs.Common.{ℕ, Bool, true, false, List, [], inl, inr, refl, if◌then◌else◌}
-use Rattle.xxhsum_line.specs.Escapes.{one_line}
-use Rattle.xxhsum_line.proofs.PrintedFacts.{told_is_one_line}
-use Rattle.xxhsum_program.specs.ToldLines.{IsLineOrNothing}
+use Rattle.xxhsum_program.proofs.Prelude.{[], Bool, IsLineOrNothing, List, false, if◌then◌else◌, inl, inr, one_line, refl, told_is_one_line, true, ℕ}
 
 pub one : (text : List ℕ) → IsLineOrNothing (one_line text)
 one text = inr (told_is_one_line text)

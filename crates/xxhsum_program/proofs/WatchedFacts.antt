@@ -1,10 +1,6 @@
 -- Proves that facts on watched sources hold for the sources that they watch.
-use Rattle.std.proofs.Common.{ℕ, List, [], ◌∷◌, ◌++◌, ap, Result, Ok, Err}
-use Rattle.xxh_io.specs.declared.error.DigestError.{DigestError}
+use Rattle.xxhsum_program.proofs.Prelude.{[], ◌++◌, ◌∷◌, DigestError, Err, List, Ok, Pieces, ReadsOn, ReadsTo, Result, SourceRules, Watched, ap, source_of, watched_reading, ℕ}
 use Rattle.xxh_io.specs.declared.error.DigestError.TheVariants.{ReadFailed, WriteFailed, TooLong}
-use Rattle.xxh_io.specs.Digest.{ReadsOn, ReadsTo}
-use Rattle.xxhsum_program.specs.Prelude.{Pieces, SourceRules, Watched}
-use Rattle.xxhsum_program.specs.Watched.{source_of, watched_reading}
 
 pub inner-pieces : {R X : Type 0} (reading : SourceRules R) (old new : Watched R X) (pieces : List (List ℕ)) → Pieces (watched_reading reading).gives old pieces new → Pieces reading.gives (source_of old) pieces (source_of new)
 inner-pieces reading old new [] is = ap source_of is

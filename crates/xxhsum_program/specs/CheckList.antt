@@ -1,12 +1,13 @@
 -- The check of a list: one finding for each of its lines, in their order.
 use Rattle.std.specs.Prelude.{◌≡◌, ◌⊎◌, ℕ, ◌-◌, ◌^◌, Bool, true, false, List, [], ◌∷◌, ◌++◌, Option, Some, None, length, Result, Ok, Err}
 use Rattle.std.specs.List.{list_all}
-use Rattle.xxhsum_program.specs.Prelude.{AllByRecursion, EachHas, Lacks, NoneEmpty, Options, OutOfMemory, Pieces, Refusal, Report, SourceRules, Stop, StoreRules, WriteFailed, concat}
+use Rattle.xxhsum_program.specs.Prelude.{AllByRecursion, EachHas, Lacks, NoneEmpty, Options, OutOfMemory, Pieces, Refusal, Report, Files, Input, SourceRules, Stop, WriteFailed, concat}
 use Rattle.xxhsum_program.specs.Findings.{Finding, IsFinding, count_one}
 use Rattle.xxhsum_program.specs.Lines.{lines_of}
 use Rattle.xxhsum_program.specs.ListEnd.{ListEnd, Whole, TooMany, Endless, FailedRead, report_at}
 use Rattle.xxhsum_program.specs.ListLines.{FailsAfter, IsEndless, IsLastLine, end_piece}
-use Rattle.xxhsum_program.specs.Order.{EmitsAll, EmitsTo, EmitsUnlessFailed, Event, Reported, StreamRules, Streams}
+use Rattle.xxhsum_program.specs.Order.{EmitsAll, EmitsTo, EmitsUnlessFailed, Effect, Event, Reported, StreamRules}
+use Rattle.xxhsum_program.specs.declared.streams.Streams.{Streams}
 use Rattle.xxhsum_program.specs.Report.{passes}
 use Rattle.xxhsum_program.specs.Said.{finding_events, list_events, told_refusal}
 
@@ -63,18 +64,32 @@ abbrev pub FindsLines : {R : Type 0} → (List ℕ → Finding → Type 0) → S
 FindsLines is_finding reading source findings end =
     (lines : List (List ℕ)) × EachHas is_finding lines findings × MeetsLines reading source lines end
 
--- A line has a finding, which is counted, and its events. If a write failed, a prefix of its line is printed; if out of
+-- A line of a list, by its number, and the counts before and after it.
+pub record LineCheck : Type 0 where
+  pub options : Options
+  pub list : List ℕ
+  pub number : ℕ
+  pub old : Report
+  pub new : Report
+
+abbrev pub line_check : Options → List ℕ → ℕ → Report → Report → LineCheck
+line_check options list number old new =
+    record { options = options; list = list; number = number; old = old; new = new }
+
+abbrev pub line_events : LineCheck → Finding → List Event
+line_events line finding = finding_events line.options line.list line.number finding
+
+-- The line has a finding, which is counted, and its events. If a write failed, a prefix of its line is printed; if out of
 -- memory, there are no events.
-abbrev pub ChecksLine : {W E : Type 0} → (Finding → Type 0) → StreamRules W E → Options → List ℕ → ℕ → Report → Report
-    → Streams W E → Streams W E → Result (Unit {0}) Stop → Type 0
-ChecksLine is_finding rules options list number r_old r_new old new (Ok _) =
-    (finding : Finding) × is_finding finding × (r_new ≡ count_one options.ignores_missing r_old finding)
-    × EmitsAll rules (finding_events options list number finding) old new
-ChecksLine is_finding rules options list number r_old r_new old new (Err WriteFailed) =
+abbrev pub ChecksLine : {W E : Type 0} → (Finding → Type 0) → LineCheck → StreamRules W E → Streams W E → Streams W E
+    → Result (Unit {0}) Stop → Type 0
+ChecksLine is_finding line rules old new (Ok _) =
+    (finding : Finding) × is_finding finding × (line.new ≡ count_one line.options.ignores_missing line.old finding)
+    × EmitsAll rules (line_events line finding) old new
+ChecksLine is_finding line rules old new (Err WriteFailed) =
     (finding : Finding) × is_finding finding
-    × EmitsTo {T = Unit {0}} rules (finding_events options list number finding) old new (Err WriteFailed)
-ChecksLine is_finding rules options list number r_old r_new old new (Err OutOfMemory) =
-    (new.out ≡ old.out) × (new.err ≡ old.err)
+    × EmitsTo {T = Unit {0}} rules (line_events line finding) old new (Err WriteFailed)
+ChecksLine is_finding line rules old new (Err OutOfMemory) = EmitsAll rules [] old new
 
 -- True if the list is good; false before its end is reached.
 abbrev pub is_good_list : Options → List Finding → Option ListEnd → Bool
@@ -104,11 +119,11 @@ pub data ListOutcome : Type 0 where
   Checked : List Finding → Option ListEnd → ListOutcome
   Unopened : Refusal → ListOutcome
 
-abbrev pub IsListOutcome : {S F : Type 0} → StoreRules S F → SourceRules F → S → Bool → List ℕ → ListOutcome → Type 0
-IsListOutcome {S} {F} opening reading store is_little name (Checked findings end) =
-    (file : F) × opening.opens store name file
-    × FindsLines (IsFinding opening reading store is_little) reading file findings end
-IsListOutcome opening reading store is_little name (Unopened refusal) = opening.refuses store name refusal
+abbrev pub IsListOutcome : {S F : Type 0} → Files S F → Bool → List ℕ → ListOutcome → Type 0
+IsListOutcome {S} {F} files is_little name (Checked findings end) =
+    (file : F) × files.opening.opens files.store name file
+    × FindsLines (IsFinding files is_little) files.reading file findings end
+IsListOutcome files is_little name (Unopened refusal) = files.opening.refuses files.store name refusal
 
 -- The events of a list: those of its check, or the message that it can't be opened.
 abbrev pub outcome_events : Options → List ℕ → ListOutcome → List Event
@@ -147,28 +162,21 @@ AnswersLists options rest outcomes (Ok all) =
     (rest ≡ []) × AreAllDone outcomes × (all ≡ are_good options outcomes)
 AnswersLists options rest outcomes (Err stop) = AreDoneButLast outcomes
 
--- The names are the lists that are done, each with its outcome, followed by the rest.
-abbrev pub ChecksLists : {S F : Type 0} → StoreRules S F → SourceRules F → S → Bool → Options → List (List ℕ)
-    → List (List ℕ) → List (List ℕ) → List ListOutcome → Result Bool Stop → Type 0
-ChecksLists opening reading store is_little options names done rest outcomes result =
-    (names ≡ done ++ rest) × EachHas (IsListOutcome opening reading store is_little) done outcomes
-    × AnswersLists options rest outcomes result
-
 -- ---- findings and their events
 
 -- The lines of a list have their findings, and exactly the events of these happen, in their order.
-abbrev pub SaysList : {S F R W E : Type 0} → StoreRules S F → SourceRules F → SourceRules R → StreamRules W E → S → Options
-    → List ℕ → R → Streams W E → Streams W E → Result Bool Stop → Type 0
-SaysList opening reading list_reading rules store options name source old new result =
+abbrev pub SaysList : {S F R W E : Type 0} → Files S F → Input R → Effect W E → Options → List ℕ → Type 0
+SaysList files input effect options name =
     (findings : List Finding) × (end : Option ListEnd)
-    × FindsLines (IsFinding opening reading store options.is_little_endian) list_reading source findings end
-    × AnswersList options findings end result
-    × EmitsUnlessFailed rules (list_events options name findings end) old new result
+    × FindsLines (IsFinding files options.is_little_endian) input.reading input.source findings end
+    × AnswersList options findings end effect.result
+    × EmitsUnlessFailed effect (list_events options name findings end)
 
--- Each list has its outcome, and exactly the events of these happen, list after list.
-abbrev pub SaysLists : {S F W E : Type 0} → StoreRules S F → SourceRules F → StreamRules W E → S → Options
-    → List (List ℕ) → Streams W E → Streams W E → Result Bool Stop → Type 0
-SaysLists opening reading rules store options names old new result =
-    (outcomes : List ListOutcome) × (done rest : List (List ℕ))
-    × ChecksLists opening reading store options.is_little_endian options names done rest outcomes result
-    × EmitsUnlessFailed rules (lines_of (outcome_events options) done outcomes) old new result
+-- The names are the lists that are done, each with its outcome, followed by the rest. Exactly the events of the outcomes
+-- happen, list after list.
+abbrev pub SaysLists : {S F W E : Type 0} → Files S F → Effect W E → Options → List (List ℕ) → Type 0
+SaysLists files effect options names =
+    (outcomes : List ListOutcome) × (done rest : List (List ℕ)) × (names ≡ done ++ rest)
+    × EachHas (IsListOutcome files options.is_little_endian) done outcomes
+    × AnswersLists options rest outcomes effect.result
+    × EmitsUnlessFailed effect (lines_of (outcome_events options) done outcomes)

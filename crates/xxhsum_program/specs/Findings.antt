@@ -1,10 +1,10 @@
 -- The findings of a list's lines, and the report of them.
 use Rattle.std.specs.Prelude.{◌≡◌, ℕ, ◌+◌, ◌-◌, ◌≤◌, ◌^◌, Bool, true, false, ◌&&◌, List, [], ◌∷◌, length, min, if◌then◌else◌}
 use Rattle.xxhsum_line.specs.Entry.{Says, SaysNothing, is_comment}
-use Rattle.xxhsum_program.specs.Prelude.{Found, Kind, Report, SourceRules, StoreRules}
+use Rattle.xxhsum_program.specs.Prelude.{Files, Found, Kind, Report}
 use Rattle.xxhsum_program.specs.declared.entry.Found.TheVariants.{Same, Different, Unread}
 use Rattle.xxhsum_program.specs.Found.{IsFound}
-use Rattle.xxhsum_program.specs.ListLines.{IsTooLong}
+use Rattle.xxhsum_program.specs.ListLines.{IsTooLong, longest_line}
 use Rattle.xxhsum_program.specs.Outcomes.{has_no_file}
 
 -- The finding of a line: a comment, malformed, too long to be checked, or an entry with the state of its file.
@@ -15,13 +15,13 @@ pub data Finding : Type 0 where
   Proper : List ℕ → Found → Finding
 
 -- The line has this finding. A line that is too long is not parsed.
-abbrev pub IsFinding : {S F : Type 0} → StoreRules S F → SourceRules F → S → Bool → List ℕ → Finding → Type 0
-IsFinding opening reading store is_little line Ignored = (length line ≤ 32767) × (is_comment line ≡ true)
-IsFinding opening reading store is_little line Improper = (length line ≤ 32767) × SaysNothing is_little line
-IsFinding opening reading store is_little line TooLong = IsTooLong line
-IsFinding opening reading store is_little line (Proper name found) =
-    (length line ≤ 32767) × (kind : Kind) × (value : ℕ) × Says is_little line kind value name
-    × IsFound opening reading store kind value name found
+abbrev pub IsFinding : {S F : Type 0} → Files S F → Bool → List ℕ → Finding → Type 0
+IsFinding files is_little line Ignored = (length line ≤ longest_line) × (is_comment line ≡ true)
+IsFinding files is_little line Improper = (length line ≤ longest_line) × SaysNothing is_little line
+IsFinding files is_little line TooLong = IsTooLong line
+IsFinding files is_little line (Proper name found) =
+    (length line ≤ longest_line) × (kind : Kind) × (value : ℕ) × Says is_little line kind value name
+    × IsFound files kind value name found
 
 -- The count plus 1, saturating at 2^64 - 1.
 abbrev pub one_more : ℕ → ℕ

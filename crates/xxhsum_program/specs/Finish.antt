@@ -1,6 +1,6 @@
 -- The end of a run, which writes the buffered output.
 use Rattle.std.specs.Prelude.{◌≡◌, ℕ, Bool, true, false, List, [], Result, Ok, Err}
-use Rattle.xxhsum_program.specs.Prelude.{SinkRules, Stop, Took, WriteFailed}
+use Rattle.xxhsum_program.specs.Prelude.{Stop, WriteFailed}
 
 -- The result of a run. It is an error if some of the output was lost.
 abbrev pub end_after : Bool → Result Bool Stop → Result Bool Stop
@@ -11,9 +11,3 @@ end_after true (Err stop) = Err stop
 -- No output is buffered, unless some of it was lost.
 abbrev pub IsWritten : {W : Type 0} → (W → List ℕ) → (W → Bool) → W → Type 0
 IsWritten held has_lost out = has_lost out ≡ false → held out ≡ []
-
--- Nothing more is printed, and the buffered output is written. If some of it was lost, the run has failed.
-abbrev pub Finishes : {W : Type 0} → SinkRules W → (W → List ℕ) → (W → Bool) → Result Bool Stop → W → W
-    → Result Bool Stop → Type 0
-Finishes writing held has_lost done old new result =
-    Took writing [] old new × IsWritten held has_lost new × (result ≡ end_after (has_lost new) done)

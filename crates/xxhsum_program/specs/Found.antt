@@ -1,17 +1,17 @@
 -- The state of a line's file, compared with the line.
 use Rattle.std.specs.Prelude.{◌≢◌, ℕ, Bool, false, ◌&&◌, List}
-use Rattle.xxhsum_program.specs.Prelude.{Found, Kind, SourceRules, StoreRules}
+use Rattle.xxhsum_program.specs.Prelude.{Files, Found, Kind}
 use Rattle.xxhsum_program.specs.declared.entry.Found.TheVariants.{Same, Different, Unread}
 use Rattle.xxhsum_program.specs.Outcomes.{HasNoValue, IsValueOf, has_no_file}
 
 -- The file of this name has this value by this algorithm, another value, or none.
-abbrev pub IsFound : {S F : Type 0} → StoreRules S F → SourceRules F → S → Kind → ℕ → List ℕ → Found → Type 0
-IsFound opening reading store kind value name Same =
-    IsValueOf opening reading store kind name value
-IsFound opening reading store kind value name Different =
-    (other : ℕ) × IsValueOf opening reading store kind name other × (other ≢ value)
-IsFound opening reading store kind value name (Unread reason) =
-    HasNoValue opening reading store name reason
+abbrev pub IsFound : {S F : Type 0} → Files S F → Kind → ℕ → List ℕ → Found → Type 0
+IsFound files kind value name Same =
+    IsValueOf files kind name value
+IsFound files kind value name Different =
+    (other : ℕ) × IsValueOf files kind name other × (other ≢ value)
+IsFound files kind value name (Unread reason) =
+    HasNoValue files name reason
 
 -- True if there is no such file.
 abbrev pub is_gone : Found → Bool

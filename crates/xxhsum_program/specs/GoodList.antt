@@ -1,6 +1,6 @@
 -- Laws of good lists, and of lines that are printed as OK.
 use Rattle.std.specs.Prelude.{◌≡◌, ◌⊎◌, ℕ, Bool, true, List, Option, codes}
-use Rattle.xxhsum_program.specs.Prelude.{AllByRecursion, Kind, Options, Refusal, SourceRules, StoreRules}
+use Rattle.xxhsum_program.specs.Prelude.{AllByRecursion, Files, Kind, Options, Refusal, SourceRules, StoreRules, files_of}
 use Rattle.xxhsum_files.specs.Refusal.{is_missing}
 use Rattle.xxhsum_line.specs.Entry.{Says, SaysNothing, is_comment}
 use Rattle.xxhsum_program.specs.CheckList.{FindsLines, MeetsLines, is_good_list}
@@ -10,32 +10,32 @@ use Rattle.xxhsum_program.specs.Outcomes.{IsValueOf}
 use Rattle.xxhsum_program.specs.Said.{named_text, printed_finding}
 
 -- There is no file of this name, and missing files are ignored.
-abbrev pub IsPassedOver : {S F : Type 0} → StoreRules S F → S → Bool → List ℕ → Type 0
-IsPassedOver opening store ignores name =
-    (ignores ≡ true) × (refusal : Refusal) × opening.refuses store name refusal × (is_missing refusal ≡ true)
+abbrev pub IsPassedOver : {S F : Type 0} → Files S F → Bool → List ℕ → Type 0
+IsPassedOver files ignores name =
+    (ignores ≡ true) × (refusal : Refusal) × files.opening.refuses files.store name refusal × (is_missing refusal ≡ true)
 
 -- The line is a comment, or malformed, or its file has its value, or its file is missing and missing files are ignored.
-abbrev pub IsWell : {S F : Type 0} → StoreRules S F → SourceRules F → S → Options → List ℕ → Type 0
-IsWell opening reading store options line =
+abbrev pub IsWell : {S F : Type 0} → Files S F → Options → List ℕ → Type 0
+IsWell files options line =
     (is_comment line ≡ true)
     ⊎ (SaysNothing options.is_little_endian line
     ⊎ ((kind : Kind) × (value : ℕ) × (name : List ℕ) × Says options.is_little_endian line kind value name
-    × (IsValueOf opening reading store kind name value ⊎ IsPassedOver opening store options.ignores_missing name)))
+    × (IsValueOf files kind name value ⊎ IsPassedOver files options.ignores_missing name)))
 
 -- If the lines of a list were checked and it is good, each line is as `IsWell` states.
 abbrev pub GoodMeansEqual : {S F R : Type 0} → StoreRules S F → SourceRules F → SourceRules R → Type 0
 GoodMeansEqual {S} {F} {R} opening reading list_reading =
     (store : S) (options : Options) (source : R) (findings : List Finding) (end : Option ListEnd)
-    → FindsLines (IsFinding opening reading store options.is_little_endian) list_reading source findings end
+    → FindsLines (IsFinding (files_of opening reading store) options.is_little_endian) list_reading source findings end
     → is_good_list options findings end ≡ true
     → (lines : List (List ℕ)) × MeetsLines list_reading source lines end
-    × AllByRecursion (IsWell opening reading store options) lines
+    × AllByRecursion (IsWell (files_of opening reading store) options) lines
 
 -- A line is printed as "NAME: OK" only if it is an entry with this name, and its file has its value by its algorithm.
 abbrev pub OkMeansEqual : {S F : Type 0} → StoreRules S F → SourceRules F → Type 0
 OkMeansEqual {S} opening reading =
     (store : S) (options : Options) (list : List ℕ) (number : ℕ) (line : List ℕ) (finding : Finding) (name : List ℕ)
-    → IsFinding opening reading store options.is_little_endian line finding
+    → IsFinding (files_of opening reading store) options.is_little_endian line finding
     → printed_finding options list number finding ≡ named_text name (codes ": OK")
     → (kind : Kind) × (value : ℕ) × Says options.is_little_endian line kind value name
-    × IsValueOf opening reading store kind name value
+    × IsValueOf (files_of opening reading store) kind name value

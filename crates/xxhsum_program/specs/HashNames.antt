@@ -1,12 +1,12 @@
 -- A hashing run over names: one outcome for each name, in the order of the names.
 use Rattle.std.specs.Prelude.{◌≡◌, ℕ, Bool, List, [], ◌∷◌, ◌++◌, is_ok, IfOk, Result, Ok, Err}
-use Rattle.xxhsum_program.specs.Prelude.{Digested, EachHas, IsDirectory, Kind, OutOfMemory, Outcome, SourceRules, Stop, StoreRules, Style, Unread, WriteFailed, concat}
+use Rattle.xxhsum_program.specs.Prelude.{Digested, EachHas, IsDirectory, Kind, OutOfMemory, Outcome, Files, Input, Stop, Style, Unread, WriteFailed, concat}
 use Rattle.xxh_io.specs.declared.error.DigestError.{DigestError}
 use Rattle.xxh_io.specs.Digest.{ReadsTo}
 use Rattle.xxh_program.specs.Kind.{value_of}
 use Rattle.xxh_program.specs.States.{most_reads}
 use Rattle.xxhsum_program.specs.Outcomes.{Comes, are_digested}
-use Rattle.xxhsum_program.specs.Order.{EmitsTo, Event, Printed, Reported, StreamRules, Streams}
+use Rattle.xxhsum_program.specs.Order.{Effect, Event, HasEvents, Printed, Reported}
 use Rattle.xxhsum_program.specs.Lines.{lines_of, printed_input, told_input, told_line, written_line}
 
 -- If the run reaches its end, no name is left, and the result is true if each has a value. Only a failed write or a
@@ -14,14 +14,6 @@ use Rattle.xxhsum_program.specs.Lines.{lines_of, printed_input, told_input, told
 abbrev pub EndsWith : List (List ℕ) → List Outcome → Result Bool Stop → Type 0
 EndsWith rest outcomes (Ok all) = (rest ≡ []) × (all ≡ are_digested outcomes)
 EndsWith rest outcomes (Err stop) = Unit {0}
-
--- The names are those that are done, each with its outcome, followed by the rest.
-abbrev pub HashesNames : {S F : Type 0} → StoreRules S F → SourceRules F → S → Kind → List (List ℕ) → List (List ℕ)
-    → List (List ℕ) → List Outcome → Result Bool Stop → Type 0
-HashesNames opening reading store kind names done rest outcomes result =
-    (names ≡ done ++ rest)
-    × EachHas (Comes opening reading store kind) done outcomes
-    × EndsWith rest outcomes result
 
 -- ---- the events of names
 
@@ -31,13 +23,13 @@ name_events kind style name (Digested value) = Printed (written_line kind style 
 name_events kind style name IsDirectory = Reported (told_line name IsDirectory) ∷ []
 name_events kind style name (Unread reason) = Reported (told_line name (Unread reason)) ∷ []
 
--- Each of the names has its outcome, and its line or its message is written before those of the next name.
-abbrev pub SaysNames : {S F W E : Type 0} → StoreRules S F → SourceRules F → StreamRules W E → S → Kind → Style
-    → List (List ℕ) → Streams W E → Streams W E → Result Bool Stop → Type 0
-SaysNames opening reading rules store kind style names old new result =
-    (outcomes : List Outcome) × (done rest : List (List ℕ))
-    × HashesNames opening reading store kind names done rest outcomes result
-    × EmitsTo rules (lines_of (name_events kind style) done outcomes) old new result
+-- The names are those that are done, each with its outcome, followed by the rest. The line or the message of each is
+-- written before those of the next name.
+abbrev pub SaysNames : {S F W E : Type 0} → Files S F → Effect W E → Kind → Style → List (List ℕ) → Type 0
+SaysNames files effect kind style names =
+    (outcomes : List Outcome) × (done rest : List (List ℕ)) × (names ≡ done ++ rest)
+    × EachHas (Comes files kind) done outcomes × EndsWith rest outcomes effect.result
+    × HasEvents effect (lines_of (name_events kind style) done outcomes)
 
 -- ---- the events of standard input
 
@@ -53,9 +45,9 @@ input_events kind style name value read (Err OutOfMemory) = []
 
 -- A source is read to its end, or a read fails; then its line or its message is written. The result is true if it was
 -- read to its end.
-abbrev pub SaysInput : {R W E : Type 0} → SourceRules R → StreamRules W E → Kind → Style → List ℕ → R → R
-    → Streams W E → Streams W E → Result Bool Stop → Type 0
-SaysInput reading rules kind style name r_old r_new old new result =
-    (pieces : List (List ℕ)) × (read : Result ℕ DigestError) × ReadsTo reading most_reads pieces r_old r_new read
-    × IfOk result (λ all. all ≡ is_ok read)
-    × EmitsTo rules (input_events kind style name (value_of kind 0 (concat pieces)) read result) old new result
+abbrev pub SaysInput : {R W E : Type 0} → Input R → R → Effect W E → Kind → Style → List ℕ → Type 0
+SaysInput input end effect kind style name =
+    (pieces : List (List ℕ)) × (read : Result ℕ DigestError)
+    × ReadsTo input.reading most_reads pieces input.source end read
+    × IfOk effect.result (λ all. all ≡ is_ok read)
+    × HasEvents effect (input_events kind style name (value_of kind 0 (concat pieces)) read effect.result)

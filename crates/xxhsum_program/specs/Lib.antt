@@ -1,6 +1,7 @@
 pub mod Arguments
 pub mod CheckList
 pub mod EachHas
+pub mod Files
 pub mod Findings
 pub mod Finish
 pub mod Found
@@ -21,6 +22,7 @@ pub mod Report
 pub mod Run
 pub mod Said
 pub mod Screen
+pub mod Streams
 pub mod Task
 pub mod Told
 pub mod ToldLines

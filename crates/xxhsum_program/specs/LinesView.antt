@@ -6,7 +6,7 @@ use Rattle.xxh_io.specs.declared.ends.Failed.{Failed}
 use Rattle.xxhsum_program.specs.declared.lines.Lines.{Lines}
 use Rattle.xxhsum_program.specs.declared.lines.Next.{Next}
 use Rattle.xxhsum_program.specs.declared.lines.Next.TheVariants as Variant
-use Rattle.xxhsum_program.specs.ListLines.{FailsAfter, IsEndless, IsTooLong, end_piece}
+use Rattle.xxhsum_program.specs.ListLines.{FailsAfter, IsEndless, IsTooLong, end_piece, longest_line}
 use Rattle.xxhsum_program.specs.Watched.{source_of}
 
 -- The buffered bytes.
@@ -29,7 +29,7 @@ IsBeforeLineFeed (Some len) lines =
 abbrev pub StopsAt : {R X : Type 0} → Option ℕ → Lines R X → Type 0
 StopsAt (Some len) lines = IsBeforeLineFeed (Some len) lines
 StopsAt None lines =
-    IsBeforeLineFeed None lines × ((lines.has_ended ≡ true) ⊎ (32767 < lines.end - lines.start))
+    IsBeforeLineFeed None lines × ((lines.has_ended ≡ true) ⊎ (longest_line < lines.end - lines.start))
 
 -- The line that was read last, as far as it is kept.
 abbrev pub line_of : {R X : Type 0} → Lines R X → List ℕ
@@ -37,12 +37,12 @@ line_of lines = slice_range lines.buf lines.line_start lines.line_end
 
 -- The line that was read last is this one. It is kept unless it is too long.
 abbrev pub IsHeld : {R X : Type 0} → List ℕ → Lines R X → Type 0
-IsHeld line lines = MatchBool lines.is_long (IsTooLong line) ((length line ≤ 32767) × (line_of lines ≡ line))
+IsHeld line lines = MatchBool lines.is_long (IsTooLong line) ((length line ≤ longest_line) × (line_of lines ≡ line))
 
 -- The line is returned, or is too long.
 abbrev pub IsGiven : List ℕ → Option (Bor (List ℕ)) → Type 0
 IsGiven line None = IsTooLong line
-IsGiven line (Some given) = (length line ≤ 32767) × (given.now ≡ line)
+IsGiven line (Some given) = (length line ≤ longest_line) × (given.now ≡ line)
 
 -- The first `taken` buffered bytes are gone. The first `len` of them are the last line, or belong to a long one.
 abbrev pub IsTaken : {R X : Type 0} → ℕ → ℕ → Bool → Lines R X → Lines R X → Type 0

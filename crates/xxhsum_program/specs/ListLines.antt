@@ -2,13 +2,17 @@
 use Rattle.std.specs.Prelude.{◌≡◌, ◌⊎◌, ℕ, ◌-◌, ◌<◌, ◌≤◌, ◌^◌, Bool, true, List, [], ◌∷◌, length, if◌then◌else◌}
 use Rattle.xxhsum_program.specs.Prelude.{Lacks, NoneEmpty, Pieces, SourceRules, concat}
 
+-- Maximum length of a line in bytes, without its line feed.
+abbrev pub longest_line : ℕ
+longest_line = 32767
+
 -- The line can be the last of a list, without a line feed at its end: it is not empty and contains none.
 abbrev pub IsLastLine : List ℕ → Type 0
 IsLastLine line = Lacks 10 line × (0 < length line)
 
 -- The line is too long to be checked. Its line feed does not count.
 abbrev pub IsTooLong : List ℕ → Type 0
-IsTooLong line = 32767 < length line
+IsTooLong line = longest_line < length line
 
 -- The bytes have no line feed and are 2^64 - 2 or more: their line is not read to its end.
 abbrev pub IsEndless : List ℕ → Type 0

@@ -1,7 +1,7 @@
 -- The outcomes of the names of a hashing run.
 use Rattle.std.specs.Prelude.{◌≡◌, ℕ, Bool, true, false, List, codes, Result, Ok, Err}
 use Rattle.std.specs.List.{list_all}
-use Rattle.xxhsum_program.specs.Prelude.{Digested, IsDirectory, Kind, Outcome, Reason, SourceRules, StoreRules, Unread, concat}
+use Rattle.xxhsum_program.specs.Prelude.{Digested, Files, IsDirectory, Kind, Outcome, Reason, Unread, concat}
 use Rattle.xxh_io.specs.declared.error.DigestError.{DigestError}
 use Rattle.xxh_io.specs.declared.error.DigestError.TheVariants.{ReadFailed, WriteFailed, TooLong}
 use Rattle.xxh_io.specs.Digest.{ReadsTo}
@@ -11,32 +11,32 @@ use Rattle.xxhsum_files.specs.Refusal.{is_missing, refusal_text}
 use Rattle.xxhsum_program.specs.declared.outcome.Reason.TheVariants as Why
 
 -- The name leads to a file that was read to its end, and the value is the digest of the bytes read, with the seed 0.
-abbrev pub IsValueOf : {S F : Type 0} → StoreRules S F → SourceRules F → S → Kind → List ℕ → ℕ → Type 0
-IsValueOf {S} {F} opening reading store kind name value =
+abbrev pub IsValueOf : {S F : Type 0} → Files S F → Kind → List ℕ → ℕ → Type 0
+IsValueOf {S} {F} files kind name value =
     (file end : F) × (pieces : List (List ℕ)) × (read : Result ℕ DigestError) × (read ≡ Ok value)
-    × opening.opens store name file × ReadsTo reading most_reads pieces file end read
+    × files.opening.opens files.store name file × ReadsTo files.reading most_reads pieces file end read
     × (value ≡ value_of kind 0 (concat pieces))
 
 -- The name leads to a file that was not read to its end, for this reason.
-abbrev pub FailsOn : {S F : Type 0} → StoreRules S F → SourceRules F → S → List ℕ → DigestError → Type 0
-FailsOn {S} {F} opening reading store name e =
+abbrev pub FailsOn : {S F : Type 0} → Files S F → List ℕ → DigestError → Type 0
+FailsOn {S} {F} files name e =
     (file end : F) × (pieces : List (List ℕ)) × (read : Result ℕ DigestError) × (read ≡ Err e)
-    × opening.opens store name file × ReadsTo reading most_reads pieces file end read
+    × files.opening.opens files.store name file × ReadsTo files.reading most_reads pieces file end read
 
 -- The name has no value, for this reason.
-abbrev pub HasNoValue : {S F : Type 0} → StoreRules S F → SourceRules F → S → List ℕ → Reason → Type 0
-HasNoValue opening reading store name (Why.Unopened refusal) = opening.refuses store name refusal
-HasNoValue opening reading store name Why.ReadFailed = FailsOn opening reading store name ReadFailed
-HasNoValue opening reading store name Why.TooLong = FailsOn opening reading store name TooLong
+abbrev pub HasNoValue : {S F : Type 0} → Files S F → List ℕ → Reason → Type 0
+HasNoValue files name (Why.Unopened refusal) = files.opening.refuses files.store name refusal
+HasNoValue files name Why.ReadFailed = FailsOn files name ReadFailed
+HasNoValue files name Why.TooLong = FailsOn files name TooLong
 
 -- The name has this outcome. It is `IsDirectory` if and only if the name is a directory in the store.
-abbrev pub Comes : {S F : Type 0} → StoreRules S F → SourceRules F → S → Kind → List ℕ → Outcome → Type 0
-Comes opening reading store kind name (Digested value) =
-    opening.holds_directory store name false × IsValueOf opening reading store kind name value
-Comes opening reading store kind name IsDirectory =
-    opening.holds_directory store name true
-Comes opening reading store kind name (Unread reason) =
-    opening.holds_directory store name false × HasNoValue opening reading store name reason
+abbrev pub Comes : {S F : Type 0} → Files S F → Kind → List ℕ → Outcome → Type 0
+Comes files kind name (Digested value) =
+    files.opening.holds_directory files.store name false × IsValueOf files kind name value
+Comes files kind name IsDirectory =
+    files.opening.holds_directory files.store name true
+Comes files kind name (Unread reason) =
+    files.opening.holds_directory files.store name false × HasNoValue files name reason
 
 -- The reason for a digest's error. A write error does not occur.
 abbrev pub reason_of : DigestError → Reason

@@ -11,6 +11,7 @@ pub use Rattle.xxhsum_line.specs.Parts.{Lacks}
 pub use Rattle.xxhsum_line.specs.declared.printed.Shape.{Shape}
 pub use Rattle.xxhsum_line.specs.declared.printed.Style.{Style}
 pub use Rattle.xxhsum_program.specs.EachHas.{EachHas}
+pub use Rattle.xxhsum_program.specs.Files.{Files, Input, files_of, input_of}
 pub use Rattle.xxhsum_program.specs.Told.{TellsOn}
 pub use Rattle.xxhsum_program.specs.declared.check.Report.{Report}
 pub use Rattle.xxhsum_program.specs.declared.entry.Found.{Found}
@@ -19,6 +20,7 @@ pub use Rattle.xxhsum_program.specs.declared.outcome.Outcome.TheVariants.{Digest
 pub use Rattle.xxhsum_program.specs.declared.outcome.Reason.{Reason}
 pub use Rattle.xxhsum_program.specs.declared.stop.Stop.{Stop}
 pub use Rattle.xxhsum_program.specs.declared.stop.Stop.TheVariants.{OutOfMemory, WriteFailed}
+pub use Rattle.xxhsum_program.specs.declared.streams.Streams.{Streams}
 pub use Rattle.xxhsum_program.specs.declared.watched.Watched.{Watched}
 pub use Rattle.xxhsum_program.specs.declared.watched.ProgressDisplay.{ProgressDisplay}
 pub use Rattle.xxhsum_words.specs.declared.options.Options.{Options}

@@ -1,6 +1,6 @@
 -- The output of a hashing run, and its check with the same files.
 use Rattle.std.specs.Prelude.{◌≡◌, ℕ, ◌-◌, ◌<◌, ◌≤◌, ◌^◌, true, List, Some, [], ◌∷◌, length}
-use Rattle.xxhsum_program.specs.Prelude.{AllByRecursion, Digested, EachHas, IsDirectory, Kind, Lacks, Options, Outcome, Reason, Shape, SourceRules, StoreRules, Unread}
+use Rattle.xxhsum_program.specs.Prelude.{AllByRecursion, Digested, EachHas, Files, IsDirectory, Kind, Lacks, Options, Outcome, Reason, Shape, SourceRules, StoreRules, Unread, files_of}
 use Rattle.xxhsum_program.specs.CheckList.{FindsLines, is_good_list}
 use Rattle.xxhsum_program.specs.Findings.{Finding, IsFinding}
 use Rattle.xxhsum_program.specs.Lines.{lines_of, printed_line}
@@ -18,11 +18,11 @@ entries_of kind shape (name ∷ names) (IsDirectory ∷ outcomes) = entries_of k
 entries_of kind shape (name ∷ names) (Unread reason ∷ outcomes) = entries_of kind shape names outcomes
 
 -- The files don't change: a name with a value has no other value, and no reason to have none.
-abbrev pub FilesStay : {S F : Type 0} → StoreRules S F → SourceRules F → S → Kind → Type 0
-FilesStay opening reading store kind =
-    (name : List ℕ) (value : ℕ) → IsValueOf opening reading store kind name value
-    → ((other : ℕ) → IsValueOf opening reading store kind name other → other ≡ value)
-    × ((reason : Reason) → ¬ HasNoValue opening reading store name reason)
+abbrev pub FilesStay : {S F : Type 0} → Files S F → Kind → Type 0
+FilesStay files kind =
+    (name : List ℕ) (value : ℕ) → IsValueOf files kind name value
+    → ((other : ℕ) → IsValueOf files kind name other → other ≡ value)
+    × ((reason : Reason) → ¬ HasNoValue files name reason)
 
 -- The name has no NUL and at most 16,359 bytes. Each name of the system is like that.
 abbrev pub IsName : List ℕ → Type 0
@@ -34,12 +34,12 @@ abbrev pub PrintedIsGood : {S F R : Type 0} → StoreRules S F → SourceRules F
 PrintedIsGood {S} {F} {R} opening reading list_reading =
     (store : S) (kind : Kind) (shape : Shape) (names : List (List ℕ)) (outcomes : List Outcome) (source : R)
     → (findings : List Finding) (end : ListEnd) (options : Options)
-    → EachHas (Comes opening reading store kind) names outcomes
-    → FilesStay opening reading store kind
+    → EachHas (Comes (files_of opening reading store) kind) names outcomes
+    → FilesStay (files_of opening reading store) kind
     → AllByRecursion IsName names
     → 0 < length (entries_of kind shape names outcomes)
     → length (entries_of kind shape names outcomes) < 2 ^ 64 - 2
     → Holds list_reading source (lines_of (printed_line kind shape) names outcomes)
-    → FindsLines (IsFinding opening reading store shape.is_little) list_reading source
+    → FindsLines (IsFinding (files_of opening reading store) shape.is_little) list_reading source
     findings (Some end)
     → is_good_list options findings (Some end) ≡ true

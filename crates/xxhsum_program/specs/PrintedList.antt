@@ -1,6 +1,6 @@
 -- A list of printed lines: its lines, and their meanings.
 use Rattle.std.specs.Prelude.{◌≡◌, ℕ, ◌-◌, ◌<◌, ◌≤◌, ◌^◌, Bool, true, false, List, Some, [], ◌∷◌, ◌++◌, length, map}
-use Rattle.xxhsum_program.specs.Prelude.{AllByRecursion, EachHas, Found, Kind, Lacks, NoneEmpty, Pieces, Shape, SourceRules, StoreRules, concat}
+use Rattle.xxhsum_program.specs.Prelude.{AllByRecursion, EachHas, Files, Found, Kind, Lacks, NoneEmpty, Pieces, Shape, SourceRules, StoreRules, concat, files_of}
 use Rattle.xxh_io.specs.Kind.{digits_of}
 use Rattle.xxhsum_line.specs.Entry.{Says, is_comment}
 use Rattle.xxhsum_line.specs.Printed.{line_of, text_of}
@@ -8,13 +8,13 @@ use Rattle.xxhsum_program.specs.CheckList.{EndsWell, FindsLines, HasLines, Reads
 use Rattle.xxhsum_program.specs.ListEnd.{ListEnd, Whole}
 use Rattle.xxhsum_program.specs.Findings.{Finding, IsFinding, Proper}
 use Rattle.xxhsum_program.specs.Found.{IsFound}
-use Rattle.xxhsum_program.specs.ListLines.{CantRead, FailsAfter}
+use Rattle.xxhsum_program.specs.ListLines.{CantRead, FailsAfter, longest_line}
 
 -- There are more than 32,767 bytes, and the first 32,767 have no line feed.
 abbrev pub BeginsTooLong : List ℕ → Type 0
 BeginsTooLong bytes =
-    (front rest : List ℕ) × (bytes ≡ front ++ rest) × Lacks 10 front × (32767 ≤ length front)
-    × (32767 < length bytes)
+    (front rest : List ℕ) × (bytes ≡ front ++ rest) × Lacks 10 front × (longest_line ≤ length front)
+    × (longest_line < length bytes)
 
 -- The entry that a line is printed from.
 abbrev pub Listed : Type 0
@@ -33,7 +33,7 @@ printed_list (e ∷ es) = line_of e.kind e.shape e.value e.name ++ printed_list 
 -- digits have the byte order that the check expects in plain lines.
 abbrev pub IsListed : Bool → Listed → Type 0
 IsListed is_little e =
-    (e.value < 16 ^ digits_of e.kind) × Lacks 0 e.name × (length (text_of_listed e) < 32767)
+    (e.value < 16 ^ digits_of e.kind) × Lacks 0 e.name × (length (text_of_listed e) < longest_line)
     × (e.shape.is_little ≡ is_little)
 
 abbrev pub AreListed : Bool → List Listed → Type 0
@@ -43,7 +43,7 @@ AreListed is_little entries = AllByRecursion (IsListed is_little) entries
 abbrev pub ShortNamesFit : Type 0
 ShortNamesFit =
     (kind : Kind) (shape : Shape) (value : ℕ) (name : List ℕ) → length name ≤ 16359
-    → length (text_of kind shape value name) < 32767
+    → length (text_of kind shape value name) < longest_line
 
 -- ---- the lines
 
@@ -95,25 +95,25 @@ HoldsPrintedLines {R} reading =
     → HasJustLines reading source (map text_of_listed entries)
 
 -- The finding is the state of the entry's file.
-abbrev pub IsFindingOf : {S F : Type 0} → StoreRules S F → SourceRules F → S → Listed → Finding → Type 0
-IsFindingOf opening reading store e finding =
+abbrev pub IsFindingOf : {S F : Type 0} → Files S F → Listed → Finding → Type 0
+IsFindingOf files e finding =
     (found : Found) × (finding ≡ Proper e.name found)
-    × IsFound opening reading store e.kind e.value e.name found
+    × IsFound files e.kind e.value e.name found
 
 -- There are as many findings as entries, and each finding belongs to its own entry.
-abbrev pub AreFindingsOf : {S F : Type 0} → StoreRules S F → SourceRules F → S → List Listed → List Finding → Type 0
-AreFindingsOf opening reading store [] [] = Unit {0}
-AreFindingsOf opening reading store [] (finding ∷ findings) = ⊥
-AreFindingsOf opening reading store (e ∷ es) [] = ⊥
-AreFindingsOf opening reading store (e ∷ es) (finding ∷ findings) =
-    IsFindingOf opening reading store e finding × AreFindingsOf opening reading store es findings
+abbrev pub AreFindingsOf : {S F : Type 0} → Files S F → List Listed → List Finding → Type 0
+AreFindingsOf files [] [] = Unit {0}
+AreFindingsOf files [] (finding ∷ findings) = ⊥
+AreFindingsOf files (e ∷ es) [] = ⊥
+AreFindingsOf files (e ∷ es) (finding ∷ findings) =
+    IsFindingOf files e finding × AreFindingsOf files es findings
 
 -- The findings of the lines of a printed list are the states of its entries' files.
 abbrev pub FindsPrintedFiles : {S F : Type 0} → StoreRules S F → SourceRules F → Type 0
 FindsPrintedFiles {S} opening reading =
     (store : S) (is_little : Bool) (entries : List Listed) (findings : List Finding) → AreListed is_little entries
-    → EachHas (IsFinding opening reading store is_little) (map text_of_listed entries) findings
-    → AreFindingsOf opening reading store entries findings
+    → EachHas (IsFinding (files_of opening reading store) is_little) (map text_of_listed entries) findings
+    → AreFindingsOf (files_of opening reading store) entries findings
 
 -- A check of a source that holds a printed list, if it ends, ends at the end of the list. Its findings are exactly the
 -- findings of the entries.
@@ -122,6 +122,6 @@ ChecksPrinted {S} {F} {R} opening reading list_reading =
     (store : S) (is_little : Bool) (entries : List Listed) (source : R) (findings : List Finding) (end : ListEnd)
     → AreListed is_little entries → length entries < 2 ^ 64 - 2
     → Holds list_reading source (printed_list entries)
-    → FindsLines (IsFinding opening reading store is_little) list_reading source findings
+    → FindsLines (IsFinding (files_of opening reading store) is_little) list_reading source findings
     (Some end)
-    → (end ≡ Whole) × AreFindingsOf opening reading store entries findings
+    → (end ≡ Whole) × AreFindingsOf (files_of opening reading store) entries findings

@@ -1,10 +1,12 @@
 -- The run of a task, and the exit status.
-use Rattle.std.specs.Prelude.{◌≡◌, ℕ, Bool, true, false, List, [], codes, Result, Ok, Err}
-use Rattle.xxhsum_program.specs.Prelude.{Options, OutOfMemory, SinkRules, SourceRules, Stop, StoreRules, Style, TellsOn, WriteFailed}
+use Rattle.std.specs.Prelude.{◌≡◌, ℕ, Bool, true, false, List, [], codes, MatchBool, Result, Ok, Err}
+use Rattle.xxhsum_program.specs.Prelude.{Files, Input, Options, OutOfMemory, Stop, Streams, Style, TellsOn, Took, WriteFailed}
 use Rattle.xxhsum_program.specs.CheckList.{SaysList, SaysLists}
+use Rattle.xxhsum_program.specs.Finish.{IsWritten, end_after}
 use Rattle.xxhsum_program.specs.HashNames.{SaysInput, SaysNames}
-use Rattle.xxhsum_program.specs.Order.{StreamRules, Streams}
-use Rattle.xxhsum_program.specs.Task.{Reads, Task, Tells}
+use Rattle.xxhsum_program.specs.Order.{Effect, StreamRules}
+use Rattle.xxhsum_program.specs.Streams.{err_of}
+use Rattle.xxhsum_program.specs.Task.{Reads, Task, Tells, has_none}
 
 abbrev pub style_of : Options → Style
 style_of options = record {
@@ -16,24 +18,29 @@ style_of options = record {
 abbrev pub input_name : List ℕ
 input_name = codes "stdin"
 
--- By whether lists are checked, and whether there is no name: then standard input is read.
-unfoldable pub PerformsAs : {S F R W E : Type 0} → StoreRules S F → SourceRules F → SourceRules R → StreamRules W E → S
-    → Options → List (List ℕ) → R → Streams W E → Streams W E → Result Bool Stop → Bool → Bool → Type 0
-PerformsAs opening reading input_reading rules store options names source old new result true true =
-    SaysList opening reading input_reading rules store options input_name source old new result
-PerformsAs opening reading input_reading rules store options names source old new result true false =
-    SaysLists opening reading rules store options names old new result
-PerformsAs {S} {F} {R} opening reading input_reading rules store options names source old new result false true =
-    (end : R) × SaysInput input_reading rules options.kind (style_of options) input_name source end old new result
-PerformsAs opening reading input_reading rules store options names source old new result false false =
-    SaysNames opening reading rules store options.kind (style_of options) names old new result
+-- Names are hashed, or checked as lists.
+abbrev pub PerformsOn : {S F W E : Type 0} → Files S F → Effect W E → Options → List (List ℕ) → Type 0
+PerformsOn files effect options names =
+    MatchBool options.checks (SaysLists files effect options names)
+    (SaysNames files effect options.kind (style_of options) names)
+
+-- Standard input is hashed, or checked as a list.
+abbrev pub PerformsInput : {S F R W E : Type 0} → Files S F → Input R → Effect W E → Options → Type 0
+PerformsInput {R = R} files input effect options =
+    MatchBool options.checks (SaysList files input effect options input_name)
+    ((end : R) × SaysInput input end effect options.kind (style_of options) input_name)
+
+-- The names, or standard input if there is none.
+unfoldable pub PerformsAs : {S F R W E : Type 0} → Files S F → Input R → Effect W E → Options → List (List ℕ) → Type 0
+PerformsAs files input effect options names =
+    MatchBool (has_none names) (PerformsInput files input effect options) (PerformsOn files effect options names)
 
 -- A text is reported and nothing is printed, or files are read as `performs` states.
-abbrev pub DoesTask : {W E : Type 0} → (Options → List (List ℕ) → Type 0) → SinkRules E → Task → Streams W E
-    → Streams W E → Result Bool Stop → Type 0
-DoesTask performs telling (Tells text good) old new result =
-    (result ≡ Ok good) × (new.out ≡ old.out) × TellsOn telling text old.err new.err
-DoesTask performs telling (Reads options words) old new result = performs options words
+abbrev pub DoesTask : {W E : Type 0} → (Options → List (List ℕ) → Type 0) → Effect W E → Task → Type 0
+DoesTask performs effect (Tells text good) =
+    (effect.result ≡ Ok good) × (effect.new.out ≡ effect.old.out)
+    × TellsOn effect.rules.telling text (err_of effect.old) (err_of effect.new)
+DoesTask performs effect (Reads options words) = performs options words
 
 -- ---- the end
 
@@ -51,3 +58,11 @@ abbrev pub status_of : Result Bool Stop → ℕ
 status_of (Ok true) = 0
 status_of (Ok false) = 1
 status_of (Err stop) = 1
+
+-- No output is held at the end, unless some was lost, and then the reason to stop is reported, if there is one. If
+-- output was lost, the run has failed.
+abbrev pub Ends : {W E : Type 0} → StreamRules W E → Result Bool Stop → Streams W E → Streams W E → ℕ → Type 0
+Ends rules done old new status =
+    let ended = end_after (rules.has_lost new.out) done in
+    Took rules.writing [] old.out new.out × IsWritten rules.held rules.has_lost new.out
+    × TellsOn rules.telling (end_text ended) (err_of old) (err_of new) × (status ≡ status_of ended)

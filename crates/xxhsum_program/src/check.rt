@@ -2,25 +2,26 @@
 
 ghost use Rattle.std.specs.Prelude.{◌≡◌, ◌<◌, ◌≤◌, [], true, List, ℕ, Option, false, length, map, nat_eq, IfErr, IfOk, if◌then◌else◌};
 ghost use Rattle.xxhsum_program.specs.Prelude.{TellsOn};
-ghost use Rattle.xxhsum_program.specs.CheckList.{AnswersList, AnswersOutcome, ChecksLine, FindsLines, IsListOutcome, ListOutcome, ReportsLines, SaysList, SaysLists, outcome_events};
-ghost use Rattle.xxhsum_program.specs.Finish.{IsWritten};
+ghost use Rattle.xxhsum_program.specs.CheckList.{AnswersList, AnswersOutcome, ChecksLine, FindsLines, IsListOutcome, ListOutcome, ReportsLines, SaysList, SaysLists, line_check, outcome_events};
+ghost use Rattle.xxhsum_program.specs.Files.{files_of, input_of};
 ghost use Rattle.xxhsum_program.specs.Findings.{Finding, Improper, IsFinding, TooLong, count_one, count_proper, no_findings, with_broken_end};
 ghost use Rattle.xxhsum_program.specs.Lines.{PrintsLine};
 ghost use Rattle.xxhsum_program.specs.LinesView.{IsGiven};
 ghost use Rattle.xxhsum_program.specs.ListEnd.{FailedRead, ListEnd};
-ghost use Rattle.xxhsum_program.specs.Order.{Emits, EmitsAll, EmitsTo, Reported, rules_of, streams};
+ghost use Rattle.xxhsum_program.specs.Order.{Emits, EmitsAll, EmitsTo, Reported, effect_of, rules_of};
 ghost use Rattle.xxhsum_program.specs.Report.{is_good, is_unverified, passes};
-ghost use Rattle.xxhsum_program.specs.Said.{break_events, count_text, finding_events, found_text, is_silent, lines_events, list_events, printed_summary, summary_events, summary_text, told_of_line, too_long_text, unread_text, unverified_line, unverified_text};
+ghost use Rattle.xxhsum_program.specs.Said.{break_events, count_text, finding_events, found_text, is_silent, lines_events, list_events, printed_summary, summary_events, summary_text, told_of_line, unread_text, unverified_line, unverified_text};
 ghost use Rattle.xxhsum_program.specs.Watched.{source_of};
 
 use crate::entry::{Found, compare};
 use crate::job::Job;
 use crate::lines::{Lines, Next};
 use crate::outcome::OFFERED;
-use crate::say::{line_of, print, release, say_line};
+use crate::say::{line_of, print, say_line};
 use crate::screen::Ticks;
 use crate::stop::Stop;
-use crate::tell::{tell_line, tell_line_after};
+use crate::streams::Streams;
+use crate::tell::tell_line;
 use crate::watched::{ProgressDisplay, Watched};
 use itoa::Buffer;
 use std::alloc::{AllocError, Global};
@@ -120,6 +121,9 @@ impl Report {
 // The message about a list whose read failed.
 const READ_FAILED: &[u8] = b"A failure occurred reading the list";
 
+// The message about a line longer than 32,767 bytes.
+const TOO_LONG: &[u8] = b"Line too long";
+
 // A line of a list. Its text is `None` if it is too long.
 #[derive(Clone, Copy)]
 struct ListLine<'a> {
@@ -142,22 +146,21 @@ impl<S: Store, T: Ticks> ListCheck<'_, S, T> {
     fn check<R: Source + Drop, W: Output, E: Sink>(
         &self,
         source: Watched<R, T>,
-        out: &mut W,
-        err: &mut E,
+        streams: &mut Streams<W, E>,
     ) -> Result<bool, Stop>
-        requires { W.has_failed out.old ≡ false }
+        requires { W.has_failed streams.old.out ≡ false }
         ensures checks { (findings : List Finding) × (end : Option ListEnd)
-            × FindsLines (IsFinding S.Store S.File.Source self.now.store.now
+            × FindsLines (IsFinding (files_of S.Store S.File.Source self.now.store.now)
             self.now.options.is_little_endian) R.Source (source_of source) findings end
             × AnswersList self.now.options findings end result
             × EmitsTo (rules_of W.Sink W.held W.has_lost E.Sink)
             (list_events self.now.options self.now.name.now findings end)
-            (streams out.old err.old) (streams out.new err.new) result }
-        ensures works { IfOk result (λ _. W.has_failed out.new ≡ false) }
+            streams.old streams.new result }
+        ensures works { IfOk result (λ _. W.has_failed streams.new.out ≡ false) }
     {
         let unverified = self.unverified_line()?;
-        let report = self.check_lines(source, out, err)?;
-        self.sum_up(&report, &unverified, out, err)?;
+        let report = self.check_lines(source, streams)?;
+        self.sum_up(&report, &unverified, streams)?;
         Ok(report.passes(self.options))
     }
 
@@ -165,18 +168,17 @@ impl<S: Store, T: Ticks> ListCheck<'_, S, T> {
     fn check_lines<R: Source + Drop, W: Output, E: Sink>(
         &self,
         source: Watched<R, T>,
-        out: &mut W,
-        err: &mut E,
+        streams: &mut Streams<W, E>,
     ) -> Result<Report, Stop>
-        requires { W.has_failed out.old ≡ false }
+        requires { W.has_failed streams.old.out ≡ false }
         ensures checks { (findings : List Finding) × (end : Option ListEnd)
-            × FindsLines (IsFinding S.Store S.File.Source self.now.store.now
+            × FindsLines (IsFinding (files_of S.Store S.File.Source self.now.store.now)
             self.now.options.is_little_endian) R.Source (source_of source) findings end
             × ReportsLines self.now.options.ignores_missing findings end result
             × EmitsTo (rules_of W.Sink W.held W.has_lost E.Sink)
             (lines_events self.now.options self.now.name.now findings end)
-            (streams out.old err.old) (streams out.new err.new) result }
-        ensures works { IfOk result (λ _. W.has_failed out.new ≡ false) }
+            streams.old streams.new result }
+        ensures works { IfOk result (λ _. W.has_failed streams.new.out ≡ false) }
     {
         let mut lines = Lines::new(source);
         let mut report = Report::new();
@@ -185,11 +187,11 @@ impl<S: Store, T: Ticks> ListCheck<'_, S, T> {
             match lines.next() {
                 Next::End => return Ok(report),
                 Next::Failed => {
-                    self.tell_of_failure(number, &report, out, err);
+                    self.tell_of_failure(number, &report, streams);
                     return Ok(report.with_broken_end());
                 }
                 Next::Endless => {
-                    self.tell_too_long(number, out, err);
+                    self.report_line(number, TOO_LONG, streams);
                     return Ok(report.with_broken_end());
                 }
                 Next::Line => {
@@ -197,7 +199,7 @@ impl<S: Store, T: Ticks> ListCheck<'_, S, T> {
                         number,
                         text: lines.line(),
                     };
-                    self.check_line(line, &mut report, &mut buf, out, err)?;
+                    self.check_line(line, &mut report, &mut buf, streams)?;
                 }
             }
         }
@@ -210,27 +212,26 @@ impl<S: Store, T: Ticks> ListCheck<'_, S, T> {
         line: ListLine<'_>,
         report: &mut Report,
         buf: &mut [u8],
-        out: &mut W,
-        err: &mut E,
+        streams: &mut Streams<W, E>,
     ) -> Result<(), Stop>
         requires room { 0 < length buf.old }
-        requires writer { W.has_failed out.old ≡ false }
+        requires writer { W.has_failed streams.old.out ≡ false }
         ensures checks { (text : List ℕ) → IsGiven text line.entry.text → ChecksLine
-            (IsFinding S.Store S.File.Source self.now.store.now self.now.options.is_little_endian
-            text) (rules_of W.Sink W.held W.has_lost E.Sink) self.now.options self.now.name.now
-            line.entry.number report.old report.new (streams out.old err.old)
-            (streams out.new err.new) result }
-        ensures works { IfOk result (λ _. W.has_failed out.new ≡ false) }
+            (IsFinding (files_of S.Store S.File.Source self.now.store.now)
+            self.now.options.is_little_endian text)
+            (line_check self.now.options self.now.name.now line.entry.number report.old report.new)
+            (rules_of W.Sink W.held W.has_lost E.Sink) streams.old streams.new result }
+        ensures works { IfOk result (λ _. W.has_failed streams.new.out ≡ false) }
     {
         let Some(text) = line.text else {
-            self.count_too_long(line.number, report, out, err);
+            self.count_too_long(line.number, report, streams);
             return Ok(());
         };
         let entry = match meaning_of(self.alloc, text, self.options.is_little_endian)? {
             Meaning::Entry(entry) => entry,
             Meaning::Comment => return Ok(()),
             Meaning::Malformed => {
-                self.count_improper(line.number, report, out, err);
+                self.count_improper(line.number, report, streams);
                 return Ok(());
             }
         };
@@ -239,7 +240,7 @@ impl<S: Store, T: Ticks> ListCheck<'_, S, T> {
         if is_silent(self.options, &found) {
             return Ok(());
         }
-        self.say_found(line.number, &entry.name, &found, out)
+        self.say_found(line.number, &entry.name, &found, &mut streams.out)
     }
 
     // Counts a malformed line. Reports it if `--warn` is given.
@@ -247,27 +248,19 @@ impl<S: Store, T: Ticks> ListCheck<'_, S, T> {
         &self,
         number: u64,
         report: &mut Report,
-        out: &mut W,
-        err: &mut E,
+        streams: &mut Streams<W, E>,
     )
-        requires { W.has_failed out.old ≡ false }
+        requires { W.has_failed streams.old.out ≡ false }
         ensures emits { EmitsAll (rules_of W.Sink W.held W.has_lost E.Sink)
             (finding_events self.now.options self.now.name.now number Improper)
-            (streams out.old err.old) (streams out.new err.new) }
-        ensures works { W.has_failed out.new ≡ false }
+            streams.old streams.new }
+        ensures works { W.has_failed streams.new.out ≡ false }
         ensures counts { report.new
             ≡ count_one self.now.options.ignores_missing report.old Improper }
     {
         report.improper = report.improper.saturating_add(1);
         if self.options.warns {
-            release(out);
-            tell_of_line_after(
-                self.name,
-                number,
-                b"Improperly formatted checksum line",
-                out,
-                err,
-            );
+            self.report_line(number, b"Improperly formatted checksum line", streams);
         }
     }
 
@@ -276,14 +269,13 @@ impl<S: Store, T: Ticks> ListCheck<'_, S, T> {
         &self,
         number: u64,
         report: &mut Report,
-        out: &mut W,
-        err: &mut E,
+        streams: &mut Streams<W, E>,
     )
-        requires { W.has_failed out.old ≡ false }
+        requires { W.has_failed streams.old.out ≡ false }
         ensures emits { EmitsAll (rules_of W.Sink W.held W.has_lost E.Sink)
             (finding_events self.now.options self.now.name.now number TooLong)
-            (streams out.old err.old) (streams out.new err.new) }
-        ensures works { W.has_failed out.new ≡ false }
+            streams.old streams.new }
+        ensures works { W.has_failed streams.new.out ≡ false }
         ensures counts { report.new
             ≡ count_one self.now.options.ignores_missing report.old TooLong }
     {
@@ -291,19 +283,18 @@ impl<S: Store, T: Ticks> ListCheck<'_, S, T> {
             improper: report.improper.saturating_add(1),
             ..report.with_broken_end()
         };
-        self.tell_too_long(number, out, err);
+        self.report_line(number, TOO_LONG, streams);
     }
 
-    // Reports that line `number` is too long.
-    fn tell_too_long<W: Output, E: Sink>(&self, number: u64, out: &mut W, err: &mut E)
-        requires { W.has_failed out.old ≡ false }
-        ensures emits { Emits (rules_of W.Sink W.held W.has_lost E.Sink)
-            (Reported (too_long_text self.now.name.now number))
-            (streams out.old err.old) (streams out.new err.new) }
-        ensures works { W.has_failed out.new ≡ false }
+    // Reports what is wrong with line `number`.
+    fn report_line<W: Output, E: Sink>(&self, number: u64, what: &[u8], streams: &mut Streams<W, E>)
+        requires { W.has_failed streams.old.out ≡ false }
+        ensures reports { Emits (rules_of W.Sink W.held W.has_lost E.Sink)
+            (Reported (told_of_line self.now.name.now number what.now)) streams.old streams.new }
+        ensures works { W.has_failed streams.new.out ≡ false }
     {
-        release(out);
-        tell_of_line_after(self.name, number, b"Line too long", out, err);
+        streams.release();
+        tell_of_line(self.name, number, what, streams.messages());
     }
 
     // Prints the result of line `number`.
@@ -335,18 +326,16 @@ impl<S: Store, T: Ticks> ListCheck<'_, S, T> {
         &self,
         number: u64,
         report: &Report,
-        out: &mut W,
-        err: &mut E,
+        streams: &mut Streams<W, E>,
     )
-        requires { W.has_failed out.old ≡ false }
+        requires { W.has_failed streams.old.out ≡ false }
         ensures emits { EmitsAll (rules_of W.Sink W.held W.has_lost E.Sink)
             (break_events self.now.name.now number report.now FailedRead)
-            (streams out.old err.old) (streams out.new err.new) }
-        ensures works { W.has_failed out.new ≡ false }
+            streams.old streams.new }
+        ensures works { W.has_failed streams.new.out ≡ false }
     {
         if report.proper > 0 {
-            release(out);
-            tell_of_line_after(self.name, number, READ_FAILED, out, err);
+            self.report_line(number, READ_FAILED, streams);
         }
     }
 
@@ -362,28 +351,22 @@ impl<S: Store, T: Ticks> ListCheck<'_, S, T> {
         &self,
         report: &Report,
         unverified: &[u8],
-        out: &mut W,
-        err: &mut E,
+        streams: &mut Streams<W, E>,
     ) -> Result<(), Stop>
         requires line { unverified.now ≡ unverified_line self.now.name.now }
-        requires writer { W.has_failed out.old ≡ false }
+        requires writer { W.has_failed streams.old.out ≡ false }
         ensures emits { EmitsTo (rules_of W.Sink W.held W.has_lost E.Sink)
             (summary_events self.now.options self.now.name.now report.now)
-            (streams out.old err.old) (streams out.new err.new) result }
-        ensures works { IfOk result (λ _. W.has_failed out.new ≡ false) }
+            streams.old streams.new result }
+        ensures works { IfOk result (λ _. W.has_failed streams.new.out ≡ false) }
     {
         if report.proper == 0 {
-            release(out);
-            tell_line_after(
-                &[
-                    self.name,
-                    b": no properly formatted xxHash checksum lines found",
-                ],
-                out,
-                err,
-            );
+            streams.report(&[
+                self.name,
+                b": no properly formatted xxHash checksum lines found",
+            ]);
         }
-        self.say_summary(report, unverified, out)
+        self.say_summary(report, unverified, &mut streams.out)
     }
 
     // Prints the summary of a list.
@@ -502,22 +485,6 @@ pub fn tell_of_line<'a, E: Sink>(list: &'a [u8], number: u64, what: &'a [u8], er
     tell_line(&parts, err);
 }
 
-// Reports what is wrong with line `number` of `list`, after the output `out`. The caller shows that all printed lines
-// are written, or were lost.
-fn tell_of_line_after<W: Output, E: Sink>(
-    list: &[u8],
-    number: u64,
-    what: &[u8],
-    out: &W,
-    err: &mut E,
-)
-    requires { IsWritten W.held W.has_lost out.now }
-    ensures { TellsOn E.Sink (told_of_line list.now number what.now) err.old err.new }
-{
-    let _ = out;
-    tell_of_line(list, number, what, err);
-}
-
 // Maximum length of a line with a count, in bytes.
 const MOST_COUNT_LINE: usize = 80;
 
@@ -567,14 +534,13 @@ pub fn check_list<S: Store, T: Ticks, R: Source + Drop, W: Output, E: Sink>(
     job: &Job<'_, S, T>,
     name: &[u8],
     source: R,
-    out: &mut W,
-    err: &mut E,
+    streams: &mut Streams<W, E>,
 ) -> Result<bool, Stop>
-    ensures { SaysList S.Store S.File.Source R.Source (rules_of W.Sink W.held W.has_lost E.Sink)
-        job.now.store.now job.now.options name.now source (streams out.old err.old)
-        (streams out.new err.new) result }
+    ensures { SaysList (files_of S.Store S.File.Source job.now.store.now) (input_of R.Source source)
+        (effect_of (rules_of W.Sink W.held W.has_lost E.Sink) streams.old streams.new result)
+        job.now.options name.now }
 {
-    if out.failed() {
+    if streams.out.failed() {
         return Err(Stop::WriteFailed);
     }
     let list = ListCheck {
@@ -584,25 +550,24 @@ pub fn check_list<S: Store, T: Ticks, R: Source + Drop, W: Output, E: Sink>(
         progress: job.progress,
         name,
     };
-    list.check(job.progress.watch(source), out, err)
+    list.check(job.progress.watch(source), streams)
 }
 
 // Checks the list `name`. A list that can't be opened is reported, and fails.
 fn check_named<S: Store, T: Ticks, W: Output, E: Sink>(
     job: &Job<'_, S, T>,
     name: &[u8],
-    out: &mut W,
-    err: &mut E,
+    streams: &mut Streams<W, E>,
 ) -> Result<bool, Stop>
-    requires { W.has_failed out.old ≡ false }
+    requires { W.has_failed streams.old.out ≡ false }
     ensures checks { (outcome : ListOutcome)
-        × IsListOutcome S.Store S.File.Source job.now.store.now job.now.options.is_little_endian
+        × IsListOutcome (files_of S.Store S.File.Source job.now.store.now) job.now.options.is_little_endian
         name.now outcome
         × AnswersOutcome job.now.options outcome result
         × EmitsTo (rules_of W.Sink W.held W.has_lost E.Sink)
         (outcome_events job.now.options name.now outcome)
-        (streams out.old err.old) (streams out.new err.new) result }
-    ensures works { IfOk result (λ _. W.has_failed out.new ≡ false) }
+        streams.old streams.new result }
+    ensures works { IfOk result (λ _. W.has_failed streams.new.out ≡ false) }
 {
     match job.progress.open(job.store, name) {
         Ok(file) => {
@@ -613,15 +578,10 @@ fn check_named<S: Store, T: Ticks, W: Output, E: Sink>(
                 progress: job.progress,
                 name,
             };
-            list.check(file, out, err)
+            list.check(file, streams)
         }
         Err(refusal) => {
-            release(out);
-            tell_line_after(
-                &[b"Error: Could not open '", name, b"': ", refusal.text()],
-                out,
-                err,
-            );
+            streams.report(&[b"Error: Could not open '", name, b"': ", refusal.text()]);
             Ok(false)
         }
     }
@@ -635,19 +595,18 @@ fn check_named<S: Store, T: Ticks, W: Output, E: Sink>(
 pub fn check_lists<S: Store, T: Ticks, W: Output, E: Sink>(
     job: &Job<'_, S, T>,
     names: &[Vec<u8>],
-    out: &mut W,
-    err: &mut E,
+    streams: &mut Streams<W, E>,
 ) -> Result<bool, Stop>
-    ensures { SaysLists S.Store S.File.Source (rules_of W.Sink W.held W.has_lost E.Sink)
-        job.now.store.now job.now.options (map (λ name. name.items) names.now)
-        (streams out.old err.old) (streams out.new err.new) result }
+    ensures { SaysLists (files_of S.Store S.File.Source job.now.store.now)
+        (effect_of (rules_of W.Sink W.held W.has_lost E.Sink) streams.old streams.new result)
+        job.now.options (map (λ name. name.items) names.now) }
 {
-    if out.failed() {
+    if streams.out.failed() {
         return Err(Stop::WriteFailed);
     }
     let mut all = true;
     for name in names {
-        let good = check_named(job, name, out, err)?;
+        let good = check_named(job, name, streams)?;
         all = all && good;
     }
     Ok(all)

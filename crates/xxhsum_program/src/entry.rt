@@ -1,6 +1,7 @@
 //! Compares one line of a list with the file that it names.
 
 ghost use Rattle.std.specs.Prelude.{◌≡◌, ◌<◌, length};
+ghost use Rattle.xxhsum_program.specs.Files.{files_of};
 ghost use Rattle.xxhsum_program.specs.Found.{IsFound, is_gone};
 
 use crate::outcome::{Reason, value_named};
@@ -40,7 +41,7 @@ pub(crate) fn compare<S: Store, T: Ticks>(
     buf: &mut [u8],
 ) -> Found
     requires { 0 < length buf.old }
-    ensures { IsFound S.Store S.File.Source store.now entry.now.kind entry.now.value
+    ensures { IsFound (files_of S.Store S.File.Source store.now) entry.now.kind entry.now.value
         entry.now.name.items result }
 {
     match value_named(store, progress, entry.kind, &entry.name, buf) {

@@ -2,21 +2,21 @@
 
 ghost use Rattle.std.specs.Prelude.{◌≡◌, false, map, IfOk};
 ghost use Rattle.xxhsum_line.specs.Printed.{styled_line};
-ghost use Rattle.xxhsum_program.specs.Finish.{IsWritten};
-ghost use Rattle.xxhsum_program.specs.HashNames.{SaysInput, SaysNames};
-ghost use Rattle.xxhsum_program.specs.Lines.{PrintsLine, told_line, written_line};
-ghost use Rattle.xxhsum_program.specs.Order.{rules_of, streams};
-ghost use Rattle.xxhsum_program.specs.Outcomes.{is_digested};
+ghost use Rattle.xxhsum_program.specs.Files.{files_of, input_of};
+ghost use Rattle.xxhsum_program.specs.HashNames.{SaysInput, SaysNames, name_events};
+ghost use Rattle.xxhsum_program.specs.Lines.{PrintsLine, told_line};
+ghost use Rattle.xxhsum_program.specs.Order.{EmitsOrNone, effect_of, rules_of};
 ghost use Rattle.xxhsum_program.specs.Run.{style_of};
 ghost use Rattle.xxhsum_program.specs.Told.{TellsOn};
 ghost use Rattle.xxhsum_program.specs.Watched.{source_of};
 
 use crate::job::Job;
 use crate::outcome::{OFFERED, Outcome, Reason, outcome_of};
-use crate::say::{print, release};
+use crate::say::print;
 use crate::screen::Ticks;
 use crate::stop::Stop;
-use crate::tell::{tell_line, tell_line_after};
+use crate::streams::Streams;
+use crate::tell::tell_line;
 use crate::watched::Watched;
 use std::alloc::Global;
 use xxh_io::ends::{Sink, Source};
@@ -37,24 +37,21 @@ use xxhsum_words::options::Options;
 pub fn hash_names<S: Store, T: Ticks, W: Output, E: Sink>(
     job: &Job<'_, S, T>,
     names: &[Vec<u8>],
-    out: &mut W,
-    err: &mut E,
+    streams: &mut Streams<W, E>,
 ) -> Result<bool, Stop>
-    requires { W.has_failed out.old ≡ false }
+    requires { W.has_failed streams.old.out ≡ false }
 
     // Each name has one outcome, in order. Standard output has the lines of names with a value, and standard error the
     // messages of the others, in one sequence: when a message is written, all lines before it are written, or were lost.
-    ensures { SaysNames S.Store S.File.Source (rules_of W.Sink W.held W.has_lost E.Sink)
-        job.now.store.now job.now.options.kind (style_of job.now.options)
-        (map (λ name. name.items) names.now) (streams out.old err.old) (streams out.new err.new)
-        result }
+    ensures { SaysNames (files_of S.Store S.File.Source job.now.store.now)
+        (effect_of (rules_of W.Sink W.held W.has_lost E.Sink) streams.old streams.new result)
+        job.now.options.kind (style_of job.now.options) (map (λ name. name.items) names.now) }
 {
     let mut buf = [0; OFFERED];
     let mut all = true;
     for name in names {
         let outcome = outcome_of(job, job.options.kind, name, &mut buf);
-        print_outcome(job.alloc, job.options, name, &outcome, out)?;
-        tell_outcome_after(name, &outcome, out, err);
+        write_outcome(job.alloc, job.options, name, &outcome, streams)?;
         all = all && outcome.is_digested();
     }
     Ok(all)
@@ -73,47 +70,47 @@ pub fn hash_input<R: Source, T: Ticks, W: Output, E: Sink>(
     options: Options,
     name: &[u8],
     input: &mut Watched<R, T>,
-    out: &mut W,
-    err: &mut E,
+    streams: &mut Streams<W, E>,
 ) -> Result<bool, Stop>
     requires reader { R.has_failed (source_of input.old) ≡ false }
-    requires writer { W.has_failed out.old ≡ false }
-    ensures { SaysInput R.Source (rules_of W.Sink W.held W.has_lost E.Sink)
-        options.kind (style_of options) name.now (source_of input.old) (source_of input.new)
-        (streams out.old err.old) (streams out.new err.new) result }
+    requires writer { W.has_failed streams.old.out ≡ false }
+    ensures { SaysInput (input_of R.Source (source_of input.old)) (source_of input.new)
+        (effect_of (rules_of W.Sink W.held W.has_lost E.Sink) streams.old streams.new result)
+        options.kind (style_of options) name.now }
 {
     match input.value(options.kind, &mut [0; OFFERED]) {
         Ok(value) => {
-            print_value(alloc, options, name, value, out)?;
+            print_value(alloc, options, name, value, &mut streams.out)?;
             Ok(true)
         }
         Err(error) => {
-            release(out);
-            tell_line_after(&[b"Error: ", Reason::from(error).text(), b"."], out, err);
+            streams.report(&[b"Error: ", Reason::from(error).text(), b"."]);
             Ok(false)
         }
     }
 }
 
-// Writes the digest line of a name that has a value. For a name without one, writes the bytes that `out` holds, since a
-// message follows.
-fn print_outcome<W: Output>(
+// Writes the digest line of a name that has a value, and reports why another name has none.
+fn write_outcome<W: Output, E: Sink>(
     alloc: Global,
     options: Options,
     name: &[u8],
     outcome: &Outcome,
-    out: &mut W,
+    streams: &mut Streams<W, E>,
 ) -> Result<(), Stop>
-    requires { W.has_failed out.old ≡ false }
-    ensures prints { PrintsLine W.Sink
-        (written_line options.kind (style_of options) name.now outcome.now) out.old out.new result }
-    ensures written { is_digested outcome.now ≡ false → IsWritten W.held W.has_lost out.new }
-    ensures works { IfOk result (λ _. W.has_failed out.new ≡ false) }
+    requires { W.has_failed streams.old.out ≡ false }
+    ensures emits { EmitsOrNone (rules_of W.Sink W.held W.has_lost E.Sink)
+        (name_events options.kind (style_of options) name.now outcome.now)
+        streams.old streams.new result }
+    ensures works { IfOk result (λ _. W.has_failed streams.new.out ≡ false) }
 {
     match outcome {
-        Outcome::Digested { value } => print_value(alloc, options, name, *value, out),
+        Outcome::Digested { value } => {
+            print_value(alloc, options, name, *value, &mut streams.out)
+        }
         Outcome::IsDirectory | Outcome::Unread { .. } => {
-            release(out);
+            streams.release();
+            tell_outcome(name, outcome, streams.messages());
             Ok(())
         }
     }
@@ -169,14 +166,4 @@ pub fn tell_outcome<'a, E: Sink>(name: &'a [u8], outcome: &'a Outcome, err: &mut
             tell_line(&parts, err);
         }
     }
-}
-
-// Reports why a name has no value, after the output `out`. The caller shows that all printed lines are written, or were
-// lost, if there is something to report.
-fn tell_outcome_after<W: Output, E: Sink>(name: &[u8], outcome: &Outcome, out: &W, err: &mut E)
-    requires { is_digested outcome.now ≡ false → IsWritten W.held W.has_lost out.now }
-    ensures { TellsOn E.Sink (told_line name.now outcome.now) err.old err.new }
-{
-    let _ = out;
-    tell_outcome(name, outcome, err);
 }

@@ -16,6 +16,7 @@ pub mod progress;
 pub mod say;
 pub mod screen;
 pub mod stop;
+pub mod streams;
 pub mod tell;
 pub mod told_lines;
 mod usage;

@@ -9,7 +9,7 @@ use xxh_io::ends::{Failed, Source};
 const BUFFER: usize = 65536;
 
 // Maximum length of a line in bytes, without its line feed. A longer line is skipped.
-const MOST: usize = 32767;
+const LONGEST_LINE: usize = 32767;
 
 /// The next item of a list.
 #[derive(Clone, Copy, Debug, PartialEq, Eq)]
@@ -34,7 +34,7 @@ pub struct Lines<R, T> {
     // `buf[line_start..line_end]` is the current line, without its line feed.
     line_start: usize,
     line_end: usize,
-    // True if the current line has more than MOST bytes.
+    // True if the current line has more than LONGEST_LINE bytes.
     is_long: bool,
     has_ended: bool,
     ghost ordered: { start ≤ end },
@@ -69,7 +69,7 @@ impl<R: Source + Drop, T: Ticks> Lines<R, T> {
     fn refill(&mut self) -> Result<(), Failed>
         requires open { self.old.has_ended ≡ false }
         requires unended { Lacks 10 (waiting self.old) }
-        requires room { self.old.end ≤ self.old.start + 32767 }
+        requires room { self.old.end ≤ self.old.start + LONGEST_LINE }
         ensures reads { (from : R) (done : List ℕ) → HasRead R.Source from done self.old
             → ReadsBehind R.Source from done self.new result }
         ensures ends { OnOk result (most_reads_left self.new < most_reads_left self.old) }
@@ -104,7 +104,7 @@ impl<R: Source + Drop, T: Ticks> Lines<R, T> {
     {
         loop {
             let found = self.before_line_feed();
-            if found.is_some() || self.has_ended || self.end - self.start > MOST {
+            if found.is_some() || self.has_ended || self.end - self.start > LONGEST_LINE {
                 return Ok(found);
             }
             self.refill()?;
@@ -123,10 +123,10 @@ impl<R: Source + Drop, T: Ticks> Lines<R, T> {
         self.is_long = is_long;
     }
 
-    // Skips a line with more than MOST buffered bytes, up to its line feed or the end.
+    // Skips a line with more than LONGEST_LINE buffered bytes, up to its line feed or the end.
     fn pass_over(&mut self) -> Next
         requires unended { Lacks 10 (waiting self.old) }
-        requires long { 32767 < self.old.end - self.old.start }
+        requires long { LONGEST_LINE < self.old.end - self.old.start }
         ensures { (from : R) (done : List ℕ) → HasRead R.Source from done self.old
             → IsNext R.Source from done self.new result }
     {
@@ -156,7 +156,7 @@ impl<R: Source + Drop, T: Ticks> Lines<R, T> {
     {
         match self.gather() {
             Err(Failed) => Next::Failed,
-            Ok(Some(len)) if len > MOST => {
+            Ok(Some(len)) if len > LONGEST_LINE => {
                 self.take(0, len + 1, true);
                 Next::Line
             }
@@ -166,7 +166,7 @@ impl<R: Source + Drop, T: Ticks> Lines<R, T> {
             }
             Ok(None) => match self.end - self.start {
                 0 => Next::End,
-                waiting if waiting > MOST => self.pass_over(),
+                waiting if waiting > LONGEST_LINE => self.pass_over(),
                 waiting => {
                     self.take(waiting, waiting, false);
                     Next::Line

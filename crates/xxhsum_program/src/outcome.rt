@@ -1,6 +1,7 @@
 //! The outcome of one name in a hashing run.
 
 ghost use Rattle.std.specs.Prelude.{◌≡◌, ◌<◌, false, length, IfOk, IfErr};
+ghost use Rattle.xxhsum_program.specs.Files.{files_of};
 ghost use Rattle.xxhsum_program.specs.Outcomes.{Comes, HasNoValue, IsValueOf, reason_of};
 
 use crate::job::Job;
@@ -108,8 +109,8 @@ pub(crate) fn value_named<S: Store, T: Ticks>(
     buf: &mut [u8],
 ) -> Result<u128, Reason>
     requires { 0 < length buf.old }
-    ensures value { IfOk result (IsValueOf S.Store S.File.Source store.now kind name.now) }
-    ensures reason { IfErr result (HasNoValue S.Store S.File.Source store.now name.now) }
+    ensures value { IfOk result (IsValueOf (files_of S.Store S.File.Source store.now) kind name.now) }
+    ensures reason { IfErr result (HasNoValue (files_of S.Store S.File.Source store.now) name.now) }
 {
     match progress.open(store, name) {
         Ok(file) => {
@@ -129,7 +130,7 @@ pub fn outcome_of<S: Store, T: Ticks>(
     buf: &mut [u8],
 ) -> Outcome
     requires { 0 < length buf.old }
-    ensures { Comes S.Store S.File.Source job.now.store.now kind name.now result }
+    ensures { Comes (files_of S.Store S.File.Source job.now.store.now) kind name.now result }
 {
     if job.store.is_directory(name) {
         return Outcome::IsDirectory;

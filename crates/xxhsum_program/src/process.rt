@@ -1,10 +1,10 @@
 //! Decides what the arguments ask for, and runs over files and lists.
 
 ghost use Rattle.std.specs.Prelude.{◌≡◌, false, Bool, List, ℕ, Option, Result, [], drop, get_or, map, IfSome};
-ghost use Rattle.xxhsum_program.specs.Finish.{Finishes, IsWritten};
+ghost use Rattle.xxhsum_program.specs.Files.{files_of, input_of};
 ghost use Rattle.xxhsum_program.specs.Joined.{joined};
-ghost use Rattle.xxhsum_program.specs.Order.{rules_of, streams};
-ghost use Rattle.xxhsum_program.specs.Run.{PerformsAs, end_text, status_of, stop_text};
+ghost use Rattle.xxhsum_program.specs.Order.{effect_of, rules_of};
+ghost use Rattle.xxhsum_program.specs.Run.{Ends, PerformsAs, end_text, status_of, stop_text};
 ghost use Rattle.xxhsum_program.specs.Task.{IsProgram, answer_text, has_none, is_tree, is_well, run_asked, shows_progress, usage_text, waits_for_terminal, wrong_text};
 ghost use Rattle.xxhsum_program.specs.Prelude.{Stop, TellsOn};
 
@@ -15,6 +15,7 @@ use crate::job::Job;
 use crate::say::finish;
 use crate::screen::Ticks;
 use crate::stop::Stop;
+use crate::streams::Streams;
 use crate::tell::{tell, tell_line};
 use crate::usage::{ABOUT, BEFORE, BEHIND, NO_BENCHMARK, TITLE, tell_options};
 use xxh_io::ends::{Sink, Source};
@@ -215,8 +216,7 @@ pub fn perform<S, T, R, W, E>(
     job: &Job<'_, S, T>,
     names: &[Vec<u8>],
     input: R,
-    out: &mut W,
-    err: &mut E,
+    streams: &mut Streams<W, E>,
 ) -> Result<bool, Stop>
 where
     S: Store,
@@ -225,23 +225,22 @@ where
     W: Output,
     E: Sink,
     requires reader { R.has_failed input ≡ false }
-    requires writer { W.has_failed out.old ≡ false }
-    ensures { let given = map (λ name. name.items) names.now in
-        PerformsAs S.Store S.File.Source R.Source (rules_of W.Sink W.held W.has_lost E.Sink)
-        job.now.store.now job.now.options given input (streams out.old err.old)
-        (streams out.new err.new) result job.now.options.checks (has_none given) }
+    requires writer { W.has_failed streams.old.out ≡ false }
+    ensures { PerformsAs (files_of S.Store S.File.Source job.now.store.now) (input_of R.Source input)
+        (effect_of (rules_of W.Sink W.held W.has_lost E.Sink) streams.old streams.new result)
+        job.now.options (map (λ name. name.items) names.now) }
 {
     if job.options.checks {
         if has_none(names) {
-            return check_list(job, INPUT, input, out, err);
+            return check_list(job, INPUT, input, streams);
         }
-        return check_lists(job, names, out, err);
+        return check_lists(job, names, streams);
     }
     if has_none(names) {
         let mut input = job.progress.watch(input);
-        return hash_input(job.alloc, job.options, INPUT, &mut input, out, err);
+        return hash_input(job.alloc, job.options, INPUT, &mut input, streams);
     }
-    hash_names(job, names, out, err)
+    hash_names(job, names, streams)
 }
 
 fn has_none(names: &[Vec<u8>]) -> bool
@@ -267,24 +266,11 @@ fn conclude<E: Sink>(done: Result<bool, Stop>, err: &mut E) -> u8
 
 /// Ends a run: writes the bytes that the output holds, and then reports why the run stops, if it does. Returns the exit
 /// status.
-pub fn end<W: Output, E: Sink>(done: Result<bool, Stop>, out: &mut W, err: &mut E) -> u8
-    ensures { (ended : Result Bool Stop)
-        × Finishes W.Sink W.held W.has_lost done out.old out.new ended
-        × TellsOn E.Sink (end_text ended) err.old err.new × (result ≡ status_of ended) }
+pub fn end<W: Output, E: Sink>(done: Result<bool, Stop>, streams: &mut Streams<W, E>) -> u8
+    ensures { Ends (rules_of W.Sink W.held W.has_lost E.Sink) done streams.old streams.new result }
 {
-    let ended = finish(done, out);
-    conclude_after(ended, out, err)
-}
-
-// Reports why the run stops, after the output `out`, and returns the exit status. The caller shows that all printed
-// lines are written, or were lost.
-fn conclude_after<W: Output, E: Sink>(done: Result<bool, Stop>, out: &W, err: &mut E) -> u8
-    requires { IsWritten W.held W.has_lost out.now }
-    ensures status { result ≡ status_of done }
-    ensures tells { TellsOn E.Sink (end_text done) err.old err.new }
-{
-    let _ = out;
-    conclude(done, err)
+    let ended = finish(done, &mut streams.out);
+    conclude(ended, streams.messages())
 }
 
 // Returns the message for this reason to stop.

@@ -2,7 +2,7 @@
 
 ghost use Rattle.std.specs.Prelude.{◌≡◌, ◌++◌, [], false, Bool, Result, IfOk, IfErr};
 ghost use Rattle.xxhsum_program.specs.Prelude.{Took, one_line};
-ghost use Rattle.xxhsum_program.specs.Finish.{Finishes, IsWritten};
+ghost use Rattle.xxhsum_program.specs.Finish.{IsWritten, end_after};
 ghost use Rattle.xxhsum_program.specs.Joined.{joined};
 ghost use Rattle.xxhsum_program.specs.Lines.{PrintsLine};
 
@@ -64,20 +64,12 @@ pub fn print<W: Sink>(bytes: &[u8], out: &mut W) -> Result<(), Stop>
     }
 }
 
-// Writes the bytes that the output holds. Called before a message.
-pub(crate) fn release<W: Output>(out: &mut W)
-    requires { W.has_failed out.old ≡ false }
-    ensures prints { Took W.Sink [] out.old out.new }
-    ensures written { IsWritten W.held W.has_lost out.new }
-    ensures works { W.has_failed out.new ≡ false }
-{
-    out.release();
-}
-
 /// Writes the bytes that the output holds at the end of a run. If that fails, the result is [`Stop::WriteFailed`],
 /// unless the run stopped before.
 pub fn finish<W: Output>(done: Result<bool, Stop>, out: &mut W) -> Result<bool, Stop>
-    ensures { Finishes W.Sink W.held W.has_lost done out.old out.new result }
+    ensures prints { Took W.Sink [] out.old out.new }
+    ensures written { IsWritten W.held W.has_lost out.new }
+    ensures ended { result ≡ end_after (W.has_lost out.new) done }
 {
     out.release();
     match done {

@@ -2,14 +2,12 @@
 
 ghost use Rattle.std.specs.Prelude.{◌≡◌};
 ghost use Rattle.xxhsum_line.specs.Escapes.{escaped, mark_of, needs_escape, one_line};
-ghost use Rattle.xxhsum_program.specs.Finish.{IsWritten};
 ghost use Rattle.xxhsum_program.specs.Joined.{joined};
 ghost use Rattle.xxhsum_program.specs.Told.{TellsOn};
 
 use xxh_io::ends::Sink;
 use xxh_io::write::write_all;
 use xxhsum_line::escapes::{escape, needs_escape};
-use xxhsum_output::output::Output;
 
 /// Writes the bytes, unless a write has failed before.
 pub fn tell<E: Sink>(bytes: &[u8], err: &mut E)
@@ -29,18 +27,6 @@ pub fn tell_line<E: Sink>(parts: &[&[u8]], err: &mut E)
     tell_mark(parts, err);
     tell_escaped_parts(parts, err);
     tell(b"\n", err);
-}
-
-/// Writes the parts as one line, as [`tell_line`] does, after the output `out`.
-///
-/// The caller shows that all printed lines are written, or were lost. So a message never appears before output that was
-/// printed before it.
-pub fn tell_line_after<W: Output, E: Sink>(parts: &[&[u8]], out: &W, err: &mut E)
-    requires { IsWritten W.held W.has_lost out.now }
-    ensures { TellsOn E.Sink (one_line (joined parts.now)) err.old err.new }
-{
-    let _ = out;
-    tell_line(parts, err);
 }
 
 // Writes a backslash if one of the parts has a byte that is escaped.

@@ -12,6 +12,7 @@ use xxhsum_program::job::Job;
 use xxhsum_program::process::Terminals;
 use xxhsum_program::screen::Screen;
 use xxhsum_program::stop::Stop;
+use xxhsum_program::streams::Streams;
 use xxhsum_program::watched::ProgressDisplay;
 use xxhsum_words::options::{Asked, Options, asked_by};
 
@@ -70,18 +71,22 @@ fn each_name_has_its_line(rt: HostRuntime) -> Result<(), AllocError> {
         (1, b""),
         (3, b"xxhsum: d"),
     ] {
-        let mut out = ScriptSink::<99>::new(9, 0);
-        let mut err = ScriptSink::<99>::new(99, refuses);
+        let mut streams = Streams::new(
+            ScriptSink::<99>::new(9, 0),
+            ScriptSink::<99>::new(99, refuses),
+        );
         let job = Job {
             alloc: rt.alloc(),
             store: &files,
             options,
             progress: ProgressDisplay::new(Screen::new(rt.stderr(), &rt), NO_TERMINAL, options),
         };
-        let all = hash_names(&job, &names, &mut out, &mut err);
+        let all = hash_names(&job, &names, &mut streams);
         assert!(rt; all == Ok(false));
-        assert!(rt; out.bytes() == b"26c7827d889f6da3  a\n2d83aaba506794c4  b\n".as_slice());
-        assert!(rt; err.bytes() == told);
+        assert!(rt;
+            streams.out.bytes() == b"26c7827d889f6da3  a\n2d83aaba506794c4  b\n".as_slice()
+        );
+        assert!(rt; streams.messages().bytes() == told);
     }
     Ok(())
 }
@@ -101,19 +106,21 @@ fn a_failed_write_alone_stops_the_run(rt: HostRuntime) -> Result<(), AllocError>
         ),
         (2, Err(Stop::WriteFailed), b"26c7827d8"),
     ] {
-        let mut out = ScriptSink::<99>::new(9, write_fails);
-        let mut err = ScriptSink::<99>::new(99, 0);
+        let mut streams = Streams::new(
+            ScriptSink::<99>::new(9, write_fails),
+            ScriptSink::<99>::new(99, 0),
+        );
         let job = Job {
             alloc: rt.alloc(),
             store: &files,
             options,
             progress: ProgressDisplay::new(Screen::new(rt.stderr(), &rt), NO_TERMINAL, options),
         };
-        let all = hash_names(&job, &names, &mut out, &mut err);
+        let all = hash_names(&job, &names, &mut streams);
         assert!(rt; all == answer);
-        assert!(rt; out.bytes() == printed);
+        assert!(rt; streams.out.bytes() == printed);
         if write_fails == 0 {
-            assert!(rt; err.bytes() == BAD);
+            assert!(rt; streams.messages().bytes() == BAD);
         }
     }
     Ok(())
@@ -132,19 +139,11 @@ fn standard_input_has_its_line(rt: HostRuntime) -> Result<(), AllocError> {
     ] {
         let progress = ProgressDisplay::new(Screen::new(rt.stderr(), &rt), NO_TERMINAL, options);
         let mut input = progress.watch(ScriptSource::new(b"hello", &[1, 9], read_fails));
-        let mut out = ScriptSink::<99>::new(99, 0);
-        let mut err = ScriptSink::<99>::new(99, 0);
-        let all = hash_input(
-            rt.alloc(),
-            options,
-            b"stdin",
-            &mut input,
-            &mut out,
-            &mut err,
-        );
+        let mut streams = Streams::new(ScriptSink::<99>::new(99, 0), ScriptSink::<99>::new(99, 0));
+        let all = hash_input(rt.alloc(), options, b"stdin", &mut input, &mut streams);
         assert!(rt; all == Ok(read_fails == 0));
-        assert!(rt; out.bytes() == printed);
-        assert!(rt; err.bytes() == told);
+        assert!(rt; streams.out.bytes() == printed);
+        assert!(rt; streams.messages().bytes() == told);
     }
     Ok(())
 }
@@ -160,17 +159,19 @@ fn a_list_is_checked(rt: HostRuntime) -> Result<(), AllocError> {
         options,
         progress: ProgressDisplay::new(Screen::new(rt.stderr(), &rt), NO_TERMINAL, options),
     };
-    let mut out = ScriptSink::<300>::new(300, 0);
-    let mut err = ScriptSink::<99>::new(99, 0);
+    let mut streams = Streams::new(ScriptSink::<300>::new(300, 0), ScriptSink::<99>::new(99, 0));
     let source = ScriptSource::new(LIST, &[7, 999], 0);
-    let good = check_list(&job, b"L", source, &mut out, &mut err);
+    let good = check_list(&job, b"L", source, &mut streams);
     assert!(rt; good == Ok(false));
-    assert!(rt; out.bytes() == CHECKED);
-    assert!(rt; err.bytes() == b"L:3: Error: Improperly formatted checksum line.\n".as_slice());
+    assert!(rt; streams.out.bytes() == CHECKED);
+    assert!(rt;
+        streams.messages().bytes()
+            == b"L:3: Error: Improperly formatted checksum line.\n".as_slice()
+    );
     let lists = names(rt.alloc(), &[b"L"])?;
-    let mut out = ScriptSink::<300>::new(300, 0);
-    let good = check_lists(&job, &lists, &mut out, &mut err);
+    let mut streams = Streams::new(ScriptSink::<300>::new(300, 0), ScriptSink::<99>::new(99, 0));
+    let good = check_lists(&job, &lists, &mut streams);
     assert!(rt; good == Ok(false));
-    assert!(rt; out.bytes() == CHECKED);
+    assert!(rt; streams.out.bytes() == CHECKED);
     Ok(())
 }

@@ -1,7 +1,6 @@
 -- Lemmas on the result of a search: an item, or the reported reason why there is none.
-use Rattle.std.proofs.Common.{◌≡◌, ℕ, List, Option, Some, None, Ok, Err, subst, Result}
+use Rattle.xxhsum_tree.proofs.Prelude.{◌≡◌, Err, Finds, List, None, Ok, Option, Result, Some, subst, ℕ}
 use Rattle.xxhsum_tree.specs.Prelude.{SinkRules, Stop, TellsOn}
-use Rattle.xxhsum_tree.specs.Finds.{Finds}
 
 -- Lemma: a search has the properties that its property of items and its property of reasons imply.
 pub finds-as : {T E : Type 0} (telling : SinkRules E) (is_found other : T → Type 0) (is_why other_why : List ℕ → Type 0) (old new : E) → ((x : T) → is_found x → other x) → ((text : List ℕ) → is_why text → other_why text)

@@ -1,20 +1,11 @@
 -- Proves that if an audit is good, the lines and the files match each other.
 use Rattle.std.proofs.Common.{◌≡◌, ℕ, true, List, [], ◌∷◌, Option, Some, None, refl, sym, ap, subst, ◌∙◌, inl, inr, Ok}
-use Rattle.std.proofs.lemmas.List.Sorted.{IsPermutation-sym}
-use Rattle.xxhsum_tree.specs.Prelude.{Digested, IsDirectory, Kind, Options, Outcome, SinkRules, SourceRules, StoreRules, Streams, Unread}
-use Rattle.xxhsum_audit.proofs.AmongFacts.{among_permutation}
-use Rattle.xxhsum_audit.proofs.EqualFacts.{same_means_equal}
-use Rattle.xxhsum_audit.proofs.TurnFacts.{by_turns}
-use Rattle.xxhsum_audit.specs.declared.side.Side.{Side}
-use Rattle.xxhsum_audit.specs.declared.side.Side.TheVariants.{Line, Name, Both}
+use Rattle.xxhsum_tree.proofs.Prelude.{AuditMeansEqual, Both, Effect, IsFileOf, IsPermutation-sym, Line, Name, Side, among_permutation, are_same, both-true, by_path, by_turns, compare_to_name, effect_of, same_means_equal}
+use Rattle.xxhsum_tree.specs.Prelude.{Digested, Files, IsDirectory, Kind, Options, Outcome, SourceRules, StoreRules, StreamRules, Streams, Unread, files_of}
 use Rattle.xxhsum_audit.specs.Found.{Changed, Copied, Found, Missing, Moved, New, Same}
 use Rattle.xxhsum_audit.specs.Item.{IsAmong, Item, Says, kind_of, name_of, path_of, value_of}
-use Rattle.xxhsum_audit.specs.Side.{by_path, compare_to_name}
 use Rattle.xxhsum_program.specs.Outcomes.{Comes, IsValueOf, is_digested}
-use Rattle.xxhsum_program.proofs.EachFacts.{both-true}
-use Rattle.xxhsum_tree.specs.AuditLaws.{AuditMeansEqual, IsFileOf}
-use Rattle.xxhsum_tree.specs.Audits.{AuditsItems, AuditsSides, AuditsUnlessTwice}
-use Rattle.xxhsum_tree.specs.Report.{are_same}
+use Rattle.xxhsum_tree.specs.Audits.{AuditsItems, AuditsSides, OnlyTellsTwice}
 use Rattle.xxhsum_tree.specs.Rows.{AreRows, Come, Gone, Met, Row, are_read, kept_in, seen_in}
 
 all-same : (f : List Found) → are_same f ≡ true → (one : Found) → IsAmong f one → (line name : Item) × (one ≡ Same line name)
@@ -27,10 +18,10 @@ all-same (Copied o n ∷ f) e one h = let no : ⊥ = cc in absurd no
 all-same (New n ∷ f) e one h = let no : ⊥ = cc in absurd no
 all-same (Missing l ∷ f) e one h = let no : ⊥ = cc in absurd no
 
-module _ {S F : Type 0} (opening : StoreRules S F) (reading : SourceRules F) (store : S) (kind : Kind) where
+module _ {S F : Type 0} (files : Files S F) (kind : Kind) where
   -- An item with the correct value of its file.
   abbrev IsTrue : Item → Type 0
-  IsTrue item = IsValueOf opening reading store (kind_of item) (name_of item) (value_of item)
+  IsTrue item = IsValueOf files (kind_of item) (name_of item) (value_of item)
 
   -- Rows with all lines and names and no others, each name with its value.
   abbrev AllThere : List Item → List (List ℕ) → List Row → Type 0
@@ -48,7 +39,7 @@ module _ {S F : Type 0} (opening : StoreRules S F) (reading : SourceRules F) (st
   )
 
   there-name : (n : List ℕ) (ls : List Item) (ns : List (List ℕ)) (rows : List Row) (outcome : Outcome) → is_digested outcome ≡ true
-      → Comes opening reading store kind n outcome → AllThere ls ns rows → AllThere ls (n ∷ ns) (Come n outcome ∷ rows)
+      → Comes files kind n outcome → AllThere ls ns rows → AllThere ls (n ∷ ns) (Come n outcome ∷ rows)
   there-name n ls ns rows (Digested v) is comes ih = (
     ih.0,
     ih.1,
@@ -63,7 +54,7 @@ module _ {S F : Type 0} (opening : StoreRules S F) (reading : SourceRules F) (st
   there-name n ls ns rows (Unread reason) is comes ih = let no : ⊥ = cc in absurd no
 
   there-both : (l : Item) (n : List ℕ) (ls : List Item) (ns : List (List ℕ)) (rows : List Row) (outcome : Outcome) → is_digested outcome ≡ true
-      → Comes opening reading store (kind_of l) n outcome → AllThere ls ns rows → AllThere (l ∷ ls) (n ∷ ns) (Met l n outcome ∷ rows)
+      → Comes files (kind_of l) n outcome → AllThere ls ns rows → AllThere (l ∷ ls) (n ∷ ns) (Met l n outcome ∷ rows)
   there-both l n ls ns rows (Digested v) is comes ih = (
     λ k h. elim h [ inl e ↦ inl e | inr b ↦ inr (ih.0 k b) ],
     λ k h. elim h [ inl e ↦ inl e | inr b ↦ inr (ih.1 k b) ],
@@ -78,7 +69,7 @@ module _ {S F : Type 0} (opening : StoreRules S F) (reading : SourceRules F) (st
   there-both l n ls ns rows (Unread reason) is comes ih = let no : ⊥ = cc in absurd no
 
   abbrev AllRead : List Item → List (List ℕ) → List (Side Item (List ℕ)) → Type 0
-  AllRead ls ns sides = (rows : List Row) → AreRows opening reading store kind sides rows → are_read rows ≡ true → AllThere ls ns rows
+  AllRead ls ns sides = (rows : List Row) → AreRows files kind sides rows → are_read rows ≡ true → AllThere ls ns rows
 
   read-line : (l : Item) (ls : List Item) (ns : List (List ℕ)) (s : List (Side Item (List ℕ))) → AllRead ls ns s → AllRead (l ∷ ls) ns (Line l ∷ s)
   read-line l ls ns s ih rows are read =
@@ -109,27 +100,29 @@ module _ {S F : Type 0} (opening : StoreRules S F) (reading : SourceRules F) (st
 
 -- ---- the meaning of a good audit
 
-module _ {S F W E : Type 0} (opening : StoreRules S F) (reading : SourceRules F) (writing : SinkRules W) (telling : SinkRules E)
-    (store : S) (options : Options) (list : List ℕ) (old new : Streams W E) where
+module _ {S F W E : Type 0} (files : Files S F) (rules : StreamRules W E) (options : Options) (list : List ℕ) (old new : Streams W E) where
+  abbrev good : Effect W E
+  good = effect_of rules old new (Ok true)
+
   abbrev Agree : List Item → List (List ℕ) → Type 0
   Agree lines names =
-      ((line : Item) → IsAmong lines line → (name : List ℕ) × IsAmong names name × IsFileOf opening reading store line name)
-      × ((name : List ℕ) → IsAmong names name → (line : Item) × IsAmong lines line × IsFileOf opening reading store line name)
+      ((line : Item) → IsAmong lines line → (name : List ℕ) × IsAmong names name × IsFileOf files line name)
+      × ((name : List ℕ) → IsAmong names name → (line : Item) × IsAmong lines line × IsFileOf files line name)
 
   file-of : (line s : Item) → (path_of line ≡ path_of s) → (kind_of line ≡ kind_of s) → (value_of line ≡ value_of s)
-      → IsValueOf opening reading store (kind_of s) (name_of s) (value_of s) → IsFileOf opening reading store line (name_of s)
+      → IsValueOf files (kind_of s) (name_of s) (value_of s) → IsFileOf files line (name_of s)
   file-of line s path kind value is = (
     path,
-    subst (λ k. IsValueOf opening reading store k (name_of s) (value_of line)) (sym kind)
-        (subst (λ v. IsValueOf opening reading store (kind_of s) (name_of s) v) (sym value) is),
+    subst (λ k. IsValueOf files k (name_of s) (value_of line)) (sym kind)
+        (subst (λ v. IsValueOf files (kind_of s) (name_of s) v) (sym value) is),
   )
 
-  sides-agree : (lines : List Item) (asked : List (List ℕ)) → AuditsSides opening reading writing telling store options lines asked old new (Ok true)
+  sides-agree : (lines : List Item) (asked : List (List ℕ)) → AuditsSides files good options lines asked
       → Agree lines asked
   sides-agree lines asked (inr fails) = let no = fails.3 in let none : ⊥ = cc in absurd none
   sides-agree lines asked (inl (rows, found, are, told, audit, prints, answers)) =
       let both = both-true (are_same found) (are_read rows) (sym answers) in
-      let there = all-there opening reading store _ lines asked rows are both.1 in
+      let there = all-there files _ lines asked rows are both.1 in
       let equal = same_means_equal (kept_in rows) _ found audit (all-same found both.0) in (
         λ line h.
             let beside = equal.0 line (there.0 line h) in
@@ -141,17 +134,17 @@ module _ {S F W E : Type 0} (opening : StoreRules S F) (reading : SourceRules F)
             let seen = there.3 given.0 given.1 in (
               beside.0,
               there.1 beside.0 beside.1,
-              subst (IsFileOf opening reading store beside.0) given.2 (file-of beside.0 given.0 beside.2.0 beside.2.1.0 beside.2.1.1 seen.1),
+              subst (IsFileOf files beside.0) given.2 (file-of beside.0 given.0 beside.2.0 beside.2.1.0 beside.2.1.1 seen.1),
             ),
       )
 
   unless-agree : (lines : List Item) (asked : List (List ℕ)) (first second : Option (List ℕ))
-      → AuditsUnlessTwice opening reading writing telling store options list lines asked old new (Ok true) first second → Agree lines asked
+      → OnlyTellsTwice good list first second (AuditsSides files good options lines asked) → Agree lines asked
   unless-agree lines asked None None audits = sides-agree lines asked audits
   unless-agree lines asked None (Some name) tells = let no = tells.0 in let none : ⊥ = cc in absurd none
   unless-agree lines asked (Some name) second tells = let no = tells.0 in let none : ⊥ = cc in absurd none
 
-  items-agree : (said : List Item) (names : List (List ℕ)) → AuditsItems opening reading writing telling store options list said names old new (Ok true)
+  items-agree : (said : List Item) (names : List (List ℕ)) → AuditsItems files good options list said names
       → Agree said names
   items-agree said names (inr fails) = let no = fails.0 in let none : ⊥ = cc in absurd none
   items-agree said names (inl (lines, asked, order, order', audits)) =
@@ -164,12 +157,12 @@ module _ {S F W E : Type 0} (opening : StoreRules S F) (reading : SourceRules F)
             (there.0, among_permutation lines said there.0 (IsPermutation-sym said lines order.0) there.1, there.2),
       )
 
-pub audit-means-equal : {S F W E : Type 0} (opening : StoreRules S F) (reading : SourceRules F) (writing : SinkRules W) (telling : SinkRules E)
-    → AuditMeansEqual opening reading writing telling
-audit-means-equal opening reading writing telling store options list names old new (inl (said, says, audits)) =
-    let agree = items-agree opening reading writing telling store options list old new said names audits in
+pub audit-means-equal : {S F W E : Type 0} (opening : StoreRules S F) (reading : SourceRules F) (rules : StreamRules W E)
+    → AuditMeansEqual opening reading rules
+audit-means-equal opening reading rules store options list names old new (start, begun, inl (said, says, audits)) =
+    let agree = items-agree (files_of opening reading store) rules options list start new said names audits in
     (said, says, agree.0, agree.1)
-audit-means-equal opening reading writing telling store options list names old new (inr (inl (text, why, tells))) =
+audit-means-equal opening reading rules store options list names old new (start, begun, inr (inl (text, why, tells))) =
     let no = tells.0 in let none : ⊥ = cc in absurd none
-audit-means-equal opening reading writing telling store options list names old new (inr (inr fails)) =
+audit-means-equal opening reading rules store options list names old new (start, begun, inr (inr fails)) =
     let no = fails.0 in let none : ⊥ = cc in absurd none

@@ -1,15 +1,8 @@
 -- Proves that rows of rising lines and names have the results of merging the lines and the digests.
 use Rattle.std.proofs.Common.{◌≡◌, ℕ, List, [], ◌∷◌, map, refl, sym, ap, subst, ◌∙◌, inl, inr, Less, Equal, Greater}
-use Rattle.std.proofs.lemmas.List.Sorted.{IsPermutation-refl}
-use Rattle.xxhsum_tree.specs.Prelude.{Digested, IsDirectory, Kind, Outcome, SourceRules, StoreRules, Unread}
-use Rattle.xxhsum_audit.proofs.OrderFacts.{ahead, back, paths_total}
-use Rattle.xxhsum_audit.proofs.TurnFacts.{by_turns}
-use Rattle.xxhsum_audit.specs.declared.side.Side.{Side}
-use Rattle.xxhsum_audit.specs.declared.side.Side.TheVariants.{Line, Name, Both}
+use Rattle.xxhsum_tree.proofs.Prelude.{Both, Found, IsAmong, IsPermutation-refl, Item, Line, Missing, Name, New, Rises, Says, Side, ahead, back, by_turns, compare_lines, compare_paths, kind_of, met, name_of, paths_total}
+use Rattle.xxhsum_tree.specs.Prelude.{Digested, Files, IsDirectory, Kind, Outcome, Unread}
 use Rattle.xxhsum_audit.specs.Audit.{HasMoves, IsAudit, as_found, compared, missing_in, new_in, settled_in}
-use Rattle.xxhsum_audit.specs.Found.{Found, Missing, New, met}
-use Rattle.xxhsum_audit.specs.Item.{IsAmong, Item, Says, kind_of, name_of}
-use Rattle.xxhsum_audit.specs.Order.{Rises, compare_lines, compare_paths}
 use Rattle.xxhsum_audit.specs.Side.{against, beside, by_path, compare_to_name, in_turn}
 use Rattle.xxhsum_tree.specs.Rows.{AreRows, Come, Gone, Met, Row, first_in, kept_in, seen_in}
 
@@ -123,10 +116,10 @@ after-lines l n ls greater up k (inr h) =
     ahead compare_paths paths_total n (name_of k)
     (paths_total.trans n (name_of l) (name_of k) (back compare_paths paths_total (name_of l) n greater) (up.0 k h))
 
-module _ {S F : Type 0} (opening : StoreRules S F) (reading : SourceRules F) (store : S) (kind : Kind) where
+module _ {S F : Type 0} (files : Files S F) (kind : Kind) where
   abbrev Joins : List Item → List (List ℕ) → List (Side Item (List ℕ)) → Type 0
   Joins ls ns sides =
-      (rows : List Row) → AreRows opening reading store kind sides rows → Rises compare_lines ls → Rises compare_paths ns
+      (rows : List Row) → AreRows files kind sides rows → Rises compare_lines ls → Rises compare_paths ns
       → Joined kind ls ns rows
 
   gone : (l : Item) (ls : List Item) (ns : List (List ℕ)) (s : List (Side Item (List ℕ)))
@@ -157,7 +150,7 @@ module _ {S F : Type 0} (opening : StoreRules S F) (reading : SourceRules F) (st
       (λ l n ls ns s greater ih. come n (l ∷ ls) ns s (λ up k h. after-lines l n ls greater up k h) ih)
 
   pub is-audit : (lines : List Item) (names : List (List ℕ)) (rows : List Row) (found : List Found) → Rises compare_lines lines
-      → Rises compare_paths names → AreRows opening reading store kind (by_path lines names) rows
+      → Rises compare_paths names → AreRows files kind (by_path lines names) rows
       → HasMoves (settled_in (first_in kind rows)) (missing_in (first_in kind rows)) (new_in (first_in kind rows)) found
       → IsAudit (kept_in rows) (seen_in kind rows) found
   is-audit lines names rows found up up' are moves =

@@ -2,6 +2,7 @@ mod FindFacts
 mod GoodAuditFacts
 mod JoinFacts
 mod OnceFacts
+mod Prelude
 mod ReportFacts
 mod RowFacts
 mod SaidFacts

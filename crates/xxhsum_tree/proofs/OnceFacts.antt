@@ -1,18 +1,10 @@
 -- Proves that a path occurs only once in a walk.
 use Rattle.std.proofs.Common.{◌≡◌, ◌≢◌, ◌⊎◌, ℕ, ◌<◌, ◌-◌, ◌&&◌, true, false, List, [], ◌∷◌, ◌++◌, append-nil, append_assoc, codes, drop, length, map, nat_eq, refl, sym, ap, subst, inl, inr, arith, ◌∙◌, IsPermutation}
-use Rattle.std.proofs.lemmas.Bool.{cond-false}
-use Rattle.std.proofs.lemmas.Bool.Decides.{nat_tests}
+use Rattle.xxhsum_tree.proofs.Prelude.{FindsOnce, HoldsNames, IsAmong, IsOnce, Lacks, among_either, among_permutation, cond-false, ends_with, first_same, lacks_not, lacks_right, nat_tests, pointwise}
 use Rattle.std.proofs.lemmas.List.{append_cancel_left, drop_at, length_push}
 use Rattle.std.proofs.lemmas.List.Sorted.{IsPermutation-cons, IsPermutation-middle, IsPermutation-refl, IsPermutation-sym, IsPermutation-trans}
-use Rattle.std.specs.Cmp.Lexicographic.{pointwise}
-use Rattle.std.specs.List.{ends_with}
-use Rattle.xxhsum_audit.proofs.AmongFacts.{among_either, among_permutation}
-use Rattle.xxhsum_audit.specs.Item.{IsAmong}
-use Rattle.xxhsum_line.proofs.LackFacts.{first_same, lacks_not, lacks_right}
-use Rattle.xxhsum_line.specs.Parts.{Lacks}
 use Rattle.xxhsum_tree.proofs.VisitFacts.{from-places, leads-here}
 use Rattle.xxhsum_tree.specs.Walk.{Closed, IsSeen, Leaf, Lost, Opened, Passed, Place, Seen, Tree, Visits, below, below_of, file_of, files_in, given, with_slash}
-use Rattle.xxhsum_tree.specs.WalkLaws.{FindsOnce, HoldsNames, IsOnce}
 
 -- ---- a name without a slash after a folder
 

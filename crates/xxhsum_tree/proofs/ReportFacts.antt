@@ -1,14 +1,7 @@
 -- Lemmas on printing the report of an audit, up to a line that is not printed.
 use Rattle.std.proofs.Common.{◌≡◌, ◌+◌, ◌<◌, Bool, drop, false, get_or, length, List, map, take, take-append-drop, [], ◌∷◌, ◌++◌, ℕ, append-nil, append_assoc, sym, ap, subst, ◌∙◌, Ok, Err, if◌then◌else◌, Result}
-use Rattle.std.proofs.lemmas.List.{drop_more, map-append}
-use Rattle.std.proofs.lemmas.List.Concat.{flat_map-append}
+use Rattle.xxhsum_tree.proofs.Prelude.{AnswersAudit, Found, PrintsLine, PrintsReport, Refused-join, Refused-more, Row, Took-join, counts_text, drop_more, flat_map-append, map-append, report_text, shown_lines, shown_text}
 use Rattle.xxhsum_tree.specs.Prelude.{Options, OutOfMemory, Refused, SinkRules, Stop, Took, WriteFailed}
-use Rattle.xxh_io.proofs.WriteFacts.{Refused-join, Refused-more, Took-join}
-use Rattle.xxhsum_audit.specs.Found.{Found}
-use Rattle.xxhsum_program.specs.Lines.{PrintsLine}
-use Rattle.xxhsum_tree.specs.Audits.{AnswersAudit}
-use Rattle.xxhsum_tree.specs.Rows.{Row}
-use Rattle.xxhsum_tree.specs.Report.{PrintsReport, counts_text, report_text, shown_lines, shown_text}
 
 -- Lemma: one more result appends its line.
 pub shown-push : (is_quiet : Bool) (found : List Found) (one : Found) → shown_lines is_quiet (found ++ one ∷ []) ≡ shown_lines is_quiet found ++ shown_text is_quiet one

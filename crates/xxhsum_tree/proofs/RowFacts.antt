@@ -1,36 +1,25 @@
 -- Lemmas on rows and their results, after one more row.
 use Rattle.std.proofs.Common.{◌≡◌, ℕ, Bool, true, false, ◌&&◌, List, [], ◌∷◌, ◌++◌, append-nil, refl, sym, ap, subst, inl, ◌∙◌, Ok, Err, IsErr, MatchResult, Result, flat_map}
-use Rattle.std.specs.declared.alloc.AllocError.{AllocError}
-use Rattle.std.proofs.lemmas.List.{map-append}
-use Rattle.std.proofs.lemmas.List.Concat.{flat_map-append}
-use Rattle.xxhsum_tree.specs.Prelude.{Digested, IsDirectory, Kind, Options, Outcome, SinkRules, SourceRules, Stop, StoreRules, Streams, Unread}
-use Rattle.xxhsum_audit.proofs.FoundFacts.{met_is}
-use Rattle.xxhsum_audit.specs.declared.digest.FileDigest.{FileDigest}
-use Rattle.xxhsum_audit.specs.declared.moves.Compared.{Compared}
-use Rattle.xxhsum_audit.specs.declared.side.Side.{Side}
-use Rattle.xxhsum_audit.specs.declared.verdict.Verdict.{Verdict}
+use Rattle.xxhsum_tree.specs.Messages.{effect_messages}
+use Rattle.xxhsum_tree.proofs.Prelude.{AllocError, Compared, DigestsRows, Effect, FileDigest, Grows, PrintsReport, Side, Verdict, and-false, and-true, are_same, by_path, flat_map-append, is_digested, map-append, met_is}
+use Rattle.xxhsum_tree.specs.Prelude.{Digested, Files, IsDirectory, Kind, Options, Outcome, Unread}
 use Rattle.xxhsum_audit.specs.Audit.{HasMoves, IsAudit, missing_in, new_in, settled_in}
 use Rattle.xxhsum_audit.specs.Found.{Found, Missing, New, found_of, founds_of, met}
 use Rattle.xxhsum_audit.specs.Item.{Item, item_of, items_of}
 use Rattle.xxhsum_audit.specs.Order.{Rises, compare_lines, compare_paths}
-use Rattle.xxhsum_audit.specs.Side.{by_path}
-use Rattle.xxhsum_program.proofs.EachFacts.{and-false, and-true}
-use Rattle.xxhsum_program.specs.Outcomes.{is_digested}
 use Rattle.xxhsum_tree.proofs.JoinFacts.{is-audit}
 use Rattle.xxhsum_tree.specs.Audits.{AnswersAudit, AuditsSides}
-use Rattle.xxhsum_tree.specs.Digests.{DigestsRows, Grows}
-use Rattle.xxhsum_tree.specs.Report.{PrintsReport, are_same}
 use Rattle.xxhsum_tree.specs.Rows.{AreRows, IsRow, Row, are_read, digest_of, first_in, first_of, kept_in, kind_of_new, seen_in}
 
-pub rows-more : {S F : Type 0} (opening : StoreRules S F) (reading : SourceRules F) (store : S) (kind : Kind) (sides : List (Side Item (List ℕ))) (rows : List Row) (side : Side Item (List ℕ)) (row : Row) → AreRows opening reading store kind sides rows → IsRow opening reading store kind side row → AreRows opening reading store kind (sides ++ side ∷ []) (rows ++ row ∷ [])
-rows-more opening reading store kind [] rows side row none is =
+pub rows-more : {S F : Type 0} (files : Files S F) (kind : Kind) (sides : List (Side Item (List ℕ))) (rows : List Row) (side : Side Item (List ℕ)) (row : Row) → AreRows files kind sides rows → IsRow files kind side row → AreRows files kind (sides ++ side ∷ []) (rows ++ row ∷ [])
+rows-more files kind [] rows side row none is =
     (row, [], ap (λ x. x ++ row ∷ []) none, is, refl)
-rows-more opening reading store kind (s ∷ sides) rows side row are is = (
+rows-more files kind (s ∷ sides) rows side row are is = (
   are.0,
   are.1 ++ row ∷ [],
   ap (λ x. x ++ row ∷ []) are.2,
   are.3,
-  rows-more opening reading store kind sides are.1 side row are.4 is,
+  rows-more files kind sides are.1 side row are.4 is,
 )
 
 -- Lemma: one more element appends its result.
@@ -100,22 +89,22 @@ fails-rows is fails (Err e) err fact = fact
 
 -- ---- an audit of all rows
 
-pub says-audit : {S F W E : Type 0} (opening : StoreRules S F) (reading : SourceRules F) (writing : SinkRules W) (telling : SinkRules E) (store : S) (options : Options) (lines : List Item) (names : List (List ℕ)) (kind : Kind) (compared : Compared) (found : List Found) (old new : Streams W E) (result : Result Bool Stop)
+pub says-audit : {S F W E : Type 0} (files : Files S F) (effect : Effect W E) (options : Options) (lines : List Item) (names : List (List ℕ)) (kind : Kind) (compared : Compared) (found : List Found)
     → Rises compare_lines lines → Rises compare_paths names → kind ≡ kind_of_new options.kind lines
-    → DigestsRows opening reading telling store kind (by_path lines names) compared old.err new.err
+    → DigestsRows files (effect_messages effect) kind (by_path lines names) compared
     → HasMoves (founds_of compared.settled.items) (items_of compared.gone.items) (items_of compared.come.items) found
-    → PrintsReport writing options found old.out new.out result → ((rows : List Row) → compared.are_all ≡ are_read rows → AnswersAudit rows found result) → AuditsSides opening reading writing telling store options lines names old new result
-says-audit {S} {F} {W} {E} opening reading writing telling store options lines names kind compared found old new result up up' kinds digests moves prints answers =
+    → PrintsReport effect.rules.writing options found effect.old.out effect.new.out effect.result → ((rows : List Row) → compared.are_all ≡ are_read rows → AnswersAudit rows found effect.result) → AuditsSides files effect options lines names
+says-audit files effect options lines names kind compared found up up' kinds digests moves prints answers =
     let rows = digests.0 in
     let holds = digests.2 in
     let moved = subst (λ s. HasMoves s (missing_in (first_in kind rows)) (new_in (first_in kind rows)) found) holds.settled
     (subst (λ g. HasMoves (founds_of compared.settled.items) g (new_in (first_in kind rows)) found) holds.gone
     (subst (λ c. HasMoves (founds_of compared.settled.items) (items_of compared.gone.items) c found) holds.come moves)) in
-    let audit = is-audit opening reading store kind lines names rows found up up' digests.1 moved in
+    let audit = is-audit files kind lines names rows found up up' digests.1 moved in
     inl (
       rows,
       found,
-      subst (λ k. AreRows opening reading store k (by_path lines names) rows) kinds digests.1,
+      subst (λ k. AreRows files k (by_path lines names) rows) kinds digests.1,
       digests.3,
       subst (λ k. IsAudit (kept_in rows) (seen_in k rows) found) kinds audit,
       prints,

@@ -1,16 +1,9 @@
 -- Lemmas on walks after one more name, and on the files that walks find.
 use Rattle.std.proofs.Common.{◌≡◌, ◌⊎◌, ℕ, ◌+◌, ◌<◌, Bool, true, false, List, [], ◌∷◌, ◌++◌, map, get_or, length, refl, sym, ap, subst, inl, inr, Ok, Err, arith, ◌∙◌, IsSorted, is_lt, nat_cmp, reverse, Result}
-use Rattle.std.proofs.lemmas.List.{get_or-map, length-map, reverse-append}
-use Rattle.std.proofs.lemmas.List.Sorted.{IsPermutation-sym, IsPermutation-trans}
-use Rattle.std.specs.Cmp.Lexicographic.{slice_cmp}
-use Rattle.xxhsum_tree.specs.Prelude.{SinkRules, Stop}
+use Rattle.xxhsum_tree.specs.Messages.{Messages}
+use Rattle.xxhsum_tree.proofs.Prelude.{File, Folder, IsAmong, IsPermutation-sym, IsPermutation-trans, Other, PathKind, Stop, Unknown, both-true, get_or-map, length-map, reverse-append, slice_cmp}
 use Rattle.xxhsum_audit.proofs.AmongFacts.{among_either, among_left, among_permutation, among_right}
-use Rattle.xxhsum_audit.specs.Item.{IsAmong}
-use Rattle.xxhsum_files.specs.declared.folders.PathKind.{PathKind}
-use Rattle.xxhsum_files.specs.declared.folders.PathKind.TheVariants.{File, Folder, Other, Unknown}
-use Rattle.xxhsum_program.proofs.EachFacts.{both-true}
-use Rattle.xxhsum_tree.specs.declared.walk.Walked.{Walked}
-use Rattle.xxhsum_tree.specs.Walk.{Closed, HasKind, IsIn, IsSeen, Leaf, Lost, Opened, Passed, Place, Seen, SeesOne, Tree, Visits, are_open, below, below_of, file_of, files_in, given, is_open, with_slash}
+use Rattle.xxhsum_tree.specs.Walk.{Closed, HasKind, IsIn, IsSeen, Leaf, Lost, Opened, Passed, Place, Seen, SeesOne, Tree, Visits, WalkState, are_open, below, below_of, file_of, files_in, given, is_open, with_slash}
 use Rattle.xxhsum_tree.specs.WalkLaws.{FindsEachFile, FindsNoOther, IsSteady, LeadsTo}
 
 -- Lemma: the last element of a list is the first of its reverse.
@@ -168,8 +161,7 @@ names-sorted {X} key (x ∷ xs) up k d low high =
 
 -- ---- one step
 
-pub sees-as : {E : Type 0} (is_seen other : Seen → Type 0) (telling : SinkRules E) (p_old p_new : List Place) (old new : Walked) (e_old e_new : E) → ((seen : Seen) → is_seen seen → other seen)
-    → (result : Result (Unit {0}) Stop) → SeesOne is_seen telling p_old p_new old new e_old e_new result → SeesOne other telling p_old p_new old new e_old e_new result
-sees-as is_seen other telling p_old p_new old new e_old e_new more (Ok x) sees =
-    (sees.0, more sees.0 sees.1, sees.2, sees.3, sees.4, sees.5)
-sees-as is_seen other telling p_old p_new old new e_old e_new more (Err stop) sees = sees
+pub sees-as : {E : Type 0} (is_seen other : Seen → Type 0) (messages : Messages E) (old new : WalkState) → ((seen : Seen) → is_seen seen → other seen)
+    → (result : Result (Unit {0}) Stop) → SeesOne is_seen messages old new result → SeesOne other messages old new result
+sees-as is_seen other messages old new more (Ok x) sees = (sees.0, more sees.0 sees.1, sees.2, sees.3, sees.4, sees.5)
+sees-as is_seen other messages old new more (Err stop) sees = sees

@@ -1,10 +1,5 @@
 -- Proves that facts on the text of a watched source hold for the source that it watches.
-use Rattle.std.proofs.Common.{ℕ, List, [], ◌∷◌, ◌++◌}
-use Rattle.xxhsum_program.proofs.WatchedFacts.{inner-pieces}
-use Rattle.xxhsum_program.specs.Watched.{source_of, watched_reading}
-use Rattle.xxhsum_program.specs.declared.watched.Watched.{Watched}
-use Rattle.xxhsum_tree.specs.Prelude.{SourceRules}
-use Rattle.xxhsum_tree.specs.Texts.{Breaks, HasText}
+use Rattle.xxhsum_tree.proofs.Prelude.{[], ◌++◌, ◌∷◌, Breaks, HasText, List, SourceRules, Watched, inner-pieces, source_of, watched_reading, ℕ}
 
 pub inner-text : {R X : Type 0} (reading : SourceRules R) (source : Watched R X) (text : List ℕ) → HasText (watched_reading reading) source text → HasText reading (source_of source) text
 inner-text reading source text (end, (pieces, some, read, is)) =

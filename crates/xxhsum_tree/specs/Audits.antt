@@ -1,12 +1,14 @@
 -- An audit of names against the list of a name.
 use Rattle.std.specs.Prelude.{◌≡◌, ◌⊎◌, ℕ, Bool, true, false, ◌&&◌, List, [], ◌∷◌, Option, Some, None, codes, Result, Ok, Err}
-use Rattle.xxhsum_tree.specs.Prelude.{Options, OutOfMemory, SinkRules, SourceRules, Stop, StoreRules, Streams, TellsOn, concat, one_line}
+use Rattle.xxhsum_tree.specs.Prelude.{Files, Options, OutOfMemory, SinkRules, Stop, Streams, TellsOn, concat, one_line}
 use Rattle.xxhsum_audit.specs.Audit.{IsAudit}
 use Rattle.xxhsum_audit.specs.Found.{Found}
 use Rattle.xxhsum_audit.specs.Item.{Item, names_of}
 use Rattle.xxhsum_audit.specs.Order.{IsOrder, clash_in, rank_lines, rank_names}
 use Rattle.xxhsum_audit.specs.Side.{by_path}
+use Rattle.xxhsum_program.specs.Order.{Effect, Releases}
 use Rattle.xxhsum_tree.specs.Finds.{GoesOn, HasNoRoom, OnlyTells}
+use Rattle.xxhsum_tree.specs.Messages.{Reports, effect_messages}
 use Rattle.xxhsum_tree.specs.Report.{PrintsReport, are_same}
 use Rattle.xxhsum_tree.specs.Rows.{AreRows, Row, TellsRows, are_read, kept_in, kind_of_new, seen_in, told_in}
 use Rattle.xxhsum_tree.specs.Said.{ListSays, ListSaysNothing}
@@ -29,42 +31,42 @@ AnswersAudit rows found (Err stop) = Unit {0}
 -- Lines and names are put side by side by the path that they lead to, both in order and none twice. Each name is
 -- hashed, with its messages; then the class of each line and name is printed. Or memory ran out before anything was
 -- printed.
-abbrev pub AuditsSides : {S F W E : Type 0} → StoreRules S F → SourceRules F → SinkRules W → SinkRules E → S → Options
-    → List Item → List (List ℕ) → Streams W E → Streams W E → Result Bool Stop → Type 0
-AuditsSides opening reading writing telling store options lines names old new result =
+abbrev pub AuditsSides : {S F W E : Type 0} → Files S F → Effect W E → Options → List Item → List (List ℕ) → Type 0
+AuditsSides files effect options lines names =
     let kind = kind_of_new options.kind lines in
     let sides = by_path lines names in
-    ((rows : List Row) × (found : List Found) × AreRows opening reading store kind sides rows
-    × TellsOn telling (told_in rows) old.err new.err × IsAudit (kept_in rows) (seen_in kind rows) found
-    × PrintsReport writing options found old.out new.out result × AnswersAudit rows found result)
-    ⊎ ((rows : List Row) × TellsRows opening reading telling store kind sides rows old.err new.err
-    × (new.out ≡ old.out) × (result ≡ Err OutOfMemory))
+    ((rows : List Row) × (found : List Found) × AreRows files kind sides rows
+    × Reports (effect_messages effect) (told_in rows)
+    × IsAudit (kept_in rows) (seen_in kind rows) found
+    × PrintsReport effect.rules.writing options found effect.old.out effect.new.out effect.result
+    × AnswersAudit rows found effect.result)
+    ⊎ ((rows : List Row)
+    × TellsRows files (effect_messages effect) kind sides rows
+    × (effect.new.out ≡ effect.old.out) × (effect.result ≡ Err OutOfMemory))
 
--- If two lines, or two names, lead to one path, only that is reported.
-abbrev pub AuditsUnlessTwice : {S F W E : Type 0} → StoreRules S F → SourceRules F → SinkRules W → SinkRules E → S → Options
-    → List ℕ → List Item → List (List ℕ) → Streams W E → Streams W E → Result Bool Stop → Option (List ℕ)
-    → Option (List ℕ) → Type 0
-AuditsUnlessTwice opening reading writing telling store options list lines names old new result (Some name) other =
-    OnlyTells telling (twice_text list name) old new result
-AuditsUnlessTwice opening reading writing telling store options list lines names old new result None (Some name) =
-    OnlyTells telling (twice_text (codes "Error") name) old new result
-AuditsUnlessTwice opening reading writing telling store options list lines names old new result None None =
-    AuditsSides opening reading writing telling store options lines names old new result
+-- If two lines of the list, or two names, lead to one path, only that is reported.
+abbrev pub OnlyTellsTwice : {W E : Type 0} → Effect W E → List ℕ → Option (List ℕ) → Option (List ℕ) → Type 0 → Type 0
+OnlyTellsTwice effect list (Some name) other audits = OnlyTells effect (twice_text list name)
+OnlyTellsTwice effect list None (Some name) audits = OnlyTells effect (twice_text (codes "Error") name)
+OnlyTellsTwice effect list None None audits = audits
 
 -- The entries of the lines and the names that were given, both in order.
-abbrev pub AuditsItems : {S F W E : Type 0} → StoreRules S F → SourceRules F → SinkRules W → SinkRules E → S → Options
-    → List ℕ → List Item → List (List ℕ) → Streams W E → Streams W E → Result Bool Stop → Type 0
-AuditsItems opening reading writing telling store options list said names old new result =
+abbrev pub AuditsItems : {S F W E : Type 0} → Files S F → Effect W E → Options → List ℕ → List Item → List (List ℕ) → Type 0
+AuditsItems files effect options list said names =
     ((lines : List Item) × (asked : List (List ℕ)) × IsOrder rank_lines said lines × IsOrder rank_names names asked
-    × AuditsUnlessTwice opening reading writing telling store options list lines asked old new result
-    (clash_in (names_of lines)) (clash_in asked))
-    ⊎ HasNoRoom old new result
+    × OnlyTellsTwice effect list (clash_in (names_of lines)) (clash_in asked)
+    (AuditsSides files effect options lines asked))
+    ⊎ HasNoRoom effect
 
 -- The lines of the list are compared with the names. If the list has no text, or a line has no entry, only that is
 -- reported.
-abbrev pub Audits : {S F W E : Type 0} → StoreRules S F → SourceRules F → SinkRules W → SinkRules E → S → Options → List ℕ
-    → List (List ℕ) → Streams W E → Streams W E → Result Bool Stop → Type 0
-Audits opening reading writing telling store options list names old new result =
-    GoesOn telling (ListSays opening reading store options.is_little_endian list)
-    (ListSaysNothing opening reading store options.is_little_endian list)
-    (λ said. AuditsItems opening reading writing telling store options list said names old new result) old new result
+abbrev pub AuditsList : {S F W E : Type 0} → Files S F → Effect W E → Options → List ℕ → List (List ℕ) → Type 0
+AuditsList files effect options list names =
+    GoesOn effect (ListSays files options.is_little_endian list) (ListSaysNothing files options.is_little_endian list)
+    (λ said. AuditsItems files effect options list said names)
+
+-- The bytes that the output holds are written first, so that no message appears before them.
+abbrev pub Audits : {S F W E : Type 0} → Files S F → Effect W E → Options → List ℕ → List (List ℕ) → Type 0
+Audits {W = W} {E = E} files effect options list names =
+    (start : Streams W E) × Releases effect.rules effect.old start
+    × AuditsList files (record effect { old = start }) options list names

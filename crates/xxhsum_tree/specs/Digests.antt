@@ -1,7 +1,7 @@
 -- The digests of names, collected side by side. No public clause uses them.
 use Rattle.std.specs.Prelude.{◌≡◌, ℕ, Bool, false, ◌&&◌, List, [], ◌++◌, Option, Some, None, Result, Ok, Err}
 use Rattle.std.specs.declared.alloc.AllocError.{AllocError}
-use Rattle.xxhsum_tree.specs.Prelude.{Digested, Kind, Outcome, SinkRules, SourceRules, StoreRules, TellsOn}
+use Rattle.xxhsum_tree.specs.Prelude.{Digested, Files, Kind, Outcome}
 use Rattle.xxhsum_audit.specs.declared.digest.FileDigest.{FileDigest}
 use Rattle.xxhsum_audit.specs.declared.moves.Compared.{Compared}
 use Rattle.xxhsum_audit.specs.declared.side.Side.{Side}
@@ -10,17 +10,16 @@ use Rattle.xxhsum_audit.specs.Found.{Found, founds_of}
 use Rattle.xxhsum_audit.specs.Item.{Item, Says, item_of, items_of}
 use Rattle.xxhsum_program.specs.Lines.{told_line}
 use Rattle.xxhsum_program.specs.Outcomes.{Comes, is_digested}
+use Rattle.xxhsum_tree.specs.Messages.{Messages, Reports}
 use Rattle.xxhsum_tree.specs.Rows.{AreRows, Row, TellsRows, are_read, first_in, first_of, is_read, told_in, told_of}
 
 -- The name has this digest, and nothing is reported. Or it has none, and the reason is reported.
-abbrev pub DigestsName : {S F E : Type 0} → StoreRules S F → SourceRules F → SinkRules E → S → Kind → List ℕ → E → E
-    → Option FileDigest → Type 0
-DigestsName opening reading telling store kind name e_old e_new (Some found) =
-    (value : ℕ) × (item_of found ≡ Says name kind value) × Comes opening reading store kind name (Digested value)
-    × TellsOn telling [] e_old e_new
-DigestsName opening reading telling store kind name e_old e_new None =
-    (outcome : Outcome) × (is_digested outcome ≡ false) × Comes opening reading store kind name outcome
-    × TellsOn telling (told_line name outcome) e_old e_new
+abbrev pub DigestsName : {S F E : Type 0} → Files S F → Messages E → Kind → List ℕ → Option FileDigest → Type 0
+DigestsName files messages kind name (Some found) =
+    (value : ℕ) × (item_of found ≡ Says name kind value) × Comes files kind name (Digested value) × Reports messages []
+DigestsName files messages kind name None =
+    (outcome : Outcome) × (is_digested outcome ≡ false) × Comes files kind name outcome
+    × Reports messages (told_line name outcome)
 
 -- The results were appended to the known ones.
 abbrev pub Grows : Compared → Compared → List Found → Bool → Type 0
@@ -30,11 +29,10 @@ Grows old new found is_read =
     × (items_of new.come.items ≡ items_of old.come.items ++ new_in found) × (new.are_all ≡ (old.are_all && is_read))
 
 -- A row was appended. If out of memory, nothing was reported: the name of the row had a digest.
-abbrev pub AddsRow : {E : Type 0} → SinkRules E → (Row → Type 0) → Kind → Compared → Compared → E → E
-    → Result (Unit {0}) AllocError → Type 0
-AddsRow telling is_row kind old new e_old e_new (Ok _) =
-    (row : Row) × is_row row × Grows old new (first_of kind row) (is_read row) × TellsOn telling (told_of row) e_old e_new
-AddsRow telling is_row kind old new e_old e_new (Err e) = TellsOn telling [] e_old e_new
+abbrev pub AddsRow : {E : Type 0} → Messages E → (Row → Type 0) → Kind → Compared → Compared → Result (Unit {0}) AllocError → Type 0
+AddsRow messages is_row kind old new (Ok _) =
+    (row : Row) × is_row row × Grows old new (first_of kind row) (is_read row) × Reports messages (told_of row)
+AddsRow messages is_row kind old new (Err e) = Reports messages []
 
 -- `compared` holds the results of these rows.
 pub record HoldsRows (kind : Kind) (rows : List Row) (compared : Compared) : Type 0 where
@@ -44,14 +42,10 @@ pub record HoldsRows (kind : Kind) (rows : List Row) (compared : Compared) : Typ
   pub all : compared.are_all ≡ are_read rows
 
 -- Each side has a row. `compared` holds the results of the rows, and their messages were reported.
-abbrev pub DigestsRows : {S F E : Type 0} → StoreRules S F → SourceRules F → SinkRules E → S → Kind
-    → List (Side Item (List ℕ)) → Compared → E → E → Type 0
-DigestsRows opening reading telling store kind sides compared e_old e_new =
-    (rows : List Row) × AreRows opening reading store kind sides rows × HoldsRows kind rows compared
-    × TellsOn telling (told_in rows) e_old e_new
+abbrev pub DigestsRows : {S F E : Type 0} → Files S F → Messages E → Kind → List (Side Item (List ℕ)) → Compared → Type 0
+DigestsRows files messages kind sides compared =
+    (rows : List Row) × AreRows files kind sides rows × HoldsRows kind rows compared × Reports messages (told_in rows)
 
 -- The first sides have rows, and the messages of the rows were reported.
-abbrev pub FailsRows : {S F E : Type 0} → StoreRules S F → SourceRules F → SinkRules E → S → Kind
-    → List (Side Item (List ℕ)) → E → E → Type 0
-FailsRows opening reading telling store kind sides e_old e_new =
-    (rows : List Row) × TellsRows opening reading telling store kind sides rows e_old e_new
+abbrev pub FailsRows : {S F E : Type 0} → Files S F → Messages E → Kind → List (Side Item (List ℕ)) → Type 0
+FailsRows files messages kind sides = (rows : List Row) × TellsRows files messages kind sides rows

@@ -1,6 +1,8 @@
 -- A value is found, or reported missing.
-use Rattle.std.specs.Prelude.{◌≡◌, ◌⊎◌, ℕ, Bool, false, List, Option, Some, None, Result, Ok, Err}
-use Rattle.xxhsum_tree.specs.Prelude.{OutOfMemory, SinkRules, Stop, Streams, TellsOn}
+use Rattle.std.specs.Prelude.{◌≡◌, ◌⊎◌, ℕ, false, List, Option, Some, None, Result, Ok, Err}
+use Rattle.xxhsum_program.specs.Streams.{err_of}
+use Rattle.xxhsum_tree.specs.Messages.{Reports, effect_messages}
+use Rattle.xxhsum_tree.specs.Prelude.{Effect, OutOfMemory, SinkRules, Stop, TellsOn}
 
 -- It is found; or a message reports why it isn't; or memory ran out, and nothing is reported.
 abbrev pub Finds : {T E : Type 0} → Result (Option T) Stop → SinkRules E → (T → Type 0) → (List ℕ → Type 0) → E → E → Type 0
@@ -9,17 +11,18 @@ Finds (Ok None) telling is_found is_why old new = (text : List ℕ) × is_why te
 Finds (Err stop) telling is_found is_why old new = (stop ≡ OutOfMemory) × (new ≡ old)
 
 -- A text is reported, nothing is printed, and the run fails.
-abbrev pub OnlyTells : {W E : Type 0} → SinkRules E → List ℕ → Streams W E → Streams W E → Result Bool Stop → Type 0
-OnlyTells telling text old new result =
-    (result ≡ Ok false) × (new.out ≡ old.out) × TellsOn telling text old.err new.err
+abbrev pub OnlyTells : {W E : Type 0} → Effect W E → List ℕ → Type 0
+OnlyTells effect text =
+    (effect.result ≡ Ok false) × (effect.new.out ≡ effect.old.out)
+    × Reports (effect_messages effect) text
 
 -- Out of memory: nothing is printed or reported.
-abbrev pub HasNoRoom : {W E : Type 0} → Streams W E → Streams W E → Result Bool Stop → Type 0
-HasNoRoom old new result = (result ≡ Err OutOfMemory) × (new.out ≡ old.out) × (new.err ≡ old.err)
+abbrev pub HasNoRoom : {W E : Type 0} → Effect W E → Type 0
+HasNoRoom effect =
+    (effect.result ≡ Err OutOfMemory) × (effect.new.out ≡ effect.old.out) × (err_of effect.new ≡ err_of effect.old)
 
 -- The run continues with the value that is found; or only the reason why there is none is reported; or memory ran out.
-abbrev pub GoesOn : {T W E : Type 0} → SinkRules E → (T → Type 0) → (List ℕ → Type 0) → (T → Type 0) → Streams W E
-    → Streams W E → Result Bool Stop → Type 0
-GoesOn {T} telling is_found is_why goes_on old new result =
+abbrev pub GoesOn : {T W E : Type 0} → Effect W E → (T → Type 0) → (List ℕ → Type 0) → (T → Type 0) → Type 0
+GoesOn {T} effect is_found is_why goes_on =
     ((found : T) × is_found found × goes_on found)
-    ⊎ (((text : List ℕ) × is_why text × OnlyTells telling text old new result) ⊎ HasNoRoom old new result)
+    ⊎ (((text : List ℕ) × is_why text × OnlyTells effect text) ⊎ HasNoRoom effect)

@@ -2,6 +2,7 @@ pub mod AuditLaws
 pub mod Audits
 pub mod Digests
 pub mod Finds
+pub mod Messages
 pub mod Names
 pub mod Prelude
 pub mod Report

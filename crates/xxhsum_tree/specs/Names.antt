@@ -1,6 +1,6 @@
 -- The names in lists of names.
 use Rattle.std.specs.Prelude.{◌≡◌, ℕ, List, ◌++◌}
-use Rattle.xxhsum_tree.specs.Prelude.{SourceRules, StoreRules}
+use Rattle.xxhsum_tree.specs.Prelude.{Files, Input}
 use Rattle.xxhsum_audit.specs.List.{GiveAll}
 use Rattle.xxhsum_audit.specs.Parts.{ArePartsOf}
 use Rattle.xxhsum_program.specs.Task.{has_none}
@@ -23,14 +23,10 @@ abbrev pub AreNamesIn : ℕ → List (List ℕ) → List (List ℕ) → Type 0
 AreNamesIn end texts names = GiveAll (ArePartsOf end) texts names
 
 -- The names in the lists are these. If there is no list, the input has the names.
-abbrev pub ListNames : {S F R : Type 0} → StoreRules S F → SourceRules F → SourceRules R → S → R → ℕ → List (List ℕ)
-    → List (List ℕ) → Type 0
-ListNames opening reading input_reading store input end lists names =
-    (texts : List (List ℕ)) × GiveTexts opening reading input_reading store input lists texts (has_none lists)
-    × AreNamesIn end texts names
+abbrev pub ListNames : {S F R : Type 0} → Files S F → Input R → ℕ → List (List ℕ) → List (List ℕ) → Type 0
+ListNames files input end lists names =
+    (texts : List (List ℕ)) × GiveTexts files input lists texts (has_none lists) × AreNamesIn end texts names
 
 -- One of the lists has no text, and `told` is the message about it. If there is no list, the input has none.
-abbrev pub ListNone : {S F R : Type 0} → StoreRules S F → SourceRules F → SourceRules R → S → R → List (List ℕ) → List ℕ
-    → Type 0
-ListNone opening reading input_reading store input lists told =
-    LackText opening reading input_reading store input lists told (has_none lists)
+abbrev pub ListNone : {S F R : Type 0} → Files S F → Input R → List (List ℕ) → List ℕ → Type 0
+ListNone files input lists told = LackText files input lists told (has_none lists)

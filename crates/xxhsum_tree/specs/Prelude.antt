@@ -1,6 +1,7 @@
 -- The types and words that most words and lemmas of the crate cite, passed on from one place. Declares nothing.
-pub use Rattle.xxhsum_program.specs.Prelude.{AllByRecursion, EachHas, FolderRules, Kind, Options, Refusal, Refused, SinkRules, SourceRules, StoreRules, Style, TellsOn, Took, concat, one_line}
-pub use Rattle.xxhsum_program.specs.Order.{StreamRules, Streams}
+pub use Rattle.xxhsum_program.specs.Prelude.{AllByRecursion, EachHas, Files, FolderRules, Input, Kind, Options, Refusal, Refused, SinkRules, SourceRules, StoreRules, Style, TellsOn, Took, concat, files_of, input_of, one_line}
+pub use Rattle.xxhsum_program.specs.Order.{Effect, StreamRules, effect_of}
+pub use Rattle.xxhsum_program.specs.declared.streams.Streams.{Streams}
 pub use Rattle.xxhsum_program.specs.declared.outcome.Outcome.{Outcome}
 pub use Rattle.xxhsum_program.specs.declared.outcome.Outcome.TheVariants.{Digested, IsDirectory, Unread}
 pub use Rattle.xxhsum_program.specs.declared.stop.Stop.{Stop}

@@ -1,12 +1,13 @@
 -- Merged lines and names, with the outcomes of the names.
 use Rattle.std.specs.Prelude.{◌≡◌, ℕ, Bool, true, List, [], ◌∷◌, ◌++◌, map, flat_map}
 use Rattle.std.specs.List.{list_all}
-use Rattle.xxhsum_tree.specs.Prelude.{Digested, IsDirectory, Kind, Outcome, SinkRules, SourceRules, StoreRules, TellsOn, Unread}
+use Rattle.xxhsum_tree.specs.Prelude.{Digested, Files, IsDirectory, Kind, Outcome, Unread}
 use Rattle.xxhsum_audit.specs.declared.side.Side.{Side}
 use Rattle.xxhsum_audit.specs.declared.side.Side.TheVariants.{Line, Name, Both}
 use Rattle.xxhsum_audit.specs.Found.{Found, Missing, New, met}
 use Rattle.xxhsum_audit.specs.Item.{Item, Says, kind_of}
 use Rattle.xxhsum_program.specs.Lines.{told_line}
+use Rattle.xxhsum_tree.specs.Messages.{Messages, Reports}
 use Rattle.xxhsum_program.specs.Outcomes.{Comes, is_digested}
 
 -- A line whose name was not given, a line and its given name, or a name that no line has.
@@ -21,19 +22,19 @@ kind_of_new without [] = without
 kind_of_new without (line ∷ lines) = kind_of line
 
 -- The side has this row. A name with a line is digested by the line's algorithm, another name by `kind`.
-abbrev pub IsRow : {S F : Type 0} → StoreRules S F → SourceRules F → S → Kind → Side Item (List ℕ) → Row → Type 0
-IsRow opening reading store kind (Line line) row = row ≡ Gone line
-IsRow opening reading store kind (Name name) row =
-    (outcome : Outcome) × (row ≡ Come name outcome) × Comes opening reading store kind name outcome
-IsRow opening reading store kind (Both line name) row =
-    (outcome : Outcome) × (row ≡ Met line name outcome) × Comes opening reading store (kind_of line) name outcome
+abbrev pub IsRow : {S F : Type 0} → Files S F → Kind → Side Item (List ℕ) → Row → Type 0
+IsRow files kind (Line line) row = row ≡ Gone line
+IsRow files kind (Name name) row =
+    (outcome : Outcome) × (row ≡ Come name outcome) × Comes files kind name outcome
+IsRow files kind (Both line name) row =
+    (outcome : Outcome) × (row ≡ Met line name outcome) × Comes files (kind_of line) name outcome
 
 -- Each side has a row, in order.
-abbrev pub AreRows : {S F : Type 0} → StoreRules S F → SourceRules F → S → Kind → List (Side Item (List ℕ)) → List Row → Type 0
-AreRows opening reading store kind [] rows = rows ≡ []
-AreRows opening reading store kind (side ∷ sides) rows =
-    (row : Row) × (rest : List Row) × (rows ≡ row ∷ rest) × IsRow opening reading store kind side row
-    × AreRows opening reading store kind sides rest
+abbrev pub AreRows : {S F : Type 0} → Files S F → Kind → List (Side Item (List ℕ)) → List Row → Type 0
+AreRows files kind [] rows = rows ≡ []
+AreRows files kind (side ∷ sides) rows =
+    (row : Row) × (rest : List Row) × (rows ≡ row ∷ rest) × IsRow files kind side row
+    × AreRows files kind sides rest
 
 -- ---- the results of rows
 
@@ -88,8 +89,7 @@ abbrev pub are_read : List Row → Bool
 are_read rows = list_all is_read rows
 
 -- The first sides have these rows, and the messages of the rows were reported.
-abbrev pub TellsRows : {S F E : Type 0} → StoreRules S F → SourceRules F → SinkRules E → S → Kind → List (Side Item (List ℕ)) → List Row
-    → E → E → Type 0
-TellsRows opening reading telling store kind sides rows e_old e_new =
-    (done rest : List (Side Item (List ℕ))) × (sides ≡ done ++ rest) × AreRows opening reading store kind done rows
-    × TellsOn telling (told_in rows) e_old e_new
+abbrev pub TellsRows : {S F E : Type 0} → Files S F → Messages E → Kind → List (Side Item (List ℕ)) → List Row → Type 0
+TellsRows files messages kind sides rows =
+    (done rest : List (Side Item (List ℕ))) × (sides ≡ done ++ rest) × AreRows files kind done rows
+    × Reports messages (told_in rows)

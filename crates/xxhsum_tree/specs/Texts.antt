@@ -1,6 +1,6 @@
 -- The texts of lists: of files, or of the input.
 use Rattle.std.specs.Prelude.{◌≡◌, ◌⊎◌, ℕ, Bool, true, false, List, [], ◌∷◌, ◌++◌, codes}
-use Rattle.xxhsum_tree.specs.Prelude.{EachHas, Refusal, SourceRules, StoreRules, concat, one_line}
+use Rattle.xxhsum_tree.specs.Prelude.{EachHas, Files, Input, Refusal, SourceRules, concat, one_line}
 use Rattle.xxhsum_audit.specs.Read.{BreaksOff, GivesAll}
 use Rattle.xxhsum_files.specs.Refusal.{refusal_text}
 use Rattle.xxhsum_program.specs.Run.{input_name}
@@ -22,33 +22,28 @@ unread_text name =
     one_line (concat (codes "Error: Could not read '" ∷ name ∷ codes "': a failure occurred reading the list." ∷ []))
 
 -- The name leads to a file of this text.
-abbrev pub GivesText : {S F : Type 0} → StoreRules S F → SourceRules F → S → List ℕ → List ℕ → Type 0
-GivesText {S} {F} opening reading store name text =
-    (file : F) × opening.opens store name file × HasText reading file text
+abbrev pub GivesText : {S F : Type 0} → Files S F → List ℕ → List ℕ → Type 0
+GivesText {S} {F} files name text =
+    (file : F) × files.opening.opens files.store name file × HasText files.reading file text
 
 -- The name opens no file, or a read of its file fails. `told` is the message about it.
-abbrev pub HasNoText : {S F : Type 0} → StoreRules S F → SourceRules F → S → List ℕ → List ℕ → Type 0
-HasNoText {S} {F} opening reading store name told =
-    ((why : Refusal) × opening.refuses store name why × (told ≡ unopened_text name why))
-    ⊎ ((file : F) × opening.opens store name file × Breaks reading file × (told ≡ unread_text name))
+abbrev pub HasNoText : {S F : Type 0} → Files S F → List ℕ → List ℕ → Type 0
+HasNoText {S} {F} files name told =
+    ((why : Refusal) × files.opening.refuses files.store name why × (told ≡ unopened_text name why))
+    ⊎ ((file : F) × files.opening.opens files.store name file × Breaks files.reading file × (told ≡ unread_text name))
 
 -- Each name leads to a file of its text. If there is no name, the input has the only text.
-abbrev pub GiveTexts : {S F R : Type 0} → StoreRules S F → SourceRules F → SourceRules R → S → R → List (List ℕ)
-    → List (List ℕ) → Bool → Type 0
-GiveTexts opening reading input_reading store input names texts true =
-    (text : List ℕ) × HasText input_reading input text × (texts ≡ text ∷ [])
-GiveTexts opening reading input_reading store input names texts false =
-    EachHas (GivesText opening reading store) names texts
+abbrev pub GiveTexts : {S F R : Type 0} → Files S F → Input R → List (List ℕ) → List (List ℕ) → Bool → Type 0
+GiveTexts files input names texts true = (text : List ℕ) × HasText input.reading input.source text × (texts ≡ text ∷ [])
+GiveTexts files input names texts false = EachHas (GivesText files) names texts
 
 -- A name has no text, and the names before it have texts. `told` is the message about it.
-abbrev pub LacksOne : {S F : Type 0} → StoreRules S F → SourceRules F → S → List (List ℕ) → List ℕ → Type 0
-LacksOne opening reading store names told =
+abbrev pub LacksOne : {S F : Type 0} → Files S F → List (List ℕ) → List ℕ → Type 0
+LacksOne files names told =
     (before behind texts : List (List ℕ)) × (name : List ℕ) × (names ≡ before ++ name ∷ behind)
-    × EachHas (GivesText opening reading store) before texts × HasNoText opening reading store name told
+    × EachHas (GivesText files) before texts × HasNoText files name told
 
 -- One of the names has no text, and `told` is the message about it. If there is no name, the input has none.
-abbrev pub LackText : {S F R : Type 0} → StoreRules S F → SourceRules F → SourceRules R → S → R → List (List ℕ) → List ℕ
-    → Bool → Type 0
-LackText opening reading input_reading store input names told true =
-    Breaks input_reading input × (told ≡ unread_text input_name)
-LackText opening reading input_reading store input names told false = LacksOne opening reading store names told
+abbrev pub LackText : {S F R : Type 0} → Files S F → Input R → List (List ℕ) → List ℕ → Bool → Type 0
+LackText files input names told true = Breaks input.reading input.source × (told ≡ unread_text input_name)
+LackText files input names told false = LacksOne files names told

@@ -3,11 +3,12 @@ use Rattle.std.specs.Prelude.{◌≡◌, ℕ, Bool, true, false, ◌&&◌, List,
 use Rattle.std.specs.Cmp.Lexicographic.{slice_cmp}
 use Rattle.std.specs.List.{ends_with, flat_map, list_all}
 use Rattle.std.specs.Ordering.{nat_cmp}
-use Rattle.xxhsum_tree.specs.Prelude.{FolderRules, OutOfMemory, Refusal, SinkRules, Stop, StoreRules, TellsOn, Unread}
+use Rattle.xxhsum_tree.specs.Prelude.{FolderRules, OutOfMemory, Refusal, Stop, StoreRules, Unread}
 use Rattle.xxhsum_files.specs.declared.folders.PathKind.{PathKind}
 use Rattle.xxhsum_files.specs.declared.folders.PathKind.TheVariants.{File, Folder, Other, Unknown}
 use Rattle.xxhsum_program.specs.Lines.{told_line}
 use Rattle.xxhsum_program.specs.declared.outcome.Reason.TheVariants.{Unopened}
+use Rattle.xxhsum_tree.specs.Messages.{Messages, Reports}
 use Rattle.xxhsum_tree.specs.declared.walk.Waiting.{Waiting}
 use Rattle.xxhsum_tree.specs.declared.walk.Walked.{Walked}
 
@@ -136,16 +137,16 @@ are_open trace = list_all is_open trace
 
 -- The walk from these names ended with these files, and each directory or name that can't be read was reported. `all`
 -- is true if there was none.
-abbrev pub WalksAll : {E : Type 0} → Tree → SinkRules E → List (List ℕ) → List (List ℕ) → Bool → E → E → Type 0
-WalksAll tree telling names files all old new =
+abbrev pub WalksAll : {E : Type 0} → Tree → Messages E → List (List ℕ) → List (List ℕ) → Bool → Type 0
+WalksAll tree messages names files all =
     (trace : List Seen) × Visits tree (map given names) trace [] × (files ≡ files_in trace)
-    × (all ≡ are_open trace) × TellsOn telling (closed_in trace) old new
+    × (all ≡ are_open trace) × Reports messages (closed_in trace)
 
 -- The walk ran out of memory. The messages of its visits were reported.
-abbrev pub WalksSome : {E : Type 0} → Tree → SinkRules E → List (List ℕ) → E → E → Stop → Type 0
-WalksSome tree telling names old new stop =
+abbrev pub WalksSome : {E : Type 0} → Tree → Messages E → List (List ℕ) → Stop → Type 0
+WalksSome tree messages names stop =
     (trace : List Seen) × (left : List Place) × (stop ≡ OutOfMemory)
-    × Visits tree (map given names) trace left × TellsOn telling (closed_in trace) old new
+    × Visits tree (map given names) trace left × Reports messages (closed_in trace)
 
 -- ---- one step (used by no public clause)
 
@@ -156,16 +157,21 @@ place_of one = (one.name.items, one.is_given)
 abbrev pub waiting_in : List Waiting → List Place
 waiting_in waiting = reverse (map place_of waiting)
 
--- The result of a visit was added, and the names below it are waiting. If out of memory, nothing was reported.
-abbrev pub SeesOne : {E : Type 0} → (Seen → Type 0) → SinkRules E → List Place → List Place → Walked → Walked → E → E
-    → Result (Unit {0}) Stop → Type 0
-SeesOne is_seen telling p_old p_new old new e_old e_new (Ok _) =
-    (seen : Seen) × is_seen seen × (p_new ≡ below_of seen ++ p_old)
-    × (map (λ file. file.items) new.files.items ≡ map (λ file. file.items) old.files.items ++ file_of seen)
-    × (new.are_all ≡ (old.are_all && is_open seen)) × TellsOn telling (closed_of seen) e_old e_new
-SeesOne is_seen telling p_old p_new old new e_old e_new (Err stop) = (stop ≡ OutOfMemory) × (e_new ≡ e_old)
+-- The places that wait, and the results so far.
+pub record WalkState : Type 0 where
+  pub waiting : List Place
+  pub walked : Walked
 
-abbrev pub SeesFolder : {E : Type 0} → Tree → List ℕ → SinkRules E → List Place → List Place → Walked → Walked → E → E
-    → Result (Unit {0}) Stop → Type 0
-SeesFolder tree name telling p_old p_new old new e_old e_new result =
-    SeesOne (IsIn tree name) telling p_old p_new old new e_old e_new result
+abbrev pub state_of : List Waiting → Walked → WalkState
+state_of waiting walked = record { waiting = waiting_in waiting; walked = walked }
+
+-- The result of a visit was added, and the names below it are waiting. If out of memory, nothing was reported.
+abbrev pub SeesOne : {E : Type 0} → (Seen → Type 0) → Messages E → WalkState → WalkState → Result (Unit {0}) Stop → Type 0
+SeesOne is_seen messages old new (Ok _) =
+    (seen : Seen) × is_seen seen × (new.waiting ≡ below_of seen ++ old.waiting)
+    × (map (λ file. file.items) new.walked.files.items ≡ map (λ file. file.items) old.walked.files.items ++ file_of seen)
+    × (new.walked.are_all ≡ (old.walked.are_all && is_open seen)) × Reports messages (closed_of seen)
+SeesOne is_seen messages old new (Err stop) = (stop ≡ OutOfMemory) × (messages.new ≡ messages.old)
+
+abbrev pub SeesFolder : {E : Type 0} → Tree → List ℕ → Messages E → WalkState → WalkState → Result (Unit {0}) Stop → Type 0
+SeesFolder tree name messages old new result = SeesOne (IsIn tree name) messages old new result

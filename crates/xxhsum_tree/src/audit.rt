@@ -4,10 +4,12 @@ ghost use Rattle.std.specs.Prelude.{◌≡◌, false, IfOk, map};
 ghost use Rattle.xxhsum_audit.specs.Item.{items_of, texts_of};
 ghost use Rattle.xxhsum_audit.specs.List.{said_by};
 ghost use Rattle.xxhsum_audit.specs.Order.{IsOrder, Rises, clash_in, compare_lines, compare_paths, rank_lines, rank_names};
-ghost use Rattle.xxhsum_program.specs.Order.{streams};
+ghost use Rattle.xxhsum_program.specs.Files.{files_of};
+ghost use Rattle.xxhsum_program.specs.Finish.{IsWritten};
+ghost use Rattle.xxhsum_program.specs.Order.{effect_of, rules_of};
 ghost use Rattle.xxhsum_program.specs.Told.{TellsOn};
 ghost use Rattle.xxhsum_tree.specs.AuditLaws.{AuditMeansEqual};
-ghost use Rattle.xxhsum_tree.specs.Audits.{Audits, AuditsItems, AuditsSides, TellsTwice, twice_text};
+ghost use Rattle.xxhsum_tree.specs.Audits.{Audits, AuditsItems, AuditsList, AuditsSides, TellsTwice, twice_text};
 ghost use Rattle.xxhsum_tree.specs.Rows.{kind_of_new};
 
 use crate::digests::digests_of;
@@ -21,9 +23,11 @@ use xxhsum_audit::moves::verdicts;
 use xxhsum_audit::order::{clash_in, names_of, put_lines_in_order, put_names_in_order};
 use xxhsum_files::store::Store;
 use xxhsum_line::entry::Entry;
+use xxhsum_output::output::Output;
 use xxhsum_program::job::Job;
 use xxhsum_program::screen::Ticks;
 use xxhsum_program::stop::Stop;
+use xxhsum_program::streams::Streams;
 use xxhsum_program::tell::tell_line;
 
 /// Compares the names with the lines of the list of this name, and prints a verdict on each. Returns whether all are
@@ -37,49 +41,65 @@ use xxhsum_program::tell::tell_line;
 /// # Errors
 ///
 /// [`Stop::WriteFailed`] if a write to standard output fails, and [`Stop::OutOfMemory`] if memory runs out.
-pub fn audit_names<S: Store, T: Ticks, W: Sink, E: Sink>(
+pub fn audit_names<S: Store, T: Ticks, W: Output, E: Sink>(
     job: &Job<'_, S, T>,
     list: &[u8],
     names: &[Vec<u8>],
-    out: &mut W,
-    err: &mut E,
+    streams: &mut Streams<W, E>,
 ) -> Result<bool, Stop>
-    requires { W.has_failed out.old ≡ false }
-    ensures { Audits S.Store S.File.Source W.Sink E.Sink job.now.store.now job.now.options list.now
-        (map (λ name. name.items) names.now) (streams out.old err.old)
-        (streams out.new err.new) result }
+    requires { W.has_failed streams.old.out ≡ false }
+    ensures { Audits (files_of S.Store S.File.Source job.now.store.now)
+        (effect_of (rules_of W.Sink W.held W.has_lost E.Sink) streams.old streams.new result)
+        job.now.options list.now (map (λ name. name.items) names.now) }
 {
-    let Some(said) = said_named(job, list, err)? else {
+    streams.release();
+    audit_list(job, list, names, streams)
+}
+
+// Compares the names with the lines of the list of this name. The caller shows that all output is written.
+fn audit_list<S: Store, T: Ticks, W: Output, E: Sink>(
+    job: &Job<'_, S, T>,
+    list: &[u8],
+    names: &[Vec<u8>],
+    streams: &mut Streams<W, E>,
+) -> Result<bool, Stop>
+    requires writer { W.has_failed streams.old.out ≡ false }
+    requires written { IsWritten W.held W.has_lost streams.old.out }
+    ensures { AuditsList (files_of S.Store S.File.Source job.now.store.now)
+        (effect_of (rules_of W.Sink W.held W.has_lost E.Sink) streams.old streams.new result)
+        job.now.options list.now (map (λ name. name.items) names.now) }
+{
+    let Some(said) = said_named(job, list, streams.messages())? else {
         return Ok(false);
     };
-    audit_lines(job, list, &said, names, out, err)
+    audit_lines(job, list, &said, names, streams)
 }
 
 // Compares the names with the entries of a list.
-fn audit_lines<S: Store, T: Ticks, W: Sink, E: Sink>(
+fn audit_lines<S: Store, T: Ticks, W: Output, E: Sink>(
     job: &Job<'_, S, T>,
     list: &[u8],
     said: &[Entry],
     names: &[Vec<u8>],
-    out: &mut W,
-    err: &mut E,
+    streams: &mut Streams<W, E>,
 ) -> Result<bool, Stop>
-    requires { W.has_failed out.old ≡ false }
-    ensures { AuditsItems S.Store S.File.Source W.Sink E.Sink job.now.store.now job.now.options
-        list.now (map said_by said.now) (map (λ name. name.items) names.now)
-        (streams out.old err.old)
-        (streams out.new err.new) result }
+    requires writer { W.has_failed streams.old.out ≡ false }
+    requires written { IsWritten W.held W.has_lost streams.old.out }
+    ensures { AuditsItems (files_of S.Store S.File.Source job.now.store.now)
+        (effect_of (rules_of W.Sink W.held W.has_lost E.Sink) streams.old streams.new result)
+        job.now.options list.now (map said_by said.now) (map (λ name. name.items) names.now) }
 {
     let lines = lines_in_order(job.alloc, said)?;
     let asked = names_in_order(job.alloc, names)?;
     let listed = names_of(job.alloc, &lines)?;
+    let err = streams.messages();
     if tell_twice(list, &listed, err) {
         return Ok(false);
     }
     if tell_twice(b"Error", &asked, err) {
         return Ok(false);
     }
-    audit_sides(job, &lines, &asked, out, err)
+    audit_sides(job, &lines, &asked, streams)
 }
 
 // Returns the entries, ordered by name.
@@ -148,25 +168,25 @@ fn tell_name<'a, E: Sink>(among: &'a [u8], name: &'a [u8], err: &mut E)
 }
 
 // Hashes the names, merged with the lines, both in order, and prints the verdicts.
-fn audit_sides<S: Store, T: Ticks, W: Sink, E: Sink>(
+fn audit_sides<S: Store, T: Ticks, W: Output, E: Sink>(
     job: &Job<'_, S, T>,
     lines: &[FileDigest<'_>],
     asked: &[&[u8]],
-    out: &mut W,
-    err: &mut E,
+    streams: &mut Streams<W, E>,
 ) -> Result<bool, Stop>
-    requires works { W.has_failed out.old ≡ false }
+    requires writer { W.has_failed streams.old.out ≡ false }
+    requires written { IsWritten W.held W.has_lost streams.old.out }
     requires lines { Rises compare_lines (items_of lines.now) }
     requires names { Rises compare_paths (texts_of asked.now) }
-    ensures { AuditsSides S.Store S.File.Source W.Sink E.Sink job.now.store.now job.now.options
-        (items_of lines.now) (texts_of asked.now) (streams out.old err.old)
-        (streams out.new err.new) result }
+    ensures { AuditsSides (files_of S.Store S.File.Source job.now.store.now)
+        (effect_of (rules_of W.Sink W.held W.has_lost E.Sink) streams.old streams.new result)
+        job.now.options (items_of lines.now) (texts_of asked.now) }
 {
     let kind = kind_of_new(lines, job.options.kind);
-    let compared = digests_of(job, kind, lines, asked, err)?;
+    let compared = digests_of(job, kind, lines, asked, streams.messages())?;
     let are_all = compared.are_all;
     let found = verdicts(job.alloc, compared)?;
-    print_report(job.alloc, job.options, &found, out)?;
+    print_report(job.alloc, job.options, &found, &mut streams.out)?;
     if !are_same(&found) {
         return Ok(false);
     }
@@ -185,6 +205,6 @@ fn kind_of_new(lines: &[FileDigest<'_>], without: Kind) -> Kind
 
 /// Lemma: a good audit means equal files. If `audit_names` returns true, each line of the list has a file among the
 /// names, whose bytes have the line's value, and each name belongs to such a line.
-pub fn audit_means_equal<S: Store, W: Sink, E: Sink>()
-    ensures { AuditMeansEqual S.Store S.File.Source W.Sink E.Sink }
+pub fn audit_means_equal<S: Store, W: Output, E: Sink>()
+    ensures { AuditMeansEqual S.Store S.File.Source (rules_of W.Sink W.held W.has_lost E.Sink) }
 {}

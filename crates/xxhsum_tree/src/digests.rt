@@ -1,9 +1,11 @@
 //! Hashes names and merges them with the lines of a list.
 
 ghost use Rattle.std.specs.Prelude.{◌<◌, MatchResult, length};
+ghost use Rattle.xxhsum_program.specs.Files.{files_of};
 ghost use Rattle.xxhsum_audit.specs.Item.{items_of, texts_of};
 ghost use Rattle.xxhsum_audit.specs.Side.{by_path, path_side};
 ghost use Rattle.xxhsum_tree.specs.Digests.{AddsRow, DigestsName, DigestsRows, FailsRows};
+ghost use Rattle.xxhsum_tree.specs.Messages.{messages_of};
 ghost use Rattle.xxhsum_tree.specs.Rows.{IsRow};
 
 use std::alloc::AllocError;
@@ -29,9 +31,10 @@ pub(crate) fn digests_of<'n, S: Store, T: Ticks, E: Sink>(
     err: &mut E,
 ) -> Result<Compared<'n>, AllocError>
     ensures { let sides = by_path (items_of lines.now) (texts_of names.now) in MatchResult result
-        (λ compared. DigestsRows S.Store S.File.Source E.Sink job.now.store.now kind sides compared
-        err.old err.new)
-        (λ _. FailsRows S.Store S.File.Source E.Sink job.now.store.now kind sides err.old err.new) }
+        (λ compared. DigestsRows (files_of S.Store S.File.Source job.now.store.now)
+        (messages_of E.Sink err.old err.new) kind sides compared)
+        (λ _. FailsRows (files_of S.Store S.File.Source job.now.store.now)
+        (messages_of E.Sink err.old err.new) kind sides) }
 {
     let mut compared = Compared {
         settled: Vec::new(job.alloc),
@@ -60,8 +63,9 @@ fn add_side<'n, S: Store, T: Ticks, E: Sink>(
     err: &mut E,
 ) -> Result<(), AllocError>
     requires { 0 < length buf.old }
-    ensures { AddsRow E.Sink (IsRow S.Store S.File.Source job.now.store.now kind (path_side side.entry))
-        kind compared.old compared.new err.old err.new result }
+    ensures { AddsRow (messages_of E.Sink err.old err.new)
+        (IsRow (files_of S.Store S.File.Source job.now.store.now) kind (path_side side.entry))
+        kind compared.old compared.new result }
 {
     match side {
         Side::Line(line) => compared.gone.push(line)?,
@@ -86,8 +90,8 @@ fn digest_name<'n, S: Store, T: Ticks, E: Sink>(
     err: &mut E,
 ) -> Option<FileDigest<'n>>
     requires { 0 < length buf.old }
-    ensures { DigestsName S.Store S.File.Source E.Sink job.now.store.now kind name.now
-        err.old err.new result }
+    ensures { DigestsName (files_of S.Store S.File.Source job.now.store.now)
+        (messages_of E.Sink err.old err.new) kind name.now result }
 {
     let outcome = outcome_of(job, kind, name, buf);
     tell_outcome(name, &outcome, err);

@@ -1,6 +1,7 @@
 //! Reads names from lists of names.
 
 ghost use Rattle.std.specs.Prelude.{◌≡◌, ◌∷◌, ◌++◌, [], false, map, IfOk};
+ghost use Rattle.xxhsum_program.specs.Files.{files_of, input_of};
 ghost use Rattle.xxhsum_tree.specs.Finds.{Finds};
 ghost use Rattle.xxhsum_tree.specs.Names.{AddsNames, AreNamesIn, ListNames, ListNone, end_of};
 
@@ -28,9 +29,9 @@ pub fn names_listed<S: Store, T: Ticks, R: Source + Drop, E: Sink>(
 ) -> Result<Option<Vec<Vec<u8>>>, Stop>
     requires { R.has_failed input ≡ false }
     ensures { let given = map (λ list. list.items) lists.now in Finds result E.Sink
-        (λ names. ListNames S.Store S.File.Source R.Source job.now.store.now input
+        (λ names. ListNames (files_of S.Store S.File.Source job.now.store.now) (input_of R.Source input)
         (end_of job.now.options.names_from) given (map (λ name. name.items) names.items))
-        (ListNone S.Store S.File.Source R.Source job.now.store.now input given) err.old err.new }
+        (ListNone (files_of S.Store S.File.Source job.now.store.now) (input_of R.Source input) given) err.old err.new }
 {
     let Some(texts) = texts_named(job, lists, input, err)? else {
         return Ok(None);

@@ -2,11 +2,13 @@
 
 ghost use Rattle.std.specs.Prelude.{◌≡◌, false, Bool, List, ℕ, Option, Some, Result, drop, map, IfSome};
 ghost use Rattle.xxhsum_program.specs.Arguments.{AreArguments};
-ghost use Rattle.xxhsum_program.specs.Finish.{Finishes};
-ghost use Rattle.xxhsum_program.specs.Order.{Streams, rules_of, streams};
-ghost use Rattle.xxhsum_program.specs.Run.{end_text, status_of};
-ghost use Rattle.xxhsum_tree.specs.Prelude.{Options, Stop, TellsOn};
+ghost use Rattle.xxhsum_program.specs.Files.{files_of, input_of};
+ghost use Rattle.xxhsum_program.specs.Finish.{IsWritten};
+ghost use Rattle.xxhsum_program.specs.Order.{Releases, effect_of, rules_of};
+ghost use Rattle.xxhsum_program.specs.Run.{Ends};
+ghost use Rattle.xxhsum_tree.specs.Prelude.{Stop, Streams};
 ghost use Rattle.xxhsum_tree.specs.Run.{AuditsBelow, AuditsWords, DoesArguments, PerformsWords, WalksFolders, WalksNames, all_well};
+ghost use Rattle.xxhsum_tree.specs.Walk.{tree_of};
 ghost use Rattle.xxhsum_words.specs.Options.{are_listed};
 
 use crate::audit::audit_names;
@@ -27,6 +29,7 @@ use xxhsum_program::process::{
 };
 use xxhsum_program::screen::Ticks;
 use xxhsum_program::stop::Stop;
+use xxhsum_program::streams::Streams;
 use xxhsum_program::tell::tell;
 use xxhsum_program::watched::ProgressDisplay;
 use xxhsum_words::name::default_kind;
@@ -41,8 +44,7 @@ pub fn run<A, S, R, W, E, T>(
     arguments: &A,
     store: &S,
     console: Console<R, T>,
-    out: &mut W,
-    err: &mut E,
+    streams: &mut Streams<W, E>,
 ) -> u8
 where
     A: Arguments,
@@ -52,23 +54,24 @@ where
     E: Sink,
     T: Ticks,
     requires reader { R.has_failed console.input ≡ false }
-    requires writer { W.has_failed out.old ≡ false }
-    ensures { (args : Option (List (List ℕ))) × (done ended : Result Bool Stop)
-        × (met : Streams W E) × IfSome args (AreArguments A.holds A.ends arguments.now)
-        × DoesArguments (PerformsWords S.Store S.Folders S.File.Source R.Source
-        (rules_of W.Sink W.held W.has_lost E.Sink)
-        store.now console.input (streams out.old err.old) met done)
-        E.Sink console.terminals args (streams out.old err.old) met done
-        × Finishes W.Sink W.held W.has_lost done met.out out.new ended
-        × TellsOn E.Sink (end_text ended) met.err err.new
-        × (result ≡ status_of ended) }
+    requires writer { W.has_failed streams.old.out ≡ false }
+    ensures { (args : Option (List (List ℕ))) × (done : Result Bool Stop)
+        × (start met : Streams W E) × IfSome args (AreArguments A.holds A.ends arguments.now)
+        × Releases (rules_of W.Sink W.held W.has_lost E.Sink) streams.old start
+        × DoesArguments (PerformsWords (tree_of S.Store S.Folders store.now)
+        (files_of S.Store S.File.Source store.now) (input_of R.Source console.input)
+        (effect_of (rules_of W.Sink W.held W.has_lost E.Sink) start met done))
+        (effect_of (rules_of W.Sink W.held W.has_lost E.Sink) start met done)
+        console.terminals args
+        × Ends (rules_of W.Sink W.held W.has_lost E.Sink) done met streams.new result }
 {
+    streams.release();
     match all_arguments(alloc, arguments) {
         Ok(args) => {
-            let done = run_arguments(alloc, &args, store, console, out, err);
-            end(done, out, err)
+            let done = run_arguments(alloc, &args, store, console, streams);
+            end(done, streams)
         }
-        Err(AllocError) => end(Err(Stop::OutOfMemory), out, err),
+        Err(AllocError) => end(Err(Stop::OutOfMemory), streams),
     }
 }
 
@@ -78,8 +81,7 @@ fn run_arguments<S, R, W, E, T>(
     args: &[Vec<u8>],
     store: &S,
     console: Console<R, T>,
-    out: &mut W,
-    err: &mut E,
+    streams: &mut Streams<W, E>,
 ) -> Result<bool, Stop>
 where
     S: Store + Folders,
@@ -88,12 +90,13 @@ where
     E: Sink,
     T: Ticks,
     requires reader { R.has_failed console.input ≡ false }
-    requires writer { W.has_failed out.old ≡ false }
-    ensures { DoesArguments (PerformsWords S.Store S.Folders S.File.Source R.Source
-        (rules_of W.Sink W.held W.has_lost E.Sink)
-        store.now console.input (streams out.old err.old) (streams out.new err.new) result)
-        E.Sink console.terminals (Some (map (λ argument. argument.items) args.now))
-        (streams out.old err.old) (streams out.new err.new) result }
+    requires writer { W.has_failed streams.old.out ≡ false }
+    requires written { IsWritten W.held W.has_lost streams.old.out }
+    ensures { let effect = effect_of (rules_of W.Sink W.held W.has_lost E.Sink)
+        streams.old streams.new result in
+        DoesArguments (PerformsWords (tree_of S.Store S.Folders store.now)
+        (files_of S.Store S.File.Source store.now) (input_of R.Source console.input) effect)
+        effect console.terminals (Some (map (λ argument. argument.items) args.now)) }
 {
     let Console {
         input,
@@ -104,12 +107,12 @@ where
     let words = arguments_behind_name(args);
     let asked = asked_by(default_kind(program), words);
     let Some(found) = run_asked(asked) else {
-        return Ok(tell_answer(program, words, asked, err));
+        return Ok(tell_answer(program, words, asked, streams.messages()));
     };
     let (options, place) = found;
     let names = words_behind(words, place);
     if waits_for_terminal(terminals, options, names) {
-        tell_wrong(&[b"Wrong parameters"], program, err);
+        tell_wrong(&[b"Wrong parameters"], program, streams.messages());
         return Ok(false);
     }
     let job = Job {
@@ -118,7 +121,7 @@ where
         options,
         progress: ProgressDisplay::new(screen, terminals, options),
     };
-    perform_words(&job, names, input, out, err)
+    perform_words(&job, names, input, streams)
 }
 
 // Audits, hashes the files below folders, or hashes or checks the words or the names in lists of names.
@@ -126,8 +129,7 @@ fn perform_words<S, T, R, W, E>(
     job: &Job<'_, S, T>,
     words: &[Vec<u8>],
     input: R,
-    out: &mut W,
-    err: &mut E,
+    streams: &mut Streams<W, E>,
 ) -> Result<bool, Stop>
 where
     S: Store + Folders,
@@ -136,22 +138,23 @@ where
     W: Output,
     E: Sink,
     requires reader { R.has_failed input ≡ false }
-    requires writer { W.has_failed out.old ≡ false }
-    ensures { PerformsWords S.Store S.Folders S.File.Source R.Source
-        (rules_of W.Sink W.held W.has_lost E.Sink)
-        job.now.store.now input (streams out.old err.old) (streams out.new err.new) result
+    requires writer { W.has_failed streams.old.out ≡ false }
+    requires written { IsWritten W.held W.has_lost streams.old.out }
+    ensures { PerformsWords (tree_of S.Store S.Folders job.now.store.now)
+        (files_of S.Store S.File.Source job.now.store.now) (input_of R.Source input)
+        (effect_of (rules_of W.Sink W.held W.has_lost E.Sink) streams.old streams.new result)
         job.now.options (map (λ word. word.items) words.now) }
 {
     if job.options.audits {
-        return walk_audit(job, words, input, out, err);
+        return walk_audit(job, words, input, streams);
     }
     if job.options.walks {
-        return walk_folders(job, words, out, err);
+        return walk_folders(job, words, streams);
     }
     if job.options.names_from.are_listed() {
-        return walk_names(job, words, input, out, err);
+        return walk_names(job, words, input, streams);
     }
-    perform(job, words, input, out, err)
+    perform(job, words, input, streams)
 }
 
 // Audits names against the list that the first argument names.
@@ -159,8 +162,7 @@ fn walk_audit<S, T, R, W, E>(
     job: &Job<'_, S, T>,
     words: &[Vec<u8>],
     input: R,
-    out: &mut W,
-    err: &mut E,
+    streams: &mut Streams<W, E>,
 ) -> Result<bool, Stop>
 where
     S: Store + Folders,
@@ -169,27 +171,27 @@ where
     W: Output,
     E: Sink,
     requires reader { R.has_failed input ≡ false }
-    requires writer { W.has_failed out.old ≡ false }
-    ensures { AuditsWords S.Store S.Folders S.File.Source R.Source
-        (rules_of W.Sink W.held W.has_lost E.Sink)
-        job.now.store.now input (streams out.old err.old) (streams out.new err.new) result
-        job.now.options (map (λ word. word.items) words.now) job.now.options.walks
-        (are_listed job.now.options.names_from) }
+    requires writer { W.has_failed streams.old.out ≡ false }
+    requires written { IsWritten W.held W.has_lost streams.old.out }
+    ensures { AuditsWords (tree_of S.Store S.Folders job.now.store.now)
+        (files_of S.Store S.File.Source job.now.store.now) (input_of R.Source input)
+        (effect_of (rules_of W.Sink W.held W.has_lost E.Sink) streams.old streams.new result)
+        job.now.options (map (λ word. word.items) words.now) }
 {
     let Some((list, rest)) = words.split_first() else {
-        tell(b"Error: --audit needs a list.\n", err);
+        tell(b"Error: --audit needs a list.\n", streams.messages());
         return Ok(false);
     };
     if job.options.walks {
-        return audit_below(job, list, rest, out, err);
+        return audit_below(job, list, rest, streams);
     }
     if !job.options.names_from.are_listed() {
-        return audit_names(job, list, rest, out, err);
+        return audit_names(job, list, rest, streams);
     }
-    let Some(names) = names_listed(job, rest, input, err)? else {
+    let Some(names) = names_listed(job, rest, input, streams.messages())? else {
         return Ok(false);
     };
-    audit_names(job, list, &names, out, err)
+    audit_names(job, list, &names, streams)
 }
 
 // Audits the files of the names and below their folders against `list`. If a folder can't be read, there is no audit,
@@ -198,20 +200,21 @@ fn audit_below<S: Store + Folders, T: Ticks, W: Output, E: Sink>(
     job: &Job<'_, S, T>,
     list: &[u8],
     names: &[Vec<u8>],
-    out: &mut W,
-    err: &mut E,
+    streams: &mut Streams<W, E>,
 ) -> Result<bool, Stop>
-    requires { W.has_failed out.old ≡ false }
-    ensures { AuditsBelow S.Store S.Folders S.File.Source (rules_of W.Sink W.held W.has_lost E.Sink)
-        job.now.store.now job.now.options list.now (map (λ name. name.items) names.now)
-        (streams out.old err.old) (streams out.new err.new) result }
+    requires writer { W.has_failed streams.old.out ≡ false }
+    requires written { IsWritten W.held W.has_lost streams.old.out }
+    ensures { AuditsBelow (tree_of S.Store S.Folders job.now.store.now)
+        (files_of S.Store S.File.Source job.now.store.now)
+        (effect_of (rules_of W.Sink W.held W.has_lost E.Sink) streams.old streams.new result)
+        job.now.options list.now (map (λ name. name.items) names.now) }
 {
-    match files_below(job.alloc, job.store, names, err) {
+    match files_below(job.alloc, job.store, names, streams.messages()) {
         Ok(walked) => {
             if !walked.are_all {
                 return Ok(false);
             }
-            audit_names(job, list, &walked.files, out, err)
+            audit_names(job, list, &walked.files, streams)
         }
         Err(stop) => Err(stop),
     }
@@ -221,17 +224,18 @@ fn audit_below<S: Store + Folders, T: Ticks, W: Output, E: Sink>(
 fn walk_folders<S: Store + Folders, T: Ticks, W: Output, E: Sink>(
     job: &Job<'_, S, T>,
     names: &[Vec<u8>],
-    out: &mut W,
-    err: &mut E,
+    streams: &mut Streams<W, E>,
 ) -> Result<bool, Stop>
-    requires { W.has_failed out.old ≡ false }
-    ensures { WalksFolders S.Store S.Folders S.File.Source (rules_of W.Sink W.held W.has_lost E.Sink)
-        job.now.store.now job.now.options (map (λ name. name.items) names.now)
-        (streams out.old err.old) (streams out.new err.new) result }
+    requires writer { W.has_failed streams.old.out ≡ false }
+    requires written { IsWritten W.held W.has_lost streams.old.out }
+    ensures { WalksFolders (tree_of S.Store S.Folders job.now.store.now)
+        (files_of S.Store S.File.Source job.now.store.now)
+        (effect_of (rules_of W.Sink W.held W.has_lost E.Sink) streams.old streams.new result)
+        job.now.options (map (λ name. name.items) names.now) }
 {
-    match files_below(job.alloc, job.store, names, err) {
+    match files_below(job.alloc, job.store, names, streams.messages()) {
         Ok(walked) => {
-            let done = hash_names(job, &walked.files, out, err);
+            let done = hash_names(job, &walked.files, streams);
             all_well(walked.are_all, done)
         }
         Err(stop) => Err(stop),
@@ -254,20 +258,20 @@ fn walk_names<S: Store, T: Ticks, R: Source + Drop, W: Output, E: Sink>(
     job: &Job<'_, S, T>,
     lists: &[Vec<u8>],
     input: R,
-    out: &mut W,
-    err: &mut E,
+    streams: &mut Streams<W, E>,
 ) -> Result<bool, Stop>
     requires reader { R.has_failed input ≡ false }
-    requires writer { W.has_failed out.old ≡ false }
-    ensures { WalksNames S.Store S.File.Source R.Source (rules_of W.Sink W.held W.has_lost E.Sink)
-        job.now.store.now input (streams out.old err.old) (streams out.new err.new) result
+    requires writer { W.has_failed streams.old.out ≡ false }
+    requires written { IsWritten W.held W.has_lost streams.old.out }
+    ensures { WalksNames (files_of S.Store S.File.Source job.now.store.now) (input_of R.Source input)
+        (effect_of (rules_of W.Sink W.held W.has_lost E.Sink) streams.old streams.new result)
         job.now.options (map (λ list. list.items) lists.now) }
 {
-    let Some(names) = names_listed(job, lists, input, err)? else {
+    let Some(names) = names_listed(job, lists, input, streams.messages())? else {
         return Ok(false);
     };
     if job.options.checks {
-        return check_lists(job, &names, out, err);
+        return check_lists(job, &names, streams);
     }
-    hash_names(job, &names, out, err)
+    hash_names(job, &names, streams)
 }

@@ -1,6 +1,7 @@
 //! Reads the entries of a list.
 
 ghost use Rattle.std.specs.Prelude.{map};
+ghost use Rattle.xxhsum_program.specs.Files.{files_of};
 ghost use Rattle.xxhsum_audit.specs.List.{said_by};
 ghost use Rattle.xxhsum_program.specs.Watched.{source_of};
 ghost use Rattle.xxhsum_tree.specs.Finds.{Finds};
@@ -27,9 +28,9 @@ pub(crate) fn said_named<S: Store, T: Ticks, E: Sink>(
     err: &mut E,
 ) -> Result<Option<Vec<Entry>>, Stop>
     ensures { Finds result E.Sink
-        (λ said. ListSays S.Store S.File.Source job.now.store.now
+        (λ said. ListSays (files_of S.Store S.File.Source job.now.store.now)
         job.now.options.is_little_endian list.now (map said_by said.items))
-        (ListSaysNothing S.Store S.File.Source job.now.store.now job.now.options.is_little_endian
+        (ListSaysNothing (files_of S.Store S.File.Source job.now.store.now) job.now.options.is_little_endian
         list.now) err.old err.new }
 {
     match job.progress.open(job.store, list) {

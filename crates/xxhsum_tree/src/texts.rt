@@ -1,6 +1,7 @@
 //! Reads whole lists.
 
 ghost use Rattle.std.specs.Prelude.{◌≡◌, ◌∷◌, ◌++◌, [], false, List, ℕ, IfOk, map};
+ghost use Rattle.xxhsum_program.specs.Files.{files_of, input_of};
 ghost use Rattle.xxhsum_tree.specs.Prelude.{EachHas, TellsOn};
 ghost use Rattle.xxhsum_program.specs.Run.{input_name};
 ghost use Rattle.xxhsum_program.specs.Task.{has_none};
@@ -33,8 +34,8 @@ pub fn text_named<S: Store, T: Ticks, E: Sink>(
     err: &mut E,
 ) -> Result<Option<Vec<u8>>, Stop>
     ensures { Finds result E.Sink
-        (λ text. GivesText S.Store S.File.Source job.now.store.now name.now text.items)
-        (HasNoText S.Store S.File.Source job.now.store.now name.now) err.old err.new }
+        (λ text. GivesText (files_of S.Store S.File.Source job.now.store.now) name.now text.items)
+        (HasNoText (files_of S.Store S.File.Source job.now.store.now) name.now) err.old err.new }
 {
     match job.progress.open(job.store, name) {
         Ok(file) => text_of(job.alloc, name, file, err),
@@ -111,9 +112,9 @@ pub fn texts_named<S: Store, T: Ticks, R: Source + Drop, E: Sink>(
 ) -> Result<Option<Vec<Vec<u8>>>, Stop>
     requires { R.has_failed input ≡ false }
     ensures { let given = map (λ name. name.items) names.now in Finds result E.Sink
-        (λ texts. GiveTexts S.Store S.File.Source R.Source job.now.store.now input given
+        (λ texts. GiveTexts (files_of S.Store S.File.Source job.now.store.now) (input_of R.Source input) given
         (map (λ text. text.items) texts.items) (has_none given))
-        (λ told. LackText S.Store S.File.Source R.Source job.now.store.now input given told
+        (λ told. LackText (files_of S.Store S.File.Source job.now.store.now) (input_of R.Source input) given told
         (has_none given)) err.old err.new }
 {
     if has_none(names) {
@@ -156,9 +157,9 @@ fn texts_of_files<S: Store, T: Ticks, E: Sink>(
     err: &mut E,
 ) -> Result<Option<Vec<Vec<u8>>>, Stop>
     ensures { let given = map (λ name. name.items) names.now in Finds result E.Sink
-        (λ texts. EachHas (GivesText S.Store S.File.Source job.now.store.now) given
+        (λ texts. EachHas (GivesText (files_of S.Store S.File.Source job.now.store.now)) given
         (map (λ text. text.items) texts.items))
-        (LacksOne S.Store S.File.Source job.now.store.now given) err.old err.new }
+        (LacksOne (files_of S.Store S.File.Source job.now.store.now) given) err.old err.new }
 {
     let mut texts = Vec::new(job.alloc);
     for name in names {

@@ -2,8 +2,9 @@
 
 ghost use Rattle.std.specs.Prelude.{◌≡◌, ◌++◌, ◌∷◌, [], false, IfOk, MatchResult, map};
 ghost use Rattle.xxhsum_program.specs.Told.{TellsOn};
+ghost use Rattle.xxhsum_tree.specs.Messages.{messages_of};
 ghost use Rattle.xxhsum_tree.specs.WalkLaws.{FindsEachFile, FindsNoOther, FindsOnce};
-ghost use Rattle.xxhsum_tree.specs.Walk.{HasKind, IsInOrder, IsSeen, SeesFolder, SeesOne, WalksAll, WalksSome, below, closed_text, place_of, tree_of, waiting_in, with_slash};
+ghost use Rattle.xxhsum_tree.specs.Walk.{HasKind, IsInOrder, IsSeen, SeesFolder, SeesOne, WalksAll, WalksSome, below, closed_text, place_of, state_of, tree_of, waiting_in, with_slash};
 
 use std::alloc::{AllocError, Global};
 use xxh_io::ends::Sink;
@@ -46,9 +47,10 @@ pub fn files_below<S: Store + Folders, E: Sink>(
     err: &mut E,
 ) -> Result<Walked, Stop>
     ensures { let given = map (λ name. name.items) names.now in MatchResult result
-        (λ walked. WalksAll (tree_of S.Store S.Folders store.now) E.Sink given
-        (map (λ file. file.items) walked.files.items) walked.are_all err.old err.new)
-        (WalksSome (tree_of S.Store S.Folders store.now) E.Sink given err.old err.new) }
+        (λ walked. WalksAll (tree_of S.Store S.Folders store.now)
+        (messages_of E.Sink err.old err.new) given (map (λ file. file.items) walked.files.items)
+        walked.are_all)
+        (WalksSome (tree_of S.Store S.Folders store.now) (messages_of E.Sink err.old err.new) given) }
 {
     let mut walked = Walked {
         files: Vec::new(alloc),
@@ -118,9 +120,9 @@ fn see<S: Store + Folders, E: Sink>(
     walked: &mut Walked,
     err: &mut E,
 ) -> Result<(), Stop>
-    ensures { SeesOne (IsSeen (tree_of S.Store S.Folders store.now) (place_of place)) E.Sink
-        (waiting_in waiting.old.items) (waiting_in waiting.new.items) walked.old walked.new
-        err.old err.new result }
+    ensures { SeesOne (IsSeen (tree_of S.Store S.Folders store.now) (place_of place))
+        (messages_of E.Sink err.old err.new) (state_of waiting.old.items walked.old)
+        (state_of waiting.new.items walked.new) result }
 {
     let Waiting { name, is_given } = place;
     match kind_at(store, &name, is_given) {
@@ -168,9 +170,9 @@ fn open_folder<S: Store + Folders, E: Sink>(
     walked: &mut Walked,
     err: &mut E,
 ) -> Result<(), Stop>
-    ensures { SeesFolder (tree_of S.Store S.Folders store.now) name.now E.Sink
-        (waiting_in waiting.old.items) (waiting_in waiting.new.items) walked.old walked.new
-        err.old err.new result }
+    ensures { SeesFolder (tree_of S.Store S.Folders store.now) name.now
+        (messages_of E.Sink err.old err.new) (state_of waiting.old.items walked.old)
+        (state_of waiting.new.items walked.new) result }
 {
     let folder = with_slash(alloc, name)?;
     match store.names_in(alloc, &folder) {

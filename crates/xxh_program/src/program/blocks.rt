@@ -6,6 +6,7 @@ ghost use Rattle.std.specs.Int.{div_ceil};
 ghost use Rattle.xxh_io.specs.Pieces.{NoneEmpty};
 ghost use Rattle.xxh_io.specs.Digest.{Writes};
 ghost use Rattle.xxh_program.specs.Blocks.{added_lines, last_lines};
+ghost use Rattle.xxh_program.specs.Filter.{filter_of};
 ghost use Rattle.xxh_program.specs.BlockEnds.{DigestsBlocks};
 ghost use Rattle.xxh_program.specs.Streams.{FollowsDefault};
 
@@ -145,7 +146,8 @@ pub(crate) fn digest_blocks_by<R: Source, W: Sink, const READ: usize, const LINE
     requires room { 50 ≤ LINES }
     requires small { LINES ≤ 65536 }
     ensures digests { (pieces : List (List ℕ)) × NoneEmpty pieces
-        × DigestsBlocks R.Source W.Sink block max_reads pieces r.old r.new w.old w.new result
+        × DigestsBlocks (filter_of R.Source W.Sink r.old r.new w.old w.new) block max_reads pieces
+        result
         × ((result ≡ Err DigestError.TooLong)
         ↔ ((length pieces ≡ max_reads) × (W.has_failed w.new ≡ false))) }
     ensures read_failed { (result ≡ Err DigestError.ReadFailed) ↔ (R.has_failed r.new ≡ true) }
@@ -202,7 +204,8 @@ pub fn digest_blocks<R: Source, W: Sink>(
 
     // The reads and writes. `pieces` is the list of nonempty chunks that were read.
     ensures digests { (pieces : List (List ℕ)) × NoneEmpty pieces
-        × DigestsBlocks R.Source W.Sink block max_reads pieces r.old r.new w.old w.new result
+        × DigestsBlocks (filter_of R.Source W.Sink r.old r.new w.old w.new) block max_reads pieces
+        result
         × ((result ≡ Err DigestError.TooLong)
         ↔ ((length pieces ≡ max_reads) × (W.has_failed w.new ≡ false))) }
 

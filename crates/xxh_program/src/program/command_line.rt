@@ -3,6 +3,7 @@
 ghost use Rattle.std.specs.Prelude.{◌≡◌, ◌≤◌, false, Result, Ok};
 ghost use Rattle.xxh_io.specs.Command.{command_of, NumberFits};
 ghost use Rattle.xxh_io.specs.declared.fault.Fault.{Fault};
+ghost use Rattle.xxh_program.specs.Filter.{filter_of};
 ghost use Rattle.xxh_program.specs.Run.{DigestsInput, Performs, Tells, status_after};
 
 use crate::program::blocks::digest_blocks_by;
@@ -54,7 +55,8 @@ pub fn run<R: Source, W: Sink, E: Sink>(
     requires writer { W.has_failed out.old ≡ false }
     requires faults { E.has_failed err.old ≡ false }
     ensures { (answer : Result (Unit {0}) Fault)
-        × Performs R.Source W.Sink (command_of words.now) r.old r.new out.old out.new answer
+        × Performs (filter_of R.Source W.Sink r.old r.new out.old out.new)
+        (command_of words.now) answer
         × Tells E.Sink answer err.old err.new
         × (result ≡ status_after answer) }
 {
@@ -70,7 +72,7 @@ fn print_blocks<R: Source, W: Sink>(size: u64, r: &mut R, out: &mut W) -> Result
     requires reader { R.has_failed r.old ≡ false }
     requires writer { W.has_failed out.old ≡ false }
     requires some { 1 ≤ size }
-    ensures { DigestsInput R.Source W.Sink size r.old r.new out.old out.new result }
+    ensures { DigestsInput (filter_of R.Source W.Sink r.old r.new out.old out.new) size result }
 {
     digest_blocks_by::<R, W, READ, BLOCKS_WRITE>(r, out, size, MAX_READS)
 }
@@ -84,7 +86,8 @@ fn perform<R: Source, W: Sink>(
     requires reader { R.has_failed r.old ≡ false }
     requires writer { W.has_failed out.old ≡ false }
     requires number { NumberFits command }
-    ensures { Performs R.Source W.Sink (Ok command.entry) r.old r.new out.old out.new result }
+    ensures { Performs (filter_of R.Source W.Sink r.old r.new out.old out.new)
+        (Ok command.entry) result }
 {
     match command {
         Command::Hash { kind, seed } => {

@@ -8,6 +8,7 @@ ghost use Rattle.xxh_io.specs.declared.fault.Fault.TheVariants.{Digest};
 ghost use Rattle.xxh_io.specs.declared.from_write.FromWrite.{FromWrite};
 ghost use Rattle.xxh_io.specs.FromWrite.{has_write_failed, writer_of};
 ghost use Rattle.xxh_io.specs.Process.{Asks, EndsAs, command_asked};
+ghost use Rattle.xxh_program.specs.Filter.{filter_of};
 ghost use Rattle.xxh_program.specs.Run.{Performs, Tells, status_after};
 
 use crate::program::command_line::run;
@@ -82,8 +83,8 @@ fn run_arguments<R: Source, W: Write, E: Sink>(
     requires faults { E.has_failed err.old ≡ false }
     ensures { (asked : Result (List (Bor (List ℕ))) Fault) × Asks (map string_bytes args.now) asked
         × ((ran answer : Result (Unit {0}) Fault) × (written : FromWrite W)
-        × Performs R.Source ⟦<FromWrite<W> as Sink>⟧
-        (command_asked asked) r.old r.new out.old written ran
+        × Performs (filter_of R.Source ⟦<FromWrite<W> as Sink>⟧ r.old r.new out.old written)
+        (command_asked asked) ran
         × EndsAs ran answer
         × Keeps (W.contents (writer_of written)) (W.contents (writer_of out.new))
         × Tells E.Sink answer err.old err.new

@@ -1,6 +1,7 @@
 //! Saved texts of the input's hasher, and digests that continue from one.
 
 ghost use Rattle.std.specs.Prelude.{◌≡◌, [], ◌∷◌, ◌++◌, false, string_bytes};
+ghost use Rattle.xxh_program.specs.Filter.{filter_of};
 ghost use Rattle.xxh_program.specs.StateFaults.{form_fault_32, form_fault_64};
 ghost use Rattle.xxh_program.specs.States.{Prints, Restores32, Restores64, Resumes32, Resumes64, Saves32, Saves64};
 
@@ -24,7 +25,7 @@ pub(crate) fn save_32<R: Source, W: Sink>(
 ) -> Result<(), Fault>
     requires reader { R.has_failed r.old ≡ false }
     requires writer { W.has_failed out.old ≡ false }
-    ensures { Saves32 R.Source W.Sink seed r.old r.new out.old out.new result }
+    ensures { Saves32 (filter_of R.Source W.Sink r.old r.new out.old out.new) seed result }
 {
     let hasher = read_on_32(XxHash32::with_seed(seed), MAX_READS, r)?;
     let text = hasher.to_state().to_json(alloc)?;
@@ -40,7 +41,7 @@ pub(crate) fn save_64<R: Source, W: Sink>(
 ) -> Result<(), Fault>
     requires reader { R.has_failed r.old ≡ false }
     requires writer { W.has_failed out.old ≡ false }
-    ensures { Saves64 R.Source W.Sink seed r.old r.new out.old out.new result }
+    ensures { Saves64 (filter_of R.Source W.Sink r.old r.new out.old out.new) seed result }
 {
     let hasher = read_on_64(XxHash64::with_seed(seed), MAX_READS, r)?;
     let text = hasher.to_state().to_json(alloc)?;
@@ -66,7 +67,7 @@ pub(crate) fn resume_32<R: Source, W: Sink>(
 ) -> Result<(), Fault>
     requires reader { R.has_failed r.old ≡ false }
     requires writer { W.has_failed out.old ≡ false }
-    ensures { Resumes32 R.Source W.Sink json.now r.old r.new out.old out.new result }
+    ensures { Resumes32 (filter_of R.Source W.Sink r.old r.new out.old out.new) json.now result }
 {
     let hasher = restored_32(alloc, json)?;
     Ok(digest_from_32(hasher, MAX_READS, r, out)?)
@@ -81,7 +82,7 @@ pub(crate) fn resume_64<R: Source, W: Sink>(
 ) -> Result<(), Fault>
     requires reader { R.has_failed r.old ≡ false }
     requires writer { W.has_failed out.old ≡ false }
-    ensures { Resumes64 R.Source W.Sink json.now r.old r.new out.old out.new result }
+    ensures { Resumes64 (filter_of R.Source W.Sink r.old r.new out.old out.new) json.now result }
 {
     let hasher = restored_64(alloc, json)?;
     Ok(digest_from_64(hasher, MAX_READS, r, out)?)

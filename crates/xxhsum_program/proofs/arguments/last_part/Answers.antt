@@ -1,8 +1,5 @@
-use Rattle.std.proofs.Common.{rules, ◌≡◌, ◌++◌, ◌∷◌, ◌+◌, ◌<◌, length, take, slice_index, inl, inr, refl, sym, ap, subst, ◌∙◌, arith}
-use Rattle.std.proofs.lemmas.List.{take_rest}
-use Rattle.memchr.specs.Find.{is_byte}
+use Rattle.xxhsum_program.proofs.Prelude.{◌++◌, ◌+◌, ◌<◌, ◌∙◌, ◌∷◌, ◌≡◌, ap, arith, at_place, inl, inr, is_byte, lacks_by_place, lacks_from, length, refl, rules, slice_index, subst, sym, take, take_rest}
 use Rattle.xxhsum_line.specs.Parts.{Lacks}
-use Rattle.xxhsum_line.proofs.LackFacts.{at_place, lacks_from, lacks_by_place}
 use Rattle.xxhsum_program.proofs.arguments.last_part.Goals as goal
 
 pub returns-in-Some : goal.returns-in-Some

@@ -1,6 +1,4 @@
-use Rattle.std.proofs.Common.{◌≡◌, ◌+◌, ◌∷◌, ◌++◌, [], Err, inl, inr, Bool, map, take, drop, refl, sym, ◌∙◌, append_assoc, subst, rules}
-use Rattle.xxhsum_program.specs.CheckList.{IsDone, is_good_outcome, outcome_events}
-use Rattle.xxhsum_program.specs.Order.{EmitsTo, rules_of, streams}
+use Rattle.xxhsum_program.proofs.Prelude.{[], ◌++◌, ◌+◌, ◌∙◌, ◌∷◌, ◌≡◌, Bool, EmitsTo, Err, IsDone, append_assoc, drop, inl, inr, is_good_outcome, map, outcome_events, refl, rules, rules_of, subst, sym, take}
 use Rattle.xxhsum_program.proofs.EachFacts.{EachHas-push, all-push, list_all-push, map-more, map-split}
 use Rattle.xxhsum_program.proofs.HashFacts.{is-err}
 use Rattle.xxhsum_program.proofs.OrderFacts.{emits-append, emits-join}
@@ -40,7 +38,7 @@ loop-name-preserved g c =
             | else-all w ↦ rw (w.all-is, w.if-all.false) refl
           ]);
       emits = rw (lines-push _ (outcome_events options) names so_far.outcomes name outcome so_far.each)
-          (emits-append (rules_of g.W.Sink g.W.Output.held g.W.Output.has_lost g.E.Sink) _ _ (streams c.args.out.now c.args.err.now) (streams c.loop-name.out c.loop-name.err) (streams c.check_named.new.out c.check_named.new.err) so_far.emits checked.3);
+          (emits-append (rules_of g.W.Sink g.W.Output.held g.W.Output.has_lost g.E.Sink) _ _ c.args.streams.now c.loop-name.streams c.check_named.new.streams so_far.emits checked.3);
       works = c.in_ok-good.ensures.works;
     }
 
@@ -56,21 +54,19 @@ returns-in_err-good g c =
     let outcome = checked.0 in
     let options = c.args.job.now.options in
     let rules = rules_of g.W.Sink g.W.Output.held g.W.Output.has_lost g.E.Sink in
-    let old = streams c.args.out.now c.args.err.now in
-    let mid = streams c.loop-name.out c.loop-name.err in
-    let new = streams c.check_named.new.out c.check_named.new.err in
+    let old = c.args.streams.now in
+    let mid = c.loop-name.streams in
+    let new = c.check_named.new.streams in
     rw (is-err c.from_residual.result stop c.from_residual.ensures.1) (
       so_far.outcomes ++ outcome ∷ [],
       names ++ name ∷ [],
       after,
-      (
-        map-split (λ name. name.items) c.args.names.now k c.name-item.result c.loop-name-test.true c.name-item.is ∙ sym (append_assoc names (name ∷ []) after),
-        EachHas-push _ names so_far.outcomes name outcome so_far.each checked.1,
-        inr (so_far.outcomes, outcome, refl, so_far.finished),
-      ),
+      map-split (λ name. name.items) c.args.names.now k c.name-item.result c.loop-name-test.true c.name-item.is ∙ sym (append_assoc names (name ∷ []) after),
+      EachHas-push _ names so_far.outcomes name outcome so_far.each checked.1,
+      inr (so_far.outcomes, outcome, refl, so_far.finished),
       inl (subst (λ events. EmitsTo {T = Bool} rules events old new (Err stop)) (sym (lines-push _ (outcome_events options) names so_far.outcomes name outcome so_far.each)) (emits-join {T = Bool} rules _ _ old mid new (Err stop) so_far.emits (subst (λ bytes. EmitsTo {T = Bool} rules (outcome_events options bytes outcome) mid new (Err stop)) c.deref.ensures.value checked.3))),
     )
 
 pub returns-then-failed : goal.returns-then-failed
 returns-then-failed g c =
-    ([], [], map (λ name. name.items) c.args.names.now, (refl, tt, inl tt), inr (sym c.failed.ensures ∙ c.if-failed.true, refl, refl, refl))
+    ([], [], map (λ name. name.items) c.args.names.now, refl, tt, inl tt, inr (sym c.failed.ensures ∙ c.if-failed.true, refl, refl, refl))

@@ -1,17 +1,13 @@
-use Rattle.std.proofs.Common.{◌≡◌, List, take, map, false}
-use Rattle.xxhsum_program.specs.Prelude.{EachHas}
-use Rattle.xxhsum_program.specs.CheckList.{AreAllDone, IsListOutcome, ListOutcome, are_good, outcome_events}
-use Rattle.xxhsum_program.specs.Lines.{lines_of}
-use Rattle.xxhsum_program.specs.Order.{EmitsAll, rules_of, streams}
+use Rattle.xxhsum_program.proofs.Prelude.{◌≡◌, AreAllDone, EachHas, EmitsAll, IsListOutcome, List, ListOutcome, are_good, false, files_of, lines_of, map, outcome_events, rules_of, take}
 use Rattle.xxhsum_program.proofs.check.check_lists.Given as goal
 
 -- Invariant: an outcome for each list so far, and the events of all of them.
 abbrev pub invariant-loop-name : goal.invariant-loop-name
 invariant-loop-name g l = record {
   outcomes : List ListOutcome;
-  each : EachHas (IsListOutcome g.S.Store g.S.File.Source l.fn.job.store.now l.fn.job.options.is_little_endian) (map (λ name. name.items) (take l.name-index l.names)) outcomes;
+  each : EachHas (IsListOutcome (files_of g.S.Store g.S.File.Source l.fn.job.store.now) l.fn.job.options.is_little_endian) (map (λ name. name.items) (take l.name-index l.names)) outcomes;
   finished : AreAllDone outcomes;
   all : l.all ≡ are_good l.fn.job.options outcomes;
-  emits : EmitsAll (rules_of g.W.Sink g.W.Output.held g.W.Output.has_lost g.E.Sink) (lines_of (outcome_events l.fn.job.options) (map (λ name. name.items) (take l.name-index l.names)) outcomes) (streams l.initial.out l.initial.err) (streams l.out l.err);
-  works : g.W.Sink.has_failed l.out ≡ false;
+  emits : EmitsAll (rules_of g.W.Sink g.W.Output.held g.W.Output.has_lost g.E.Sink) (lines_of (outcome_events l.fn.job.options) (map (λ name. name.items) (take l.name-index l.names)) outcomes) l.initial.streams l.streams;
+  works : g.W.Sink.has_failed l.streams.out ≡ false;
 }

@@ -1,8 +1,5 @@
-use Rattle.std.proofs.Common.{refl}
-use Rattle.xxhsum_program.specs.CheckList.{Checked, Unopened}
-use Rattle.xxhsum_program.specs.Order.{streams}
+use Rattle.xxhsum_program.proofs.Prelude.{Checked, Unopened, refl, source_of}
 use Rattle.xxhsum_program.proofs.StopFacts.{answers-outcome}
-use Rattle.xxhsum_program.specs.Watched.{source_of}
 use Rattle.xxhsum_program.proofs.check.check_named.Goals as goal
 
 pub returns-in-Ok-clause-checks : goal.returns-in-Ok-clause-checks
@@ -12,4 +9,4 @@ returns-in-Ok-clause-checks g c =
 
 pub returns-in-Err-clause-checks : goal.returns-in-Err-clause-checks
 returns-in-Err-clause-checks g c =
-    (Unopened c.in-Err.refusal, c.in-Err.ensures.refuses, (tt, refl), (streams c.release.new.out c.tell_line_after.new.err, (c.release.ensures.prints, c.release.ensures.written, rw c.text.ensures at c.tell_line_after.ensures), (refl, refl)))
+    (Unopened c.in-Err.refusal, c.in-Err.ensures.refuses, (tt, refl), (c.report.new.self, rw c.text.ensures at c.report.ensures.reports, (refl, refl)))

@@ -1,7 +1,4 @@
-use Rattle.std.proofs.Common.{◌||◌, ap, sym, ◌∙◌}
-use Rattle.xxhsum_line.specs.Escapes.{needs_escape}
-use Rattle.xxhsum_line.proofs.EscapeFacts.{needs_append}
-use Rattle.xxhsum_program.specs.Joined.{joined}
+use Rattle.xxhsum_program.proofs.Prelude.{◌||◌, ◌∙◌, ap, joined, needs_append, needs_escape, sym}
 use Rattle.xxhsum_program.proofs.tell.+need_escape.Goals as goal
 
 pub returns-then-needs_escape : goal.returns-then-needs_escape

@@ -1,5 +1,4 @@
-use Rattle.xxhsum_line.proofs.EscapeFacts.{escaped_append}
-use Rattle.xxhsum_program.specs.Joined.{joined}
+use Rattle.xxhsum_program.proofs.Prelude.{escaped_append, joined}
 use Rattle.xxhsum_program.proofs.ToldFacts.{tells-more}
 use Rattle.xxhsum_program.proofs.tell.+tell_escaped_parts.Goals as goal
 

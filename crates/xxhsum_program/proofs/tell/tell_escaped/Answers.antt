@@ -1,7 +1,4 @@
-use Rattle.std.proofs.Common.{◌≡◌, ◌++◌, take, get_or, subst, sym, ap, ◌∙◌}
-use Rattle.std.proofs.lemmas.List.{take_all}
-use Rattle.xxhsum_line.specs.Escapes.{escape, escaped}
-use Rattle.xxhsum_line.proofs.EscapeFacts.{escaped_more, plain_names_stay}
+use Rattle.xxhsum_program.proofs.Prelude.{◌++◌, ◌∙◌, ◌≡◌, ap, escape, escaped, escaped_more, get_or, plain_names_stay, subst, sym, take, take_all}
 use Rattle.xxhsum_program.specs.Told.{TellsOn}
 use Rattle.xxhsum_program.proofs.ToldFacts.{tells-more}
 use Rattle.xxhsum_program.proofs.tell.tell_escaped.Goals as goal

@@ -1,5 +1,4 @@
-use Rattle.std.proofs.Common.{take}
-use Rattle.xxhsum_line.specs.Escapes.{escaped}
+use Rattle.xxhsum_program.proofs.Prelude.{escaped, take}
 use Rattle.xxhsum_program.specs.Told.{TellsOn}
 use Rattle.xxhsum_program.proofs.tell.tell_escaped.Given as goal
 

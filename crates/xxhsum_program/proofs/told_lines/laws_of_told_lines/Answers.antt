@@ -1,13 +1,7 @@
 use Rattle.std.proofs.Common.{ℕ, Bool, List, [], ◌∷◌, codes, decimal, nat_eq}
 use Rattle.xxhsum_program.specs.Prelude.{Found, Report, concat, one_line}
-use Rattle.xxhsum_files.specs.Refusal.{refusal_text}
-use Rattle.xxhsum_program.specs.declared.entry.Found.TheVariants.{Same, Different, Unread}
+use Rattle.xxhsum_program.proofs.Prelude.{Different, Endless, FailedRead, Ignored, Improper, ListEnd, Proper, Same, TooLong, TooMany, Unread, Whole, is_unverified, reason_text, refusal_text, step_text}
 use Rattle.xxhsum_program.specs.declared.outcome.Outcome.TheVariants as Came
-use Rattle.xxhsum_program.specs.Findings.{Ignored, Improper, Proper, TooLong}
-use Rattle.xxhsum_program.specs.Lines.{step_text}
-use Rattle.xxhsum_program.specs.ListEnd.{ListEnd, Whole, TooMany, Endless, FailedRead}
-use Rattle.xxhsum_program.specs.Outcomes.{reason_text}
-use Rattle.xxhsum_program.specs.Report.{is_unverified}
 use Rattle.xxhsum_program.specs.Said.{found_text, is_silent, named_text, told_break, told_of_line}
 use Rattle.xxhsum_program.specs.ToldLines.{FindingsAreSaidInLines, IsLineOrNothing, ListsAreToldInLines, NamesAreToldInLines}
 use Rattle.xxhsum_program.proofs.ToldLineFacts.{nothing, one, only, unless}

@@ -1,7 +1,4 @@
-use Rattle.std.proofs.Common.{◌≡◌, ◌≢◌, ℕ, false, List, [], ◌∷◌, ◌==◌, arith, codes, length, refl, subst}
-use Rattle.std.proofs.lemmas.Bool.Decides.{nat_tests}
-use Rattle.xxhsum_program.specs.Prelude.{TellsOn, concat}
-use Rattle.xxhsum_words.specs.Table.{letter_text, row_text}
+use Rattle.xxhsum_program.proofs.Prelude.{[], ◌==◌, ◌∷◌, ◌≡◌, ◌≢◌, List, TellsOn, arith, codes, concat, false, length, letter_text, nat_tests, refl, row_text, subst, ℕ}
 use Rattle.xxhsum_program.proofs.usage.tell_row.Goals as goal
 
 not-none : (n : ℕ) → n ≢ 0 → (n == 0) ≡ false

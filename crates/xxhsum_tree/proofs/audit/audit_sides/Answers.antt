@@ -1,9 +1,5 @@
-use Rattle.std.proofs.Common.{Ok, Err, false, ap, subst, sym, ◌∙◌}
-use Rattle.xxhsum_audit.specs.Found.{founds_of}
-use Rattle.xxhsum_audit.specs.Item.{items_of, texts_of}
-use Rattle.xxhsum_tree.specs.Report.{PrintsReport, are_same}
-use Rattle.xxhsum_program.specs.Order.{streams}
-use Rattle.xxhsum_program.proofs.HashFacts.{is-err}
+use Rattle.std.proofs.Common.{[], Ok, Err, false, append-nil, ap, inr, refl, subst, sym, ◌∙◌}
+use Rattle.xxhsum_tree.proofs.Prelude.{AreRows, OutOfMemory, PrintsReport, are_same, by_path, effect_of, files_of, founds_of, is-err, items_of, rules_of, streams_of, texts_of}
 use Rattle.xxhsum_tree.proofs.ReportFacts.{report-stops, stop-answers}
 use Rattle.xxhsum_tree.proofs.RowFacts.{answers-all, answers-not-same, says-audit}
 use Rattle.xxhsum_tree.proofs.audit.audit_sides.Goals as goal
@@ -14,23 +10,28 @@ returns-in_err-print_report g c =
     let result = c.from_residual-in_err-print_report.result in
     let is = is-err result stop c.from_residual-in_err-print_report.ensures.1 in
     let found = founds_of c.in_ok-found.found.items in
-    let prints = subst (λ some. PrintsReport {T = Unit {0}} g.W.Sink c.args.job.now.options (founds_of some) c.args.out.now c.print_report.new.out (Err stop)) c.deref.ensures.value c.in_err-print_report.ensures in
-    says-audit g.S.Store g.S.File.Source g.W.Sink g.E.Sink c.args.job.now.store.now c.args.job.now.options (items_of c.args.lines.now) (texts_of c.args.asked.now) _ _ found (streams c.args.out.now c.args.err.now) (streams c.print_report.new.out c.digests_of.new.err) result
-    c.requires.lines c.requires.names c.kind_of_new-kind.ensures c.in_ok-compared.ensures c.in_ok-found.ensures
+    let prints = subst (λ some. PrintsReport {T = Unit {0}} g.W.Sink c.args.job.now.options (founds_of some) c.args.streams.now.out c.print_report.new.out (Err stop)) c.deref.ensures.value c.in_err-print_report.ensures in
+    says-audit (files_of g.S.Store g.S.File.Source c.args.job.now.store.now) (effect_of (rules_of g.W.Sink g.W.Output.held g.W.Output.has_lost g.E.Sink) c.args.streams.now (streams_of c.print_report.new.out c.digests_of.new.err) result) c.args.job.now.options (items_of c.args.lines.now) (texts_of c.args.asked.now) _ _ found
+    c.requires.lines c.requires.names c.kind_of_new-kind.ensures (rw c.messages.ensures.value at c.in_ok-compared.ensures) c.in_ok-found.ensures
     (report-stops (Unit {0}) g.W.Sink c.args.job.now.options found _ _ stop result is prints) (λ rows all. stop-answers rows found stop result is)
 
 pub returns-then-not-are_same : goal.returns-then-not-are_same
 returns-then-not-are_same g c =
     let found = founds_of c.in_ok-found.found.items in
-    let prints = subst (λ some. PrintsReport {T = Unit {0}} g.W.Sink c.args.job.now.options (founds_of some) c.args.out.now c.print_report.new.out (Ok tt)) c.deref.ensures.value c.in_ok-print_report.ensures in
-    says-audit g.S.Store g.S.File.Source g.W.Sink g.E.Sink c.args.job.now.store.now c.args.job.now.options (items_of c.args.lines.now) (texts_of c.args.asked.now) _ _ found (streams c.args.out.now c.args.err.now) (streams c.print_report.new.out c.digests_of.new.err) (Ok false)
-    c.requires.lines c.requires.names c.kind_of_new-kind.ensures c.in_ok-compared.ensures c.in_ok-found.ensures prints
+    let prints = subst (λ some. PrintsReport {T = Unit {0}} g.W.Sink c.args.job.now.options (founds_of some) c.args.streams.now.out c.print_report.new.out (Ok tt)) c.deref.ensures.value c.in_ok-print_report.ensures in
+    says-audit (files_of g.S.Store g.S.File.Source c.args.job.now.store.now) (effect_of (rules_of g.W.Sink g.W.Output.held g.W.Output.has_lost g.E.Sink) c.args.streams.now (streams_of c.print_report.new.out c.digests_of.new.err) (Ok false)) c.args.job.now.options (items_of c.args.lines.now) (texts_of c.args.asked.now) _ _ found
+    c.requires.lines c.requires.names c.kind_of_new-kind.ensures (rw c.messages.ensures.value at c.in_ok-compared.ensures) c.in_ok-found.ensures prints
     (λ rows all. answers-not-same rows found (sym (ap (λ some. are_same (founds_of some)) c.deref-2.ensures.value) ∙ sym c.are_same.ensures ∙ c.if-not-are_same.true))
 
 pub returns : goal.returns
 returns g c =
     let found = founds_of c.in_ok-found.found.items in
-    let prints = subst (λ some. PrintsReport {T = Unit {0}} g.W.Sink c.args.job.now.options (founds_of some) c.args.out.now c.print_report.new.out (Ok tt)) c.deref.ensures.value c.in_ok-print_report.ensures in
-    says-audit g.S.Store g.S.File.Source g.W.Sink g.E.Sink c.args.job.now.store.now c.args.job.now.options (items_of c.args.lines.now) (texts_of c.args.asked.now) _ _ found (streams c.args.out.now c.args.err.now) (streams c.print_report.new.out c.digests_of.new.err) (Ok c.in_ok-compared.compared.are_all)
-    c.requires.lines c.requires.names c.kind_of_new-kind.ensures c.in_ok-compared.ensures c.in_ok-found.ensures prints
+    let prints = subst (λ some. PrintsReport {T = Unit {0}} g.W.Sink c.args.job.now.options (founds_of some) c.args.streams.now.out c.print_report.new.out (Ok tt)) c.deref.ensures.value c.in_ok-print_report.ensures in
+    says-audit (files_of g.S.Store g.S.File.Source c.args.job.now.store.now) (effect_of (rules_of g.W.Sink g.W.Output.held g.W.Output.has_lost g.E.Sink) c.args.streams.now (streams_of c.print_report.new.out c.digests_of.new.err) (Ok c.in_ok-compared.compared.are_all)) c.args.job.now.options (items_of c.args.lines.now) (texts_of c.args.asked.now) _ _ found
+    c.requires.lines c.requires.names c.kind_of_new-kind.ensures (rw c.messages.ensures.value at c.in_ok-compared.ensures) c.in_ok-found.ensures prints
     (λ rows all. answers-all rows found _ (sym (ap (λ some. are_same (founds_of some)) c.deref-2.ensures.value) ∙ sym c.are_same.ensures ∙ c.if-not-are_same.false) all)
+
+pub returns-in_err-found : goal.returns-in_err-found
+returns-in_err-found g c =
+    let digests = rw c.messages.ensures.value at c.in_ok-compared.ensures in
+    inr (digests.0, (by_path (items_of c.args.lines.now) (texts_of c.args.asked.now), [], sym (append-nil _), subst (λ k. AreRows (files_of g.S.Store g.S.File.Source c.args.job.now.store.now) k (by_path (items_of c.args.lines.now) (texts_of c.args.asked.now)) digests.0) c.kind_of_new-kind.ensures digests.1, digests.3), refl, is-err c.from_residual-in_err-found.result OutOfMemory c.from_residual-in_err-found.ensures.1)

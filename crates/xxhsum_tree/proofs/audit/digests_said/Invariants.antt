@@ -1,6 +1,4 @@
-use Rattle.std.proofs.Common.{◌≡◌, map, take}
-use Rattle.xxhsum_audit.specs.Item.{items_of}
-use Rattle.xxhsum_audit.specs.List.{said_by}
+use Rattle.xxhsum_tree.proofs.Prelude.{◌≡◌, items_of, map, said_by, take}
 use Rattle.xxhsum_tree.proofs.audit.digests_said.Given as goal
 
 abbrev pub invariant-loop-line : goal.invariant-loop-line

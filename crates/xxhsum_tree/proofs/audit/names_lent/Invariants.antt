@@ -1,5 +1,4 @@
-use Rattle.std.proofs.Common.{◌≡◌, map, take}
-use Rattle.xxhsum_audit.specs.Item.{texts_of}
+use Rattle.xxhsum_tree.proofs.Prelude.{◌≡◌, map, take, texts_of}
 use Rattle.xxhsum_tree.proofs.audit.names_lent.Given as goal
 
 abbrev pub invariant-loop-name : goal.invariant-loop-name

@@ -1,12 +1,6 @@
 use Rattle.std.proofs.Common.{rules, ◌∷◌, ◌++◌, ◌&&◌, [], ap, append-nil, append_assoc, drop, length, refl, subst, sym, take, ◌-◌, ◌∙◌}
-use Rattle.std.proofs.lemmas.List.{take_rest}
-use Rattle.xxhsum_audit.specs.Audit.{missing_in, missing_one, new_in, new_one, settled_in, settled_one}
-use Rattle.xxhsum_audit.specs.Item.{items_of, texts_of}
+use Rattle.xxhsum_tree.proofs.Prelude.{AreRows, TellsOn, files_of, first_of, is_read, items_of, list_all-push, missing_in, missing_one, new_in, new_one, settled_in, settled_one, take_rest, tells-more, tells-nothing, texts_of, told_of}
 use Rattle.xxhsum_audit.specs.Side.{by_path, lines_of, names_of, path_side}
-use Rattle.xxhsum_program.specs.Told.{TellsOn}
-use Rattle.xxhsum_program.proofs.EachFacts.{list_all-push}
-use Rattle.xxhsum_program.proofs.ToldFacts.{tells-more, tells-nothing}
-use Rattle.xxhsum_tree.specs.Rows.{AreRows, first_of, is_read, told_of}
 use Rattle.xxhsum_tree.proofs.RowFacts.{fails-rows, first-push, flat-push, rows-more}
 use Rattle.xxhsum_tree.proofs.digests.digests_of.Goals as goal
 
@@ -41,7 +35,7 @@ loop-side-preserved g c =
       done = so_far.done ++ side ∷ [];
       parts = so_far.parts ∙ ap (λ s. so_far.done ++ s) c.in-Some.ensures.is ∙ sym (append_assoc so_far.done (side ∷ []) left)
           ∙ ap (λ s. (so_far.done ++ side ∷ []) ++ s) behind;
-      are = rows-more g.S.Store g.S.File.Source c.args.job.now.store.now kind so_far.done rows side row so_far.are added.1;
+      are = rows-more (files_of g.S.Store g.S.File.Source c.args.job.now.store.now) kind so_far.done rows side row so_far.are added.1;
       holds = record {
         settled = grows.0 ∙ ap (λ f. f ++ settled_in (first_of kind row)) so_far.holds.settled ∙ sym (first-push settled_one kind rows row);
         gone = grows.1 ∙ ap (λ f. f ++ missing_in (first_of kind row)) so_far.holds.gone ∙ sym (first-push missing_one kind rows row);
@@ -56,7 +50,7 @@ pub returns : goal.returns
 returns g c =
     let so_far = c.loop-side.invariant in
     let all = sym (so_far.parts ∙ ap (λ s. so_far.done ++ s) c.in_default.ensures ∙ append-nil so_far.done) in
-    (so_far.rows, subst (λ s. AreRows g.S.Store g.S.File.Source c.args.job.now.store.now c.args.kind s so_far.rows) all so_far.are, so_far.holds, so_far.tells)
+    (so_far.rows, subst (λ s. AreRows (files_of g.S.Store g.S.File.Source c.args.job.now.store.now) c.args.kind s so_far.rows) all so_far.are, so_far.holds, so_far.tells)
 
 pub returns-in_err-add_side : goal.returns-in_err-add_side
 returns-in_err-add_side g c =

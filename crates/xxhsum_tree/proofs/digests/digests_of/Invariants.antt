@@ -1,10 +1,4 @@
-use Rattle.std.proofs.Common.{◌≡◌, ◌++◌, ℕ, List, length}
-use Rattle.xxhsum_audit.specs.declared.side.Side.{Side}
-use Rattle.xxhsum_audit.specs.Item.{Item, items_of, texts_of}
-use Rattle.xxhsum_audit.specs.Side.{by_path}
-use Rattle.xxhsum_program.specs.Told.{TellsOn}
-use Rattle.xxhsum_tree.specs.Digests.{HoldsRows}
-use Rattle.xxhsum_tree.specs.Rows.{AreRows, Row, told_in}
+use Rattle.xxhsum_tree.proofs.Prelude.{◌++◌, ◌≡◌, AreRows, HoldsRows, Item, List, Row, Side, TellsOn, by_path, files_of, items_of, length, texts_of, told_in, ℕ}
 use Rattle.xxhsum_tree.proofs.digests.digests_of.Given as goal
 
 -- Invariant: one row for each side so far, and their results
@@ -13,7 +7,7 @@ invariant-loop-side g l = record {
   rows : List Row;
   done : List (Side Item (List ℕ));
   parts : by_path (items_of l.fn.lines) (texts_of l.fn.names) ≡ done ++ by_path (items_of l.lines_left) (texts_of l.names_left);
-  are : AreRows g.S.Store g.S.File.Source l.fn.job.store.now l.fn.kind done rows;
+  are : AreRows (files_of g.S.Store g.S.File.Source l.fn.job.store.now) l.fn.kind done rows;
   holds : HoldsRows l.fn.kind rows l.compared;
   tells : TellsOn g.E.Sink (told_in rows) l.initial.err l.err;
 }

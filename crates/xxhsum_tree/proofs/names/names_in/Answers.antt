@@ -1,5 +1,4 @@
-use Rattle.xxhsum_audit.specs.Parts.{ArePartsOf}
-use Rattle.xxhsum_program.proofs.EachFacts.{map-more}
+use Rattle.xxhsum_tree.proofs.Prelude.{ArePartsOf, map-more}
 use Rattle.xxhsum_tree.proofs.SaidFacts.{give-more}
 use Rattle.xxhsum_tree.proofs.names.names_in.Goals as goal
 

@@ -1,5 +1,4 @@
-use Rattle.std.proofs.Common.{map, take}
-use Rattle.xxhsum_tree.specs.Names.{AreNamesIn}
+use Rattle.xxhsum_tree.proofs.Prelude.{AreNamesIn, map, take}
 use Rattle.xxhsum_tree.proofs.names.names_in.Given as goal
 
 abbrev pub invariant-loop-text : goal.invariant-loop-text

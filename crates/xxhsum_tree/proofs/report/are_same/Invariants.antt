@@ -1,6 +1,4 @@
-use Rattle.std.proofs.Common.{◌≡◌, drop}
-use Rattle.xxhsum_audit.specs.Found.{founds_of}
-use Rattle.xxhsum_tree.specs.Report.{are_same}
+use Rattle.xxhsum_tree.proofs.Prelude.{◌≡◌, are_same, drop, founds_of}
 use Rattle.xxhsum_tree.proofs.report.are_same.Given as goal
 
 abbrev pub invariant-loop-verdict : goal.invariant-loop-verdict

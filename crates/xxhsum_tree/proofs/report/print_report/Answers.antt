@@ -1,11 +1,4 @@
-use Rattle.std.proofs.Common.{◌+◌, ◌≤◌, ap, drop, length, subst, sym, take, ◌∙◌, arith}
-use Rattle.std.proofs.lemmas.List.{map_more, take_all}
-use Rattle.xxh_io.specs.Digest.{Took}
-use Rattle.xxh_io.proofs.WriteFacts.{Took-join}
-use Rattle.xxhsum_audit.specs.Found.{found_of, founds_of}
-use Rattle.xxhsum_program.specs.Lines.{PrintsLine}
-use Rattle.xxhsum_tree.specs.Report.{shown_lines}
-use Rattle.xxhsum_program.proofs.HashFacts.{is-err}
+use Rattle.xxhsum_tree.proofs.Prelude.{◌+◌, ◌∙◌, ◌≤◌, PrintsLine, Took, Took-join, ap, arith, drop, found_of, founds_of, is-err, length, map_more, shown_lines, subst, sym, take, take_all}
 use Rattle.xxhsum_tree.proofs.ReportFacts.{ends-in-counts, map-at, report-stops, shown-push, stops-in-line}
 use Rattle.xxhsum_tree.proofs.report.print_report.Goals as goal
 

@@ -1,7 +1,4 @@
-use Rattle.std.proofs.Common.{◌≡◌, false, take}
-use Rattle.xxh_io.specs.Digest.{Took}
-use Rattle.xxhsum_audit.specs.Found.{founds_of}
-use Rattle.xxhsum_tree.specs.Report.{shown_lines}
+use Rattle.xxhsum_tree.proofs.Prelude.{◌≡◌, Took, false, founds_of, shown_lines, take}
 use Rattle.xxhsum_tree.proofs.report.print_report.Given as goal
 
 -- Invariant: the lines so far were printed, and no write has failed

@@ -1,9 +1,4 @@
-use Rattle.std.proofs.Common.{◌≡◌, ℕ, true, false, List, Option, Some, None, codes, drop, refl, Ok, map, sym, ap, ◌∙◌}
-use Rattle.xxhsum_tree.specs.Prelude.{Kind, Options}
-use Rattle.xxhsum_words.specs.Name.{kind_of_program}
-use Rattle.xxhsum_words.specs.Options.{asked_of}
-use Rattle.xxhsum_words.specs.declared.options.Asked.{Asked}
-use Rattle.xxhsum_program.specs.declared.process.Terminals.{Terminals}
+use Rattle.xxhsum_tree.proofs.Prelude.{◌∙◌, ◌≡◌, Asked, Kind, List, None, Ok, Option, Options, Some, Terminals, ap, asked_of, codes, drop, false, kind_of_program, map, refl, sym, true, ℕ}
 use Rattle.xxhsum_program.specs.Task.{Reads, Tells, answer_text, is_well, run_asked, task_from, task_of, waits_for_terminal, wrong_text}
 use Rattle.xxhsum_tree.proofs.run.run_arguments.Goals as goal
 
@@ -35,7 +30,7 @@ returns-in_default g c =
     let words = map (λ word. word.items) c.arguments_behind_name-words.result.now in
     let asked = c.asked_by-asked.result in
     let task = task-is c.args.console.terminals program arguments words c.default_kind.result asked c.run_asked.result c.arguments_behind_name-words.ensures c.default_kind.ensures c.asked_by-asked.ensures c.run_asked.ensures in
-    (program, c.program_of-program.ensures, rw (task ∙ task-told c.args.console.terminals program words asked c.run_asked.result c.in_default.is) (ap Ok c.tell_answer.ensures.well, refl, c.tell_answer.ensures.tells))
+    (program, c.program_of-program.ensures, rw (task ∙ task-told c.args.console.terminals program words asked c.run_asked.result c.in_default.is) (ap Ok c.tell_answer.ensures.well, refl, rw c.messages.ensures.value at c.tell_answer.ensures.tells))
 
 pub returns-then-waits_for_terminal : goal.returns-then-waits_for_terminal
 returns-then-waits_for_terminal g c =
@@ -46,7 +41,7 @@ returns-then-waits_for_terminal g c =
     let task = task-is c.args.console.terminals program arguments words c.default_kind.result asked c.run_asked.result c.arguments_behind_name-words.ensures c.default_kind.ensures c.asked_by-asked.ensures c.run_asked.ensures in
     let names = map (λ name. name.items) c.words_behind-names.result.now in
     let run = c.in-Some.found in
-    (program, c.program_of-program.ensures, rw (task ∙ task-waits c.args.console.terminals program words names asked c.run_asked.result run.0 run.1 c.in-Some.is c.words_behind-names.ensures (sym c.waits_for_terminal.ensures ∙ c.if-waits_for_terminal.true)) (refl, refl, c.tell_wrong.ensures))
+    (program, c.program_of-program.ensures, rw (task ∙ task-waits c.args.console.terminals program words names asked c.run_asked.result run.0 run.1 c.in-Some.is c.words_behind-names.ensures (sym c.waits_for_terminal.ensures ∙ c.if-waits_for_terminal.true)) (refl, refl, rw c.messages-then-waits_for_terminal.ensures.value at c.tell_wrong.ensures))
 
 pub returns : goal.returns
 returns g c =

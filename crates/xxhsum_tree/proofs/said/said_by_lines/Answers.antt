@@ -1,13 +1,6 @@
 use Rattle.std.proofs.Common.{◌+◌, ◌∷◌, ◌++◌, [], ap, arith, inl, inr, length, map, refl, subst, true, false}
-use Rattle.std.proofs.lemmas.List.{length_push}
-use Rattle.xxhsum_audit.specs.List.{TakesLine, said_by}
-use Rattle.xxhsum_program.proofs.CheckFacts.{breaks-endless, breaks-failed, ends-well, some-read, stands-line, stands-new}
-use Rattle.xxhsum_program.specs.LinesView.{IsGiven}
-use Rattle.xxhsum_program.specs.Said.{too_long_text}
+use Rattle.xxhsum_tree.proofs.Prelude.{IsGiven, TakesLine, breaks-endless, breaks-failed, ends-well, improper_text, length_push, said_by, some-read, source_of, stands-line, stands-new, too_long_text, unread_text}
 use Rattle.xxhsum_tree.proofs.SaidFacts.{have-said-more}
-use Rattle.xxhsum_tree.specs.Said.{improper_text}
-use Rattle.xxhsum_tree.specs.Texts.{unread_text}
-use Rattle.xxhsum_program.specs.Watched.{source_of}
 use Rattle.xxhsum_tree.proofs.said.said_by_lines.Goals as goal
 
 pub loop-number-init : goal.loop-number-init

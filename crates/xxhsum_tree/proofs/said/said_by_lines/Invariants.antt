@@ -1,8 +1,4 @@
-use Rattle.std.proofs.Common.{◌≡◌, ◌+◌, List, ℕ, length, map}
-use Rattle.xxhsum_audit.specs.List.{said_by}
-use Rattle.xxhsum_program.proofs.CheckFacts.{Stands}
-use Rattle.xxhsum_tree.specs.Said.{HaveSaid}
-use Rattle.xxhsum_program.specs.Watched.{source_of}
+use Rattle.xxhsum_tree.proofs.Prelude.{◌+◌, ◌≡◌, HaveSaid, List, Stands, length, map, said_by, source_of, ℕ}
 use Rattle.xxhsum_tree.proofs.said.said_by_lines.Given as goal
 
 -- Invariant: the entries of the lines so far, and nothing is reported

@@ -1,7 +1,5 @@
-use Rattle.std.proofs.Common.{inl, inr, refl}
-use Rattle.xxhsum_tree.specs.Texts.{unopened_text}
+use Rattle.xxhsum_tree.proofs.Prelude.{inl, inr, refl, source_of, unopened_text}
 use Rattle.xxhsum_tree.proofs.FindFacts.{finds-as}
-use Rattle.xxhsum_program.specs.Watched.{source_of}
 use Rattle.xxhsum_tree.proofs.texts.text_named.Goals as goal
 
 pub returns-in-Ok : goal.returns-in-Ok

@@ -1,7 +1,4 @@
-use Rattle.std.proofs.Common.{refl, subst}
-use Rattle.xxhsum_audit.specs.Read.{LacksAll}
-use Rattle.xxhsum_program.specs.Watched.{watched_reading}
-use Rattle.xxhsum_tree.specs.Texts.{unread_text}
+use Rattle.xxhsum_tree.proofs.Prelude.{LacksAll, refl, subst, unread_text, watched_reading}
 use Rattle.xxhsum_tree.proofs.WatchedTextFacts.{inner-breaks, inner-text}
 use Rattle.xxhsum_tree.proofs.texts.text_of.Goals as goal
 

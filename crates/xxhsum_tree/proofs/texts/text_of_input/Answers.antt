@@ -1,7 +1,4 @@
-use Rattle.std.proofs.Common.{◌≡◌, subst}
-use Rattle.xxhsum_program.specs.Run.{input_name}
-use Rattle.xxhsum_program.specs.Watched.{source_of}
-use Rattle.xxhsum_tree.specs.Texts.{Breaks, HasText, unread_text}
+use Rattle.xxhsum_tree.proofs.Prelude.{◌≡◌, Breaks, HasText, input_name, source_of, subst, unread_text}
 use Rattle.xxhsum_tree.proofs.FindFacts.{lost-is}
 use Rattle.xxhsum_tree.proofs.texts.text_of_input.Goals as goal
 

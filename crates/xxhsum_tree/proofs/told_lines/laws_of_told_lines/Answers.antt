@@ -1,10 +1,4 @@
-use Rattle.std.proofs.Common.{[], ◌∷◌, ◌++◌, codes, decimal}
-use Rattle.std.specs.List.{concat}
-use Rattle.xxhsum_audit.specs.Item.{name_of}
-use Rattle.xxhsum_audit.specs.Found.{Changed, Copied, Missing, Moved, New, Same}
-use Rattle.xxhsum_files.specs.Refusal.{refusal_text}
-use Rattle.xxhsum_line.proofs.PrintedFacts.{told_is_one_line}
-use Rattle.xxhsum_tree.specs.ToldLines.{AuditsAreSaidInLines, ListsAreToldInLines, TwiceIsToldInLines}
+use Rattle.xxhsum_tree.proofs.Prelude.{[], ◌++◌, ◌∷◌, AuditsAreSaidInLines, Changed, Copied, ListsAreToldInLines, Missing, Moved, New, Same, TwiceIsToldInLines, codes, concat, decimal, name_of, refusal_text, told_is_one_line}
 use Rattle.xxhsum_tree.proofs.told_lines.laws_of_told_lines.Goals as goal
 
 lists : ListsAreToldInLines

@@ -1,8 +1,5 @@
-use Rattle.std.proofs.Common.{true, ◌&&◌, [], ◌∷◌, ◌++◌, ◌≡◌, append-nil, ap, map, refl, subst, sym, ◌∙◌, option_to_list, reverse, MatchResult}
-use Rattle.std.proofs.lemmas.List.{map-append}
-use Rattle.xxhsum_program.proofs.EachFacts.{list_all-push}
-use Rattle.xxhsum_program.proofs.HashFacts.{is-err}
-use Rattle.xxhsum_program.proofs.ToldFacts.{tells-more, tells-nothing}
+use Rattle.xxhsum_tree.specs.Messages.{messages_of}
+use Rattle.xxhsum_tree.proofs.Prelude.{[], ◌&&◌, ◌++◌, ◌∙◌, ◌∷◌, ◌≡◌, MatchResult, ap, append-nil, is-err, list_all-push, map, map-append, option_to_list, refl, reverse, subst, sym, tells-more, tells-nothing, true}
 use Rattle.xxhsum_tree.specs.Prelude.{OutOfMemory, TellsOn}
 use Rattle.xxhsum_tree.proofs.RowFacts.{flat-push}
 use Rattle.xxhsum_tree.proofs.VisitFacts.{reverse-push, visits-more}
@@ -13,8 +10,8 @@ pub returns-in_err-put_names : goal.returns-in_err-put_names
 returns-in_err-put_names g c =
     let names = map (λ name. name.items) c.args.names.now in
     let is = is-err c.from_residual.result OutOfMemory c.from_residual.ensures.1 in
-    subst (λ r. MatchResult r (λ walked. WalksAll (tree_of g.S.Store g.S.Folders c.args.store.now) g.E.Sink names (map (λ file. file.items) walked.files.items) walked.are_all c.args.err.now c.args.err.now)
-    (WalksSome (tree_of g.S.Store g.S.Folders c.args.store.now) g.E.Sink names c.args.err.now c.args.err.now))
+    subst (λ r. MatchResult r (λ walked. WalksAll (tree_of g.S.Store g.S.Folders c.args.store.now) (messages_of g.E.Sink c.args.err.now c.args.err.now) names (map (λ file. file.items) walked.files.items) walked.are_all)
+    (WalksSome (tree_of g.S.Store g.S.Folders c.args.store.now) (messages_of g.E.Sink c.args.err.now c.args.err.now) names))
     (sym is) ([], map given names, refl, refl, tells-nothing g.E.Sink c.args.err.now)
 
 pub loop-init : goal.loop-init
@@ -32,8 +29,8 @@ returns-in_err-see g c =
     let names = map (λ name. name.items) c.args.names.now in
     let stop = c.in_err-see.field-0.0 in
     let is = is-err c.from_residual-in_err-see.result stop c.from_residual-in_err-see.ensures.1 in
-    subst (λ r. MatchResult r (λ walked. WalksAll (tree_of g.S.Store g.S.Folders c.args.store.now) g.E.Sink names (map (λ file. file.items) walked.files.items) walked.are_all c.args.err.now c.see.new.err)
-    (WalksSome (tree_of g.S.Store g.S.Folders c.args.store.now) g.E.Sink names c.args.err.now c.see.new.err))
+    subst (λ r. MatchResult r (λ walked. WalksAll (tree_of g.S.Store g.S.Folders c.args.store.now) (messages_of g.E.Sink c.args.err.now c.see.new.err) names (map (λ file. file.items) walked.files.items) walked.are_all)
+    (WalksSome (tree_of g.S.Store g.S.Folders c.args.store.now) (messages_of g.E.Sink c.args.err.now c.see.new.err) names))
     (sym is) (so_far.trace, waiting_in c.loop.waiting.items, c.in_err-see.ensures.0, so_far.visits, subst (λ e. TellsOn g.E.Sink (closed_in so_far.trace) c.args.err.now e) (sym c.in_err-see.ensures.1) so_far.tells)
 
 pub loop-preserved : goal.loop-preserved

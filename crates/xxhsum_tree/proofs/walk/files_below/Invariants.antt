@@ -1,6 +1,4 @@
-use Rattle.std.proofs.Common.{◌≡◌, List, map}
-use Rattle.xxhsum_program.specs.Told.{TellsOn}
-use Rattle.xxhsum_tree.specs.Walk.{Seen, Visits, are_open, closed_in, files_in, given, tree_of, waiting_in}
+use Rattle.xxhsum_tree.proofs.Prelude.{◌≡◌, List, Seen, TellsOn, Visits, are_open, closed_in, files_in, given, map, tree_of, waiting_in}
 use Rattle.xxhsum_tree.proofs.walk.files_below.Given as goal
 
 -- Invariant: the names visited so far, their files, and the reports on them

@@ -1,9 +1,4 @@
-use Rattle.std.proofs.Common.{map, false, ◌++◌, append-nil, ap, refl, subst, sym, ◌∙◌}
-use Rattle.xxhsum_files.specs.Folders.{ClosesFor}
-use Rattle.xxhsum_program.proofs.EachFacts.{and-false, and-true}
-use Rattle.xxhsum_program.proofs.ToldFacts.{tells-nothing}
-use Rattle.xxhsum_program.specs.Told.{TellsOn}
-use Rattle.xxhsum_tree.specs.Walk.{Closed, Opened, below, closed_text, waiting_in, with_slash}
+use Rattle.xxhsum_tree.proofs.Prelude.{◌++◌, ◌∙◌, Closed, ClosesFor, Opened, TellsOn, and-false, and-true, ap, append-nil, below, closed_text, false, map, refl, subst, sym, tells-nothing, waiting_in, with_slash}
 use Rattle.xxhsum_tree.proofs.walk.open_folder.Goals as goal
 
 pub returns-in-Ok : goal.returns-in-Ok

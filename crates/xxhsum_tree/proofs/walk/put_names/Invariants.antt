@@ -1,5 +1,4 @@
-use Rattle.std.proofs.Common.{◌≡◌, ◌-◌, ◌++◌, drop, length, map}
-use Rattle.xxhsum_tree.specs.Walk.{below, waiting_in}
+use Rattle.xxhsum_tree.proofs.Prelude.{◌++◌, ◌-◌, ◌≡◌, below, drop, length, map, waiting_in}
 use Rattle.xxhsum_tree.proofs.walk.put_names.Given as goal
 
 -- Invariant: the last `at` names are on top of the names that waited before

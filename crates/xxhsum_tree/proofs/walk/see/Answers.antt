@@ -1,8 +1,6 @@
-use Rattle.std.proofs.Common.{append-nil, refl, subst, sym, ◌∙◌}
-use Rattle.xxhsum_program.proofs.EachFacts.{and-false, and-true}
-use Rattle.xxhsum_program.proofs.ToldFacts.{tells-nothing}
-use Rattle.xxhsum_program.specs.Told.{TellsOn}
-use Rattle.xxhsum_tree.specs.Walk.{closed_text, IsIn, IsSeen, Leaf, Lost, Passed, Tree, place_of, tree_of, waiting_in}
+use Rattle.xxhsum_tree.specs.Walk.{state_of}
+use Rattle.xxhsum_tree.specs.Messages.{messages_of}
+use Rattle.xxhsum_tree.proofs.Prelude.{◌∙◌, IsIn, IsSeen, Leaf, Lost, Passed, TellsOn, Tree, and-false, and-true, append-nil, closed_text, place_of, refl, subst, sym, tells-nothing, tree_of}
 use Rattle.xxhsum_tree.proofs.VisitFacts.{folder-seen, sees-as}
 use Rattle.xxhsum_tree.proofs.walk.see.Goals as goal
 
@@ -15,8 +13,8 @@ pub returns-in-Folder : goal.returns-in-Folder
 returns-in-Folder g c =
     let tree : Tree = tree_of g.S.Store g.S.Folders c.args.store.now in
     let is_folder = rw (c.deref.ensures.value, c.in-Folder.is) at c.kind_at.ensures in
-    sees-as (IsIn tree c.deref-in-Folder.result.now) (IsSeen tree (place_of c.args.place)) g.E.Sink
-    (waiting_in c.args.waiting.now.items) (waiting_in c.open_folder.new.waiting.items) c.args.walked.now c.open_folder.new.walked c.args.err.now c.open_folder.new.err
+    sees-as (IsIn tree c.deref-in-Folder.result.now) (IsSeen tree (place_of c.args.place)) (messages_of g.E.Sink c.args.err.now c.open_folder.new.err)
+    (state_of c.args.waiting.now.items c.args.walked.now) (state_of c.open_folder.new.waiting.items c.open_folder.new.walked)
     (λ seen found. folder-seen tree (place_of c.args.place) seen is_folder (rw c.deref-in-Folder.ensures.value at found))
     c.open_folder.result c.open_folder.ensures
 

@@ -8,10 +8,11 @@ use crate::programs::xxhsum_program::entry::{Found, compare};
 use crate::programs::xxhsum_program::job::Job;
 use crate::programs::xxhsum_program::lines::{Lines, Next};
 use crate::programs::xxhsum_program::outcome::OFFERED;
-use crate::programs::xxhsum_program::say::{line_of, print, release, say_line};
+use crate::programs::xxhsum_program::say::{line_of, print, say_line};
 use crate::programs::xxhsum_program::screen::Ticks;
 use crate::programs::xxhsum_program::stop::Stop;
-use crate::programs::xxhsum_program::tell::{tell_line, tell_line_after};
+use crate::programs::xxhsum_program::streams::Streams;
+use crate::programs::xxhsum_program::tell::tell_line;
 use crate::programs::xxhsum_program::watched::{ProgressDisplay, Watched};
 use crate::rattle::itoa::Buffer;
 use crate::rattle::{AllocError, Global};
@@ -99,6 +100,9 @@ impl Report {
 // The message about a list whose read failed.
 const READ_FAILED: &[u8] = b"A failure occurred reading the list";
 
+// The message about a line longer than 32,767 bytes.
+const TOO_LONG: &[u8] = b"Line too long";
+
 // A line of a list. Its text is `None` if it is too long.
 #[derive(Clone, Copy)]
 struct ListLine<'a> {
@@ -121,12 +125,11 @@ impl<S: Store, T: Ticks> ListCheck<'_, S, T> {
     fn check<R: Source , W: Output, E: Sink>(
         &self,
         source: Watched<R, T>,
-        out: &mut W,
-        err: &mut E,
+        streams: &mut Streams<W, E>,
     ) -> Result<bool, Stop> {
         let unverified = self.unverified_line()?;
-        let report = self.check_lines(source, out, err)?;
-        self.sum_up(&report, &unverified, out, err)?;
+        let report = self.check_lines(source, streams)?;
+        self.sum_up(&report, &unverified, streams)?;
         Ok(report.passes(self.options))
     }
 
@@ -134,8 +137,7 @@ impl<S: Store, T: Ticks> ListCheck<'_, S, T> {
     fn check_lines<R: Source , W: Output, E: Sink>(
         &self,
         source: Watched<R, T>,
-        out: &mut W,
-        err: &mut E,
+        streams: &mut Streams<W, E>,
     ) -> Result<Report, Stop> {
         let mut lines = Lines::new(source);
         let mut report = Report::new();
@@ -144,11 +146,11 @@ impl<S: Store, T: Ticks> ListCheck<'_, S, T> {
             match lines.next() {
                 Next::End => return Ok(report),
                 Next::Failed => {
-                    self.tell_of_failure(number, &report, out, err);
+                    self.tell_of_failure(number, &report, streams);
                     return Ok(report.with_broken_end());
                 }
                 Next::Endless => {
-                    self.tell_too_long(number, out, err);
+                    self.report_line(number, TOO_LONG, streams);
                     return Ok(report.with_broken_end());
                 }
                 Next::Line => {
@@ -156,7 +158,7 @@ impl<S: Store, T: Ticks> ListCheck<'_, S, T> {
                         number,
                         text: lines.line(),
                     };
-                    self.check_line(line, &mut report, &mut buf, out, err)?;
+                    self.check_line(line, &mut report, &mut buf, streams)?;
                 }
             }
         }
@@ -169,18 +171,17 @@ impl<S: Store, T: Ticks> ListCheck<'_, S, T> {
         line: ListLine<'_>,
         report: &mut Report,
         buf: &mut [u8],
-        out: &mut W,
-        err: &mut E,
+        streams: &mut Streams<W, E>,
     ) -> Result<(), Stop> {
         let Some(text) = line.text else {
-            self.count_too_long(line.number, report, out, err);
+            self.count_too_long(line.number, report, streams);
             return Ok(());
         };
         let entry = match meaning_of(self.alloc, text, self.options.is_little_endian)? {
             Meaning::Entry(entry) => entry,
             Meaning::Comment => return Ok(()),
             Meaning::Malformed => {
-                self.count_improper(line.number, report, out, err);
+                self.count_improper(line.number, report, streams);
                 return Ok(());
             }
         };
@@ -189,7 +190,7 @@ impl<S: Store, T: Ticks> ListCheck<'_, S, T> {
         if is_silent(self.options, &found) {
             return Ok(());
         }
-        self.say_found(line.number, &entry.name, &found, out)
+        self.say_found(line.number, &entry.name, &found, &mut streams.out)
     }
 
     // Counts a malformed line. Reports it if `--warn` is given.
@@ -197,19 +198,11 @@ impl<S: Store, T: Ticks> ListCheck<'_, S, T> {
         &self,
         number: u64,
         report: &mut Report,
-        out: &mut W,
-        err: &mut E,
+        streams: &mut Streams<W, E>,
     ) {
         report.improper = report.improper.saturating_add(1);
         if self.options.warns {
-            release(out);
-            tell_of_line_after(
-                self.name,
-                number,
-                b"Improperly formatted checksum line",
-                out,
-                err,
-            );
+            self.report_line(number, b"Improperly formatted checksum line", streams);
         }
     }
 
@@ -218,20 +211,19 @@ impl<S: Store, T: Ticks> ListCheck<'_, S, T> {
         &self,
         number: u64,
         report: &mut Report,
-        out: &mut W,
-        err: &mut E,
+        streams: &mut Streams<W, E>,
     ) {
         *report = Report {
             improper: report.improper.saturating_add(1),
             ..report.with_broken_end()
         };
-        self.tell_too_long(number, out, err);
+        self.report_line(number, TOO_LONG, streams);
     }
 
-    // Reports that line `number` is too long.
-    fn tell_too_long<W: Output, E: Sink>(&self, number: u64, out: &mut W, err: &mut E) {
-        release(out);
-        tell_of_line_after(self.name, number, b"Line too long", out, err);
+    // Reports what is wrong with line `number`.
+    fn report_line<W: Output, E: Sink>(&self, number: u64, what: &[u8], streams: &mut Streams<W, E>) {
+        streams.release();
+        tell_of_line(self.name, number, what, streams.messages());
     }
 
     // Prints the result of line `number`.
@@ -257,12 +249,10 @@ impl<S: Store, T: Ticks> ListCheck<'_, S, T> {
         &self,
         number: u64,
         report: &Report,
-        out: &mut W,
-        err: &mut E,
+        streams: &mut Streams<W, E>,
     ) {
         if report.proper > 0 {
-            release(out);
-            tell_of_line_after(self.name, number, READ_FAILED, out, err);
+            self.report_line(number, READ_FAILED, streams);
         }
     }
 
@@ -276,21 +266,15 @@ impl<S: Store, T: Ticks> ListCheck<'_, S, T> {
         &self,
         report: &Report,
         unverified: &[u8],
-        out: &mut W,
-        err: &mut E,
+        streams: &mut Streams<W, E>,
     ) -> Result<(), Stop> {
         if report.proper == 0 {
-            release(out);
-            tell_line_after(
-                &[
-                    self.name,
-                    b": no properly formatted xxHash checksum lines found",
-                ],
-                out,
-                err,
-            );
+            streams.report(&[
+                self.name,
+                b": no properly formatted xxHash checksum lines found",
+            ]);
         }
-        self.say_summary(report, unverified, out)
+        self.say_summary(report, unverified, &mut streams.out)
     }
 
     // Prints the summary of a list.
@@ -380,19 +364,6 @@ pub fn tell_of_line<'a, E: Sink>(list: &'a [u8], number: u64, what: &'a [u8], er
     tell_line(&parts, err);
 }
 
-// Reports what is wrong with line `number` of `list`, after the output `out`. The caller shows that all printed lines
-// are written, or were lost.
-fn tell_of_line_after<W: Output, E: Sink>(
-    list: &[u8],
-    number: u64,
-    what: &[u8],
-    out: &W,
-    err: &mut E,
-) {
-    let _ = out;
-    tell_of_line(list, number, what, err);
-}
-
 // Maximum length of a line with a count, in bytes.
 const MOST_COUNT_LINE: usize = 80;
 
@@ -430,10 +401,9 @@ pub fn check_list<S: Store, T: Ticks, R: Source , W: Output, E: Sink>(
     job: &Job<'_, S, T>,
     name: &[u8],
     source: R,
-    out: &mut W,
-    err: &mut E,
+    streams: &mut Streams<W, E>,
 ) -> Result<bool, Stop> {
-    if out.failed() {
+    if streams.out.failed() {
         return Err(Stop::WriteFailed);
     }
     let list = ListCheck {
@@ -443,15 +413,14 @@ pub fn check_list<S: Store, T: Ticks, R: Source , W: Output, E: Sink>(
         progress: job.progress,
         name,
     };
-    list.check(job.progress.watch(source), out, err)
+    list.check(job.progress.watch(source), streams)
 }
 
 // Checks the list `name`. A list that can't be opened is reported, and fails.
 fn check_named<S: Store, T: Ticks, W: Output, E: Sink>(
     job: &Job<'_, S, T>,
     name: &[u8],
-    out: &mut W,
-    err: &mut E,
+    streams: &mut Streams<W, E>,
 ) -> Result<bool, Stop> {
     match job.progress.open(job.store, name) {
         Ok(file) => {
@@ -462,15 +431,10 @@ fn check_named<S: Store, T: Ticks, W: Output, E: Sink>(
                 progress: job.progress,
                 name,
             };
-            list.check(file, out, err)
+            list.check(file, streams)
         }
         Err(refusal) => {
-            release(out);
-            tell_line_after(
-                &[b"Error: Could not open '", name, b"': ", refusal.text()],
-                out,
-                err,
-            );
+            streams.report(&[b"Error: Could not open '", name, b"': ", refusal.text()]);
             Ok(false)
         }
     }
@@ -484,15 +448,14 @@ fn check_named<S: Store, T: Ticks, W: Output, E: Sink>(
 pub fn check_lists<S: Store, T: Ticks, W: Output, E: Sink>(
     job: &Job<'_, S, T>,
     names: &[Vec<u8>],
-    out: &mut W,
-    err: &mut E,
+    streams: &mut Streams<W, E>,
 ) -> Result<bool, Stop> {
-    if out.failed() {
+    if streams.out.failed() {
         return Err(Stop::WriteFailed);
     }
     let mut all = true;
     for name in names {
-        let good = check_named(job, name, out, err)?;
+        let good = check_named(job, name, streams)?;
         all = all && good;
     }
     Ok(all)

@@ -6,10 +6,11 @@
 use crate::rattle::prelude::Vec;
 use crate::programs::xxhsum_program::job::Job;
 use crate::programs::xxhsum_program::outcome::{OFFERED, Outcome, Reason, outcome_of};
-use crate::programs::xxhsum_program::say::{print, release};
+use crate::programs::xxhsum_program::say::print;
 use crate::programs::xxhsum_program::screen::Ticks;
 use crate::programs::xxhsum_program::stop::Stop;
-use crate::programs::xxhsum_program::tell::{tell_line, tell_line_after};
+use crate::programs::xxhsum_program::streams::Streams;
+use crate::programs::xxhsum_program::tell::tell_line;
 use crate::programs::xxhsum_program::watched::Watched;
 use crate::rattle::Global;
 use crate::programs::xxh_io::ends::{Sink, Source};
@@ -30,15 +31,13 @@ use crate::programs::xxhsum_words::options::Options;
 pub fn hash_names<S: Store, T: Ticks, W: Output, E: Sink>(
     job: &Job<'_, S, T>,
     names: &[Vec<u8>],
-    out: &mut W,
-    err: &mut E,
+    streams: &mut Streams<W, E>,
 ) -> Result<bool, Stop> {
     let mut buf = [0; OFFERED];
     let mut all = true;
     for name in names {
         let outcome = outcome_of(job, job.options.kind, name, &mut buf);
-        print_outcome(job.alloc, job.options, name, &outcome, out)?;
-        tell_outcome_after(name, &outcome, out, err);
+        write_outcome(job.alloc, job.options, name, &outcome, streams)?;
         all = all && outcome.is_digested();
     }
     Ok(all)
@@ -57,35 +56,35 @@ pub fn hash_input<R: Source, T: Ticks, W: Output, E: Sink>(
     options: Options,
     name: &[u8],
     input: &mut Watched<R, T>,
-    out: &mut W,
-    err: &mut E,
+    streams: &mut Streams<W, E>,
 ) -> Result<bool, Stop> {
     match input.value(options.kind, &mut [0; OFFERED]) {
         Ok(value) => {
-            print_value(alloc, options, name, value, out)?;
+            print_value(alloc, options, name, value, &mut streams.out)?;
             Ok(true)
         }
         Err(error) => {
-            release(out);
-            tell_line_after(&[b"Error: ", Reason::from(error).text(), b"."], out, err);
+            streams.report(&[b"Error: ", Reason::from(error).text(), b"."]);
             Ok(false)
         }
     }
 }
 
-// Writes the digest line of a name that has a value. For a name without one, writes the bytes that `out` holds, since a
-// message follows.
-fn print_outcome<W: Output>(
+// Writes the digest line of a name that has a value, and reports why another name has none.
+fn write_outcome<W: Output, E: Sink>(
     alloc: Global,
     options: Options,
     name: &[u8],
     outcome: &Outcome,
-    out: &mut W,
+    streams: &mut Streams<W, E>,
 ) -> Result<(), Stop> {
     match outcome {
-        Outcome::Digested { value } => print_value(alloc, options, name, *value, out),
+        Outcome::Digested { value } => {
+            print_value(alloc, options, name, *value, &mut streams.out)
+        }
         Outcome::IsDirectory | Outcome::Unread { .. } => {
-            release(out);
+            streams.release();
+            tell_outcome(name, outcome, streams.messages());
             Ok(())
         }
     }
@@ -132,11 +131,4 @@ pub fn tell_outcome<'a, E: Sink>(name: &'a [u8], outcome: &'a Outcome, err: &mut
             tell_line(&parts, err);
         }
     }
-}
-
-// Reports why a name has no value, after the output `out`. The caller shows that all printed lines are written, or were
-// lost, if there is something to report.
-fn tell_outcome_after<W: Output, E: Sink>(name: &[u8], outcome: &Outcome, out: &W, err: &mut E) {
-    let _ = out;
-    tell_outcome(name, outcome, err);
 }

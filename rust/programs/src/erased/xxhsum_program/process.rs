@@ -11,6 +11,7 @@ use crate::programs::xxhsum_program::job::Job;
 use crate::programs::xxhsum_program::say::finish;
 use crate::programs::xxhsum_program::screen::Ticks;
 use crate::programs::xxhsum_program::stop::Stop;
+use crate::programs::xxhsum_program::streams::Streams;
 use crate::programs::xxhsum_program::tell::{tell, tell_line};
 use crate::programs::xxhsum_program::usage::{ABOUT, BEFORE, BEHIND, NO_BENCHMARK, TITLE, tell_options};
 use crate::programs::xxh_io::ends::{Sink, Source};
@@ -186,8 +187,7 @@ pub fn perform<S, T, R, W, E>(
     job: &Job<'_, S, T>,
     names: &[Vec<u8>],
     input: R,
-    out: &mut W,
-    err: &mut E,
+    streams: &mut Streams<W, E>,
 ) -> Result<bool, Stop>
 where
     S: Store,
@@ -197,15 +197,15 @@ where
     E: Sink, {
     if job.options.checks {
         if has_none(names) {
-            return check_list(job, INPUT, input, out, err);
+            return check_list(job, INPUT, input, streams);
         }
-        return check_lists(job, names, out, err);
+        return check_lists(job, names, streams);
     }
     if has_none(names) {
         let mut input = job.progress.watch(input);
-        return hash_input(job.alloc, job.options, INPUT, &mut input, out, err);
+        return hash_input(job.alloc, job.options, INPUT, &mut input, streams);
     }
-    hash_names(job, names, out, err)
+    hash_names(job, names, streams)
 }
 
 fn has_none(names: &[Vec<u8>]) -> bool {
@@ -226,16 +226,9 @@ fn conclude<E: Sink>(done: Result<bool, Stop>, err: &mut E) -> u8 {
 
 /// Ends a run: writes the bytes that the output holds, and then reports why the run stops, if it does. Returns the exit
 /// status.
-pub fn end<W: Output, E: Sink>(done: Result<bool, Stop>, out: &mut W, err: &mut E) -> u8 {
-    let ended = finish(done, out);
-    conclude_after(ended, out, err)
-}
-
-// Reports why the run stops, after the output `out`, and returns the exit status. The caller shows that all printed
-// lines are written, or were lost.
-fn conclude_after<W: Output, E: Sink>(done: Result<bool, Stop>, out: &W, err: &mut E) -> u8 {
-    let _ = out;
-    conclude(done, err)
+pub fn end<W: Output, E: Sink>(done: Result<bool, Stop>, streams: &mut Streams<W, E>) -> u8 {
+    let ended = finish(done, &mut streams.out);
+    conclude(ended, streams.messages())
 }
 
 // Returns the message for this reason to stop.

@@ -49,11 +49,6 @@ pub fn print<W: Sink>(bytes: &[u8], out: &mut W) -> Result<(), Stop> {
     }
 }
 
-// Writes the bytes that the output holds. Called before a message.
-pub(crate) fn release<W: Output>(out: &mut W) {
-    out.release();
-}
-
 /// Writes the bytes that the output holds at the end of a run. If that fails, the result is [`Stop::WriteFailed`],
 /// unless the run stopped before.
 pub fn finish<W: Output>(done: Result<bool, Stop>, out: &mut W) -> Result<bool, Stop> {

@@ -6,7 +6,6 @@
 use crate::programs::xxh_io::ends::Sink;
 use crate::programs::xxh_io::write::write_all;
 use crate::programs::xxhsum_line::escapes::{escape, needs_escape};
-use crate::programs::xxhsum_output::output::Output;
 
 /// Writes the bytes, unless a write has failed before.
 pub fn tell<E: Sink>(bytes: &[u8], err: &mut E) {
@@ -22,15 +21,6 @@ pub fn tell_line<E: Sink>(parts: &[&[u8]], err: &mut E) {
     tell_mark(parts, err);
     tell_escaped_parts(parts, err);
     tell(b"\n", err);
-}
-
-/// Writes the parts as one line, as [`tell_line`] does, after the output `out`.
-///
-/// The caller shows that all printed lines are written, or were lost. So a message never appears before output that was
-/// printed before it.
-pub fn tell_line_after<W: Output, E: Sink>(parts: &[&[u8]], out: &W, err: &mut E) {
-    let _ = out;
-    tell_line(parts, err);
 }
 
 // Writes a backslash if one of the parts has a byte that is escaped.

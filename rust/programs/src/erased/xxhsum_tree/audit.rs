@@ -15,9 +15,11 @@ use crate::programs::xxhsum_audit::moves::verdicts;
 use crate::programs::xxhsum_audit::order::{clash_in, names_of, put_lines_in_order, put_names_in_order};
 use crate::programs::xxhsum_files::store::Store;
 use crate::programs::xxhsum_line::entry::Entry;
+use crate::programs::xxhsum_output::output::Output;
 use crate::programs::xxhsum_program::job::Job;
 use crate::programs::xxhsum_program::screen::Ticks;
 use crate::programs::xxhsum_program::stop::Stop;
+use crate::programs::xxhsum_program::streams::Streams;
 use crate::programs::xxhsum_program::tell::tell_line;
 
 /// Compares the names with the lines of the list of this name, and prints a verdict on each. Returns whether all are
@@ -31,38 +33,48 @@ use crate::programs::xxhsum_program::tell::tell_line;
 /// # Errors
 ///
 /// [`Stop::WriteFailed`] if a write to standard output fails, and [`Stop::OutOfMemory`] if memory runs out.
-pub fn audit_names<S: Store, T: Ticks, W: Sink, E: Sink>(
+pub fn audit_names<S: Store, T: Ticks, W: Output, E: Sink>(
     job: &Job<'_, S, T>,
     list: &[u8],
     names: &[Vec<u8>],
-    out: &mut W,
-    err: &mut E,
+    streams: &mut Streams<W, E>,
 ) -> Result<bool, Stop> {
-    let Some(said) = said_named(job, list, err)? else {
+    streams.release();
+    audit_list(job, list, names, streams)
+}
+
+// Compares the names with the lines of the list of this name. The caller shows that all output is written.
+fn audit_list<S: Store, T: Ticks, W: Output, E: Sink>(
+    job: &Job<'_, S, T>,
+    list: &[u8],
+    names: &[Vec<u8>],
+    streams: &mut Streams<W, E>,
+) -> Result<bool, Stop> {
+    let Some(said) = said_named(job, list, streams.messages())? else {
         return Ok(false);
     };
-    audit_lines(job, list, &said, names, out, err)
+    audit_lines(job, list, &said, names, streams)
 }
 
 // Compares the names with the entries of a list.
-fn audit_lines<S: Store, T: Ticks, W: Sink, E: Sink>(
+fn audit_lines<S: Store, T: Ticks, W: Output, E: Sink>(
     job: &Job<'_, S, T>,
     list: &[u8],
     said: &[Entry],
     names: &[Vec<u8>],
-    out: &mut W,
-    err: &mut E,
+    streams: &mut Streams<W, E>,
 ) -> Result<bool, Stop> {
     let lines = lines_in_order(job.alloc, said)?;
     let asked = names_in_order(job.alloc, names)?;
     let listed = names_of(job.alloc, &lines)?;
+    let err = streams.messages();
     if tell_twice(list, &listed, err) {
         return Ok(false);
     }
     if tell_twice(b"Error", &asked, err) {
         return Ok(false);
     }
-    audit_sides(job, &lines, &asked, out, err)
+    audit_sides(job, &lines, &asked, streams)
 }
 
 // Returns the entries, ordered by name.
@@ -117,18 +129,17 @@ fn tell_name<'a, E: Sink>(among: &'a [u8], name: &'a [u8], err: &mut E) {
 }
 
 // Hashes the names, merged with the lines, both in order, and prints the verdicts.
-fn audit_sides<S: Store, T: Ticks, W: Sink, E: Sink>(
+fn audit_sides<S: Store, T: Ticks, W: Output, E: Sink>(
     job: &Job<'_, S, T>,
     lines: &[FileDigest<'_>],
     asked: &[&[u8]],
-    out: &mut W,
-    err: &mut E,
+    streams: &mut Streams<W, E>,
 ) -> Result<bool, Stop> {
     let kind = kind_of_new(lines, job.options.kind);
-    let compared = digests_of(job, kind, lines, asked, err)?;
+    let compared = digests_of(job, kind, lines, asked, streams.messages())?;
     let are_all = compared.are_all;
     let found = verdicts(job.alloc, compared)?;
-    print_report(job.alloc, job.options, &found, out)?;
+    print_report(job.alloc, job.options, &found, &mut streams.out)?;
     if !are_same(&found) {
         return Ok(false);
     }
@@ -145,4 +156,4 @@ fn kind_of_new(lines: &[FileDigest<'_>], without: Kind) -> Kind {
 
 /// Lemma: a good audit means equal files. If `audit_names` returns true, each line of the list has a file among the
 /// names, whose bytes have the line's value, and each name belongs to such a line.
-pub fn audit_means_equal<S: Store, W: Sink, E: Sink>() {}
+pub fn audit_means_equal<S: Store, W: Output, E: Sink>() {}

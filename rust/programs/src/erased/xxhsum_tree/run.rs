@@ -22,6 +22,7 @@ use crate::programs::xxhsum_program::process::{
 };
 use crate::programs::xxhsum_program::screen::Ticks;
 use crate::programs::xxhsum_program::stop::Stop;
+use crate::programs::xxhsum_program::streams::Streams;
 use crate::programs::xxhsum_program::tell::tell;
 use crate::programs::xxhsum_program::watched::ProgressDisplay;
 use crate::programs::xxhsum_words::name::default_kind;
@@ -36,8 +37,7 @@ pub fn run<A, S, R, W, E, T>(
     arguments: &A,
     store: &S,
     console: Console<R, T>,
-    out: &mut W,
-    err: &mut E,
+    streams: &mut Streams<W, E>,
 ) -> u8
 where
     A: Arguments,
@@ -46,12 +46,13 @@ where
     W: Output,
     E: Sink,
     T: Ticks, {
+    streams.release();
     match all_arguments(alloc, arguments) {
         Ok(args) => {
-            let done = run_arguments(alloc, &args, store, console, out, err);
-            end(done, out, err)
+            let done = run_arguments(alloc, &args, store, console, streams);
+            end(done, streams)
         }
-        Err(AllocError) => end(Err(Stop::OutOfMemory), out, err),
+        Err(AllocError) => end(Err(Stop::OutOfMemory), streams),
     }
 }
 
@@ -61,8 +62,7 @@ fn run_arguments<S, R, W, E, T>(
     args: &[Vec<u8>],
     store: &S,
     console: Console<R, T>,
-    out: &mut W,
-    err: &mut E,
+    streams: &mut Streams<W, E>,
 ) -> Result<bool, Stop>
 where
     S: Store + Folders,
@@ -79,12 +79,12 @@ where
     let words = arguments_behind_name(args);
     let asked = asked_by(default_kind(program), words);
     let Some(found) = run_asked(asked) else {
-        return Ok(tell_answer(program, words, asked, err));
+        return Ok(tell_answer(program, words, asked, streams.messages()));
     };
     let (options, place) = found;
     let names = words_behind(words, place);
     if waits_for_terminal(terminals, options, names) {
-        tell_wrong(&[b"Wrong parameters"], program, err);
+        tell_wrong(&[b"Wrong parameters"], program, streams.messages());
         return Ok(false);
     }
     let job = Job {
@@ -93,7 +93,7 @@ where
         options,
         progress: ProgressDisplay::new(screen, terminals, options),
     };
-    perform_words(&job, names, input, out, err)
+    perform_words(&job, names, input, streams)
 }
 
 // Audits, hashes the files below folders, or hashes or checks the words or the names in lists of names.
@@ -101,8 +101,7 @@ fn perform_words<S, T, R, W, E>(
     job: &Job<'_, S, T>,
     words: &[Vec<u8>],
     input: R,
-    out: &mut W,
-    err: &mut E,
+    streams: &mut Streams<W, E>,
 ) -> Result<bool, Stop>
 where
     S: Store + Folders,
@@ -111,15 +110,15 @@ where
     W: Output,
     E: Sink, {
     if job.options.audits {
-        return walk_audit(job, words, input, out, err);
+        return walk_audit(job, words, input, streams);
     }
     if job.options.walks {
-        return walk_folders(job, words, out, err);
+        return walk_folders(job, words, streams);
     }
     if job.options.names_from.are_listed() {
-        return walk_names(job, words, input, out, err);
+        return walk_names(job, words, input, streams);
     }
-    perform(job, words, input, out, err)
+    perform(job, words, input, streams)
 }
 
 // Audits names against the list that the first argument names.
@@ -127,8 +126,7 @@ fn walk_audit<S, T, R, W, E>(
     job: &Job<'_, S, T>,
     words: &[Vec<u8>],
     input: R,
-    out: &mut W,
-    err: &mut E,
+    streams: &mut Streams<W, E>,
 ) -> Result<bool, Stop>
 where
     S: Store + Folders,
@@ -137,19 +135,19 @@ where
     W: Output,
     E: Sink, {
     let Some((list, rest)) = words.split_first() else {
-        tell(b"Error: --audit needs a list.\n", err);
+        tell(b"Error: --audit needs a list.\n", streams.messages());
         return Ok(false);
     };
     if job.options.walks {
-        return audit_below(job, list, rest, out, err);
+        return audit_below(job, list, rest, streams);
     }
     if !job.options.names_from.are_listed() {
-        return audit_names(job, list, rest, out, err);
+        return audit_names(job, list, rest, streams);
     }
-    let Some(names) = names_listed(job, rest, input, err)? else {
+    let Some(names) = names_listed(job, rest, input, streams.messages())? else {
         return Ok(false);
     };
-    audit_names(job, list, &names, out, err)
+    audit_names(job, list, &names, streams)
 }
 
 // Audits the files of the names and below their folders against `list`. If a folder can't be read, there is no audit,
@@ -158,15 +156,14 @@ fn audit_below<S: Store + Folders, T: Ticks, W: Output, E: Sink>(
     job: &Job<'_, S, T>,
     list: &[u8],
     names: &[Vec<u8>],
-    out: &mut W,
-    err: &mut E,
+    streams: &mut Streams<W, E>,
 ) -> Result<bool, Stop> {
-    match files_below(job.alloc, job.store, names, err) {
+    match files_below(job.alloc, job.store, names, streams.messages()) {
         Ok(walked) => {
             if !walked.are_all {
                 return Ok(false);
             }
-            audit_names(job, list, &walked.files, out, err)
+            audit_names(job, list, &walked.files, streams)
         }
         Err(stop) => Err(stop),
     }
@@ -176,12 +173,11 @@ fn audit_below<S: Store + Folders, T: Ticks, W: Output, E: Sink>(
 fn walk_folders<S: Store + Folders, T: Ticks, W: Output, E: Sink>(
     job: &Job<'_, S, T>,
     names: &[Vec<u8>],
-    out: &mut W,
-    err: &mut E,
+    streams: &mut Streams<W, E>,
 ) -> Result<bool, Stop> {
-    match files_below(job.alloc, job.store, names, err) {
+    match files_below(job.alloc, job.store, names, streams.messages()) {
         Ok(walked) => {
-            let done = hash_names(job, &walked.files, out, err);
+            let done = hash_names(job, &walked.files, streams);
             all_well(walked.are_all, done)
         }
         Err(stop) => Err(stop),
@@ -201,14 +197,13 @@ fn walk_names<S: Store, T: Ticks, R: Source , W: Output, E: Sink>(
     job: &Job<'_, S, T>,
     lists: &[Vec<u8>],
     input: R,
-    out: &mut W,
-    err: &mut E,
+    streams: &mut Streams<W, E>,
 ) -> Result<bool, Stop> {
-    let Some(names) = names_listed(job, lists, input, err)? else {
+    let Some(names) = names_listed(job, lists, input, streams.messages())? else {
         return Ok(false);
     };
     if job.options.checks {
-        return check_lists(job, &names, out, err);
+        return check_lists(job, &names, streams);
     }
-    hash_names(job, &names, out, err)
+    hash_names(job, &names, streams)
 }

@@ -8,6 +8,7 @@ use Rattle.xxh_io.specs.Rules.{SourceRules, SinkRules}
 use Rattle.xxh_io.proofs.PieceFacts.{Pieces-push, NoneEmpty-push, concat-push}
 use Rattle.xxh_io.proofs.WriteFacts.{Took-join, Refused-join, Writes-join, write-failed, never-too-long}
 use Rattle.xxh_program.specs.Blocks.{block_lines, added_lines, last_lines, whole_block_lines}
+use Rattle.xxh_program.specs.Filter.{filter_of}
 use Rattle.xxh_program.specs.BlockEnds.{DigestsBlocks}
 use Rattle.xxh_program.specs.BlockState.{HasTaken}
 use Rattle.xxh_program.proofs.BlockFacts.{whole-append, all-split}
@@ -16,7 +17,7 @@ use Rattle.xxh_program.proofs.program.blocks.digest_blocks_by.Goals as goal
 -- Lemmas on the bytes read and written after the end of the input was read.
 
 -- Lemma: a write of all block lines after the end of the input was read digests the blocks.
-ends-well : {R W : Type 0} (reading : SourceRules R) (writing : SinkRules W) (block max_reads : ℕ) (pieces : List (List ℕ)) (r_old r_new : R) (w_old w_new : W) (result : Result (Unit {0}) DigestError) → IfErr result (λ e. e ≡ WriteFailed) → (length pieces < max_reads) × Pieces reading.gives r_old (pieces ++ [] ∷ []) r_new → Writes writing (block_lines block (concat pieces)) w_old w_new result → DigestsBlocks reading writing block max_reads pieces r_old r_new w_old w_new result
+ends-well : {R W : Type 0} (reading : SourceRules R) (writing : SinkRules W) (block max_reads : ℕ) (pieces : List (List ℕ)) (r_old r_new : R) (w_old w_new : W) (result : Result (Unit {0}) DigestError) → IfErr result (λ e. e ≡ WriteFailed) → (length pieces < max_reads) × Pieces reading.gives r_old (pieces ++ [] ∷ []) r_new → Writes writing (block_lines block (concat pieces)) w_old w_new result → DigestsBlocks (filter_of reading writing r_old r_new w_old w_new) block max_reads pieces result
 ends-well reading writing block max_reads pieces r_old r_new w_old w_new (Ok x) only read wrote = (read, wrote)
 ends-well reading writing block max_reads pieces r_old r_new w_old w_new (Err WriteFailed) only read wrote = inl (read, wrote)
 ends-well reading writing block max_reads pieces r_old r_new w_old w_new (Err ReadFailed) only read wrote = cc
@@ -89,6 +90,6 @@ returns-in_err-take-in-Ok-clause-digests g c =
     let read = Pieces-push g.R.Source.gives _ _ _ so_far.pieces piece so_far.read c.in-Ok.ensures.piece in (
       so_far.pieces ++ piece ∷ [],
       NoneEmpty-push so_far.pieces piece so_far.some some,
-      subst (λ r. DigestsBlocks g.R.Source g.W.Sink b c.args.max_reads (so_far.pieces ++ piece ∷ []) c.args.r.now c.read.new.self c.args.w.now c.take.new.w r) (sym is) (inr (most, read, refused)),
+      subst (λ r. DigestsBlocks (filter_of g.R.Source g.W.Sink c.args.r.now c.read.new.self c.args.w.now c.take.new.w) b c.args.max_reads (so_far.pieces ++ piece ∷ []) r) (sym is) (inr (most, read, refused)),
       (λ e. absurd (never-too-long c.from_residual.result only e), λ e. let works = e.1 in let stops = c.in_err-take-in-Ok.ensures.write_failed.0 failed in absurd cc),
     )

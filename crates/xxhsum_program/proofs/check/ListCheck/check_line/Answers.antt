@@ -1,8 +1,4 @@
-use Rattle.std.proofs.Common.{◌∙◌, sym, [], refl, subst}
-use Rattle.xxhsum_line.specs.Meaning.{Means}
-use Rattle.xxhsum_program.specs.Findings.{Ignored, Improper, IsFinding, Proper, TooLong}
-use Rattle.xxhsum_program.specs.LinesView.{IsGiven}
-use Rattle.xxhsum_program.specs.Order.{rules_of, streams}
+use Rattle.xxhsum_program.proofs.Prelude.{[], ◌∙◌, Ignored, Improper, IsFinding, IsGiven, Means, Proper, TooLong, files_of, refl, rules_of, subst, sym}
 use Rattle.xxhsum_program.proofs.StopFacts.{line-said, silent-prints}
 use Rattle.xxhsum_program.proofs.ToldFacts.{tells-nothing}
 use Rattle.xxhsum_program.proofs.check.ListCheck.check_line.Goals as goal
@@ -28,11 +24,11 @@ returns-then-is_silent-clause-checks g c = λ text given.
     let is = subst (IsGiven text) c.in-Some.is given in
     let means = subst (Means c.args.self.now.options.is_little_endian text) c.in-Entry.is (rw is.1 at c.in_ok-entry.ensures.meaning) in
     let entry = c.in-Entry.entry in
-    (Proper entry.name.items c.compare-found.result, (is.0, entry.kind, entry.value, means, c.compare-found.ensures), c.count.ensures, (streams c.args.out.now c.args.err.now, (([], refl, sym (silent-prints c.args.self.now.options c.args.self.now.name.now c.args.line.number entry.name.items c.compare-found.result (sym c.is_silent.ensures ∙ c.if-is_silent.true))), tells-nothing g.E.Sink c.args.err.now), (refl, refl)))
+    (Proper entry.name.items c.compare-found.result, (is.0, entry.kind, entry.value, means, c.compare-found.ensures), c.count.ensures, (c.args.streams.now, (([], refl, sym (silent-prints c.args.self.now.options c.args.self.now.name.now c.args.line.number entry.name.items c.compare-found.result (sym c.is_silent.ensures ∙ c.if-is_silent.true))), tells-nothing g.E.Sink c.args.streams.now.err), (refl, refl)))
 
 pub returns-clause-checks : goal.returns-clause-checks
 returns-clause-checks g c = λ text given.
     let is = subst (IsGiven text) c.in-Some.is given in
     let means = subst (Means c.args.self.now.options.is_little_endian text) c.in-Entry.is (rw is.1 at c.in_ok-entry.ensures.meaning) in
     let entry = c.in-Entry.entry in
-    line-said (IsFinding g.S.Store g.S.File.Source c.args.self.now.store.now c.args.self.now.options.is_little_endian text) (rules_of g.W.Sink g.W.Output.held g.W.Output.has_lost g.E.Sink) c.args.self.now.options c.args.self.now.name.now c.args.line.number entry.name.items c.deref.result.now c.compare-found.result c.args.report.now c.count.new.self (streams c.args.out.now c.args.err.now) c.say_found.new.out c.say_found.result (sym c.is_silent.ensures ∙ c.if-is_silent.false) c.deref.ensures.value (is.0, entry.kind, entry.value, means, c.compare-found.ensures) c.count.ensures c.say_found.ensures.prints
+    line-said (IsFinding (files_of g.S.Store g.S.File.Source c.args.self.now.store.now) c.args.self.now.options.is_little_endian text) (rules_of g.W.Sink g.W.Output.held g.W.Output.has_lost g.E.Sink) c.args.self.now.options c.args.self.now.name.now c.args.line.number entry.name.items c.deref.result.now c.compare-found.result c.args.report.now c.count.new.self c.args.streams.now c.say_found.new.out c.say_found.result (sym c.is_silent.ensures ∙ c.if-is_silent.false) c.deref.ensures.value (is.0, entry.kind, entry.value, means, c.compare-found.ensures) c.count.ensures c.say_found.ensures.prints

@@ -1,16 +1,11 @@
 use Rattle.std.proofs.Common.{◌≡◌, ◌+◌, ◌-◌, ◌^◌, ◌∷◌, ◌++◌, [], length, Some, refl, sym, ap, ◌∙◌, arith}
-use Rattle.std.proofs.lemmas.List.{length_push}
-use Rattle.xxhsum_program.specs.Findings.{IsFinding, count_one, no_findings, report_of, with_broken_end}
-use Rattle.xxhsum_program.specs.ListEnd.{Whole, TooMany, Endless, FailedRead}
-use Rattle.xxhsum_program.specs.Order.{rules_of, streams}
-use Rattle.xxhsum_program.specs.Said.{finding_events}
+use Rattle.xxhsum_program.proofs.Prelude.{Endless, FailedRead, IsFinding, TooMany, Whole, count_one, files_of, finding_events, length_push, no_findings, report_of, rules_of, source_of, with_broken_end}
 use Rattle.xxhsum_program.proofs.CheckFacts.{add_up-push, breaks-endless, breaks-failed, ends-well, some-read, stands-line, stands-new}
 use Rattle.xxhsum_program.proofs.EachFacts.{EachHas-push}
 use Rattle.xxhsum_program.proofs.HashFacts.{is-err}
 use Rattle.xxhsum_program.proofs.OrderFacts.{emits-append}
 use Rattle.xxhsum_program.proofs.SaidFacts.{numbered-push}
 use Rattle.xxhsum_program.proofs.StopFacts.{emits-break, lines-stop}
-use Rattle.xxhsum_program.specs.Watched.{source_of}
 use Rattle.xxhsum_program.proofs.check.ListCheck.check_lines.Goals as goal
 
 pub loop-number-init : goal.loop-number-init
@@ -45,19 +40,19 @@ loop-number-preserved g c =
       count = omega (arith, length_push so_far.findings finding, so_far.count);
       stands = stands;
       emits = rw (numbered-push (finding_events options list) 1 so_far.findings finding number so_far.count)
-          (emits-append (rules_of g.W.Sink g.W.Output.held g.W.Output.has_lost g.E.Sink) _ _ (streams c.args.out.now c.args.err.now) (streams c.loop-number.out c.loop-number.err) (streams c.check_line.new.out c.check_line.new.err) so_far.emits checked.3);
+          (emits-append (rules_of g.W.Sink g.W.Output.held g.W.Output.has_lost g.E.Sink) _ _ c.args.streams.now c.loop-number.streams c.check_line.new.streams so_far.emits checked.3);
       works = c.in_ok-check_line-in-Line.ensures.works;
     }
 
 pub returns-in-End-clause-checks : goal.returns-in-End-clause-checks
 returns-in-End-clause-checks g c =
     let so_far = c.loop-number.invariant in
-    let here = streams c.loop-number.out c.loop-number.err in (
+    let here = c.loop-number.streams in (
       so_far.findings,
       Some Whole,
       (so_far.read, so_far.each, ends-well g.R.Source (source_of c.args.source) c.loop-number.lines c.next.new.self so_far.read so_far.stands c.in-End.ensures.next),
       so_far.report,
-      emits-append (rules_of g.W.Sink g.W.Output.held g.W.Output.has_lost g.E.Sink) _ [] (streams c.args.out.now c.args.err.now) here here so_far.emits (refl, refl),
+      emits-append (rules_of g.W.Sink g.W.Output.held g.W.Output.has_lost g.E.Sink) _ [] c.args.streams.now here here so_far.emits (refl, refl),
     )
 
 pub returns-in-Failed-clause-checks : goal.returns-in-Failed-clause-checks
@@ -65,13 +60,13 @@ returns-in-Failed-clause-checks g c =
     let so_far = c.loop-number.invariant in
     let rules = rules_of g.W.Sink g.W.Output.held g.W.Output.has_lost g.E.Sink in
     let list = c.args.self.now.name.now in
-    let mid = streams c.loop-number.out c.loop-number.err in
+    let mid = c.loop-number.streams in
     let count : c.loop-number.number ≡ length so_far.findings + 1 = omega (arith, so_far.count) in (
       so_far.findings,
       Some FailedRead,
       (so_far.read, so_far.each, breaks-failed g.R.Source (source_of c.args.source) c.loop-number.lines c.next.new.self so_far.read so_far.stands c.in-Failed.ensures.next c.in-Failed.ensures.ended),
       c.with_broken_end.ensures ∙ ap with_broken_end so_far.report,
-      emits-append rules _ _ (streams c.args.out.now c.args.err.now) mid (streams c.tell_of_failure.new.out c.tell_of_failure.new.err) so_far.emits (emits-break rules list FailedRead c.loop-number.number (length so_far.findings + 1) c.loop-number.report (report_of c.args.self.now.options.ignores_missing so_far.findings) mid (streams c.tell_of_failure.new.out c.tell_of_failure.new.err) count so_far.report c.tell_of_failure.ensures.emits),
+      emits-append rules _ _ c.args.streams.now mid c.tell_of_failure.new.streams so_far.emits (emits-break rules list FailedRead c.loop-number.number (length so_far.findings + 1) c.loop-number.report (report_of c.args.self.now.options.ignores_missing so_far.findings) mid c.tell_of_failure.new.streams count so_far.report c.tell_of_failure.ensures.emits),
     )
 
 pub returns-in-Endless-clause-checks : goal.returns-in-Endless-clause-checks
@@ -79,25 +74,25 @@ returns-in-Endless-clause-checks g c =
     let so_far = c.loop-number.invariant in
     let rules = rules_of g.W.Sink g.W.Output.held g.W.Output.has_lost g.E.Sink in
     let list = c.args.self.now.name.now in
-    let mid = streams c.loop-number.out c.loop-number.err in
+    let mid = c.loop-number.streams in
     let count : c.loop-number.number ≡ length so_far.findings + 1 = omega (arith, so_far.count) in (
       so_far.findings,
       Some Endless,
       (so_far.read, so_far.each, breaks-endless g.R.Source (source_of c.args.source) c.loop-number.lines c.next.new.self so_far.read so_far.stands c.in-Endless.ensures.next c.in-Endless.ensures.ended),
       c.with_broken_end-in-Endless.ensures ∙ ap with_broken_end so_far.report,
-      emits-append rules _ _ (streams c.args.out.now c.args.err.now) mid (streams c.tell_too_long.new.out c.tell_too_long.new.err) so_far.emits (emits-break rules list Endless c.loop-number.number (length so_far.findings + 1) c.loop-number.report (report_of c.args.self.now.options.ignores_missing so_far.findings) mid (streams c.tell_too_long.new.out c.tell_too_long.new.err) count so_far.report (streams c.tell_too_long.new.out c.tell_too_long.new.err, c.tell_too_long.ensures.emits, (refl, refl))),
+      emits-append rules _ _ c.args.streams.now mid c.report_line.new.streams so_far.emits (emits-break rules list Endless c.loop-number.number (length so_far.findings + 1) c.loop-number.report (report_of c.args.self.now.options.ignores_missing so_far.findings) mid c.report_line.new.streams count so_far.report (c.report_line.new.streams, c.report_line.ensures.reports, (refl, refl))),
     )
 
 pub returns-clause-checks : goal.returns-clause-checks
 returns-clause-checks g c =
     let so_far = c.loop-number.invariant in
-    let here = streams c.loop-number.out c.loop-number.err in
+    let here = c.loop-number.streams in
     let most : length so_far.read ≡ 2 ^ 64 - 2 = omega (arith, so_far.lines) in (
       so_far.findings,
       Some TooMany,
       (so_far.read, so_far.each, (some-read g.R.Source (source_of c.args.source) c.loop-number.lines so_far.read so_far.stands, most)),
       so_far.report,
-      emits-append (rules_of g.W.Sink g.W.Output.held g.W.Output.has_lost g.E.Sink) _ [] (streams c.args.out.now c.args.err.now) here here so_far.emits (refl, refl),
+      emits-append (rules_of g.W.Sink g.W.Output.held g.W.Output.has_lost g.E.Sink) _ [] c.args.streams.now here here so_far.emits (refl, refl),
     )
 
 pub returns-in_err-check_line-in-Line-clause-checks : goal.returns-in_err-check_line-in-Line-clause-checks
@@ -107,6 +102,6 @@ returns-in_err-check_line-in-Line-clause-checks g c =
     let stop = c.in_err-check_line-in-Line.field-0.0 in
     let (line, held, stands) = stands-line g.R.Source (source_of c.args.source) c.loop-number.lines state so_far.read so_far.stands c.in-Line.ensures.next c.in-Line.ensures.ended in
     let checked = c.in_err-check_line-in-Line.ensures.checks line (c.line.ensures line held) in
-    let is_finding = IsFinding g.S.Store g.S.File.Source c.args.self.now.store.now c.args.self.now.options.is_little_endian in
+    let is_finding = IsFinding (files_of g.S.Store g.S.File.Source c.args.self.now.store.now) c.args.self.now.options.is_little_endian in
     rw (is-err c.from_residual.result stop c.from_residual.ensures.1)
-    (lines-stop is_finding g.R.Source (rules_of g.W.Sink g.W.Output.held g.W.Output.has_lost g.E.Sink) c.args.self.now.options c.args.self.now.name.now (source_of c.args.source) (streams c.args.out.now c.args.err.now) (streams c.loop-number.out c.loop-number.err) (streams c.check_line.new.out c.check_line.new.err) c.loop-number.lines state so_far.read so_far.findings line c.loop-number.number c.loop-number.report c.check_line.new.report stop so_far.each so_far.stands stands so_far.count so_far.emits checked)
+    (lines-stop is_finding g.R.Source (rules_of g.W.Sink g.W.Output.held g.W.Output.has_lost g.E.Sink) c.args.self.now.options c.args.self.now.name.now (source_of c.args.source) c.args.streams.now c.loop-number.streams c.check_line.new.streams c.loop-number.lines state so_far.read so_far.findings line c.loop-number.number c.loop-number.report c.check_line.new.report stop so_far.each so_far.stands stands so_far.count so_far.emits checked)

@@ -1,12 +1,11 @@
 use Rattle.std.proofs.Common.{arith, refl}
-use Rattle.xxhsum_program.specs.Order.{streams}
 use Rattle.xxhsum_program.proofs.LineEndFacts.{break-is, no-break}
 use Rattle.xxhsum_program.proofs.check.ListCheck.tell_of_failure.Goals as goal
 
 pub returns-then-report-gt0-clause-emits : goal.returns-then-report-gt0-clause-emits
 returns-then-report-gt0-clause-emits g c =
     rw (break-is c.args.self.now.name.now c.args.number c.args.report.now c.if-report-gt0.true)
-    (streams c.release.new.out c.tell_of_line_after.new.err, (c.release.ensures.prints, c.release.ensures.written, c.tell_of_line_after.ensures), (refl, refl))
+    (c.report_line.new.streams, c.report_line.ensures.reports, (refl, refl))
 
 pub returns-else-report-gt0-clause-emits : goal.returns-else-report-gt0-clause-emits
 returns-else-report-gt0-clause-emits g c =

@@ -1,5 +1,4 @@
-use Rattle.std.proofs.Common.{List, ℕ}
-use Rattle.xxhsum_program.specs.LinesView.{HasRead, IsAtEnd, most_reads_left}
+use Rattle.xxhsum_program.proofs.Prelude.{HasRead, IsAtEnd, List, most_reads_left, ℕ}
 use Rattle.xxhsum_program.proofs.lines.Lines.gather.Given as goal
 
 -- Invariant: the bytes read so far are kept, and a source that has ended stays at its end

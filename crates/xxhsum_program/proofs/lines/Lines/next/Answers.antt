@@ -1,5 +1,4 @@
-use Rattle.std.proofs.Common.{arith}
-use Rattle.xxhsum_program.specs.LinesView.{waiting}
+use Rattle.xxhsum_program.proofs.Prelude.{arith, waiting}
 use Rattle.xxhsum_program.proofs.LineFacts.{comes-last-line, comes-line, comes-long-line, not-at-end}
 use Rattle.xxhsum_program.proofs.lines.Lines.next.Goals as goal
 

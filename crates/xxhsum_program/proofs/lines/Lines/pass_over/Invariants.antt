@@ -1,5 +1,4 @@
-use Rattle.std.proofs.Common.{List, ℕ}
-use Rattle.xxhsum_program.specs.LinesView.{HasRead}
+use Rattle.xxhsum_program.proofs.Prelude.{HasRead, List, ℕ}
 use Rattle.xxhsum_program.proofs.LineFacts.{IsInside}
 use Rattle.xxhsum_program.proofs.lines.Lines.pass_over.Given as goal
 

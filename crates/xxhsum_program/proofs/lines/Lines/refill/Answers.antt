@@ -1,8 +1,5 @@
-use Rattle.std.proofs.Common.{◌≡◌, ◌+◌, ◌-◌, ◌++◌, ◌≤◌, length, take, slice_range, refl, sym, ap, ◌∙◌, arith}
-use Rattle.std.proofs.lemmas.List.{length-take-le}
+use Rattle.xxhsum_program.proofs.Prelude.{◌++◌, ◌+◌, ◌-◌, ◌∙◌, ◌≡◌, ◌≤◌, ap, arith, length, length-take-le, refl, slice_range, source_of, sym, take, waiting}
 use borrow.Rule.Slice.PartMut.{put_mid}
-use Rattle.xxhsum_program.specs.LinesView.{waiting}
-use Rattle.xxhsum_program.specs.Watched.{source_of}
 use Rattle.xxhsum_program.proofs.LineFacts.{moved, put-behind, reads-on}
 use Rattle.xxhsum_program.proofs.lines.Lines.refill.Goals as goal
 
