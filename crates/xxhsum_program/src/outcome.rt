@@ -109,7 +109,8 @@ pub(crate) fn value_named<S: Store, T: Ticks>(
     buf: &mut [u8],
 ) -> Result<u128, Reason>
     requires { 0 < length buf.old }
-    ensures value { IfOk result (IsValueOf (files_of S.Store S.File.Source store.now) kind name.now) }
+    ensures value { IfOk result
+        (IsValueOf (files_of S.Store S.File.Source store.now) kind name.now) }
     ensures reason { IfErr result (HasNoValue (files_of S.Store S.File.Source store.now) name.now) }
 {
     match progress.open(store, name) {

@@ -226,7 +226,8 @@ where
     E: Sink,
     requires reader { R.has_failed input ≡ false }
     requires writer { W.has_failed streams.old.out ≡ false }
-    ensures { PerformsAs (files_of S.Store S.File.Source job.now.store.now) (input_of R.Source input)
+    ensures { PerformsAs (files_of S.Store S.File.Source job.now.store.now)
+        (input_of R.Source input)
         (effect_of (rules_of W.Sink W.held W.has_lost E.Sink) streams.old streams.new result)
         job.now.options (map (λ name. name.items) names.now) }
 {

@@ -263,7 +263,8 @@ fn walk_names<S: Store, T: Ticks, R: Source + Drop, W: Output, E: Sink>(
     requires reader { R.has_failed input ≡ false }
     requires writer { W.has_failed streams.old.out ≡ false }
     requires written { IsWritten W.held W.has_lost streams.old.out }
-    ensures { WalksNames (files_of S.Store S.File.Source job.now.store.now) (input_of R.Source input)
+    ensures { WalksNames (files_of S.Store S.File.Source job.now.store.now)
+        (input_of R.Source input)
         (effect_of (rules_of W.Sink W.held W.has_lost E.Sink) streams.old streams.new result)
         job.now.options (map (λ list. list.items) lists.now) }
 {
