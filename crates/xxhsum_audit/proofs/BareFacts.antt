@@ -1,7 +1,5 @@
 -- Lemmas on names without `./` at their beginning.
-use Rattle.std.proofs.Common.{◌≡◌, ℕ, ◌+◌, true, false, List, [], ◌∷◌, drop, length, refl, sym, ap, ◌∙◌, arith}
-use Rattle.std.proofs.lemmas.Bool.{cond-true, cond-false}
-use Rattle.xxhsum_audit.specs.Item.{bare, is_dotted}
+use Rattle.xxhsum_audit.proofs.Prelude.{◌≡◌, ℕ, ◌+◌, true, false, List, [], ◌∷◌, drop, length, refl, sym, ap, ◌∙◌, arith, cond-true, cond-false, bare, is_dotted}
 
 pub bare-past : (name behind : List ℕ) → is_dotted name ≡ true → behind ≡ drop 2 name → length behind + 2 ≡ length name → bare name ≡ bare behind
 unfolding bare

@@ -1,10 +1,7 @@
 -- Lemmas on escaped names: their meaning, the bytes that they lack, and their length.
-use Rattle.std.proofs.Common.{◌≡◌, ◌≢◌, ◌⊎◌, ℕ, ◌+◌, ◌*◌, ◌<◌, ◌≤◌, Bool, true, false, ◌||◌, nat_eq, List, [], ◌∷◌, ◌++◌, length, take, get_or, Option, Some, None, refl, sym, ap, ◌∙◌, inl, inr, append-nil, append_assoc, length-append, arith, option_and_then}
-use Rattle.std.proofs.lemmas.Bool.{cases_eq, cond-false, ne_eqb, or_parts}
-use Rattle.std.proofs.lemmas.List.{take_more}
+use Rattle.xxhsum_line.proofs.Prelude.{◌≡◌, ◌≢◌, ◌⊎◌, ℕ, ◌+◌, ◌*◌, ◌<◌, ◌≤◌, Bool, true, false, ◌||◌, nat_eq, List, [], ◌∷◌, ◌++◌, length, take, get_or, Option, Some, None, refl, sym, ap, ◌∙◌, inl, inr, append-nil, append_assoc}
+use Rattle.xxhsum_line.proofs.Prelude.{length-append, arith, option_and_then, cases_eq, cond-false, ne_eqb, or_parts, take_more, before, escape, escaped, is_special, meant_behind, meant_by, needs_escape, unescaped, Lacks}
 use Rattle.xxhsum_line.proofs.LackFacts.{lacks_both}
-use Rattle.xxhsum_line.specs.Escapes.{before, escape, escaped, is_special, meant_behind, meant_by, needs_escape, unescaped}
-use Rattle.xxhsum_line.specs.Parts.{Lacks}
 
 -- ---- bytes of an escaped name
 

@@ -1,8 +1,6 @@
 -- Lemmas on lists that lack a byte, and on splits at the first or last position of a byte.
-use Rattle.std.proofs.Common.{◌≡◌, ◌≢◌, ℕ, suc, ◌+◌, ◌-◌, ◌<◌, ◌≤◌, List, [], ◌∷◌, ◌++◌, length, take, drop, get_or, refl, sym, ap, subst, ◌∙◌, inl, inr, arith}
-use Rattle.std.proofs.lemmas.List.{drop_more, take-append-drop, length-take-le, length-drop, get_or-take, get_or-drop}
-use Rattle.std.proofs.lemmas.Bool.Decides.{eqb_tells}
-use Rattle.xxhsum_line.specs.Parts.{Lacks, up_to_nul, without_return}
+use Rattle.xxhsum_line.proofs.Prelude.{◌≡◌, ◌≢◌, ℕ, suc, ◌+◌, ◌-◌, ◌<◌, ◌≤◌, List, [], ◌∷◌, ◌++◌, length, take, drop, get_or, refl, sym, ap, subst, ◌∙◌, inl, inr, arith, drop_more, take-append-drop, length-take-le, length-drop, get_or-take}
+use Rattle.xxhsum_line.proofs.Prelude.{get_or-drop, eqb_tells, Lacks, up_to_nul, without_return}
 
 pub lacks_right : (b : ℕ) (x y : List ℕ) → Lacks b (x ++ y) → Lacks b y
 lacks_right b [] y h = h

@@ -1,10 +1,9 @@
 -- Proves that a line has at most one choice of parts.
-use Rattle.std.proofs.Common.{◌≡◌, ℕ, List, [], ◌∷◌, ◌++◌, sym, ap, subst, ◌∙◌, append_assoc, MatchOption, Option, Some, None}
-use Rattle.std.proofs.lemmas.List.{append_cancel_right}
-use Rattle.xxhsum_line.proofs.LackFacts.{lacks_not, first_same, last_same}
-use Rattle.xxhsum_line.specs.Parts.{Lacks, IsPlain, IsTagged, EndsTagged, HasParts, HasNoParts, HasNoTaggedParts, IsTaggedWith}
+use Rattle.xxhsum_line.proofs.Prelude.{◌≡◌, ℕ, List, [], ◌∷◌, ◌++◌, sym, ap, subst, ◌∙◌, append_assoc, MatchOption, Option, Some, None, append_cancel_right, Lacks, IsPlain, IsTagged, EndsTagged, HasParts, HasNoParts, HasNoTaggedParts}
+use Rattle.xxhsum_line.proofs.Prelude.{IsTaggedWith}
 use Rattle.xxhsum_line.specs.declared.parts.Parts.{Parts}
 use Rattle.xxhsum_line.specs.declared.parts.Parts.TheVariants.{Plain, Tagged}
+use Rattle.xxhsum_line.proofs.LackFacts.{lacks_not, first_same, last_same}
 
 -- Lemma: a line without a space has no parts.
 pub no_parts_without_space : (line : List ℕ) → Lacks 32 line → HasNoParts line

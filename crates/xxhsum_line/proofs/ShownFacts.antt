@@ -1,16 +1,8 @@
 -- Proves that reading the digits of a value returns the value.
-use Rattle.std.proofs.Common.{◌≡◌, ◌≢◌, ◌⊎◌, ℕ, zero, suc, ◌+◌, ◌*◌, ◌/◌, ◌%◌, ◌^◌, ◌<◌, Bool, true, false, List, [], ◌∷◌, ◌++◌, length, reverse, Some, None, inl, inr, refl, sym, ap, ◌∙◌, arith, length-append, eq-eqb, option_and_then}
-use Rattle.std.proofs.Math.Nat.{pow-suc}
-use Rattle.std.proofs.lemmas.Bool.Decides.{nat_tests}
-use Rattle.std.proofs.lemmas.List.{reverse-append, reverse-reverse, length-reverse}
-use Rattle.std.proofs.lemmas.Option.{option_and_then_some, same_Some}
+use Rattle.xxhsum_line.proofs.Prelude.{◌≡◌, ◌≢◌, ◌⊎◌, ℕ, zero, suc, ◌+◌, ◌*◌, ◌/◌, ◌%◌, ◌^◌, ◌<◌, Bool, true, false, List, [], ◌∷◌, ◌++◌, length, reverse, Some, None, inl, inr, refl, sym, ap, ◌∙◌, arith, length-append, eq-eqb}
+use Rattle.xxhsum_line.proofs.Prelude.{option_and_then, pow-suc, nat_tests, reverse-append, reverse-reverse, length-reverse, option_and_then_some, same_Some, digits_of, Kind, X32, X64, X3_64, X3_128, digit_of, number_after, number_of}
+use Rattle.xxhsum_line.proofs.Prelude.{pairs_swapped, turned_if, value_shown, Lacks, shown}
 use Rattle.xxh_io.specs.Hex.{hex_digit, hex_digits}
-use Rattle.xxh_io.specs.Kind.{digits_of}
-use Rattle.xxh_io.specs.declared.kind.Kind.{Kind}
-use Rattle.xxh_io.specs.declared.kind.Kind.TheVariants.{X32, X64, X3_64, X3_128}
-use Rattle.xxhsum_line.specs.Digits.{digit_of, number_after, number_of, pairs_swapped, turned_if, value_shown}
-use Rattle.xxhsum_line.specs.Parts.{Lacks}
-use Rattle.xxhsum_line.specs.Printed.{shown}
 use Rattle.xxhsum_line.proofs.LackFacts.{lacks_both}
 
 -- Lemma: a digit after others multiplies their value by 16 and adds its own.

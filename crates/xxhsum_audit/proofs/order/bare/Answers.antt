@@ -1,4 +1,4 @@
-use Rattle.std.proofs.Common.{sym, ◌∙◌}
+use Rattle.xxhsum_audit.proofs.Prelude.{sym, ◌∙◌}
 use Rattle.xxhsum_audit.proofs.BareFacts.{bare-end, bare-past}
 use Rattle.xxhsum_audit.proofs.order.bare.Goals as goal
 

@@ -1,5 +1,4 @@
-use Rattle.std.proofs.Common.{rules, ◌≡◌, ◌++◌, ◌∷◌, ◌+◌, ◌<◌, eq-eqb, length, refl, take, slice_index, sym, ap, ◌∙◌, arith}
-use Rattle.std.proofs.lemmas.List.{take_rest}
+use Rattle.xxhsum_audit.proofs.Prelude.{rules, ◌≡◌, ◌++◌, ◌∷◌, ◌+◌, ◌<◌, eq-eqb, length, refl, take, slice_index, sym, ap, ◌∙◌, arith, take_rest}
 use Rattle.memchr.specs.Find.{is_byte}
 use Rattle.xxhsum_line.proofs.LackFacts.{at_place, lacks_before, lacks_by_place}
 use Rattle.xxhsum_audit.proofs.parts.cut.Goals as goal

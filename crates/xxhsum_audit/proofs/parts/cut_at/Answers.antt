@@ -1,7 +1,5 @@
-use Rattle.std.proofs.Common.{◌≡◌, ◌<◌, ap, length, map, subst, sym, ◌∙◌, rules}
-use Rattle.std.proofs.lemmas.List.{map-append}
+use Rattle.xxhsum_audit.proofs.Prelude.{◌≡◌, ◌<◌, ap, length, map, subst, sym, ◌∙◌, rules, map-append, ArePartsOf}
 use Rattle.xxhsum_audit.proofs.PartFacts.{Stands, stands_last, stands_more, stands_whole}
-use Rattle.xxhsum_audit.specs.Parts.{ArePartsOf}
 use Rattle.xxhsum_audit.proofs.parts.cut_at.Goals as goal
 
 pub loop-part-preserved : goal.loop-part-preserved

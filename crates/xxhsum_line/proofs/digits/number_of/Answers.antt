@@ -1,5 +1,4 @@
-use Rattle.std.proofs.Common.{◌≡◌, ℕ, ◌+◌, ◌*◌, ◌<◌, ◌≤◌, ◌^◌, arith, add-one}
-use Rattle.std.proofs.Math.Nat.{pow-suc, pow-le-pow_right}
+use Rattle.xxhsum_line.proofs.Prelude.{◌≡◌, ℕ, ◌+◌, ◌*◌, ◌<◌, ◌≤◌, ◌^◌, arith, add-one, pow-suc, pow-le-pow_right}
 use Rattle.xxhsum_line.proofs.digits.number_of.Goals as goal
 
 -- Lemmas on the value of digits, which stays below a power of 16.

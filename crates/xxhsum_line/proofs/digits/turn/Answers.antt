@@ -1,7 +1,6 @@
-use Rattle.std.proofs.Common.{◌≡◌, ℕ, ◌+◌, ◌<◌, ◌≤◌, List, [], ◌∷◌, ◌++◌, length, take, drop, set, get_or, refl, sym, ap, ◌∙◌, arith, length-append, append_assoc, ◌*◌, swap}
-use Rattle.std.proofs.lemmas.List.{drop_more, take-append-drop, length-take-le, length-drop, set_at, take_at, drop_at}
+use Rattle.xxhsum_line.proofs.Prelude.{◌≡◌, ℕ, ◌+◌, ◌<◌, ◌≤◌, List, [], ◌∷◌, ◌++◌, length, take, drop, set, get_or, refl, sym, ap, ◌∙◌, arith, length-append, append_assoc, ◌*◌, swap, drop_more, take-append-drop, length-take-le, length-drop}
+use Rattle.xxhsum_line.proofs.Prelude.{set_at, take_at, drop_at, pairs_swapped}
 use Rattle.std.proofs.lemmas.List.Edits.{swap_is}
-use Rattle.xxhsum_line.specs.Digits.{pairs_swapped}
 use Rattle.xxhsum_line.proofs.digits.turn.Goals as goal
 
 -- Lemmas on swapping the two digits of each byte.

@@ -1,5 +1,4 @@
-use Rattle.std.proofs.Common.{◌≡◌, ◌*◌, ◌++◌, take, drop}
-use Rattle.xxhsum_line.specs.Digits.{pairs_swapped, turned}
+use Rattle.xxhsum_line.proofs.Prelude.{◌≡◌, ◌*◌, ◌++◌, take, drop, pairs_swapped, turned}
 use Rattle.xxhsum_line.proofs.digits.turn.Given as goal
 
 -- Invariant: the first `i` pairs are swapped, and the others are not

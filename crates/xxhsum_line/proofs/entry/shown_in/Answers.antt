@@ -1,7 +1,4 @@
-use Rattle.std.proofs.Common.{rules, ◌≡◌, sym, ap, ◌∙◌, Some, None}
-use Rattle.xxhsum_line.specs.Entry.{value_meant}
-use Rattle.xxhsum_line.specs.Parts.{IsPlain, IsTagged}
-use Rattle.xxhsum_line.specs.Tags.{kind_of_digits, kind_of_tag, is_little_tag}
+use Rattle.xxhsum_line.proofs.Prelude.{rules, ◌≡◌, sym, ap, ◌∙◌, Some, None, value_meant, IsPlain, IsTagged, kind_of_digits, kind_of_tag, is_little_tag}
 use Rattle.xxhsum_line.proofs.EntryFacts.{nothing_without_parts, nothing_of_count, nothing_of_plain, nothing_of_tagged}
 use Rattle.xxhsum_line.proofs.entry.shown_in.Goals as goal
 

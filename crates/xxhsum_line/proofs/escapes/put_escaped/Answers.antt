@@ -1,5 +1,4 @@
-use Rattle.std.proofs.Common.{◌++◌, ap, sym, ◌∙◌, append_assoc, take, get_or}
-use Rattle.xxhsum_line.specs.Escapes.{escape, escaped}
+use Rattle.xxhsum_line.proofs.Prelude.{◌++◌, ap, sym, ◌∙◌, append_assoc, take, get_or, escape, escaped}
 use Rattle.xxhsum_line.proofs.EscapeFacts.{escaped_more}
 use Rattle.xxhsum_line.proofs.escapes.put_escaped.Goals as goal
 

@@ -1,6 +1,4 @@
-use Rattle.std.proofs.Common.{rules, Bool, true, false, Some, ◌≡◌, ◌+◌, ◌∷◌, ap, sym, ◌∙◌, drop, get_or}
-use Rattle.std.proofs.lemmas.List.{drop_more}
-use Rattle.xxhsum_line.specs.Escapes.{before, meant_behind, meant_by, unescaped}
+use Rattle.xxhsum_line.proofs.Prelude.{rules, Bool, true, false, Some, ◌≡◌, ◌+◌, ◌∷◌, ap, sym, ◌∙◌, drop, get_or, drop_more, before, meant_behind, meant_by, unescaped}
 use Rattle.xxhsum_line.proofs.EscapeFacts.{meant_backslash, meant_letter, meant_plain}
 use Rattle.xxhsum_line.proofs.escapes.unescaped.Goals as goal
 use Rattle.xxhsum_line.proofs.escapes.unescaped.Goals.{then-is_behind_backslash+in-Some+in_ok-extend_from_slice, else-is_behind_backslash+then-byte-eq92, else-is_behind_backslash+else-byte-eq92+in_ok-extend_from_slice-2}

@@ -1,6 +1,4 @@
-use Rattle.std.proofs.Common.{rules, ◌≡◌, ◌++◌, ◌∷◌, [], List, ℕ, length, ap, subst, ◌<◌, get_or, drop, MatchOption, ◌∙◌, arith}
-use Rattle.std.proofs.lemmas.List.{nil_from_length, drop_more, take_rest}
-use Rattle.xxhsum_line.specs.Parts.{Lacks, HasNoTaggedParts, IsTaggedWith}
+use Rattle.xxhsum_line.proofs.Prelude.{rules, ◌≡◌, ◌++◌, ◌∷◌, [], List, ℕ, length, ap, subst, ◌<◌, get_or, drop, MatchOption, ◌∙◌, arith, nil_from_length, drop_more, take_rest, Lacks, HasNoTaggedParts, IsTaggedWith}
 use Rattle.xxhsum_line.proofs.PartFacts.{no_parts_without_space, no_parts_at_end, parts_in_brackets}
 use Rattle.xxhsum_line.proofs.parts.parts_of.Goals as goal
 

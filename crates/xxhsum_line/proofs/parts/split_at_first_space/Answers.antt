@@ -1,6 +1,4 @@
-use Rattle.std.proofs.Common.{rules, ◌≡◌, ◌++◌, ◌∷◌, ◌+◌, ◌<◌, length, take, slice_index, sym, ap, ◌∙◌, arith}
-use Rattle.std.proofs.lemmas.List.{take_rest}
-use Rattle.memchr.specs.Find.{is_byte}
+use Rattle.xxhsum_line.proofs.Prelude.{rules, ◌≡◌, ◌++◌, ◌∷◌, ◌+◌, ◌<◌, length, take, slice_index, sym, ap, ◌∙◌, arith, take_rest, is_byte}
 use Rattle.xxhsum_line.proofs.LackFacts.{at_place, lacks_before, lacks_by_place}
 use Rattle.xxhsum_line.proofs.parts.split_at_first_space.Goals as goal
 

@@ -1,7 +1,4 @@
-use Rattle.std.proofs.Common.{rules, ◌≡◌, ◌++◌, ◌∷◌, ◌+◌, ◌<◌, length, take, slice_index, sym, ap, subst, ◌∙◌, arith}
-use Rattle.std.proofs.lemmas.List.{take_rest}
-use Rattle.memchr.specs.Find.{is_byte}
-use Rattle.xxhsum_line.specs.Parts.{Lacks}
+use Rattle.xxhsum_line.proofs.Prelude.{rules, ◌≡◌, ◌++◌, ◌∷◌, ◌+◌, ◌<◌, length, take, slice_index, sym, ap, subst, ◌∙◌, arith, take_rest, is_byte, Lacks}
 use Rattle.xxhsum_line.proofs.LackFacts.{at_place, lacks_from, lacks_by_place}
 use Rattle.xxhsum_line.proofs.parts.split_at_last_space.Goals as goal
 

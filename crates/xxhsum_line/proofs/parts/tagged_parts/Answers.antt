@@ -1,7 +1,4 @@
-use Rattle.std.proofs.Common.{rules, ◌≡◌, ◌++◌, ◌∷◌, [], refl, ap, ◌∙◌, append_assoc, Some, None}
-use Rattle.std.proofs.lemmas.Bool.Decides.{Decides-eqb}
-use Rattle.std.proofs.lemmas.Slice.Eq.{strip_suffix_is}
-use Rattle.xxhsum_line.specs.Parts.{Lacks}
+use Rattle.xxhsum_line.proofs.Prelude.{rules, ◌≡◌, ◌++◌, ◌∷◌, [], refl, ap, ◌∙◌, append_assoc, Some, None, Decides-eqb, strip_suffix_is, Lacks}
 use Rattle.xxhsum_line.proofs.PartFacts.{no_end_without_space, end_before_space}
 use Rattle.xxhsum_line.proofs.parts.tagged_parts.Goals as goal
 

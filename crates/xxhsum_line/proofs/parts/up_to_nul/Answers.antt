@@ -1,6 +1,4 @@
-use Rattle.std.proofs.Common.{rules, ◌≡◌, ◌+◌, ◌<◌, length, take, drop, slice_index, sym, ap, ◌∙◌, arith}
-use Rattle.memchr.specs.Find.{is_byte}
-use Rattle.xxhsum_line.specs.Parts.{up_to_nul}
+use Rattle.xxhsum_line.proofs.Prelude.{rules, ◌≡◌, ◌+◌, ◌<◌, length, take, drop, slice_index, sym, ap, ◌∙◌, arith, is_byte, up_to_nul}
 use Rattle.xxhsum_line.proofs.LackFacts.{at_place, lacks_before, lacks_by_place, up_to_nul_cut, up_to_nul_whole}
 use Rattle.xxhsum_line.proofs.parts.up_to_nul.Goals as goal
 

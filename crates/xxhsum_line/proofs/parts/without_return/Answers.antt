@@ -1,7 +1,4 @@
-use Rattle.std.proofs.Common.{◌∷◌, [], sym, ap, ◌∙◌, Some, None}
-use Rattle.std.proofs.lemmas.Bool.Decides.{Decides-eqb}
-use Rattle.std.proofs.lemmas.Slice.Eq.{strip_suffix_is}
-use Rattle.xxhsum_line.specs.Parts.{without_return}
+use Rattle.xxhsum_line.proofs.Prelude.{◌∷◌, [], sym, ap, ◌∙◌, Some, None, Decides-eqb, strip_suffix_is, without_return}
 use Rattle.xxhsum_line.proofs.LackFacts.{without_return_cut, without_return_none}
 use Rattle.xxhsum_line.proofs.parts.without_return.Goals as goal
 

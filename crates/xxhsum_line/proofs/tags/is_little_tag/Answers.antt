@@ -1,6 +1,4 @@
-use Rattle.std.proofs.Common.{◌≡◌, ◌+◌, ◌<◌, ◌∷◌, ◌||◌, length, drop, get_or, false, codes, sym, ap, ◌∙◌, arith}
-use Rattle.std.proofs.lemmas.List.{take_rest, drop_more}
-use Rattle.xxhsum_line.specs.Tags.{is_little_tag, begins_with}
+use Rattle.xxhsum_line.proofs.Prelude.{◌≡◌, ◌+◌, ◌<◌, ◌∷◌, ◌||◌, length, drop, get_or, false, codes, sym, ap, ◌∙◌, arith, take_rest, drop_more, is_little_tag, begins_with}
 use Rattle.xxhsum_line.proofs.tags.is_little_tag.Goals as goal
 
 pub loop-i-preserved : goal.loop-i-preserved

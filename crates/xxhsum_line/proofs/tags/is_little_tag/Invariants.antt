@@ -1,5 +1,4 @@
-use Rattle.std.proofs.Common.{◌≡◌, drop}
-use Rattle.xxhsum_line.specs.Tags.{is_little_tag}
+use Rattle.xxhsum_line.proofs.Prelude.{◌≡◌, drop, is_little_tag}
 use Rattle.xxhsum_line.proofs.tags.is_little_tag.Given as goal
 
 -- Invariant: the tag contains "_LE" if and only if its bytes from `i` on do
