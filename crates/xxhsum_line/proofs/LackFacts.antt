@@ -1,6 +1,7 @@
 -- Lemmas on lists that lack a byte, and on splits at the first or last position of a byte.
-use Rattle.xxhsum_line.proofs.Prelude.{◌≡◌, ◌≢◌, ℕ, suc, ◌+◌, ◌-◌, ◌<◌, ◌≤◌, List, [], ◌∷◌, ◌++◌, length, take, drop, get_or, refl, sym, ap, subst, ◌∙◌, inl, inr, arith, drop_more, take-append-drop, length-take-le, length-drop, get_or-take}
+use Rattle.xxhsum_line.proofs.Prelude.{rules, true, refl, eq-eqb, take_rest, is_byte, ◌≡◌, ◌≢◌, ℕ, suc, ◌+◌, ◌-◌, ◌<◌, ◌≤◌, List, [], ◌∷◌, ◌++◌, length, take, drop, get_or, sym, ap, subst, ◌∙◌, inl, inr, arith, drop_more, take-append-drop, length-take-le, length-drop, get_or-take}
 use Rattle.xxhsum_line.proofs.Prelude.{get_or-drop, eqb_tells, Lacks, up_to_nul, without_return}
+use Rattle.memchr.specs.Find.{NoneAfter, NoneBefore, Nowhere, Passes}
 
 pub lacks_right : (b : ℕ) (x y : List ℕ) → Lacks b (x ++ y) → Lacks b y
 lacks_right b [] y h = h
@@ -65,6 +66,29 @@ at_place l i b h e =
     sym (take-append-drop i l)
     ∙ ap (λ r. take i l ++ r) (drop_more l i 0 h)
     ∙ ap (λ x. take i l ++ x ∷ drop (i + 1) l) e
+
+found : (b x : ℕ) → x ≡ b → is_byte b x ≡ true
+found b x e = ap (is_byte b) e ∙ eq-eqb b b refl
+
+-- Lemma: a list lacks a byte that a search doesn't find.
+pub lacks_nowhere : (b : ℕ) (l : List ℕ) → Nowhere (Passes (is_byte b) l) 0 (length l) → Lacks b l
+lacks_nowhere b l none = lacks_by_place b l (λ k lt e. none k (omega arith) lt (found b (get_or l k 0) e))
+
+-- Lemma: the bytes before and after the first place of a byte.
+pub split_first : (b : ℕ) (l : List ℕ) (f : ℕ) → NoneBefore (Passes (is_byte b) l) 0 (length l) f → Passes (is_byte b) l f
+    → (l ≡ take f l ++ b ∷ take (length l - (f + 1)) (drop (f + 1) l)) × Lacks b (take f l)
+split_first b l f first here = (
+  at_place l f b first.high (search rules) ∙ ap (λ r. take f l ++ b ∷ r) (sym (take_rest l (f + 1))),
+  lacks_before b l f (omega (arith, first.high)) (λ k lt e. first.before k (omega arith) lt (found b (get_or l k 0) e)),
+)
+
+-- Lemma: the bytes before and after the last place of a byte.
+pub split_last : (b : ℕ) (l : List ℕ) (f : ℕ) → NoneAfter (Passes (is_byte b) l) 0 (length l) f → Passes (is_byte b) l f
+    → (l ≡ take f l ++ b ∷ take (length l - (f + 1)) (drop (f + 1) l)) × Lacks b (take (length l - (f + 1)) (drop (f + 1) l))
+split_last b l f last here = (
+  at_place l f b last.high (search rules) ∙ ap (λ r. take f l ++ b ∷ r) (sym (take_rest l (f + 1))),
+  subst (Lacks b) (sym (take_rest l (f + 1))) (lacks_from b l (f + 1) (λ k low lt e. last.after k low lt (found b (get_or l k 0) e))),
+)
 
 pub up_to_nul_whole : (l : List ℕ) → Lacks 0 l → up_to_nul l ≡ l
 up_to_nul_whole [] h = refl
