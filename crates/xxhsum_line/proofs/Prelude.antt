@@ -1,11 +1,11 @@
 -- The names that most proofs of the crate import from other modules, re-exported by one module. Declares nothing.
 pub use Rattle.memchr.specs.Find.{is_byte}
-pub use Rattle.std.proofs.Common.{Bool, List, MatchOption, None, Option, Some, [], add-one, ap, append-nil, append_assoc, arith, codes, drop, eq-eqb, false, get_or, if◌then◌else◌, inl, inr, length, length-append, nat_eq, nat_lt}
-pub use Rattle.std.proofs.Common.{option_and_then, option_map, refl, rules, slice_index, subst, suc, sym, take, true, zero, ℕ, ◌%◌, ◌&&◌, ◌*◌, ◌++◌, ◌+◌, ◌-◌, ◌/◌, ◌<◌, ◌^◌, ◌||◌, ◌∙◌, ◌∷◌, ◌≡◌, ◌≢◌, ◌≤◌, ◌⊎◌}
+pub use Rattle.std.proofs.Common.{Bool, List, MatchOption, None, Option, Some, [], add-one, ap, append-nil, append_assoc, arith, drop, eq-eqb, false, get_or, if◌then◌else◌, inl, inr, length, length-append, nat_eq, nat_lt}
+pub use Rattle.std.proofs.Common.{option_and_then, option_map, refl, rules, subst, suc, sym, take, true, zero, ℕ, ◌%◌, ◌&&◌, ◌*◌, ◌++◌, ◌+◌, ◌-◌, ◌/◌, ◌<◌, ◌^◌, ◌||◌, ◌∙◌, ◌∷◌, ◌≡◌, ◌≢◌, ◌≤◌, ◌⊎◌}
 pub use Rattle.std.proofs.Math.Nat.{pow-le-pow_right, pow-suc}
 pub use Rattle.std.proofs.lemmas.Bool.{and_parts, both_ways, cases_eq, cond-false, ne_eqb, or_parts}
 pub use Rattle.std.proofs.lemmas.Bool.Decides.{Decides-eqb, eqb_tells, nat_tests}
-pub use Rattle.std.proofs.lemmas.List.{append_cancel_right, drop_more, get_or-drop, get_or-take, length-drop, length-take-le, nil_from_length, same_from_push}
+pub use Rattle.std.proofs.lemmas.List.{append_cancel_right, drop_more, get_or-drop, get_or-take, length-drop, length-take-le, same_from_push}
 pub use Rattle.std.proofs.lemmas.List.{take-append-drop, take_more, take_rest}
 pub use Rattle.std.proofs.lemmas.Option.{MatchOption-at_none, none-some, option_and_then_some, same_Some}
 pub use Rattle.std.proofs.lemmas.Slice.Eq.{strip_suffix_is}
@@ -19,4 +19,4 @@ pub use Rattle.xxhsum_line.specs.Escapes.{before, body_of, escape, escaped, is_e
 pub use Rattle.xxhsum_line.specs.Meaning.{Means}
 pub use Rattle.xxhsum_line.specs.Parts.{EndsTagged, HasNoParts, HasNoTaggedParts, HasParts, IsPlain, IsTagged, IsTaggedWith, Lacks, up_to_nul, without_return}
 pub use Rattle.xxhsum_line.specs.Printed.{formed, full_tag, line_of, plain_text, prefix_of, shown, tagged_text, text_of}
-pub use Rattle.xxhsum_line.specs.Tags.{bare, begins_with, has_prefix, is_little_tag, kind_of_count, kind_of_digits, kind_of_tag}
+pub use Rattle.xxhsum_line.specs.Tags.{bare, has_prefix, is_little_tag, kind_of_count, kind_of_digits, kind_of_tag}

@@ -43,6 +43,7 @@ pub fn without_return(line: &[u8]) -> &[u8]
 }
 
 /// Splits a line, without its newline, into its parts. `None` if it has neither form.
+#[tactic(auto, using(crate::proofs::PartFacts::no_parts_without_space, crate::proofs::PartFacts::parts_in_brackets))]
 pub fn parts_of(line: &[u8]) -> Option<Parts<'_>>
     ensures { MatchOption result (HasNoParts line.now) (HasParts line.now) }
 {
@@ -58,6 +59,7 @@ pub fn parts_of(line: &[u8]) -> Option<Parts<'_>>
 }
 
 // Returns the parts of a tagged line with this tag, a space, `(` and then these bytes.
+#[tactic(auto, using(crate::proofs::PartFacts::no_end_without_space))]
 fn tagged_parts<'a>(tag: &'a [u8], inside: &'a [u8]) -> Option<Parts<'a>>
     ensures { MatchOption result (HasNoTaggedParts inside.now) (IsTaggedWith tag.now inside.now) }
 {
