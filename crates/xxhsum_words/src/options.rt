@@ -162,6 +162,7 @@ fn run_from(options: Options, names_from: usize, words: &[Vec<u8>]) -> Asked
 }
 
 /// Returns the arguments from this index on.
+#[tactic(auto, using(crate::proofs::ListFacts::places))]
 pub fn words_behind(words: &[Vec<u8>], place: usize) -> &[Vec<u8>]
     ensures { map (λ word. word.items) result.now
         ≡ drop place (map (λ word. word.items) words.now) }

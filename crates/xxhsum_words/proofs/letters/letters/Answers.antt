@@ -2,7 +2,7 @@ use Rattle.std.proofs.Common.{◌≡◌, ℕ, zero, suc, List, [], ◌∷◌, dr
 use Rattle.xxhsum_words.specs.declared.letters.Letter.{Letter}
 use Rattle.xxhsum_words.specs.declared.options.Options.{Options}
 use Rattle.xxhsum_words.specs.Letters.{after_letter, letter_of, letters_step}
-use Rattle.xxhsum_words.proofs.ListFacts.{take-drop_all}
+use Rattle.std.proofs.lemmas.List.{take_rest}
 use Rattle.xxhsum_words.proofs.letters.letters.Goals as goal
 
 -- Lemmas on the letters that an option consumes, which the next step skips.
@@ -22,4 +22,4 @@ loop-letter-preserved c =
     let read = c.in-Ok.read in
     c.loop-letter.invariant ∙ ap (letters_step 0 c.loop-letter.options) c.in-Some.ensures.cases.0
     ∙ letters_step-letter c.loop-letter.options c.in-Some.letter.now after read (sym c.in-Ok.ensures.letter)
-    ∙ ap (letters_step 0 read.options) (sym (take-drop_all read.taken after))
+    ∙ ap (letters_step 0 read.options) (sym (take_rest after read.taken))
