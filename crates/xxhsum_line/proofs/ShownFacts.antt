@@ -1,9 +1,9 @@
 -- Proves that reading the digits of a value returns the value.
-use Rattle.xxhsum_line.proofs.Prelude.{◌≡◌, ◌≢◌, ◌⊎◌, ℕ, zero, suc, ◌+◌, ◌*◌, ◌/◌, ◌%◌, ◌^◌, ◌<◌, Bool, true, false, List, [], ◌∷◌, ◌++◌, length, Some, None, inl, inr, refl, sym, ap, subst, ◌∙◌, arith, length-append, eq-eqb}
+use Rattle.xxhsum_line.proofs.Prelude.{add-one, pow-le-pow_right, ◌-◌, ◌≤◌, ◌≡◌, ◌≢◌, ◌⊎◌, ℕ, zero, suc, ◌+◌, ◌*◌, ◌/◌, ◌%◌, ◌^◌, ◌<◌, Bool, true, false, List, [], ◌∷◌, ◌++◌, length, Some, None, inl, inr, refl, sym, ap, subst, ◌∙◌, arith, length-append, eq-eqb}
 use Rattle.xxhsum_line.proofs.Prelude.{option_and_then, pow-suc, nat_tests, option_and_then_some, same_Some, digits_of, Kind, X32, X64, X3_64, X3_128, digit_of, number_after, number_of}
 use Rattle.xxhsum_line.proofs.Prelude.{bytes_reversed, in_order, option_map, value_shown, Lacks, shown}
 use Rattle.xxh_io.specs.Hex.{hex_digit, hex_digits}
-use Rattle.std.proofs.Math.Nat.{pow-succ'}
+use Rattle.std.proofs.Math.Nat.{le-mul_of_pos_right, pow-succ'}
 use Rattle.std.proofs.lemmas.Nat.{mul-add-lt}
 use Rattle.xxhsum_line.proofs.LackFacts.{lacks_both}
 
@@ -87,6 +87,35 @@ value_shown-shown kind is_little value fits =
     ap (λ t. mathlib.Core.Bool.cond t (option_map (in_order kind is_little) (number_of (shown kind is_little value))) None) count
     ∙ ap (option_map (in_order kind is_little)) (number_of-hex_digits (digits_of kind) (in_order kind is_little value) (in_order_fits kind is_little value fits))
     ∙ ap Some (in_order_twice kind is_little value fits)
+
+-- Lemma: the lowest byte of the number becomes the next of the reversed bytes.
+pub byte_moves : (n i reversed left all : ℕ) → i < n → reversed * 256 ^ (n - i) + bytes_reversed (n - i) left ≡ all
+    → (reversed * 256 + left % 256) * 256 ^ (n - (i + 1)) + bytes_reversed (n - (i + 1)) (left / 256) ≡ all
+unfolding bytes_reversed
+byte_moves n i reversed left all more e =
+    let next : n - i ≡ suc (n - (i + 1)) = omega arith in
+    let here = rw (next, pow-suc) at e in
+    omega arith
+
+-- Lemma: the reversed bytes with the next one fit in 128 bits.
+pub byte_fits : (n i reversed left value : ℕ) → n ≤ 16 → i < n → reversed * 256 ^ (n - i) + bytes_reversed (n - i) left ≡ bytes_reversed n value
+    → reversed * 256 + left % 256 < 2 ^ 128
+byte_fits n i reversed left value most more e =
+    let some = reversed_fits (n - (i + 1)) 0 in
+    let positive : 0 < 256 = omega arith in
+    let higher : 256 ^ n ≤ 256 ^ 16 = pow-le-pow_right positive most in
+    omega (
+      arith,
+      byte_moves n i reversed left (bytes_reversed n value) more e,
+      reversed_fits n value,
+      le-mul_of_pos_right {m = 256 ^ (n - (i + 1))} (reversed * 256 + left % 256) (omega arith),
+    )
+
+-- Lemmas on powers of 16, which bound the number of digits.
+pub ruleset powers = (add-one, pow-suc, pow-le-pow_right)
+
+-- Lemmas on the bytes of a number that are reversed one by one.
+pub ruleset orders = (byte_moves, byte_fits, in_order_fits, reversed_fits)
 
 -- A byte below '0', or between '9' and 'a', and so no lower-case digit.
 abbrev pub IsNoDigit : ℕ → Type 0

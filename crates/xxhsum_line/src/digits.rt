@@ -23,6 +23,7 @@ pub fn digit_of(byte: u8) -> Option<u8>
 }
 
 /// Returns the value of at most 32 digits, the most significant first. `None` if a byte is no digit.
+#[tactic(auto, using(crate::proofs::ShownFacts::powers))]
 pub fn number_of(digits: &[u8]) -> Option<u128>
     requires { length digits.now ≤ 32 }
     ensures value { result ≡ number_of digits.now }
@@ -37,6 +38,7 @@ pub fn number_of(digits: &[u8]) -> Option<u128>
 }
 
 /// Returns the digest by this algorithm; if `is_little`, with its bytes in reverse order.
+#[tactic(auto, using(crate::proofs::ShownFacts::orders), unfolding(crate::specs::Digits::bytes_reversed))]
 pub fn in_order(kind: Kind, is_little: bool, value: u128) -> u128
     ensures value { result ≡ in_order kind is_little value }
     ensures in_range { value < 16 ^ digits_of kind → result < 16 ^ digits_of kind }
