@@ -7,4 +7,4 @@ map-drop f xs k x within is =
     ap (map f) (drop_more xs k x within) ∙ ap (λ v. f v ∷ map f (drop (k + 1) xs)) (sym is)
 
 -- Lemmas on the mapped elements from an index on.
-pub ruleset places = (take_rest, drop-map)
+pub ruleset places = (take_rest, drop-map, map-drop)

@@ -106,6 +106,7 @@ pub(crate) enum Step {
 }
 
 /// Parses the arguments after the program's name. The algorithm is this one if they select none.
+#[tactic(auto, using(crate::proofs::ListFacts::places))]
 pub fn asked_by(kind: Kind, words: &[Vec<u8>]) -> Asked
     ensures { result ≡ asked_of kind (map (λ word. word.items) words.now) }
 {
