@@ -1,10 +1,10 @@
 -- The names that most proofs of the crate import from other modules, re-exported by one module. Declares nothing.
-pub use Rattle.std.proofs.Common.{Bool, Bor, Contains, Equal, Greater, IsPermutation, IsSortedBy, Less, List, None, Option, Ordering, Some, [], ap, append-nil, append_assoc, arith, codes, cond, count_by, drop, eq-eqb, false, flat_map}
-pub use Rattle.std.proofs.Common.{get_or, if◌then◌else◌, inl, inr, length, length-append, map, nat_eq, refl, rules, slice_index, subst, suc, sum_by, sym, take, true, zero, ℕ, ◌++◌, ◌+◌, ◌<◌, ◌==◌, ◌∙◌, ◌∷◌, ◌≡◌, ◌≢◌, ◌≤◌, ◌⊎◌}
+pub use Rattle.std.proofs.Common.{Bool, Bor, Contains, Equal, Greater, IsPermutation, IsSortedBy, Less, List, None, Option, Ordering, Some, [], ap, append-nil, append_assoc, arith, codes, cond, count_by, drop, false, flat_map}
+pub use Rattle.std.proofs.Common.{get_or, if◌then◌else◌, inl, inr, length, length-append, map, nat_eq, refl, rules, subst, suc, sum_by, sym, take, true, zero, ℕ, ◌++◌, ◌+◌, ◌<◌, ◌==◌, ◌∙◌, ◌∷◌, ◌≡◌, ◌≢◌, ◌≤◌, ◌⊎◌}
 pub use Rattle.std.proofs.lemmas.Bool.{cond-false, cond-true}
 pub use Rattle.std.proofs.lemmas.Cmp.{alike_right, nat_cmp_total, nat_list_cmp_total, on_total, then_total, tied_itself}
 pub use Rattle.std.proofs.lemmas.Fn.{always_returns_same}
-pub use Rattle.std.proofs.lemmas.List.{drop_all, drop_more, length-take-le, map-append, take_rest}
+pub use Rattle.std.proofs.lemmas.List.{drop_all, drop_more, length-take-le, map-append}
 pub use Rattle.std.proofs.lemmas.List.Concat.{flat_map-append}
 pub use Rattle.std.proofs.lemmas.List.Sorted.{Contains-permutation, IsPartitionPoint-from_clause, IsPermutation-append_comm, IsPermutation-append_left, IsPermutation-append_right, IsPermutation-map, IsPermutation-refl, IsPermutation-sym}
 pub use Rattle.std.proofs.lemmas.List.Sorted.{IsPermutation-trans, ranks_by, sorted_far, sum_by-IsPermutation}

@@ -8,6 +8,7 @@ use xxhsum_line::parts::split_at_first;
 
 /// Returns the parts before each byte of this value, and the part after the last one if it isn't empty. Returns
 /// `AllocError` if out of memory.
+#[tactic(auto, using(crate::proofs::PartFacts::stands_whole))]
 pub fn cut_at<'b>(alloc: Global, end: u8, bytes: &'b [u8]) -> Result<Vec<&'b [u8]>, AllocError>
     ensures { IfOk result (λ parts. ArePartsOf end bytes.now
         (map (λ part. part.now) parts.items)) }

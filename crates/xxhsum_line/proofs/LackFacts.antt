@@ -1,5 +1,5 @@
 -- Lemmas on lists that lack a byte, and on splits at the first or last position of a byte.
-use Rattle.xxhsum_line.proofs.Prelude.{rules, true, refl, eq-eqb, take_rest, is_byte, ◌≡◌, ◌≢◌, ℕ, suc, ◌+◌, ◌-◌, ◌<◌, ◌≤◌, List, [], ◌∷◌, ◌++◌, length, take, drop, get_or, sym, ap, subst, ◌∙◌, inl, inr, arith, drop_more, take-append-drop, length-take-le, length-drop, get_or-take}
+use Rattle.xxhsum_line.proofs.Prelude.{ne_eqb, rules, true, refl, eq-eqb, take_rest, is_byte, ◌≡◌, ◌≢◌, ℕ, suc, ◌+◌, ◌-◌, ◌<◌, ◌≤◌, List, [], ◌∷◌, ◌++◌, length, take, drop, get_or, sym, ap, subst, ◌∙◌, inl, inr, arith, drop_more, take-append-drop, length-take-le, length-drop, get_or-take}
 use Rattle.xxhsum_line.proofs.Prelude.{get_or-drop, eqb_tells, Lacks, up_to_nul, without_return}
 use Rattle.memchr.specs.Find.{NoneAfter, NoneBefore, Nowhere, Passes}
 
@@ -117,18 +117,18 @@ without_return_whole (c ∷ []) h =
     ]
 without_return_whole (c ∷ d ∷ l) h = ap (λ r. c ∷ r) (without_return_whole (d ∷ l) h.1)
 
-pub without_return_cut : (l : List ℕ) → without_return (l ++ 13 ∷ []) ≡ l
-without_return_cut [] = refl
-without_return_cut (c ∷ []) = refl
-without_return_cut (c ∷ d ∷ l) = ap (λ r. c ∷ r) (without_return_cut (d ∷ l))
+-- Lemma: a line that ends with a carriage return loses it.
+pub without_return_ends : (l : List ℕ) → 1 ≤ length l → get_or l (length l - 1) 0 ≡ 13 → take (length l - 1) l ≡ without_return l
+without_return_ends [] some last = absurd (omega (arith, some))
+without_return_ends (c ∷ []) some last = rw last refl
+without_return_ends (c ∷ d ∷ l) some last =
+    let e : length (c ∷ d ∷ l) - 1 ≡ suc (length (d ∷ l) - 1) = omega arith in
+    rw e (ap (λ r. c ∷ r) (without_return_ends (d ∷ l) (omega arith) (rw e at last)))
 
--- Lemma: `without_return` returns a line unchanged if the line doesn't end with a carriage return.
-pub without_return_none : (l : List ℕ) → ((front : List ℕ) → l ≢ front ++ 13 ∷ []) → without_return l ≡ l
-without_return_none [] h = refl
-without_return_none (c ∷ []) h =
-    elim (eqb_tells c 13) [
-      | inl w ↦ absurd (h [] (ap (λ b. b ∷ []) w.1))
-      | inr w ↦ rw (w.0) refl
-    ]
-without_return_none (c ∷ d ∷ l) h =
-    ap (λ r. c ∷ r) (without_return_none (d ∷ l) (λ front e. h (c ∷ front) (ap (λ r. c ∷ r) e)))
+-- Lemma: a line that ends with another byte stays as it is.
+pub without_return_stays : (l : List ℕ) → get_or l (length l - 1) 0 ≢ 13 → l ≡ without_return l
+without_return_stays [] other = refl
+without_return_stays (c ∷ []) other = rw (ne_eqb c 13 other) refl
+without_return_stays (c ∷ d ∷ l) other =
+    let e : length (c ∷ d ∷ l) - 1 ≡ suc (length (d ∷ l) - 1) = omega arith in
+    ap (λ r. c ∷ r) (without_return_stays (d ∷ l) (rw e at other))

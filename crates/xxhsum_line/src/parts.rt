@@ -33,12 +33,13 @@ pub fn up_to_nul(line: &[u8]) -> &[u8]
 }
 
 /// Returns the line without the carriage return at its end, if it has one.
+#[tactic(auto, using(crate::proofs::LackFacts::without_return_ends, crate::proofs::LackFacts::without_return_stays))]
 pub fn without_return(line: &[u8]) -> &[u8]
     ensures { result.now ≡ without_return line.now }
 {
-    match line.strip_suffix(b"\r") {
-        Some(front) => front,
-        None => line,
+    match line {
+        [front @ .., b'\r'] => front,
+        _ => line,
     }
 }
 
