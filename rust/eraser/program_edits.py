@@ -14,7 +14,7 @@ PROGRAM_EDITS = (
     Edit('files', 'std::fs', 'crate::rattle::fs', 2, SHIM),
     Edit('the process', 'std::rt', 'crate::rattle::rt', 3, SHIM),
     Edit('the exit status', 'std::process', 'crate::rattle::process', 2, SHIM),
-    Edit('searches', 'memchr::', 'crate::rattle::memchr::', 5, SHIM),
+    Edit('searches', 'memchr::', 'crate::rattle::memchr::', 4, SHIM),
     Edit('digits', 'itoa::', 'crate::rattle::itoa::', 3, SHIM),
     Edit('JSON', 'serde_json::', 'crate::rattle::serde_json::', 3, SHIM),
     Edit('filled memory', 'vec![in alloc; 0u8; room]', 'Vec::filled(alloc, 0u8, room)', 1, SHIM,

@@ -1,7 +1,5 @@
 -- Lemmas on the elements of lists.
-use Rattle.std.proofs.Common.{◌≡◌, ◌⊎◌, ℕ, suc, zero, ◌<◌, List, [], ◌∷◌, ◌++◌, length, get_or, refl, sym, subst, inl, inr, arith, Contains, flat_map, IsPermutation}
-use Rattle.std.proofs.lemmas.List.Sorted.{Contains-permutation}
-use Rattle.xxhsum_audit.specs.Item.{IsAmong}
+use Rattle.xxhsum_audit.proofs.Prelude.{◌≡◌, ◌⊎◌, ℕ, suc, zero, ◌<◌, List, [], ◌∷◌, ◌++◌, length, get_or, refl, sym, subst, inl, inr, arith, Contains, flat_map, IsPermutation, Contains-permutation, IsAmong}
 
 to_contains : {X : Type 0} (xs : List X) (x : X) → IsAmong xs x → Contains xs x
 to_contains [] x h = absurd h

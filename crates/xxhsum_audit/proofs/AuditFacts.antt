@@ -1,8 +1,9 @@
 -- Proves the laws of an audit.
-use Rattle.std.proofs.Common.{◌≡◌, ℕ, false, List, [], ◌∷◌, ◌++◌, Option, Some, None, map, refl, sym, ap, subst, ◌∙◌, inl, inr, append_assoc, flat_map, IsPermutation}
-use Rattle.std.proofs.lemmas.List.Concat.{flat_map-append}
-use Rattle.std.proofs.lemmas.List.Sorted.{IsPermutation-append_comm, IsPermutation-append_left, IsPermutation-append_right, IsPermutation-refl, IsPermutation-sym, IsPermutation-trans}
-use Rattle.std.specs.Ordering.{is_lt, ordering_then}
+use Rattle.xxhsum_audit.proofs.Prelude.{◌≡◌, ℕ, false, List, [], ◌∷◌, ◌++◌, Option, Some, None, map, refl, sym, ap, subst, ◌∙◌, inl, inr, append_assoc, flat_map, IsPermutation, flat_map-append, IsPermutation-append_comm}
+use Rattle.xxhsum_audit.proofs.Prelude.{IsPermutation-append_left, IsPermutation-append_right, IsPermutation-refl, IsPermutation-sym, IsPermutation-trans, is_lt, ordering_then, HasMoves, IsAudit, compared, copied, missing_in, missing_one}
+use Rattle.xxhsum_audit.proofs.Prelude.{moved, new_in, new_one, original, same_in, same_one, settled_in, settled_one, with_copy, Changed, Copied, Found, Missing, Moved, New, Same, line_in, lines_in, met, name_in, names_in, HasSameDigest}
+use Rattle.xxhsum_audit.proofs.Prelude.{IsAmong, Item, LacksPath, path_of, CopiesTheFirst, HasNoneTwice, IsOneReport, IsRight, LeavesNoCopy, LeavesNoMove, StaysSame, TellsEachLineOnce, TellsEachNameOnce, TellsRight, compare_digests}
+use Rattle.xxhsum_audit.proofs.Prelude.{compare_lines, rank_lines}
 use Rattle.xxhsum_audit.proofs.AmongFacts.{among_either, among_flat_map, among_permutation, among_same}
 use Rattle.xxhsum_audit.proofs.CopyFacts.{Ignores, IsOriginal, all_ignore, from_copies, lines_ignore, missing_ignore, names_ignore, new_ignore, original_is}
 use Rattle.xxhsum_audit.proofs.DigestFacts.{FitsDigest, FitsName, all_apart, all_fit_digest, all_fit_name, climbs}
@@ -11,11 +12,6 @@ use Rattle.xxhsum_audit.proofs.OrderFacts.{digests_tied}
 use Rattle.xxhsum_audit.proofs.SideFacts.{IsSide, by_names, side_of_lines, side_of_names}
 use Rattle.xxhsum_audit.proofs.TwiceFacts.{not_twice}
 use Rattle.xxhsum_audit.proofs.UniqueFacts.{one_order, one_rise}
-use Rattle.xxhsum_audit.specs.Audit.{HasMoves, IsAudit, compared, copied, missing_in, missing_one, moved, new_in, new_one, original, same_in, same_one, settled_in, settled_one, with_copy}
-use Rattle.xxhsum_audit.specs.Found.{Changed, Copied, Found, Missing, Moved, New, Same, line_in, lines_in, met, name_in, names_in}
-use Rattle.xxhsum_audit.specs.Item.{HasSameDigest, IsAmong, Item, LacksPath, path_of}
-use Rattle.xxhsum_audit.specs.Laws.{CopiesTheFirst, HasNoneTwice, IsOneReport, IsRight, LeavesNoCopy, LeavesNoMove, StaysSame, TellsEachLineOnce, TellsEachNameOnce, TellsRight}
-use Rattle.xxhsum_audit.specs.Order.{compare_digests, compare_lines, rank_digests, rank_lines}
 
 covers_names : (ls ns : List Item) → Covers ls ns (compared ls ns)
 covers_names = covers met met_pair compare_lines

@@ -1,13 +1,8 @@
 -- Lemmas on copies of unchanged files.
-use Rattle.std.proofs.Common.{◌≡◌, ◌⊎◌, ℕ, suc, zero, ◌+◌, ◌<◌, ◌≤◌, Bool, true, false, List, [], ◌∷◌, ◌++◌, Option, Some, None, drop, get_or, length, map, refl, sym, ap, subst, ◌∙◌, inl, inr, arith, flat_map, Ordering, Less, Equal, Greater}
-use Rattle.std.proofs.lemmas.Bool.{cond-true, cond-false}
-use Rattle.std.proofs.lemmas.Cmp.{alike_right, tied_itself}
-use Rattle.std.specs.Ordering.{is_eq, is_lt, ordering_reverse}
+use Rattle.xxhsum_audit.proofs.Prelude.{◌≡◌, Bool, true, false, List, [], ◌∷◌, ◌++◌, Option, Some, None, map, refl, sym, ap, subst, ◌∙◌, inl, inr, flat_map, Ordering, Less}
+use Rattle.xxhsum_audit.proofs.Prelude.{Equal, Greater, cond-true, cond-false, alike_right, tied_itself, is_eq, is_lt, ordering_reverse, copied, missing_one, new_one, original, with_copy, Changed, Copied, Found, Missing, Moved, New, Same}
+use Rattle.xxhsum_audit.proofs.Prelude.{line_in, name_in, HasSameDigest, IsAmong, Item, Ascends, compare_digests, rank_digests}
 use Rattle.xxhsum_audit.proofs.OrderFacts.{all_total, digests_exact, digests_tied, digests_total, eq_true}
-use Rattle.xxhsum_audit.specs.Audit.{copied, missing_one, new_one, original, with_copy}
-use Rattle.xxhsum_audit.specs.Found.{Changed, Copied, Found, Missing, Moved, New, Same, line_in, name_in}
-use Rattle.xxhsum_audit.specs.Item.{HasSameDigest, IsAmong, Item}
-use Rattle.xxhsum_audit.specs.Order.{Ascends, compare_digests, rank_digests, rank_lines}
 
 -- ---- results that have the same items with and without copies
 

@@ -1,11 +1,8 @@
 -- Proves that the counts of the classes add up.
-use Rattle.std.proofs.Common.{◌≡◌, ℕ, ◌+◌, List, [], ◌∷◌, length, length-append, refl, cond, arith, count_by, flat_map}
-use Rattle.std.proofs.lemmas.List.Sums.{sum_by-cons}
+use Rattle.xxhsum_audit.proofs.Prelude.{◌≡◌, ℕ, ◌+◌, List, [], ◌∷◌, length, length-append, refl, cond, arith, count_by, flat_map, sum_by-cons, Changed, Copied, Found, Missing, Moved, New, Same, is_of_class, line_in, name_in}
+use Rattle.xxhsum_audit.proofs.Prelude.{CountsAddUp}
 use Rattle.xxhsum_audit.specs.declared.verdict.Class.{Class}
 use Rattle.xxhsum_audit.specs.declared.verdict.Class.TheVariants as Of
-use Rattle.xxhsum_audit.specs.Found.{Changed, Copied, Found, Missing, Moved, New, Same, is_of_class, line_in, name_in}
-use Rattle.xxhsum_audit.specs.Item.{Item}
-use Rattle.xxhsum_audit.specs.Laws.{CountsAddUp}
 
 -- 1 for a result of the class, 0 for any other.
 one_of : Class → Found → ℕ

@@ -1,14 +1,9 @@
 -- Proves that pairs by name and by digest are correct, and that a merge by digest leaves no partner unmatched.
-use Rattle.std.proofs.Common.{◌≡◌, false, List, [], ◌∷◌, refl, sym, subst, inl, inr, Ordering, Less, Equal, Greater}
-use Rattle.std.specs.Ordering.{is_lt, ordering_then}
+use Rattle.xxhsum_audit.proofs.Prelude.{◌≡◌, false, List, [], ◌∷◌, refl, sym, subst, inl, inr, Ordering, Less, Equal, Greater, is_lt, ordering_then, compared, missing_in, moved, new_in, Changed, Copied, Found, Missing, Moved, New, Same}
+use Rattle.xxhsum_audit.proofs.Prelude.{met, HasSameDigest, IsAmong, Item, path_of, IsKept, Ascends, compare_digests, compare_lines, rank_digests, rank_lines}
 use Rattle.xxhsum_audit.proofs.FoundFacts.{Covers, by_founds, met_is, met_pair, moved_pair}
 use Rattle.xxhsum_audit.proofs.OrderFacts.{back, digests_exact, digests_tied, digests_total, eq_false, eq_true, less_upto, lines_exact}
 use Rattle.xxhsum_audit.proofs.SideFacts.{missing_line, new_name}
-use Rattle.xxhsum_audit.specs.Audit.{compared, missing_in, moved, new_in}
-use Rattle.xxhsum_audit.specs.Found.{Changed, Copied, Found, Missing, Moved, New, Same, met}
-use Rattle.xxhsum_audit.specs.Item.{HasSameDigest, IsAmong, Item, path_of}
-use Rattle.xxhsum_audit.specs.Laws.{IsKept}
-use Rattle.xxhsum_audit.specs.Order.{Ascends, compare_digests, compare_lines, rank_digests, rank_lines}
 
 -- A result of the merge by name that is correct.
 abbrev pub FitsName : Found → Type 0

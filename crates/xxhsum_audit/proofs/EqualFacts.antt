@@ -1,10 +1,6 @@
 -- Proves that if all results of an audit are the same, lines and names match each other.
-use Rattle.std.proofs.Common.{◌≡◌, List, inl, inr, refl, sym, subst, flat_map, IsPermutation}
-use Rattle.std.proofs.lemmas.List.Sorted.{IsPermutation-sym}
+use Rattle.xxhsum_audit.proofs.Prelude.{List, inl, inr, refl, sym, subst, flat_map, IsPermutation, IsPermutation-sym, Found, Same, line_in, name_in, IsAmong, Item, IsKept, IsRight, SameMeansEqual}
 use Rattle.xxhsum_audit.proofs.AmongFacts.{among_flat_map, among_permutation, from_flat_map}
-use Rattle.xxhsum_audit.specs.Found.{Found, Same, line_in, name_in}
-use Rattle.xxhsum_audit.specs.Item.{IsAmong, Item}
-use Rattle.xxhsum_audit.specs.Laws.{IsKept, IsRight, SameMeansEqual}
 use Rattle.xxhsum_audit.proofs.AuditFacts.{tells_each_line_once, tells_each_name_once, tells_right}
 
 -- One side of the results, whose items are the given items.

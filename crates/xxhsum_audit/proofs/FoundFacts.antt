@@ -1,13 +1,7 @@
 -- Lemmas on the results of a merge of lines and names, by induction.
-use Rattle.std.proofs.Common.{◌≡◌, Bool, true, false, List, [], ◌∷◌, ◌++◌, map, refl, sym, ap, subst, ◌∙◌, Ordering, Less, Equal, Greater, is_eq}
-use Rattle.std.proofs.lemmas.Bool.{cond-true, cond-false}
+use Rattle.xxhsum_audit.proofs.Prelude.{◌≡◌, Bool, true, false, List, [], ◌∷◌, ◌++◌, map, refl, sym, ap, subst, ◌∙◌, Ordering, Less, Equal, Greater, is_eq, cond-true, cond-false, Side, as_found, Changed, Found, Missing, Moved, New, Same}
+use Rattle.xxhsum_audit.proofs.Prelude.{line_in, lines_in, met, name_in, names_in, Item, compare_digests, beside}
 use Rattle.xxhsum_audit.proofs.TurnFacts.{by_turns}
-use Rattle.xxhsum_audit.specs.declared.side.Side.{Side}
-use Rattle.xxhsum_audit.specs.Audit.{as_found}
-use Rattle.xxhsum_audit.specs.Found.{Changed, Found, Missing, Moved, New, Same, line_in, lines_in, met, name_in, names_in}
-use Rattle.xxhsum_audit.specs.Item.{Item}
-use Rattle.xxhsum_audit.specs.Order.{compare_digests}
-use Rattle.xxhsum_audit.specs.Side.{beside}
 
 -- ---- the result of a pair
 

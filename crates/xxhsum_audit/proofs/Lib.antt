@@ -1,3 +1,4 @@
+pub mod Prelude
 pub mod OrderFacts
 pub mod AmongFacts
 pub mod BareFacts

@@ -1,14 +1,9 @@
 -- Proves that the orders are total and that they distinguish the items that they compare.
-use Rattle.std.proofs.Common.{◌≡◌, ℕ, true, false, List, nat_eq, refl, sym, ap, subst, ◌∙◌, if◌then◌else◌, Ordering, Less, Equal, Greater}
-use Rattle.std.proofs.lemmas.Cmp.{nat_cmp_total, nat_list_cmp_total, on_total, then_total, tied_itself, alike_right}
-use Rattle.std.proofs.lemmas.Map.Lookups.{exact_bytes, exact_unsigned}
-use Rattle.std.specs.Cmp.{IsTotalOrder}
-use Rattle.std.specs.Cmp.Lexicographic.{slice_cmp}
-use Rattle.std.specs.Ordering.{is_eq, is_lt, nat_cmp, ordering_reverse, ordering_then}
+use Rattle.xxhsum_audit.proofs.Prelude.{◌≡◌, ℕ, true, false, List, nat_eq, refl, sym, ap, subst, ◌∙◌, if◌then◌else◌, Ordering, Less, Equal, Greater, nat_cmp_total, nat_list_cmp_total, on_total, then_total, tied_itself, alike_right}
+use Rattle.xxhsum_audit.proofs.Prelude.{exact_bytes, exact_unsigned, IsTotalOrder, slice_cmp, is_eq, is_lt, nat_cmp, ordering_reverse, ordering_then, HasSameDigest, Item, Says, bare, kind_of, name_of, path_of, value_of, compare_digests}
+use Rattle.xxhsum_audit.proofs.Prelude.{compare_lines, compare_paths, rank_digests, rank_lines, rank_names, rank_of}
 use Rattle.xxh_io.specs.declared.kind.Kind.{Kind}
 use Rattle.xxh_io.specs.declared.kind.Kind.TheVariants.{X32, X64, X3_64, X3_128}
-use Rattle.xxhsum_audit.specs.Item.{HasSameDigest, Item, Says, bare, kind_of, name_of, path_of, value_of}
-use Rattle.xxhsum_audit.specs.Order.{compare_digests, compare_lines, compare_paths, rank_digests, rank_lines, rank_names, rank_of}
 
 pub paths_total : IsTotalOrder compare_paths
 paths_total = on_total bare nat_list_cmp_total

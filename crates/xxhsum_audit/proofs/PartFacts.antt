@@ -1,10 +1,7 @@
 -- Lemmas on splitting bytes into parts, one after another.
-use Rattle.std.proofs.Common.{◌≡◌, ℕ, ◌<◌, List, [], ◌∷◌, ◌++◌, append-nil, append_assoc, length, refl, sym, ap, ◌∙◌, inl, inr, subst, arith}
-use Rattle.std.proofs.lemmas.List.Concat.{flat_map-append}
+use Rattle.xxhsum_audit.proofs.Prelude.{◌≡◌, ℕ, ◌<◌, List, [], ◌∷◌, ◌++◌, append-nil, append_assoc, length, refl, sym, ap, ◌∙◌, inl, inr, subst, arith, flat_map-append, IsAmong, ArePartsOf, ended}
 use Rattle.xxhsum_line.specs.Parts.{Lacks}
 use Rattle.xxhsum_audit.proofs.AmongFacts.{among_either}
-use Rattle.xxhsum_audit.specs.Item.{IsAmong}
-use Rattle.xxhsum_audit.specs.Parts.{ArePartsOf, ended}
 
 -- The parts so far, each with its end, and the remaining bytes.
 pub record Stands (end : ℕ) (bytes : List ℕ) (parts : List (List ℕ)) (left : List ℕ) : Type 0 where

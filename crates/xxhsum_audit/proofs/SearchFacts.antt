@@ -1,15 +1,10 @@
 -- Proves that a binary search finds the first file with a digest.
-use Rattle.std.proofs.Common.{◌≡◌, ℕ, suc, zero, ◌+◌, ◌<◌, ◌≤◌, Bool, true, false, List, [], ◌∷◌, Some, None, drop, get_or, length, map, refl, sym, ap, subst, ◌∙◌, inl, inr, arith, ◌==◌, Ordering, Less, Equal, Greater}
-use Rattle.std.proofs.lemmas.Cmp.{alike_right}
-use Rattle.std.proofs.lemmas.List.{drop_all, drop_more}
+use Rattle.xxhsum_audit.proofs.Prelude.{◌≡◌, ℕ, suc, zero, ◌+◌, ◌<◌, ◌≤◌, Bool, true, false, List, [], ◌∷◌, Some, None, drop, get_or, length, refl, sym, ap, subst, ◌∙◌, inl, inr, arith, ◌==◌, Ordering, Less, Equal, Greater}
+use Rattle.xxhsum_audit.proofs.Prelude.{alike_right, drop_all, drop_more, is_lt, ordering_index, original, IsAmong, Item, item_of, items_of, Ascends, compare_digests}
 use Rattle.std.specs.List.Sorted.{IsPartitionedBy}
-use Rattle.std.specs.Ordering.{is_lt, ordering_index, ordering_reverse}
+use Rattle.xxhsum_audit.specs.declared.digest.FileDigest.{FileDigest}
 use Rattle.xxhsum_audit.proofs.CopyFacts.{original-above, original-here, original-passed}
 use Rattle.xxhsum_audit.proofs.OrderFacts.{back, digests_total}
-use Rattle.xxhsum_audit.specs.declared.digest.FileDigest.{FileDigest}
-use Rattle.xxhsum_audit.specs.Audit.{original}
-use Rattle.xxhsum_audit.specs.Item.{IsAmong, Item, item_of, items_of}
-use Rattle.xxhsum_audit.specs.Order.{Ascends, compare_digests}
 
 -- The predicate of the search.
 abbrev pub is_below : Item → FileDigest → Bool

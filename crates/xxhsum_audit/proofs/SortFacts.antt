@@ -1,9 +1,5 @@
 -- Proves that sorted lists ascend.
-use Rattle.std.proofs.Common.{◌≡◌, ℕ, suc, ◌+◌, ◌<◌, Bool, false, List, [], ◌∷◌, map, length, get_or, subst, inl, inr, arith, IsSortedBy, Ordering, is_lt}
-use Rattle.std.proofs.lemmas.List.Sorted.{ranks_by, sorted_far}
-use Rattle.std.specs.Cmp.{IsTotalOrder}
-use Rattle.xxhsum_audit.specs.Item.{IsAmong}
-use Rattle.xxhsum_audit.specs.Order.{Ascends}
+use Rattle.xxhsum_audit.proofs.Prelude.{◌≡◌, ℕ, suc, ◌+◌, ◌<◌, Bool, false, List, [], ◌∷◌, map, length, get_or, subst, inl, inr, arith, IsSortedBy, Ordering, is_lt, ranks_by, sorted_far, IsTotalOrder, IsAmong, Ascends}
 
 -- Lemma: a property at each index of a list is a property of the key of each element.
 at_keys : {X Y : Type 0} (key : X → Y) (P : Y → Type 0) (d : X) (xs : List X)

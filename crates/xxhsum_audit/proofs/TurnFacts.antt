@@ -1,8 +1,6 @@
 -- Induction over a merge of lines and names, and lemmas on its first element.
-use Rattle.std.proofs.Common.{◌≡◌, ℕ, List, [], ◌∷◌, map, length, refl, sym, ap, subst, ◌∙◌, arith, Ordering, Less, Equal, Greater}
-use Rattle.xxhsum_audit.specs.declared.side.Side.{Side}
+use Rattle.xxhsum_audit.proofs.Prelude.{◌≡◌, ℕ, List, [], ◌∷◌, map, length, refl, sym, ap, subst, ◌∙◌, arith, Ordering, Less, Equal, Greater, Side, IsFirst, against, beside, in_turn}
 use Rattle.xxhsum_audit.specs.declared.side.Side.TheVariants.{Line, Name, Both}
-use Rattle.xxhsum_audit.specs.Side.{IsFirst, against, beside, in_turn}
 
 module _ {L N : Type 0} (compare : L → N → Ordering) (P : List L → List N → List (Side L N) → Type 0)
     (none : P [] [] [])

@@ -1,17 +1,9 @@
 -- Lemmas on names with one path, and on sorted names with different paths.
-use Rattle.std.proofs.Common.{◌≡◌, ◌⊎◌, ℕ, ◌≤◌, Bool, true, false, List, [], ◌∷◌, Some, None, map, refl, sym, ap, subst, ◌∙◌, inl, inr, arith, sum_by, IsPermutation, Ordering, Less, Equal, Greater}
-use Rattle.std.proofs.lemmas.Bool.{cond-true, cond-false}
-use Rattle.std.proofs.lemmas.List.Sorted.{sum_by-IsPermutation}
-use Rattle.std.proofs.lemmas.List.Sums.{sum_by-cons}
+use Rattle.xxhsum_audit.proofs.Prelude.{◌≡◌, ◌⊎◌, ℕ, ◌≤◌, Bool, true, false, List, [], ◌∷◌, Some, None, map, refl, sym, ap, subst, ◌∙◌, inl, inr, arith, sum_by, IsPermutation, Ordering, Less, Equal, Greater, cond-true, cond-false}
+use Rattle.xxhsum_audit.proofs.Prelude.{sum_by-IsPermutation, sum_by-cons, tied_itself, nat_list_cmp_total, exact_bytes, slice_cmp, is_eq, is_lt, nat_cmp, ordering_then, IsTwice, IsAmong, Item, path_of, Ascends, Rises, clash_in}
+use Rattle.xxhsum_audit.proofs.Prelude.{compare_lines, compare_paths, rank_names, shares_path}
 use Rattle.std.proofs.lemmas.Option.{none-some}
-use Rattle.std.proofs.lemmas.Cmp.{tied_itself, nat_list_cmp_total}
-use Rattle.std.proofs.lemmas.Map.Lookups.{exact_bytes}
-use Rattle.std.specs.Cmp.Lexicographic.{slice_cmp}
-use Rattle.std.specs.Ordering.{is_eq, is_lt, nat_cmp, ordering_then}
 use Rattle.xxhsum_audit.proofs.OrderFacts.{back, eq_false, paths_total}
-use Rattle.xxhsum_audit.specs.Audit.{IsTwice}
-use Rattle.xxhsum_audit.specs.Item.{IsAmong, Item, path_of}
-use Rattle.xxhsum_audit.specs.Order.{Ascends, Rises, clash_in, compare_lines, compare_paths, rank_names, shares_path}
 
 -- ---- sorted names of which no two neighbors have one path
 

@@ -1,13 +1,7 @@
 -- Proves that a list has only one sorted order.
-use Rattle.std.proofs.Common.{◌≡◌, ℕ, Bool, true, false, List, [], ◌∷◌, refl, sym, ap, subst, ◌∙◌, inl, inr, arith, sum_by, IsPermutation, Ordering, Less, Equal, Greater}
-use Rattle.std.proofs.lemmas.Cmp.{then_total, tied_itself}
-use Rattle.std.proofs.lemmas.List.Sorted.{sum_by-IsPermutation, IsPermutation-sym, IsPermutation-trans}
-use Rattle.std.proofs.lemmas.List.Sums.{sum_by-cons}
-use Rattle.std.specs.Cmp.{IsTotalOrder}
-use Rattle.std.specs.Ordering.{is_eq, is_lt, ordering_then}
+use Rattle.xxhsum_audit.proofs.Prelude.{◌≡◌, ℕ, Bool, true, false, List, [], ◌∷◌, refl, sym, ap, subst, ◌∙◌, inl, inr, arith, sum_by, IsPermutation, Ordering, Less, Equal, Greater, then_total, tied_itself, sum_by-IsPermutation}
+use Rattle.xxhsum_audit.proofs.Prelude.{IsPermutation-sym, IsPermutation-trans, sum_by-cons, IsTotalOrder, is_eq, is_lt, ordering_then, IsAmong, Item, Ascends, IsOrder, Rises, compare_lines, rank_digests}
 use Rattle.xxhsum_audit.proofs.OrderFacts.{ahead, all_exact, all_total, back, less_upto, lines_total, then_equal}
-use Rattle.xxhsum_audit.specs.Item.{IsAmong, Item}
-use Rattle.xxhsum_audit.specs.Order.{Ascends, IsOrder, Rises, compare_lines, rank_digests}
 
 one_if : Bool → ℕ
 one_if true = 1

@@ -22,6 +22,7 @@ fn rank_of(kind: Kind) -> u8
 }
 
 // Returns the name without each `./` at its beginning.
+#[tactic(auto, using(crate::proofs::BareFacts::bare_past, crate::proofs::BareFacts::bare_end))]
 fn bare(name: &[u8]) -> &[u8]
     ensures { result.now ≡ bare name.now }
 {

@@ -1,20 +1,21 @@
 //! Bytes that are split at each byte of one value: lines at newlines, names at NULs.
 
-ghost use Rattle.std.specs.Prelude.{◌≡◌, ◌++◌, ◌∷◌, map, IfOk, MatchOption};
-ghost use Rattle.xxhsum_line.specs.Parts.{Lacks};
+ghost use Rattle.std.specs.Prelude.{map, IfOk};
 ghost use Rattle.xxhsum_audit.specs.Parts.{ArePartsOf};
 
 use std::alloc::{AllocError, Global};
+use xxhsum_line::parts::split_at_first;
 
 /// Returns the parts before each byte of this value, and the part after the last one if it isn't empty. Returns
 /// `AllocError` if out of memory.
+#[tactic(auto, using(crate::proofs::PartFacts::stands_whole))]
 pub fn cut_at<'b>(alloc: Global, end: u8, bytes: &'b [u8]) -> Result<Vec<&'b [u8]>, AllocError>
     ensures { IfOk result (λ parts. ArePartsOf end bytes.now
         (map (λ part. part.now) parts.items)) }
 {
     let mut parts = Vec::new(alloc);
     let mut left = bytes;
-    while let Some((part, rest)) = cut(end, left) {
+    while let Some((part, rest)) = split_at_first(end, left) {
         parts.push(part)?;
         left = rest;
     }
@@ -23,13 +24,4 @@ pub fn cut_at<'b>(alloc: Global, end: u8, bytes: &'b [u8]) -> Result<Vec<&'b [u8
     }
     parts.push(left)?;
     Ok(parts)
-}
-
-// Splits at the first byte of this value.
-fn cut(end: u8, bytes: &[u8]) -> Option<(&[u8], &[u8])>
-    ensures { MatchOption result (Lacks end bytes.now)
-        (λ parts. (bytes.now ≡ parts.0.now ++ end ∷ parts.1.now) × Lacks end parts.0.now) }
-{
-    let place = memchr::memchr(end, bytes)?;
-    Some((&bytes[..place], &bytes[place + 1..]))
 }

@@ -1,16 +1,9 @@
 -- Proves that a line has at most one meaning.
-use Rattle.std.proofs.Common.{◌≡◌, ◌⊎◌, ℕ, List, inl, inr, sym, ap, subst, ◌∙◌, Bool, false, Some, None}
-use Rattle.std.proofs.lemmas.Bool.{both_ways}
-use Rattle.std.proofs.lemmas.Option.{none-some, same_Some}
-use Rattle.xxh_io.specs.declared.kind.Kind.{Kind}
-use Rattle.xxhsum_line.proofs.PartFacts.{not_both, plain_same, tagged_same}
-use Rattle.xxhsum_line.specs.Entry.{Says, SaysNothing, TextSays, TextSaysNothing, is_comment, value_meant}
-use Rattle.xxhsum_line.specs.Escapes.{body_of, is_escaped, name_meant}
-use Rattle.xxhsum_line.specs.Meaning.{Means}
+use Rattle.xxhsum_line.proofs.Prelude.{◌≡◌, ◌⊎◌, ℕ, List, inl, inr, sym, ap, subst, ◌∙◌, Bool, false, Some, None, both_ways, none-some, same_Some, Kind, Says, SaysNothing, TextSays, TextSaysNothing, is_comment, value_meant, body_of}
+use Rattle.xxhsum_line.proofs.Prelude.{is_escaped, name_meant, Means, HasNoParts, IsPlain, IsTagged, up_to_nul, without_return, kind_of_digits, kind_of_tag, is_little_tag}
 use Rattle.xxhsum_line.specs.declared.entry.Meaning.{Meaning}
 use Rattle.xxhsum_line.specs.declared.entry.Meaning.TheVariants.{Comment, Malformed}
-use Rattle.xxhsum_line.specs.Parts.{HasNoParts, IsPlain, IsTagged, up_to_nul, without_return}
-use Rattle.xxhsum_line.specs.Tags.{kind_of_digits, kind_of_tag, is_little_tag}
+use Rattle.xxhsum_line.proofs.PartFacts.{not_both, plain_same, tagged_same}
 
 -- Lemma: a text without parts has no entry.
 pub nothing_without_parts : (is_little : Bool) (text : List ℕ) → HasNoParts text

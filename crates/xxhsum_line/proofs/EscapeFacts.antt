@@ -1,10 +1,7 @@
 -- Lemmas on escaped names: their meaning, the bytes that they lack, and their length.
-use Rattle.std.proofs.Common.{◌≡◌, ◌≢◌, ◌⊎◌, ℕ, ◌+◌, ◌*◌, ◌<◌, ◌≤◌, Bool, true, false, ◌||◌, nat_eq, List, [], ◌∷◌, ◌++◌, length, take, get_or, Option, Some, None, refl, sym, ap, ◌∙◌, inl, inr, append-nil, append_assoc, length-append, arith, option_and_then}
-use Rattle.std.proofs.lemmas.Bool.{cases_eq, cond-false, ne_eqb, or_parts}
-use Rattle.std.proofs.lemmas.List.{take_more}
+use Rattle.xxhsum_line.proofs.Prelude.{◌≡◌, ◌≢◌, ◌⊎◌, ℕ, ◌+◌, ◌*◌, ◌<◌, ◌≤◌, Bool, true, false, ◌||◌, nat_eq, List, [], ◌∷◌, ◌++◌, length, take, get_or, Option, Some, None, refl, sym, ap, ◌∙◌, inl, inr, append-nil, append_assoc}
+use Rattle.xxhsum_line.proofs.Prelude.{drop_more, length-append, arith, option_and_then, cases_eq, cond-false, ne_eqb, or_parts, take_more, before, escape, escaped, is_special, meant_behind, meant_by, needs_escape, unescaped, Lacks}
 use Rattle.xxhsum_line.proofs.LackFacts.{lacks_both}
-use Rattle.xxhsum_line.specs.Escapes.{before, escape, escaped, is_special, meant_behind, meant_by, needs_escape, unescaped}
-use Rattle.xxhsum_line.specs.Parts.{Lacks}
 
 -- ---- bytes of an escaped name
 
@@ -134,3 +131,9 @@ escaped_length [] = omega arith
 escaped_length (c ∷ name) =
     let parts : length (escape c ++ escaped name) ≡ length (escape c) + length (escaped name) = length-append (escape c) (escaped name) in
     omega (arith, parts, escape_length c, escaped_length name)
+
+-- Lemmas on a name that is escaped byte by byte.
+pub ruleset escape_by_escape = (append_assoc, escaped_more)
+
+-- Lemmas on the meaning of the next byte of an escaped name.
+pub ruleset meanings = (drop_more, meant_backslash, meant_letter, meant_plain)

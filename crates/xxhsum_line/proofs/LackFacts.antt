@@ -1,8 +1,7 @@
 -- Lemmas on lists that lack a byte, and on splits at the first or last position of a byte.
-use Rattle.std.proofs.Common.{◌≡◌, ◌≢◌, ℕ, suc, ◌+◌, ◌-◌, ◌<◌, ◌≤◌, List, [], ◌∷◌, ◌++◌, length, take, drop, get_or, refl, sym, ap, subst, ◌∙◌, inl, inr, arith}
-use Rattle.std.proofs.lemmas.List.{drop_more, take-append-drop, length-take-le, length-drop, get_or-take, get_or-drop}
-use Rattle.std.proofs.lemmas.Bool.Decides.{eqb_tells}
-use Rattle.xxhsum_line.specs.Parts.{Lacks, up_to_nul, without_return}
+use Rattle.xxhsum_line.proofs.Prelude.{ne_eqb, rules, true, refl, eq-eqb, take_rest, is_byte, ◌≡◌, ◌≢◌, ℕ, suc, ◌+◌, ◌-◌, ◌<◌, ◌≤◌, List, [], ◌∷◌, ◌++◌, length, take, drop, get_or, sym, ap, subst, ◌∙◌, inl, inr, arith, drop_more, take-append-drop, length-take-le, length-drop, get_or-take}
+use Rattle.xxhsum_line.proofs.Prelude.{get_or-drop, eqb_tells, Lacks, up_to_nul, without_return}
+use Rattle.memchr.specs.Find.{NoneAfter, NoneBefore, Nowhere, Passes}
 
 pub lacks_right : (b : ℕ) (x y : List ℕ) → Lacks b (x ++ y) → Lacks b y
 lacks_right b [] y h = h
@@ -68,6 +67,29 @@ at_place l i b h e =
     ∙ ap (λ r. take i l ++ r) (drop_more l i 0 h)
     ∙ ap (λ x. take i l ++ x ∷ drop (i + 1) l) e
 
+found : (b x : ℕ) → x ≡ b → is_byte b x ≡ true
+found b x e = ap (is_byte b) e ∙ eq-eqb b b refl
+
+-- Lemma: a list lacks a byte that a search doesn't find.
+pub lacks_nowhere : (b : ℕ) (l : List ℕ) → Nowhere (Passes (is_byte b) l) 0 (length l) → Lacks b l
+lacks_nowhere b l none = lacks_by_place b l (λ k lt e. none k (omega arith) lt (found b (get_or l k 0) e))
+
+-- Lemma: the bytes before and after the first place of a byte.
+pub split_first : (b : ℕ) (l : List ℕ) (f : ℕ) → NoneBefore (Passes (is_byte b) l) 0 (length l) f → Passes (is_byte b) l f
+    → (l ≡ take f l ++ b ∷ take (length l - (f + 1)) (drop (f + 1) l)) × Lacks b (take f l)
+split_first b l f first here = (
+  at_place l f b first.high (search rules) ∙ ap (λ r. take f l ++ b ∷ r) (sym (take_rest l (f + 1))),
+  lacks_before b l f (omega (arith, first.high)) (λ k lt e. first.before k (omega arith) lt (found b (get_or l k 0) e)),
+)
+
+-- Lemma: the bytes before and after the last place of a byte.
+pub split_last : (b : ℕ) (l : List ℕ) (f : ℕ) → NoneAfter (Passes (is_byte b) l) 0 (length l) f → Passes (is_byte b) l f
+    → (l ≡ take f l ++ b ∷ take (length l - (f + 1)) (drop (f + 1) l)) × Lacks b (take (length l - (f + 1)) (drop (f + 1) l))
+split_last b l f last here = (
+  at_place l f b last.high (search rules) ∙ ap (λ r. take f l ++ b ∷ r) (sym (take_rest l (f + 1))),
+  subst (Lacks b) (sym (take_rest l (f + 1))) (lacks_from b l (f + 1) (λ k low lt e. last.after k low lt (found b (get_or l k 0) e))),
+)
+
 pub up_to_nul_whole : (l : List ℕ) → Lacks 0 l → up_to_nul l ≡ l
 up_to_nul_whole [] h = refl
 up_to_nul_whole (c ∷ l) h =
@@ -95,18 +117,18 @@ without_return_whole (c ∷ []) h =
     ]
 without_return_whole (c ∷ d ∷ l) h = ap (λ r. c ∷ r) (without_return_whole (d ∷ l) h.1)
 
-pub without_return_cut : (l : List ℕ) → without_return (l ++ 13 ∷ []) ≡ l
-without_return_cut [] = refl
-without_return_cut (c ∷ []) = refl
-without_return_cut (c ∷ d ∷ l) = ap (λ r. c ∷ r) (without_return_cut (d ∷ l))
+-- Lemma: a line that ends with a carriage return loses it.
+pub without_return_ends : (l : List ℕ) → 1 ≤ length l → get_or l (length l - 1) 0 ≡ 13 → take (length l - 1) l ≡ without_return l
+without_return_ends [] some last = absurd (omega (arith, some))
+without_return_ends (c ∷ []) some last = rw last refl
+without_return_ends (c ∷ d ∷ l) some last =
+    let e : length (c ∷ d ∷ l) - 1 ≡ suc (length (d ∷ l) - 1) = omega arith in
+    rw e (ap (λ r. c ∷ r) (without_return_ends (d ∷ l) (omega arith) (rw e at last)))
 
--- Lemma: `without_return` returns a line unchanged if the line doesn't end with a carriage return.
-pub without_return_none : (l : List ℕ) → ((front : List ℕ) → l ≢ front ++ 13 ∷ []) → without_return l ≡ l
-without_return_none [] h = refl
-without_return_none (c ∷ []) h =
-    elim (eqb_tells c 13) [
-      | inl w ↦ absurd (h [] (ap (λ b. b ∷ []) w.1))
-      | inr w ↦ rw (w.0) refl
-    ]
-without_return_none (c ∷ d ∷ l) h =
-    ap (λ r. c ∷ r) (without_return_none (d ∷ l) (λ front e. h (c ∷ front) (ap (λ r. c ∷ r) e)))
+-- Lemma: a line that ends with another byte stays as it is.
+pub without_return_stays : (l : List ℕ) → get_or l (length l - 1) 0 ≢ 13 → l ≡ without_return l
+without_return_stays [] other = refl
+without_return_stays (c ∷ []) other = rw (ne_eqb c 13 other) refl
+without_return_stays (c ∷ d ∷ l) other =
+    let e : length (c ∷ d ∷ l) - 1 ≡ suc (length (d ∷ l) - 1) = omega arith in
+    ap (λ r. c ∷ r) (without_return_stays (d ∷ l) (rw e at other))

@@ -1,3 +1,4 @@
+pub mod Prelude
 pub mod LackFacts
 pub mod EscapeFacts
 pub mod PartFacts

@@ -1,10 +1,9 @@
 -- Proves that a line has at most one choice of parts.
-use Rattle.std.proofs.Common.{◌≡◌, ℕ, List, [], ◌∷◌, ◌++◌, sym, ap, subst, ◌∙◌, append_assoc, MatchOption, Option, Some, None}
-use Rattle.std.proofs.lemmas.List.{append_cancel_right}
-use Rattle.xxhsum_line.proofs.LackFacts.{lacks_not, first_same, last_same}
-use Rattle.xxhsum_line.specs.Parts.{Lacks, IsPlain, IsTagged, EndsTagged, HasParts, HasNoParts, HasNoTaggedParts, IsTaggedWith}
+use Rattle.xxhsum_line.proofs.Prelude.{◌≡◌, ℕ, List, [], ◌∷◌, ◌++◌, sym, ap, subst, ◌∙◌, append_assoc, MatchOption, Option, Some, None, append_cancel_right, Lacks, IsPlain, IsTagged, EndsTagged, HasParts, HasNoParts, HasNoTaggedParts}
+use Rattle.xxhsum_line.proofs.Prelude.{IsTaggedWith, length, take, drop, get_or, take_rest, arith, ◌<◌, ◌-◌}
 use Rattle.xxhsum_line.specs.declared.parts.Parts.{Parts}
 use Rattle.xxhsum_line.specs.declared.parts.Parts.TheVariants.{Plain, Tagged}
+use Rattle.xxhsum_line.proofs.LackFacts.{lacks_not, first_same, last_same}
 
 -- Lemma: a line without a space has no parts.
 pub no_parts_without_space : (line : List ℕ) → Lacks 32 line → HasNoParts line
@@ -14,8 +13,8 @@ no_parts_without_space line h = (
 )
 
 -- Lemma: a line has no parts if its first space is its last byte.
-pub no_parts_at_end : (line first : List ℕ) → line ≡ first ++ 32 ∷ [] → Lacks 32 first → HasNoParts line
-no_parts_at_end line first e h = (
+pub no_parts_at_end : (line first rest : List ℕ) → line ≡ first ++ 32 ∷ rest → Lacks 32 first → length rest ≡ 0 → HasNoParts line
+no_parts_at_end line first [] e h empty = (
   (λ digits name p.
       let same = first_same 32 first [] digits (p.0 ∷ name) (sym e ∙ p.1) h p.2 in
       let rest : ◌≡◌ {A = List ℕ} [] (p.0 ∷ name) = same.1 in
@@ -25,6 +24,7 @@ no_parts_at_end line first e h = (
       let rest : ◌≡◌ {A = List ℕ} [] (40 ∷ (name ++ 41 ∷ 32 ∷ 61 ∷ 32 ∷ digits)) = same.1 in
       cc),
 )
+no_parts_at_end line first (b ∷ rest) e h empty = absurd (omega arith)
 
 -- Lemma: a line with `(` after its first space has no parts if no tagged parts follow the bracket.
 pub no_parts_in_brackets : (line first inside : List ℕ) → line ≡ first ++ 32 ∷ 40 ∷ inside → Lacks 32 first
@@ -43,15 +43,24 @@ no_parts_in_brackets line first inside e h none = (
 )
 
 -- Lemma: the tagged parts found after the bracket are the parts of the line. If there are none, the line has none.
-pub parts_in_brackets : (line first inside : List ℕ) (found : Option Parts) → line ≡ first ++ 32 ∷ 40 ∷ inside → Lacks 32 first
+in_brackets : (line first inside : List ℕ) (found : Option Parts) → line ≡ first ++ 32 ∷ 40 ∷ inside → Lacks 32 first
     → MatchOption found (HasNoTaggedParts inside) (IsTaggedWith first inside) → MatchOption found (HasNoParts line) (HasParts line)
-parts_in_brackets line first inside None e h none = no_parts_in_brackets line first inside e h none
-parts_in_brackets line first inside (Some (Plain digits name)) e h p = absurd p
-parts_in_brackets line first inside (Some (Tagged tag name digits)) e h p = (
+in_brackets line first inside None e h none = no_parts_in_brackets line first inside e h none
+in_brackets line first inside (Some (Plain digits name)) e h p = absurd p
+in_brackets line first inside (Some (Tagged tag name digits)) e h p = (
   e ∙ ap (λ t. t ++ 32 ∷ 40 ∷ inside) (sym p.0) ∙ ap (λ r. tag.now ++ 32 ∷ 40 ∷ r) p.1.0,
   subst (Lacks 32) (sym p.0) h,
   p.1.1,
 )
+
+pub parts_in_brackets : (line first rest : List ℕ) (found : Option Parts) → line ≡ first ++ 32 ∷ rest → Lacks 32 first
+    → 0 < length rest → get_or rest 0 0 ≡ 40
+    → MatchOption found (HasNoTaggedParts (take (length rest - 1) (drop 1 rest))) (IsTaggedWith first (take (length rest - 1) (drop 1 rest)))
+    → MatchOption found (HasNoParts line) (HasParts line)
+parts_in_brackets line first [] found e h some opening p = absurd (omega arith)
+parts_in_brackets line first (b ∷ rest) found e h some opening p =
+    in_brackets line first rest found (e ∙ ap (λ b. first ++ 32 ∷ b ∷ rest) opening) h
+    (subst (λ x. MatchOption found (HasNoTaggedParts x) (IsTaggedWith first x)) (take_rest (b ∷ rest) 1) p)
 
 -- Lemma: bytes after the bracket have no tagged parts if they have no space.
 pub no_end_without_space : (inside : List ℕ) → Lacks 32 inside → HasNoTaggedParts inside

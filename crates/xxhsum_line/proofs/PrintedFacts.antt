@@ -1,19 +1,10 @@
 -- Proves that printed lines are accepted.
-use Rattle.std.proofs.Common.{◌≡◌, ◌≢◌, ℕ, ◌<◌, ◌+◌, ◌*◌, ◌^◌, Bool, true, false, List, [], ◌∷◌, ◌++◌, length, Some, inl, inr, refl, sym, ap, subst, ◌∙◌, arith, length-append, ◌≤◌, nat_lt, drop, ◌&&◌, if◌then◌else◌}
-use Rattle.std.proofs.lemmas.Bool.{and_parts, cond-false, ne_eqb}
-use Rattle.std.proofs.lemmas.List.{same_from_push}
-use Rattle.std.proofs.lemmas.Bool.Decides.{nat_tests}
-use Rattle.xxh_io.specs.Kind.{digits_of}
-use Rattle.xxh_io.specs.declared.kind.Kind.{Kind}
-use Rattle.xxh_io.specs.declared.kind.Kind.TheVariants.{X32, X64, X3_64, X3_128}
-use Rattle.xxhsum_line.specs.Digits.{value_shown}
-use Rattle.xxhsum_line.specs.Entry.{Says, SaysPlain, TextSays, is_comment, value_meant}
-use Rattle.xxhsum_line.specs.Escapes.{body_of, escaped, is_escaped, mark_of, name_meant, needs_escape, unescaped}
+use Rattle.xxhsum_line.proofs.Prelude.{◌≡◌, ◌≢◌, ℕ, ◌<◌, ◌+◌, ◌*◌, ◌^◌, Bool, true, false, List, [], ◌∷◌, ◌++◌, length, Some, inl, inr, refl, sym, ap, subst, ◌∙◌, arith, length-append, ◌≤◌, nat_lt, drop, ◌&&◌, if◌then◌else◌, and_parts}
+use Rattle.xxhsum_line.proofs.Prelude.{cond-false, ne_eqb, same_from_push, nat_tests, digits_of, Kind, X32, X64, X3_64, X3_128, value_shown, Says, SaysPlain, TextSays, is_comment, value_meant, body_of, escaped, is_escaped, mark_of}
+use Rattle.xxhsum_line.proofs.Prelude.{name_meant, needs_escape, unescaped, Lacks, up_to_nul, without_return, formed, full_tag, line_of, plain_text, prefix_of, shown, tagged_text, text_of, bare, has_prefix, is_little_tag, kind_of_count}
+use Rattle.xxhsum_line.proofs.Prelude.{kind_of_digits, kind_of_tag}
 use Rattle.xxhsum_line.specs.Laws.{PlainTextsStay, PrintedIsAccepted, PrintedIsNoComment, PrintedIsOneLine, ToldIsOneLine}
-use Rattle.xxhsum_line.specs.Parts.{Lacks, up_to_nul, without_return}
-use Rattle.xxhsum_line.specs.Printed.{formed, full_tag, line_of, plain_text, prefix_of, shown, tagged_text, text_of}
 use Rattle.xxhsum_line.specs.declared.printed.Shape.{Shape}
-use Rattle.xxhsum_line.specs.Tags.{bare, has_prefix, is_little_tag, kind_of_count, kind_of_digits, kind_of_tag}
 use Rattle.xxhsum_line.proofs.EscapeFacts.{escape_is_undone, escaped_lacks_line_feed, escaped_length, escaped_lacks_nul, escaped_lacks_return, plain_names_stay}
 use Rattle.xxhsum_line.proofs.LackFacts.{lacks_both, up_to_nul_whole, without_return_whole}
 use Rattle.xxhsum_line.proofs.ShownFacts.{lacks_shown, length-shown, value_shown-shown}

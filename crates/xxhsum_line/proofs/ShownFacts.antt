@@ -1,16 +1,10 @@
 -- Proves that reading the digits of a value returns the value.
-use Rattle.std.proofs.Common.{◌≡◌, ◌≢◌, ◌⊎◌, ℕ, zero, suc, ◌+◌, ◌*◌, ◌/◌, ◌%◌, ◌^◌, ◌<◌, Bool, true, false, List, [], ◌∷◌, ◌++◌, length, reverse, Some, None, inl, inr, refl, sym, ap, ◌∙◌, arith, length-append, eq-eqb, option_and_then}
-use Rattle.std.proofs.Math.Nat.{pow-suc}
-use Rattle.std.proofs.lemmas.Bool.Decides.{nat_tests}
-use Rattle.std.proofs.lemmas.List.{reverse-append, reverse-reverse, length-reverse}
-use Rattle.std.proofs.lemmas.Option.{option_and_then_some, same_Some}
+use Rattle.xxhsum_line.proofs.Prelude.{add-one, pow-le-pow_right, ◌-◌, ◌≤◌, ◌≡◌, ◌≢◌, ◌⊎◌, ℕ, zero, suc, ◌+◌, ◌*◌, ◌/◌, ◌%◌, ◌^◌, ◌<◌, Bool, true, false, List, [], ◌∷◌, ◌++◌, length, Some, None, inl, inr, refl, sym, ap, subst, ◌∙◌, arith, length-append, eq-eqb}
+use Rattle.xxhsum_line.proofs.Prelude.{option_and_then, pow-suc, nat_tests, option_and_then_some, same_Some, digits_of, Kind, X32, X64, X3_64, X3_128, digit_of, number_after, number_of}
+use Rattle.xxhsum_line.proofs.Prelude.{bytes_reversed, in_order, option_map, value_shown, Lacks, shown}
 use Rattle.xxh_io.specs.Hex.{hex_digit, hex_digits}
-use Rattle.xxh_io.specs.Kind.{digits_of}
-use Rattle.xxh_io.specs.declared.kind.Kind.{Kind}
-use Rattle.xxh_io.specs.declared.kind.Kind.TheVariants.{X32, X64, X3_64, X3_128}
-use Rattle.xxhsum_line.specs.Digits.{digit_of, number_after, number_of, pairs_swapped, turned_if, value_shown}
-use Rattle.xxhsum_line.specs.Parts.{Lacks}
-use Rattle.xxhsum_line.specs.Printed.{shown}
+use Rattle.std.proofs.Math.Nat.{le-mul_of_pos_right, pow-succ'}
+use Rattle.std.proofs.lemmas.Nat.{mul-add-lt}
 use Rattle.xxhsum_line.proofs.LackFacts.{lacks_both}
 
 -- Lemma: a digit after others multiplies their value by 16 and adds its own.
@@ -41,70 +35,87 @@ length-hex_digits : (n value : ℕ) → length (hex_digits n value) ≡ n
 length-hex_digits zero value = refl
 length-hex_digits (suc n) value = simp length-append (omega (arith, length-hex_digits n (value / 16)))
 
-length-pairs_swapped : (l : List ℕ) → length (pairs_swapped l) ≡ length l
-length-pairs_swapped [] = refl
-length-pairs_swapped (a ∷ []) = refl
-length-pairs_swapped (a ∷ b ∷ l) = ap (λ n. suc (suc n)) (length-pairs_swapped l)
+-- Lemma: the number of reversed bytes fits the bytes.
+pub reversed_fits : (n value : ℕ) → bytes_reversed n value < 256 ^ n
+unfolding bytes_reversed
+reversed_fits zero value = omega arith
+reversed_fits (suc n) value =
+    rw pow-succ' (omega (arith, mul-add-lt (value % 256) (256 ^ n) (bytes_reversed n (value / 256)) 256 (omega arith) (reversed_fits n (value / 256))))
 
-length-turned_if : (is_little : Bool) (l : List ℕ) → length (turned_if is_little l) ≡ length l
-length-turned_if true l = length-pairs_swapped (reverse l) ∙ length-reverse l
-length-turned_if false l = refl
+-- Lemma: the highest of the bytes becomes the lowest.
+reversed_high : (n a b : ℕ) → a < 256 → b < 256 ^ n → bytes_reversed (suc n) (a * 256 ^ n + b) ≡ bytes_reversed n b * 256 + a
+unfolding bytes_reversed
+reversed_high zero a b small fits = omega arith
+reversed_high (suc n) a b small fits =
+    let whole = pow-suc 256 n in
+    let below : b / 256 < 256 ^ n = omega arith in
+    let low : (a * (256 ^ n * 256) + b) % 256 ≡ b % 256 = omega arith in
+    let rest : (a * (256 ^ n * 256) + b) / 256 ≡ a * 256 ^ n + b / 256 = omega arith in
+    rw (whole, low, rest) (omega (arith, reversed_high n a (b / 256) small below))
 
--- Lemma: a pair after an even number of digits is swapped after them.
-pairs_swapped-push : (l : List ℕ) (a b : ℕ) → length l % 2 ≡ 0 → pairs_swapped (l ++ a ∷ b ∷ []) ≡ pairs_swapped l ++ b ∷ a ∷ []
-pairs_swapped-push [] a b even = refl
-pairs_swapped-push (x ∷ []) a b even = absurd (omega arith)
-pairs_swapped-push (x ∷ y ∷ l) a b even =
-    let even' : length l % 2 ≡ 0 = omega arith in
-    ap (λ r. y ∷ x ∷ r) (pairs_swapped-push l a b even')
+reversed_twice : (n value : ℕ) → value < 256 ^ n → bytes_reversed n (bytes_reversed n value) ≡ value
+unfolding bytes_reversed
+reversed_twice zero value fits = omega arith
+reversed_twice (suc n) value fits =
+    let whole = pow-suc 256 n in
+    let high = reversed_high n (value % 256) (bytes_reversed n (value / 256)) (omega arith) (reversed_fits n (value / 256)) in
+    omega (arith, high, reversed_twice n (value / 256) (omega arith))
 
-reverse-pair : (a b : ℕ) (l : List ℕ) → reverse (a ∷ b ∷ l) ≡ reverse l ++ b ∷ a ∷ []
-reverse-pair a b l = reverse-append (a ∷ b ∷ []) l
+bytes_of_digits : (kind : Kind) → 256 ^ (digits_of kind / 2) ≡ 16 ^ digits_of kind
+bytes_of_digits X32 = refl
+bytes_of_digits X64 = refl
+bytes_of_digits X3_64 = refl
+bytes_of_digits X3_128 = refl
 
-reverse-pairs_swapped : (l : List ℕ) → length l % 2 ≡ 0 → reverse (pairs_swapped l) ≡ pairs_swapped (reverse l)
-reverse-pairs_swapped [] even = refl
-reverse-pairs_swapped (x ∷ []) even = absurd (omega arith)
-reverse-pairs_swapped (x ∷ y ∷ l) even =
-    let even' : length l % 2 ≡ 0 = omega arith in
-    let evenr : length (reverse l) % 2 ≡ 0 = ap (λ n. n % 2) (length-reverse l) ∙ even' in
-    reverse-pair y x (pairs_swapped l)
-    ∙ ap (λ r. r ++ x ∷ y ∷ []) (reverse-pairs_swapped l even')
-    ∙ sym (pairs_swapped-push (reverse l) y x evenr)
-    ∙ ap pairs_swapped (sym (reverse-pair x y l))
+-- Lemma: the digest in the other byte order fits the digits.
+pub in_order_fits : (kind : Kind) (is_little : Bool) (value : ℕ) → value < 16 ^ digits_of kind → in_order kind is_little value < 16 ^ digits_of kind
+in_order_fits kind false value fits = fits
+in_order_fits kind true value fits = subst (λ most. in_order kind true value < most) (bytes_of_digits kind) (reversed_fits (digits_of kind / 2) value)
 
-pairs_swapped-twice : (l : List ℕ) → pairs_swapped (pairs_swapped l) ≡ l
-pairs_swapped-twice [] = refl
-pairs_swapped-twice (a ∷ []) = refl
-pairs_swapped-twice (a ∷ b ∷ l) = ap (λ r. a ∷ b ∷ r) (pairs_swapped-twice l)
-
--- Lemma: reversing the bytes of an even number of digits twice returns the digits.
-pub turned_if-twice : (is_little : Bool) (l : List ℕ) → length l % 2 ≡ 0 → turned_if is_little (turned_if is_little l) ≡ l
-turned_if-twice false l even = refl
-turned_if-twice true l even =
-    let evenr : length (reverse l) % 2 ≡ 0 = ap (λ n. n % 2) (length-reverse l) ∙ even in
-    ap pairs_swapped (reverse-pairs_swapped (reverse l) evenr)
-    ∙ pairs_swapped-twice (reverse (reverse l))
-    ∙ reverse-reverse l
-
-kind_is_even : (kind : Kind) → digits_of kind % 2 ≡ 0
-kind_is_even X32 = refl
-kind_is_even X64 = refl
-kind_is_even X3_64 = refl
-kind_is_even X3_128 = refl
+-- Lemma: reversing the bytes of a digest twice returns the digest.
+in_order_twice : (kind : Kind) (is_little : Bool) (value : ℕ) → value < 16 ^ digits_of kind → in_order kind is_little (in_order kind is_little value) ≡ value
+in_order_twice kind false value fits = refl
+in_order_twice kind true value fits = reversed_twice (digits_of kind / 2) value (subst (λ most. value < most) (sym (bytes_of_digits kind)) fits)
 
 pub length-shown : (kind : Kind) (is_little : Bool) (value : ℕ) → length (shown kind is_little value) ≡ digits_of kind
-length-shown kind is_little value =
-    length-turned_if is_little (hex_digits (digits_of kind) value) ∙ length-hex_digits (digits_of kind) value
+length-shown kind is_little value = length-hex_digits (digits_of kind) (in_order kind is_little value)
 
 pub value_shown-shown : (kind : Kind) (is_little : Bool) (value : ℕ) → value < 16 ^ digits_of kind
     → value_shown kind is_little (shown kind is_little value) ≡ Some value
 value_shown-shown kind is_little value fits =
-    let digits = hex_digits (digits_of kind) value in
-    let even : length digits % 2 ≡ 0 = ap (λ n. n % 2) (length-hex_digits (digits_of kind) value) ∙ kind_is_even kind in
     let count = eq-eqb (length (shown kind is_little value)) (digits_of kind) (length-shown kind is_little value) in
-    ap (λ t. mathlib.Core.Bool.cond t (number_of (turned_if is_little (shown kind is_little value))) None) count
-    ∙ ap number_of (turned_if-twice is_little digits even)
-    ∙ number_of-hex_digits (digits_of kind) value fits
+    ap (λ t. mathlib.Core.Bool.cond t (option_map (in_order kind is_little) (number_of (shown kind is_little value))) None) count
+    ∙ ap (option_map (in_order kind is_little)) (number_of-hex_digits (digits_of kind) (in_order kind is_little value) (in_order_fits kind is_little value fits))
+    ∙ ap Some (in_order_twice kind is_little value fits)
+
+-- Lemma: the lowest byte of the number becomes the next of the reversed bytes.
+pub byte_moves : (n i reversed left all : ℕ) → i < n → reversed * 256 ^ (n - i) + bytes_reversed (n - i) left ≡ all
+    → (reversed * 256 + left % 256) * 256 ^ (n - (i + 1)) + bytes_reversed (n - (i + 1)) (left / 256) ≡ all
+unfolding bytes_reversed
+byte_moves n i reversed left all more e =
+    let next : n - i ≡ suc (n - (i + 1)) = omega arith in
+    let here = rw (next, pow-suc) at e in
+    omega arith
+
+-- Lemma: the reversed bytes with the next one fit in 128 bits.
+pub byte_fits : (n i reversed left value : ℕ) → n ≤ 16 → i < n → reversed * 256 ^ (n - i) + bytes_reversed (n - i) left ≡ bytes_reversed n value
+    → reversed * 256 + left % 256 < 2 ^ 128
+byte_fits n i reversed left value most more e =
+    let some = reversed_fits (n - (i + 1)) 0 in
+    let positive : 0 < 256 = omega arith in
+    let higher : 256 ^ n ≤ 256 ^ 16 = pow-le-pow_right positive most in
+    omega (
+      arith,
+      byte_moves n i reversed left (bytes_reversed n value) more e,
+      reversed_fits n value,
+      le-mul_of_pos_right {m = 256 ^ (n - (i + 1))} (reversed * 256 + left % 256) (omega arith),
+    )
+
+-- Lemmas on powers of 16, which bound the number of digits.
+pub ruleset powers = (add-one, pow-suc, pow-le-pow_right)
+
+-- Lemmas on the bytes of a number that are reversed one by one.
+pub ruleset orders = (byte_moves, byte_fits, in_order_fits, reversed_fits)
 
 -- A byte below '0', or between '9' and 'a', and so no lower-case digit.
 abbrev pub IsNoDigit : ℕ → Type 0
@@ -120,20 +131,5 @@ lacks_hex b (suc n) value none =
     let low : value % 16 < 16 = omega arith in
     lacks_both b (hex_digits n (value / 16)) (hex_digit (value % 16) ∷ []) (lacks_hex b n (value / 16) none) (hex_differs b (value % 16) low none, tt)
 
-lacks_reverse : (b : ℕ) (l : List ℕ) → Lacks b l → Lacks b (reverse l)
-lacks_reverse b [] h = tt
-lacks_reverse b (c ∷ l) h =
-    rw (reverse-append (c ∷ []) l) (lacks_both b (reverse l) (c ∷ []) (lacks_reverse b l h.1) (h.0, tt))
-
-lacks_pairs_swapped : (b : ℕ) (l : List ℕ) → Lacks b l → Lacks b (pairs_swapped l)
-lacks_pairs_swapped b [] h = tt
-lacks_pairs_swapped b (x ∷ []) h = h
-lacks_pairs_swapped b (x ∷ y ∷ l) h = (h.1.0, (h.0, lacks_pairs_swapped b l h.1.1))
-
-lacks_turned_if : (b : ℕ) (is_little : Bool) (l : List ℕ) → Lacks b l → Lacks b (turned_if is_little l)
-lacks_turned_if b true l h = lacks_pairs_swapped b (reverse l) (lacks_reverse b l h)
-lacks_turned_if b false l h = h
-
 pub lacks_shown : (b : ℕ) (kind : Kind) (is_little : Bool) (value : ℕ) → IsNoDigit b → Lacks b (shown kind is_little value)
-lacks_shown b kind is_little value none =
-    lacks_turned_if b is_little (hex_digits (digits_of kind) value) (lacks_hex b (digits_of kind) value none)
+lacks_shown b kind is_little value none = lacks_hex b (digits_of kind) (in_order kind is_little value) none

@@ -1,5 +1,5 @@
 -- Hexadecimal digits of either case, and their values.
-use Rattle.std.specs.Prelude.{ℕ, ◌+◌, ◌-◌, ◌*◌, Bool, List, [], ◌∷◌, length, reverse, Option, Some, None, nat_le, nat_eq, ◌&&◌, option_and_then, if◌then◌else◌}
+use Rattle.std.specs.Prelude.{ℕ, zero, suc, ◌+◌, ◌-◌, ◌*◌, ◌/◌, ◌%◌, ◌^◌, Bool, List, [], ◌∷◌, length, Option, Some, None, nat_le, nat_eq, ◌&&◌, option_and_then, option_map, if◌then◌else◌}
 use Rattle.xxh_io.specs.Kind.{digits_of}
 use Rattle.xxh_io.specs.declared.kind.Kind.{Kind}
 
@@ -19,20 +19,16 @@ number_after before (c ∷ cs) = option_and_then (λ digit. number_after (before
 abbrev pub number_of : List ℕ → Option ℕ
 number_of digits = number_after 0 digits
 
--- The digits, with the two digits of each byte swapped.
-abbrev pub pairs_swapped : List ℕ → List ℕ
-pairs_swapped (a ∷ b ∷ rest) = b ∷ a ∷ pairs_swapped rest
-pairs_swapped rest = rest
+-- The number of the lowest `count` bytes of `value`, in reverse order.
+unfoldable pub bytes_reversed : ℕ → ℕ → ℕ
+bytes_reversed zero value = 0
+bytes_reversed (suc count) value = value % 256 * 256 ^ count + bytes_reversed count (value / 256)
 
--- The digits, with their bytes in reverse order, two digits each.
-abbrev pub turned : List ℕ → List ℕ
-turned digits = pairs_swapped (reverse digits)
-
--- The digits, with their bytes reversed if they are little-endian.
-abbrev pub turned_if : Bool → List ℕ → List ℕ
-turned_if is_little digits = if is_little then turned digits else digits
+-- The digest by this algorithm; if it is little-endian, with its bytes in reverse order.
+abbrev pub in_order : Kind → Bool → ℕ → ℕ
+in_order kind is_little value = if is_little then bytes_reversed (digits_of kind / 2) value else value
 
 -- The digest of the digits. None if their number is not the algorithm's, or a byte is no digit.
 abbrev pub value_shown : Kind → Bool → List ℕ → Option ℕ
 value_shown kind is_little digits =
-    if nat_eq (length digits) (digits_of kind) then number_of (turned_if is_little digits) else None
+    if nat_eq (length digits) (digits_of kind) then option_map (in_order kind is_little) (number_of digits) else None

@@ -4,7 +4,7 @@ use Rattle.xxh_io.specs.Hex.{hex_digits}
 use Rattle.xxh_io.specs.Kind.{digits_of}
 use Rattle.xxh_io.specs.declared.kind.Kind.{Kind}
 use Rattle.xxh_io.specs.declared.kind.Kind.TheVariants.{X32, X64, X3_64, X3_128}
-use Rattle.xxhsum_line.specs.Digits.{turned_if}
+use Rattle.xxhsum_line.specs.Digits.{in_order}
 use Rattle.xxhsum_line.specs.Escapes.{escaped, mark_of}
 use Rattle.xxhsum_line.specs.Tags.{tag_of}
 use Rattle.xxhsum_line.specs.declared.printed.Shape.{Shape}
@@ -12,7 +12,7 @@ use Rattle.xxhsum_line.specs.declared.printed.Style.{Style}
 
 -- The digits of a digest, in the chosen byte order.
 abbrev pub shown : Kind → Bool → ℕ → List ℕ
-shown kind is_little value = turned_if is_little (hex_digits (digits_of kind) value)
+shown kind is_little value = hex_digits (digits_of kind) (in_order kind is_little value)
 
 -- The prefix of the digits in a plain line.
 abbrev pub prefix_of : Kind → List ℕ

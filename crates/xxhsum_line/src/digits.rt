@@ -2,7 +2,7 @@
 
 ghost use Rattle.std.specs.Prelude.{◌≡◌, ◌<◌, ◌≤◌, ◌^◌, length, IfSome};
 ghost use Rattle.xxh_io.specs.Kind.{digits_of};
-ghost use Rattle.xxhsum_line.specs.Digits.{digit_of, number_of, turned, value_shown};
+ghost use Rattle.xxhsum_line.specs.Digits.{digit_of, in_order, number_of, value_shown};
 
 use xxh_io::kind::Kind;
 
@@ -23,6 +23,7 @@ pub fn digit_of(byte: u8) -> Option<u8>
 }
 
 /// Returns the value of at most 32 digits, the most significant first. `None` if a byte is no digit.
+#[tactic(auto, using(crate::proofs::ShownFacts::powers))]
 pub fn number_of(digits: &[u8]) -> Option<u128>
     requires { length digits.now ≤ 32 }
     ensures value { result ≡ number_of digits.now }
@@ -36,14 +37,22 @@ pub fn number_of(digits: &[u8]) -> Option<u128>
     Some(number)
 }
 
-/// Reverses the order of the bytes, two digits each.
-pub fn turn(digits: &mut [u8])
-    ensures { digits.new ≡ turned digits.old }
+/// Returns the digest by this algorithm; if `is_little`, with its bytes in reverse order.
+#[tactic(auto, using(crate::proofs::ShownFacts::orders), unfolding(crate::specs::Digits::bytes_reversed))]
+pub fn in_order(kind: Kind, is_little: bool, value: u128) -> u128
+    ensures value { result ≡ in_order kind is_little value }
+    ensures in_range { value < 16 ^ digits_of kind → result < 16 ^ digits_of kind }
 {
-    digits.reverse();
-    for i in 0..digits.len() / 2 {
-        digits.swap(2 * i, 2 * i + 1);
+    if !is_little {
+        return value;
     }
+    let mut left = value;
+    let mut reversed: u128 = 0;
+    for done in 0..kind.digits() / 2 {
+        reversed = reversed * 256 + left % 256;
+        left /= 256;
+    }
+    reversed
 }
 
 /// Returns the digest of the digits by this algorithm, with its least significant byte first if `is_little`. `None` if
@@ -55,12 +64,6 @@ pub fn value_shown(kind: Kind, digits: &[u8], is_little: bool) -> Option<u128>
     if digits.len() != kind.digits() {
         return None;
     }
-    if !is_little {
-        return number_of(digits);
-    }
-    let mut room = [0; MOST_DIGITS];
-    let turned = &mut room[..digits.len()];
-    turned.copy_from_slice(digits);
-    turn(turned);
-    number_of(turned)
+    let number = number_of(digits)?;
+    Some(in_order(kind, is_little, number))
 }

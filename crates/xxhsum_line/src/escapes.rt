@@ -38,6 +38,7 @@ pub fn put_mark(line: &mut Vec<u8>, name: &[u8]) -> Result<(), AllocError>
 }
 
 /// Appends the name, escaped. Returns `AllocError` if out of memory.
+#[tactic(auto, using(crate::proofs::EscapeFacts::escape_by_escape))]
 pub fn put_escaped(line: &mut Vec<u8>, name: &[u8]) -> Result<(), AllocError>
     ensures { IfOk result (λ _. line.new.items ≡ line.old.items ++ escaped name.now) }
 {
@@ -114,6 +115,7 @@ pub fn name_meant(
 }
 
 /// Unescapes a name. `None` if a backslash begins no escape. Returns `AllocError` if out of memory.
+#[tactic(auto, using(crate::proofs::EscapeFacts::meanings))]
 pub fn unescaped(alloc: Global, text: &[u8]) -> Result<Option<Vec<u8>>, AllocError>
     ensures { IfOk result (λ name. MatchOption name
         (unescaped text.now ≡ None) (λ v. unescaped text.now ≡ Some v.items)) }

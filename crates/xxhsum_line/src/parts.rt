@@ -22,30 +22,33 @@ pub enum Parts<'a> {
 }
 
 /// Returns the line up to its first NUL, or all of it if it has none.
+#[tactic(auto, using(crate::proofs::LackFacts::up_to_nul_cut, crate::proofs::LackFacts::up_to_nul_whole))]
 pub fn up_to_nul(line: &[u8]) -> &[u8]
     ensures { result.now ≡ up_to_nul line.now }
 {
-    match memchr(0, line) {
-        Some(place) => &line[..place],
+    match split_at_first(0, line) {
+        Some((front, _)) => front,
         None => line,
     }
 }
 
 /// Returns the line without the carriage return at its end, if it has one.
+#[tactic(auto, using(crate::proofs::LackFacts::without_return_ends, crate::proofs::LackFacts::without_return_stays))]
 pub fn without_return(line: &[u8]) -> &[u8]
     ensures { result.now ≡ without_return line.now }
 {
-    match line.strip_suffix(b"\r") {
-        Some(front) => front,
-        None => line,
+    match line {
+        [front @ .., b'\r'] => front,
+        _ => line,
     }
 }
 
 /// Splits a line, without its newline, into its parts. `None` if it has neither form.
+#[tactic(auto, using(crate::proofs::PartFacts::no_parts_without_space, crate::proofs::PartFacts::parts_in_brackets))]
 pub fn parts_of(line: &[u8]) -> Option<Parts<'_>>
     ensures { MatchOption result (HasNoParts line.now) (HasParts line.now) }
 {
-    let (first, rest) = split_at_first_space(line)?;
+    let (first, rest) = split_at_first(b' ', line)?;
     match rest {
         [] => None,
         [b'(', inside @ ..] => tagged_parts(first, inside),
@@ -57,6 +60,7 @@ pub fn parts_of(line: &[u8]) -> Option<Parts<'_>>
 }
 
 // Returns the parts of a tagged line with this tag, a space, `(` and then these bytes.
+#[tactic(auto, using(crate::proofs::PartFacts::no_end_without_space))]
 fn tagged_parts<'a>(tag: &'a [u8], inside: &'a [u8]) -> Option<Parts<'a>>
     ensures { MatchOption result (HasNoTaggedParts inside.now) (IsTaggedWith tag.now inside.now) }
 {
@@ -65,16 +69,18 @@ fn tagged_parts<'a>(tag: &'a [u8], inside: &'a [u8]) -> Option<Parts<'a>>
     Some(Parts::Tagged { tag, name, digits })
 }
 
-// Splits bytes at the first space.
-fn split_at_first_space(line: &[u8]) -> Option<(&[u8], &[u8])>
-    ensures { MatchOption result (Lacks 32 line.now)
-        (λ parts. (line.now ≡ parts.0.now ++ 32 ∷ parts.1.now) × Lacks 32 parts.0.now) }
+/// Splits bytes at the first byte of this value. `None` if there is none.
+#[tactic(auto, using(crate::proofs::LackFacts::lacks_nowhere))]
+pub fn split_at_first(byte: u8, bytes: &[u8]) -> Option<(&[u8], &[u8])>
+    ensures { MatchOption result (Lacks byte bytes.now)
+        (λ parts. (bytes.now ≡ parts.0.now ++ byte ∷ parts.1.now) × Lacks byte parts.0.now) }
 {
-    let place = memchr(b' ', line)?;
-    Some((&line[..place], &line[place + 1..]))
+    let place = memchr(byte, bytes)?;
+    Some((&bytes[..place], &bytes[place + 1..]))
 }
 
 // Splits bytes at the last space.
+#[tactic(auto, using(crate::proofs::LackFacts::lacks_nowhere))]
 fn split_at_last_space(line: &[u8]) -> Option<(&[u8], &[u8])>
     ensures { MatchOption result (Lacks 32 line.now)
         (λ parts. (line.now ≡ parts.0.now ++ 32 ∷ parts.1.now) × Lacks 32 parts.1.now) }

@@ -3,7 +3,7 @@
 ghost use Rattle.std.specs.Prelude.{◌≡◌, ◌++◌, IfOk};
 ghost use Rattle.xxhsum_line.specs.Printed.{formed, line_of, name_shown, plain_text, prefix_of, shown, styled_line, tagged_text};
 
-use crate::digits::{MOST_DIGITS, turn};
+use crate::digits::{MOST_DIGITS, in_order};
 use crate::escapes::{put_escaped, put_mark};
 use crate::tags::tag_of;
 use std::alloc::{AllocError, Global};
@@ -150,9 +150,6 @@ fn put_value(line: &mut Vec<u8>, kind: Kind, is_little: bool, value: u128) -> Re
 {
     let mut room = [0; MOST_DIGITS];
     let digits = &mut room[..kind.digits()];
-    write_digits(value, digits);
-    if is_little {
-        turn(digits);
-    }
+    write_digits(in_order(kind, is_little, value), digits);
     line.extend_from_slice(digits)
 }

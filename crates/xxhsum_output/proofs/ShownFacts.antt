@@ -42,11 +42,11 @@ refuses-rest writing bytes i old mid new h took refused =
 -- ---- laws
 
 -- Lemma: the inner sink takes the displayed forms of the chunks, joined.
-pub shows-pieces : {W : Type 0} (writing : SinkRules W) (pieces : List (List ℕ)) (old new : Visible W) → Pieces (TakesShown writing) old pieces new → Took writing (concat (map (shown (is_shown old)) pieces)) (terminal_of old) (terminal_of new)
-shows-pieces writing [] old new led = ([], ap terminal_of led, refl)
-shows-pieces {W} writing (piece ∷ pieces) old new led =
+pub shows_pieces : {W : Type 0} (writing : SinkRules W) (pieces : List (List ℕ)) (old new : Visible W) → Pieces (TakesShown writing) old pieces new → Took writing (concat (map (shown (is_shown old)) pieces)) (terminal_of old) (terminal_of new)
+shows_pieces writing [] old new led = ([], ap terminal_of led, refl)
+shows_pieces {W} writing (piece ∷ pieces) old new led =
     let mid : Visible W = led.0 in
-    let rest = subst (λ on. Took writing (concat (map (shown on) pieces)) (terminal_of mid) (terminal_of new)) led.1.0 (shows-pieces writing pieces mid new led.2) in
+    let rest = subst (λ on. Took writing (concat (map (shown on) pieces)) (terminal_of mid) (terminal_of new)) led.1.0 (shows_pieces writing pieces mid new led.2) in
     Took-join writing (shown (is_shown old) piece) (concat (map (shown (is_shown old)) pieces)) (terminal_of old) (terminal_of mid) (terminal_of new) led.1.1 rest
 
 -- ---- displayed text, which has no control character
@@ -88,5 +88,5 @@ shown-cases : (bytes : List ℕ) (clean : Bool) → is_clean 0 bytes ≡ clean �
 shown-cases bytes true is h = is
 shown-cases bytes false is h = all-clean bytes h 0
 
-pub shown-clean : (bytes : List ℕ) → AllByRecursion (λ byte. byte < 256) bytes → is_clean 0 (shown true bytes) ≡ true
-shown-clean bytes h = shown-cases bytes (is_clean 0 bytes) refl h
+pub shown_clean : (bytes : List ℕ) → AllByRecursion (λ byte. byte < 256) bytes → is_clean 0 (shown true bytes) ≡ true
+shown_clean bytes h = shown-cases bytes (is_clean 0 bytes) refl h

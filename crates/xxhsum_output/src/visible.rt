@@ -36,6 +36,7 @@ impl<W: Sink> Visible<W> {
 
     /// Lemma (no code), the laws of such a sink: the inner sink took what this one took, as it is displayed: unchanged
     /// if it is off, and without control characters if it is on.
+    #[tactic(auto, using(crate::proofs::ShownFacts::shows_pieces, crate::proofs::ShownFacts::shown_clean))]
     pub fn laws()
         ensures pieces { (old new : Visible W) (pieces : List (List ℕ))
             → Pieces ⟦<Visible<W> as Sink>⟧.takes old pieces new

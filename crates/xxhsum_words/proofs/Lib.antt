@@ -1,3 +1,4 @@
 pub mod ListFacts
 pub mod NameFacts
 pub mod NumberFacts
+pub mod LetterFacts

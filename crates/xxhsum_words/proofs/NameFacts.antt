@@ -3,7 +3,7 @@ use Rattle.std.proofs.Common.{◌≡◌, ℕ, ◌+◌, ◌<◌, List, ◌∷◌,
 use Rattle.std.proofs.Math.Seq.{drop-cons}
 use Rattle.std.specs.List.{starts_with}
 use Rattle.xxhsum_words.specs.Name.{has_part}
-use Rattle.xxhsum_words.proofs.ListFacts.{take-drop_all}
+use Rattle.std.proofs.lemmas.List.{take_rest}
 
 has_part-cons : (text : List ℕ) (c : ℕ) (cs : List ℕ) → starts_with nat_eq (c ∷ cs) text ≡ false → has_part text (c ∷ cs) ≡ has_part text cs
 has_part-cons text c cs fails = rw fails refl
@@ -13,4 +13,4 @@ has_part-drop text name i below fails =
     let parts = drop-cons name i 0 below in
     ap (has_part text) parts ∙ has_part-cons text _ _ (rw parts at fails) ∙ ap (λ k. has_part text (drop k name)) (sym (add-one i))
 
-pub ruleset laws_of_parts = (take-drop_all, has_part-drop)
+pub ruleset laws_of_parts = (take_rest, has_part-drop)

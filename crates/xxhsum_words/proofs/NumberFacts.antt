@@ -16,8 +16,8 @@ all_ascii_digits-take_while (c ∷ cs) =
     rw (take_while-cons is_ascii_digit c cs) (all_ascii_digits-cond (is_ascii_digit c) c _ refl (all_ascii_digits-take_while cs))
 
 -- Lemma: the letters before the first letter that is not a digit are digits.
-pub all_ascii_digits-front : (letters : List ℕ) (count : ℕ) → count ≡ length (take_while is_ascii_digit letters) → all_ascii_digits (take count letters) ≡ true
-all_ascii_digits-front letters count is_count =
+pub all_ascii_digits_front : (letters : List ℕ) (count : ℕ) → count ≡ length (take_while is_ascii_digit letters) → all_ascii_digits (take count letters) ≡ true
+all_ascii_digits_front letters count is_count =
     rw (is_count, length-prefix_len is_ascii_digit letters) (all_ascii_digits-take_while letters)
 
 digits_value_after-ge : (n : ℕ) (digits : List ℕ) → n ≤ digits_value_after 10 n digits

@@ -16,6 +16,7 @@ pub(crate) struct Letter {
 }
 
 /// Applies the letters of an argument to these options, in order.
+#[tactic(auto, using(crate::proofs::LetterFacts::letter_by_letter))]
 pub(crate) fn letters(word: &[u8], mut options: Options) -> Step
     ensures { result ≡ letters_step 0 options word.now }
 {

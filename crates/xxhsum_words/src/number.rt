@@ -24,6 +24,7 @@ pub(crate) struct Unit {
 const MOST_BEFORE_A_DIGIT: u32 = 429_496_728;
 
 /// Parses the number at the start of the letters, 0 if they begin with no digit. `None` if it is too large.
+#[tactic(auto, using(crate::proofs::NumberFacts::all_ascii_digits_front))]
 pub(crate) fn number_at(letters: &[u8]) -> Option<Number>
     ensures number { result ≡ number_of letters.now }
     ensures within { IfSome result (λ number. number.letters ≤ length letters.now) }

@@ -106,6 +106,7 @@ pub(crate) enum Step {
 }
 
 /// Parses the arguments after the program's name. The algorithm is this one if they select none.
+#[tactic(auto, using(crate::proofs::ListFacts::places))]
 pub fn asked_by(kind: Kind, words: &[Vec<u8>]) -> Asked
     ensures { result ≡ asked_of kind (map (λ word. word.items) words.now) }
 {
@@ -162,6 +163,7 @@ fn run_from(options: Options, names_from: usize, words: &[Vec<u8>]) -> Asked
 }
 
 /// Returns the arguments from this index on.
+#[tactic(auto, using(crate::proofs::ListFacts::places))]
 pub fn words_behind(words: &[Vec<u8>], place: usize) -> &[Vec<u8>]
     ensures { map (λ word. word.items) result.now
         ≡ drop place (map (λ word. word.items) words.now) }

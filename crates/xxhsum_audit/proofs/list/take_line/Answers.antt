@@ -1,5 +1,4 @@
-use Rattle.std.proofs.Common.{◌∷◌, [], ap, append-nil, map, subst, sym, ◌∙◌}
-use Rattle.std.proofs.lemmas.List.{map-append}
+use Rattle.xxhsum_audit.proofs.Prelude.{◌∷◌, [], ap, append-nil, map, subst, sym, ◌∙◌, map-append}
 use Rattle.xxhsum_line.specs.Meaning.{Means}
 use Rattle.xxhsum_audit.specs.List.{said_by}
 use Rattle.xxhsum_audit.proofs.list.take_line.Goals as goal

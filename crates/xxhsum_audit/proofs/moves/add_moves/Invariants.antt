@@ -1,8 +1,4 @@
-use Rattle.std.proofs.Common.{◌≡◌, ◌+◌, ◌++◌, length, map}
-use Rattle.xxhsum_audit.specs.Audit.{moved, with_copy}
-use Rattle.xxhsum_audit.specs.Found.{founds_of}
-use Rattle.xxhsum_audit.specs.Item.{items_of}
-use Rattle.xxhsum_audit.specs.Side.{by_digest}
+use Rattle.xxhsum_audit.proofs.Prelude.{◌≡◌, ◌++◌, length, map, moved, with_copy, founds_of, items_of, by_digest}
 use Rattle.xxhsum_audit.proofs.moves.add_moves.Given as goal
 
 -- Invariant: the results so far, followed by those of the remaining items, are the final results

@@ -1,9 +1,6 @@
-use Rattle.std.proofs.Common.{◌≡◌, ◌≤◌, ◌<◌, ◌+◌, ℕ, true, false, length, get_or, List, None, Some, ap, sym, ◌∙◌, rules, arith, of_calls, ◌==◌}
-use Rattle.std.proofs.lemmas.List.Sorted.{IsPartitionPoint-from_clause}
-use Rattle.std.specs.Ordering.{ordering_index}
+use Rattle.xxhsum_audit.proofs.Prelude.{◌≡◌, ◌≤◌, ◌<◌, length, get_or, ap, sym, ◌∙◌, rules, arith, ◌==◌, IsPartitionPoint-from_clause, ordering_index, item_of, items_of}
 use Rattle.xxhsum_audit.proofs.DigestFacts.{climbs}
 use Rattle.xxhsum_audit.proofs.SearchFacts.{equal_is, is_below, parted, search-above, search-here, search-none}
-use Rattle.xxhsum_audit.specs.Item.{item_of, items_of}
 use Rattle.xxhsum_audit.proofs.moves.original_in.Goals as goal
 
 pub returns-in_err-first : goal.returns-in_err-first

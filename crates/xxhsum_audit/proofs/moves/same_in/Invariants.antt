@@ -1,7 +1,4 @@
-use Rattle.std.proofs.Common.{◌≡◌, take}
-use Rattle.xxhsum_audit.specs.Audit.{same_in}
-use Rattle.xxhsum_audit.specs.Found.{founds_of}
-use Rattle.xxhsum_audit.specs.Item.{items_of}
+use Rattle.xxhsum_audit.proofs.Prelude.{◌≡◌, take, same_in, founds_of, items_of}
 use Rattle.xxhsum_audit.proofs.moves.same_in.Given as goal
 
 abbrev pub invariant-loop-verdict : goal.invariant-loop-verdict

@@ -1,5 +1,4 @@
-use Rattle.std.proofs.Common.{◌≡◌, length}
-use Rattle.xxhsum_audit.specs.Item.{bare}
+use Rattle.xxhsum_audit.proofs.Prelude.{◌≡◌, length, bare}
 use Rattle.xxhsum_audit.proofs.order.bare.Given as goal
 
 abbrev pub invariant-loop-behind : goal.invariant-loop-behind

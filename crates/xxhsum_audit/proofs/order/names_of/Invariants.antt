@@ -1,5 +1,4 @@
-use Rattle.std.proofs.Common.{◌≡◌, take}
-use Rattle.xxhsum_audit.specs.Item.{items_of, names_of, texts_of}
+use Rattle.xxhsum_audit.proofs.Prelude.{◌≡◌, take, items_of, names_of, texts_of}
 use Rattle.xxhsum_audit.proofs.order.names_of.Given as goal
 
 abbrev pub invariant-loop-one : goal.invariant-loop-one

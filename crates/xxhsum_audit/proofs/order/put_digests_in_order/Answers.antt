@@ -1,10 +1,6 @@
-use Rattle.std.proofs.Common.{◌≡◌, rules, is_lt}
-use Rattle.std.proofs.lemmas.Fn.{always_returns_same}
-use Rattle.std.proofs.lemmas.List.Sorted.{IsPermutation-map, ranks_by}
+use Rattle.xxhsum_audit.proofs.Prelude.{◌≡◌, rules, is_lt, always_returns_same, IsPermutation-map, ranks_by, item_of, rank_digests}
 use Rattle.xxhsum_audit.proofs.OrderFacts.{all_total}
 use Rattle.xxhsum_audit.proofs.SortFacts.{ascends_of}
-use Rattle.xxhsum_audit.specs.Item.{item_of}
-use Rattle.xxhsum_audit.specs.Order.{rank_digests}
 use Rattle.xxhsum_audit.proofs.order.put_digests_in_order.Goals as goal
 
 pub returns : goal.returns

@@ -1,9 +1,6 @@
-use Rattle.std.proofs.Common.{Bor, ◌≡◌, ℕ, List, rules, is_lt}
-use Rattle.std.proofs.lemmas.Fn.{always_returns_same}
-use Rattle.std.proofs.lemmas.List.Sorted.{IsPermutation-map, ranks_by}
+use Rattle.xxhsum_audit.proofs.Prelude.{Bor, ◌≡◌, ℕ, List, rules, is_lt, always_returns_same, IsPermutation-map, ranks_by, rank_names}
 use Rattle.xxhsum_audit.proofs.OrderFacts.{names_total}
 use Rattle.xxhsum_audit.proofs.SortFacts.{ascends_of}
-use Rattle.xxhsum_audit.specs.Order.{rank_names}
 use Rattle.xxhsum_audit.proofs.order.put_names_in_order.Goals as goal
 
 pub returns : goal.returns

@@ -1,7 +1,5 @@
-use Rattle.std.proofs.Common.{◌≡◌, ◌<◌, ap, length, map, subst, sym, ◌∙◌, rules}
-use Rattle.std.proofs.lemmas.List.{map-append}
-use Rattle.xxhsum_audit.proofs.PartFacts.{Stands, stands_last, stands_more, stands_whole}
-use Rattle.xxhsum_audit.specs.Parts.{ArePartsOf}
+use Rattle.xxhsum_audit.proofs.Prelude.{◌<◌, ap, length, map, subst, sym, ◌∙◌, rules, map-append, ArePartsOf}
+use Rattle.xxhsum_audit.proofs.PartFacts.{Stands, stands_last, stands_more}
 use Rattle.xxhsum_audit.proofs.parts.cut_at.Goals as goal
 
 pub loop-part-preserved : goal.loop-part-preserved
@@ -10,11 +8,6 @@ loop-part-preserved c =
     subst (λ x. Stands c.args.end c.args.bytes.now x c.in-Some.rest.now) (sym longer)
     (stands_more c.args.end c.args.bytes.now _ c.loop-part.left.now c.in-Some.part.now c.in-Some.rest.now c.loop-part.invariant
     c.in-Some.ensures.0 c.in-Some.ensures.1)
-
-pub returns-then-is_empty : goal.returns-then-is_empty
-returns-then-is_empty c =
-    let none : length c.loop-part.left.now ≡ 0 = search rules in
-    stands_whole c.args.end c.args.bytes.now _ c.loop-part.left.now c.loop-part.invariant none
 
 pub returns : goal.returns
 returns c =

@@ -1,4 +1,4 @@
-use Rattle.std.proofs.Common.{length, map}
+use Rattle.xxhsum_audit.proofs.Prelude.{length, map}
 use Rattle.xxhsum_audit.proofs.PartFacts.{Stands}
 use Rattle.xxhsum_audit.proofs.parts.cut_at.Given as goal
 

@@ -1,5 +1,4 @@
-use Rattle.std.proofs.Common.{◌≡◌, ◌≤◌, ◌∷◌, ◌++◌, [], ap, length, sym, subst, take, ◌∙◌, arith}
-use Rattle.std.proofs.lemmas.List.{length-take-le}
+use Rattle.xxhsum_audit.proofs.Prelude.{◌≡◌, ◌≤◌, ◌∷◌, ◌++◌, [], ap, length, sym, subst, take, ◌∙◌, arith, length-take-le}
 use Rattle.xxh_io.proofs.PieceFacts.{NoneEmpty-push, Pieces-push, concat-push}
 use Rattle.xxhsum_audit.proofs.read.read_text.Goals as goal
 

@@ -1,4 +1,4 @@
-use Rattle.std.proofs.Common.{◌≡◌, List, ℕ, false}
+use Rattle.xxhsum_audit.proofs.Prelude.{◌≡◌, List, ℕ, false}
 use Rattle.std.specs.List.{concat}
 use Rattle.xxh_io.specs.Pieces.{NoneEmpty, Pieces}
 use Rattle.xxhsum_audit.proofs.read.read_text.Given as goal

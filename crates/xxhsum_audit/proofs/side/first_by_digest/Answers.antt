@@ -1,6 +1,5 @@
 use Rattle.xxhsum_audit.proofs.TurnFacts.{first-both, first-greater, first-less, first-line, first-name, first-none}
-use Rattle.xxhsum_audit.specs.Item.{item_of}
-use Rattle.xxhsum_audit.specs.Order.{compare_digests}
+use Rattle.xxhsum_audit.proofs.Prelude.{item_of, compare_digests}
 use Rattle.xxhsum_audit.proofs.side.first_by_digest.Goals as goal
 
 pub returns-in-None-None : goal.returns-in-None-None

@@ -1,6 +1,5 @@
 use Rattle.xxhsum_audit.proofs.TurnFacts.{first-both, first-greater, first-less, first-line, first-name, first-none}
-use Rattle.xxhsum_audit.specs.Item.{item_of}
-use Rattle.xxhsum_audit.specs.Side.{compare_to_name}
+use Rattle.xxhsum_audit.proofs.Prelude.{item_of, compare_to_name}
 use Rattle.xxhsum_audit.proofs.side.first_by_path.Goals as goal
 
 pub returns-in-None-None : goal.returns-in-None-None

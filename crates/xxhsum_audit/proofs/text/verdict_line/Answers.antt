@@ -1,4 +1,4 @@
-use Rattle.std.proofs.Common.{◌++◌, append-nil, codes}
+use Rattle.xxhsum_audit.proofs.Prelude.{◌++◌, append-nil, codes}
 use Rattle.xxhsum_audit.proofs.text.verdict_line.Goals as goal
 
 pub returns-in-Changed : goal.returns-in-Changed

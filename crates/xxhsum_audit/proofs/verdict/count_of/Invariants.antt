@@ -1,5 +1,4 @@
-use Rattle.std.proofs.Common.{◌≡◌, ◌≤◌, take, count_by}
-use Rattle.xxhsum_audit.specs.Found.{founds_of, is_of_class}
+use Rattle.xxhsum_audit.proofs.Prelude.{◌≡◌, ◌≤◌, take, count_by, founds_of, is_of_class}
 use Rattle.xxhsum_audit.proofs.verdict.count_of.Given as goal
 
 abbrev pub invariant-loop-verdict : goal.invariant-loop-verdict

@@ -1,5 +1,4 @@
-use Rattle.std.proofs.Common.{◌≡◌, ◌<◌, ◌^◌, drop}
-use Rattle.xxhsum_line.specs.Digits.{number_of, number_after}
+use Rattle.xxhsum_line.proofs.Prelude.{◌≡◌, ◌<◌, ◌^◌, drop, number_of, number_after}
 use Rattle.xxhsum_line.proofs.digits.number_of.Given as goal
 
 -- Invariant: the number so far fits its digits, and the remaining digits complete it to the result

@@ -1,8 +1,4 @@
-use Rattle.std.proofs.Common.{◌≡◌, None, Some, ap, subst, sym, ◌∙◌}
-use Rattle.std.proofs.lemmas.Option.{MatchOption-at_none}
-use Rattle.xxhsum_line.specs.Entry.{TextSays, TextSaysNothing}
-use Rattle.xxhsum_line.specs.Escapes.{body_of, is_escaped, name_meant}
-use Rattle.xxhsum_line.specs.Parts.{up_to_nul, without_return}
+use Rattle.xxhsum_line.proofs.Prelude.{◌≡◌, None, Some, ap, subst, sym, ◌∙◌, MatchOption-at_none, TextSays, TextSaysNothing, body_of, is_escaped, name_meant, up_to_nul, without_return}
 use Rattle.xxhsum_line.proofs.EntryFacts.{nothing_shown, nothing_meant}
 use Rattle.xxhsum_line.proofs.entry.meaning_of.Goals as goal
 

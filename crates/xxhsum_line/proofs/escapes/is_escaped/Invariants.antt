@@ -1,5 +1,4 @@
-use Rattle.std.proofs.Common.{◌≡◌, drop}
-use Rattle.xxhsum_line.specs.Escapes.{is_escaped}
+use Rattle.xxhsum_line.proofs.Prelude.{◌≡◌, drop, is_escaped}
 use Rattle.xxhsum_line.proofs.escapes.is_escaped.Given as goal
 
 -- Invariant: the line is escaped if and only if its remaining bytes are

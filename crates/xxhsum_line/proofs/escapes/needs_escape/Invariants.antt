@@ -1,5 +1,4 @@
-use Rattle.std.proofs.Common.{◌≡◌, drop}
-use Rattle.xxhsum_line.specs.Escapes.{needs_escape}
+use Rattle.xxhsum_line.proofs.Prelude.{◌≡◌, drop, needs_escape}
 use Rattle.xxhsum_line.proofs.escapes.needs_escape.Given as goal
 
 -- Invariant: the name needs an escape if and only if its remaining bytes do

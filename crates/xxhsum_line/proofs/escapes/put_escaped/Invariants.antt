@@ -1,5 +1,4 @@
-use Rattle.std.proofs.Common.{◌≡◌, ◌++◌, take}
-use Rattle.xxhsum_line.specs.Escapes.{escaped}
+use Rattle.xxhsum_line.proofs.Prelude.{◌≡◌, ◌++◌, take, escaped}
 use Rattle.xxhsum_line.proofs.escapes.put_escaped.Given as goal
 
 abbrev pub invariant-loop-byte : goal.invariant-loop-byte

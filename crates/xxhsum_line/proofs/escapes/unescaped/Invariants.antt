@@ -1,5 +1,4 @@
-use Rattle.std.proofs.Common.{◌≡◌, drop}
-use Rattle.xxhsum_line.specs.Escapes.{before, meant_behind, unescaped}
+use Rattle.xxhsum_line.proofs.Prelude.{◌≡◌, drop, before, meant_behind, unescaped}
 use Rattle.xxhsum_line.proofs.escapes.unescaped.Given as goal
 
 -- Invariant: the bytes so far, followed by the remaining bytes unescaped, are the result

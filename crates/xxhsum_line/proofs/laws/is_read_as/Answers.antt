@@ -1,5 +1,4 @@
-use Rattle.std.proofs.Common.{subst}
-use Rattle.xxhsum_line.specs.Meaning.{Means}
+use Rattle.xxhsum_line.proofs.Prelude.{subst, Means}
 use Rattle.xxhsum_line.proofs.EntryFacts.{not_other, says_same}
 use Rattle.xxhsum_line.proofs.laws.is_read_as.Goals as goal
 

@@ -1,7 +1,4 @@
-use Rattle.std.proofs.Common.{◌≡◌, ◌++◌, ◌∷◌, [], sym, ◌∙◌, Some}
-use Rattle.std.proofs.lemmas.Bool.Decides.{Decides-eqb}
-use Rattle.std.proofs.lemmas.Slice.Eq.{strip_suffix_is}
-use Rattle.xxhsum_line.specs.Printed.{line_of}
+use Rattle.xxhsum_line.proofs.Prelude.{◌≡◌, ◌++◌, ◌∷◌, [], sym, ◌∙◌, Some, Decides-eqb, strip_suffix_is, line_of}
 use Rattle.xxhsum_line.proofs.PrintedFacts.{text_is_accepted}
 use Rattle.xxhsum_line.proofs.laws.is_read_back.Goals as goal
 

@@ -1,13 +1,6 @@
-use Rattle.std.proofs.Common.{rules, ◌≡◌, ◌++◌, ◌∷◌, [], refl, ap, ◌∙◌, append_assoc, Some, None}
-use Rattle.std.proofs.lemmas.Bool.Decides.{Decides-eqb}
-use Rattle.std.proofs.lemmas.Slice.Eq.{strip_suffix_is}
-use Rattle.xxhsum_line.specs.Parts.{Lacks}
-use Rattle.xxhsum_line.proofs.PartFacts.{no_end_without_space, end_before_space}
+use Rattle.xxhsum_line.proofs.Prelude.{rules, ◌≡◌, ◌++◌, ◌∷◌, [], refl, ap, ◌∙◌, append_assoc, Some, None, Decides-eqb, strip_suffix_is, Lacks}
+use Rattle.xxhsum_line.proofs.PartFacts.{end_before_space}
 use Rattle.xxhsum_line.proofs.parts.tagged_parts.Goals as goal
-
-pub returns-in_err-before : goal.returns-in_err-before
-returns-in_err-before c =
-    rw c.from_residual.ensures (no_end_without_space c.args.inside.now c.in_err-before.ensures)
 
 pub returns-in_err-name : goal.returns-in_err-name
 returns-in_err-name c =

@@ -5,13 +5,14 @@
 
 use crate::rattle::prelude::Vec;
 use crate::rattle::{AllocError, Global};
+use crate::programs::xxhsum_line::parts::split_at_first;
 
 /// Returns the parts before each byte of this value, and the part after the last one if it isn't empty. Returns
 /// `AllocError` if out of memory.
 pub fn cut_at<'b>(alloc: Global, end: u8, bytes: &'b [u8]) -> Result<Vec<&'b [u8]>, AllocError> {
     let mut parts = Vec::new(alloc);
     let mut left = bytes;
-    while let Some((part, rest)) = cut(end, left) {
+    while let Some((part, rest)) = split_at_first(end, left) {
         parts.push(part)?;
         left = rest;
     }
@@ -20,10 +21,4 @@ pub fn cut_at<'b>(alloc: Global, end: u8, bytes: &'b [u8]) -> Result<Vec<&'b [u8
     }
     parts.push(left)?;
     Ok(parts)
-}
-
-// Splits at the first byte of this value.
-fn cut(end: u8, bytes: &[u8]) -> Option<(&[u8], &[u8])> {
-    let place = crate::rattle::memchr::memchr(end, bytes)?;
-    Some((&bytes[..place], &bytes[place + 1..]))
 }

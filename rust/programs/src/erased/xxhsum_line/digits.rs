@@ -28,12 +28,18 @@ pub fn number_of(digits: &[u8]) -> Option<u128> {
     Some(number)
 }
 
-/// Reverses the order of the bytes, two digits each.
-pub fn turn(digits: &mut [u8]) {
-    digits.reverse();
-    for i in 0..digits.len() / 2 {
-        digits.swap(2 * i, 2 * i + 1);
+/// Returns the digest by this algorithm; if `is_little`, with its bytes in reverse order.
+pub fn in_order(kind: Kind, is_little: bool, value: u128) -> u128 {
+    if !is_little {
+        return value;
     }
+    let mut left = value;
+    let mut reversed: u128 = 0;
+    for done in 0..kind.digits() / 2 {
+        reversed = reversed * 256 + left % 256;
+        left /= 256;
+    }
+    reversed
 }
 
 /// Returns the digest of the digits by this algorithm, with its least significant byte first if `is_little`. `None` if
@@ -42,12 +48,6 @@ pub fn value_shown(kind: Kind, digits: &[u8], is_little: bool) -> Option<u128> {
     if digits.len() != kind.digits() {
         return None;
     }
-    if !is_little {
-        return number_of(digits);
-    }
-    let mut room = [0; MOST_DIGITS];
-    let turned = &mut room[..digits.len()];
-    turned.copy_from_slice(digits);
-    turn(turned);
-    number_of(turned)
+    let number = number_of(digits)?;
+    Some(in_order(kind, is_little, number))
 }

@@ -23,23 +23,23 @@ pub enum Parts<'a> {
 
 /// Returns the line up to its first NUL, or all of it if it has none.
 pub fn up_to_nul(line: &[u8]) -> &[u8] {
-    match memchr(0, line) {
-        Some(place) => &line[..place],
+    match split_at_first(0, line) {
+        Some((front, _)) => front,
         None => line,
     }
 }
 
 /// Returns the line without the carriage return at its end, if it has one.
 pub fn without_return(line: &[u8]) -> &[u8] {
-    match line.strip_suffix(b"\r") {
-        Some(front) => front,
-        None => line,
+    match line {
+        [front @ .., b'\r'] => front,
+        _ => line,
     }
 }
 
 /// Splits a line, without its newline, into its parts. `None` if it has neither form.
 pub fn parts_of(line: &[u8]) -> Option<Parts<'_>> {
-    let (first, rest) = split_at_first_space(line)?;
+    let (first, rest) = split_at_first(b' ', line)?;
     match rest {
         [] => None,
         [b'(', inside @ ..] => tagged_parts(first, inside),
@@ -57,10 +57,10 @@ fn tagged_parts<'a>(tag: &'a [u8], inside: &'a [u8]) -> Option<Parts<'a>> {
     Some(Parts::Tagged { tag, name, digits })
 }
 
-// Splits bytes at the first space.
-fn split_at_first_space(line: &[u8]) -> Option<(&[u8], &[u8])> {
-    let place = memchr(b' ', line)?;
-    Some((&line[..place], &line[place + 1..]))
+/// Splits bytes at the first byte of this value. `None` if there is none.
+pub fn split_at_first(byte: u8, bytes: &[u8]) -> Option<(&[u8], &[u8])> {
+    let place = memchr(byte, bytes)?;
+    Some((&bytes[..place], &bytes[place + 1..]))
 }
 
 // Splits bytes at the last space.

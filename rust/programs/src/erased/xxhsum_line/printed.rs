@@ -4,7 +4,7 @@
 //! The lines that are printed.
 
 use crate::rattle::prelude::Vec;
-use crate::programs::xxhsum_line::digits::{MOST_DIGITS, turn};
+use crate::programs::xxhsum_line::digits::{MOST_DIGITS, in_order};
 use crate::programs::xxhsum_line::escapes::{put_escaped, put_mark};
 use crate::programs::xxhsum_line::tags::tag_of;
 use crate::rattle::{AllocError, Global};
@@ -132,9 +132,6 @@ fn prefix_of(kind: Kind) -> &'static [u8] {
 fn put_value(line: &mut Vec<u8>, kind: Kind, is_little: bool, value: u128) -> Result<(), AllocError> {
     let mut room = [0; MOST_DIGITS];
     let digits = &mut room[..kind.digits()];
-    write_digits(value, digits);
-    if is_little {
-        turn(digits);
-    }
+    write_digits(in_order(kind, is_little, value), digits);
     line.extend_from_slice(digits)
 }

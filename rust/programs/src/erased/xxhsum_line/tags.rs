@@ -59,11 +59,10 @@ pub fn kind_of_tag(tag: &[u8]) -> Kind {
 }
 
 /// True if the digits of a line with this tag are little-endian: the tag contains `_LE`.
+// The depth of the recursion is the length of the tag, at most 32,767 in lines of lists.
 pub fn is_little_tag(tag: &[u8]) -> bool {
-    for i in 0..tag.len() {
-        if tag[i..].starts_with(b"_LE") {
-            return true;
-        }
+    match tag {
+        [] => false,
+        [_, rest @ ..] => tag.starts_with(b"_LE") || is_little_tag(rest),
     }
-    false
 }
