@@ -1,12 +1,7 @@
 -- Lemmas on the kernel's two calls on eight accumulators, and on one more stripe of each accumulator.
 use Rattle.std.proofs.Common.{◌≡◌, ℕ, zero, suc, ◌+◌, ◌-◌, ◌*◌, ◌%◌, ◌<◌, ◌≤◌, ◌==◌, if◌then◌else◌, true, false, List, ◌++◌, length, slice_index, bit_xor, refl, sym, ap, ◌∙◌, arith, lit<, zero-add, add-one}
-use Rattle.std.proofs.lemmas.Nat.{xor_lt}
-use Rattle.std.specs.Int.{w64}
-use Rattle.twox_words.proofs.WordFacts.{word_at-append, word_at-part}
-use Rattle.twox_core.specs.Steps.{word64}
-use Rattle.twox_core.specs.Parts.{stripe_at}
+use Rattle.twox_core.proofs.Prelude.{accumulate, eight, round_scramble, stripe_at, w64, word64, word_at-append, word_at-part, xor_lt}
 use Rattle.twox_core.specs.Long.{accumulate_one, scramble_one, accumulator_after, stripes_of}
-use Rattle.twox_core.specs.Kernel.{eight, accumulate, round_scramble}
 
 -- Lemma: functions that agree below 8 give the same eight accumulators.
 pub same_accumulators : (f g : ℕ → ℕ) → ((i : ℕ) → i < 8 → f i ≡ g i) → eight f ≡ eight g

@@ -1,12 +1,8 @@
 -- Lemmas on whole blocks under a secret, each of which ends with a scramble.
 use Rattle.std.proofs.Common.{◌≡◌, ℕ, zero, suc, ◌+◌, ◌-◌, ◌*◌, ◌%◌, ◌<◌, ◌≤◌, ◌==◌, Bool, true, false, List, take, drop, length, refl, sym, ap, ◌∙◌, arith, add-zero}
-use Rattle.std.proofs.lemmas.Bool.Decides.{nat_tests}
-use Rattle.twox_core.specs.Parts.{stripe_at}
-use Rattle.twox_core.specs.Long.{stripes_of}
-use Rattle.twox_core.specs.Kernel.{accumulate, round_scramble}
+use Rattle.twox_core.proofs.Prelude.{StripeAccumulator, accumulate, nat_tests, round_scramble, stripe_at, stripes_of}
 use Rattle.twox_core.specs.Stripes.{at_start, current_stripe_of, after_stripe, after_stripes}
 use Rattle.twox_core.specs.Ending.{accumulate_block}
-use Rattle.twox_core.specs.declared.xxhash3.stripes.StripeAccumulator.{StripeAccumulator}
 use Rattle.twox_core.proofs.PartFacts.{stripe_at-drop}
 use Rattle.twox_core.proofs.StripeFacts.{after_stripes-take, after_stripes-more}
 

@@ -1,12 +1,8 @@
 -- Lemmas on deriving a secret in place: the derived pairs of words overwrite the pairs that they are derived from.
 use Rattle.std.proofs.Common.{◌≡◌, ℕ, zero, suc, ◌+◌, ◌*◌, ◌%◌, ◌^◌, ◌<◌, ◌≤◌, List, ◌++◌, length, take, drop, get_or, Fits, w8, length-take-le, length-drop, sym, ap, ap₂, refl, ◌∙◌, arith, append_assoc, length-append, add-zero, add-one}
 use lib.Lanes.{number_l, digits_l, put_chunk}
-use Rattle.std.proofs.lemmas.List.{drop-drop, take_at, drop_at, take-take}
-use Rattle.std.proofs.lemmas.Simd.{put_chunk_whole}
-use Rattle.std.specs.Int.{w64, to_le_bytes}
+use Rattle.twox_core.proofs.Prelude.{add64, drop-drop, drop_at, put_chunk_whole, sub64, take-take, take_at, to_le_bytes, w64, word64, word_at-append_right, word_at-drop}
 use borrow.Rule.Slice.PartMut.{put_mid}
-use Rattle.twox_words.proofs.WordFacts.{word_at-append_right, word_at-drop}
-use Rattle.twox_core.specs.Steps.{word64, add64, sub64}
 use Rattle.twox_core.specs.Secret.{derived_pairs}
 use Rattle.twox_core.proofs.VectorBytes.{low_bytes, four_words_bytes}
 use Rattle.twox_core.proofs.VectorWords.{word_of_vector}

@@ -1,16 +1,8 @@
 -- Lemmas on finalization: the last block, the last 64 bytes and the merge give low_above_240 and high_above_240.
 use Rattle.std.proofs.Common.{◌≡◌, ℕ, zero, suc, ◌+◌, ◌-◌, ◌*◌, ◌/◌, ◌%◌, ◌^◌, ◌<◌, ◌≤◌, ◌==◌, false, List, length, take, drop, slice_index, refl, sym, ap, ap₂, ◌∙◌, arith, lit<, add-zero, zero-add, add-one, length-drop}
-use Rattle.std.proofs.Math.Nat.{div-add-mod, div-div-eq-div-mul}
-use Rattle.std.proofs.lemmas.Bool.Decides.{nat_tests}
-use Rattle.std.proofs.lemmas.List.{drop-drop, take_all}
-use Rattle.std.proofs.lemmas.Nat.{mod-mul-add, mod_below}
-use Rattle.std.specs.Int.{w64}
-use Rattle.twox_words.specs.Word.{counted}
-use Rattle.twox_words.proofs.WordFacts.{word_at-part}
+use Rattle.twox_core.proofs.Prelude.{accumulate, counted, div-add-mod, div-div-eq-div-mul, drop-drop, eight, mod-mul-add, mod_below, nat_tests, stripe_at, take_all, w64, word_at-part}
 use Rattle.twox_core.specs.Steps.{word64, sum_below}
-use Rattle.twox_core.specs.Parts.{stripe_at}
 use Rattle.twox_core.specs.Long.{accumulator_after, last_accumulator, stripes_of, pair_fold, merge_accumulators, low_above_240, high_above_240}
-use Rattle.twox_core.specs.Kernel.{eight, accumulate}
 use Rattle.twox_core.specs.Ending.{accumulators_after, stripes_before, block_accumulators, last_block, stream_accumulators, stream_block, last_stripe, accumulate_block, final_accumulators, finalize_64, finalize_high, finalize_128}
 use Rattle.twox_core.proofs.PartFacts.{stripe_at-take, stripe_at-drop}
 use Rattle.twox_core.proofs.AccumulatorFacts.{accumulates, same_accumulators, stripe_done, next_without}

@@ -1,7 +1,6 @@
 -- Lemmas on kernel computations that differ from the definition: a product of a 64-bit word from the products of its
 -- 32-bit halves, and the sums of four stripes.
-use Rattle.std.proofs.Common.{◌≡◌, ℕ, ◌+◌, ◌-◌, ◌*◌, ◌/◌, ◌%◌, ◌^◌, bit_and, arith, ap, ◌∙◌}
-use Rattle.std.proofs.lemmas.Nat.{and_mask}
+use Rattle.twox_core.proofs.Prelude.{◌%◌, ◌*◌, ◌+◌, ◌-◌, ◌/◌, ◌^◌, ◌∙◌, ◌≡◌, and_mask, ap, arith, bit_and, ℕ}
 
 parts : (p q : ℕ) → (p % 2 ^ 64 + q % 2 ^ 64 * 2 ^ 32 % 2 ^ 64) % 2 ^ 64 ≡ (q * 2 ^ 32 + p) % 2 ^ 64
 parts p q = omega arith

@@ -1,21 +1,22 @@
+pub mod AccumulatorFacts
 pub mod BlockFacts
 pub mod DerivedFacts
 pub mod EndingFacts
 pub mod HalvesFacts
 pub mod KernelFacts
 pub mod LongValues
-pub mod AccumulatorFacts
 pub mod MixFacts
 pub mod OneshotLaws
 pub mod OutsideVectors128
 pub mod OutsideVectors64
-pub mod VectorBytes
 pub mod PartFacts
+mod Prelude
 pub mod ShortLaws
 pub mod StepLaws
 pub mod StreamFacts
 pub mod StripeFacts
 pub mod TakenFacts
 pub mod ValueLaws
+pub mod VectorBytes
 pub mod VectorWords
 pub mod Vectors

@@ -1,6 +1,5 @@
 -- Lemmas on inputs above 240 bytes: finalization gives the value under every seed.
-use Rattle.std.proofs.Common.{◌≡◌, ℕ, ◌<◌, ◌^◌, List, length, sym, ◌∙◌, arith}
-use Rattle.twox_core.specs.Long.{stripes_of}
+use Rattle.twox_core.proofs.Prelude.{◌<◌, ◌^◌, ◌∙◌, ◌≡◌, List, arith, length, stripes_of, sym, ℕ}
 use Rattle.twox_core.specs.Ending.{block_accumulators, last_block, last_stripe, finalize_64, finalize_128}
 use Rattle.twox_core.specs.Value.{xxh3_64, xxh3_128}
 use Rattle.twox_core.proofs.EndingFacts.{block_low, block_both}

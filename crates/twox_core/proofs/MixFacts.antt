@@ -1,8 +1,5 @@
 -- Lemmas on mixing steps over consecutive parts of a list.
-use Rattle.std.proofs.Common.{◌≡◌, ℕ, suc, ◌+◌, ◌-◌, ◌*◌, ◌<◌, List, length, bit_xor, ap, refl, ◌∙◌, arith, add-zero, add-one, lit≤}
-use Rattle.std.specs.Int.{w64}
-use Rattle.twox_words.proofs.WordFacts.{word_at-part}
-use Rattle.twox_core.specs.Parts.{chunk_at}
+use Rattle.twox_core.proofs.Prelude.{◌*◌, ◌+◌, ◌-◌, ◌<◌, ◌∙◌, ◌≡◌, List, add-one, add-zero, ap, arith, bit_xor, chunk_at, length, lit≤, refl, suc, w64, word_at-part, ℕ}
 use Rattle.twox_core.specs.Steps.{word64, add64, mix, sum_below}
 use Rattle.twox_core.specs.Middle.{accumulator_step, first_17_to_128, second_17_to_128, pairs_first, pairs_second}
 

@@ -1,8 +1,5 @@
 -- Lemmas on one-shots. Every seeded call uses the default secret up to 240 bytes.
-use Rattle.std.proofs.Common.{◌≡◌, ℕ, ◌<◌, ◌≤◌, ◌^◌, ◌%◌, List, length, ap, ◌∙◌, arith, inl, inr}
-use Rattle.twox_words.specs.Word.{IsBytes}
-use Rattle.twox_core.specs.OtherBytes.{IsOtherShort64}
-use Rattle.twox_core.specs.Laws.{TellsOthers64, TellsOthers128, HasLowHalf64}
+use Rattle.twox_core.proofs.Prelude.{◌%◌, ◌<◌, ◌^◌, ◌∙◌, ◌≡◌, ◌≤◌, HasLowHalf64, IsBytes, IsOtherShort64, List, TellsOthers128, TellsOthers64, ap, arith, inl, inr, length, ℕ}
 use Rattle.twox_core.specs.Value.{xxh3_64, xxh3_128}
 use Rattle.twox_core.proofs.ValueLaws.{changed_bytes_64, changed_seed_64, changed_bytes_128, changed_seed_128, low_half}
 

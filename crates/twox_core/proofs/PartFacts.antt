@@ -1,8 +1,5 @@
 -- Lemmas on the stripes, chunks and pairs of chunks of a list, split all at once or read one by one.
-use Rattle.std.proofs.Common.{◌≡◌, ℕ, zero, suc, ◌+◌, ◌-◌, ◌*◌, ◌<◌, ◌≤◌, List, ◌∷◌, length, take, drop, get_or, refl, sym, ap, ap₂, ◌∙◌, arith}
-use Rattle.std.proofs.lemmas.List.{drop-drop, drop-take, take-take}
-use Rattle.std.specs.Simd.{first_chunks}
-use Rattle.twox_words.proofs.WordFacts.{first_chunks_at, first_chunks_take}
+use Rattle.twox_core.proofs.Prelude.{◌*◌, ◌+◌, ◌-◌, ◌<◌, ◌∙◌, ◌∷◌, ◌≡◌, ◌≤◌, List, ap, ap₂, arith, drop, drop-drop, drop-take, first_chunks, first_chunks_at, first_chunks_take, get_or, length, refl, suc, sym, take, take-take, zero, ℕ}
 use Rattle.twox_core.specs.Parts.{chunk_at, chunks_at, pair_at, pairs_at, stripe_at}
 
 -- ---- chunks of n elements

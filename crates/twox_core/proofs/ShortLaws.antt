@@ -1,14 +1,8 @@
 -- Lemmas on short inputs: a value determines the bytes, given the seed, and the seed, given the bytes.
 use Rattle.std.proofs.Common.{◌≡◌, ℕ, zero, suc, ◌+◌, ◌-◌, ◌*◌, ◌/◌, ◌%◌, ◌^◌, ◌<◌, ◌≤◌, Bool, true, false, if◌then◌else◌, nat_lt, List, [], ◌∷◌, length, slice_index, bit_xor, sym, ap, refl, subst, inl, inr, ◌∙◌, arith, lit<, mod-lt, pow_pos}
-use Rattle.std.specs.Int.{w32, w64, swap_bytes}
-use Rattle.std.proofs.lemmas.Nat.{xor_lt}
-use Rattle.std.proofs.lemmas.Grind.{same_number_lists}
-use Rattle.std.proofs.lemmas.Bool.{cases_lt}
-use Rattle.std.proofs.lemmas.Bool.Decides.{nat_tests}
+use Rattle.twox_core.proofs.Prelude.{cases_lt, nat_tests, prime32_2, prime64_1, same_number_lists, swap_bytes, told_by_word_32, told_by_word_64, w32, w64, word_at-lt_32, word_at-lt_64, xor_lt}
 use Rattle.twox_words.specs.Word.{IsBytes, word_at}
 use Rattle.twox_words.proofs.OneToOne.{xor_cancel_left, xor_cancel_right, multiple_one_to_one, sum_one_to_one_64}
-use Rattle.twox_words.proofs.WordLaws.{word_at-lt_32, word_at-lt_64, told_by_word_32, told_by_word_64}
-use Rattle.twox_core.specs.Primes.{prime32_2, prime64_1}
 use Rattle.twox_core.specs.Secret.{default_secret}
 use Rattle.twox_core.specs.Steps.{word64, avalanche}
 use Rattle.twox_core.specs.Short.{pair32, pair64, value64_0, low_0, combined_bytes, low_1_to_3, strong, mixed_seed, first32, last32, value64_4_to_8, product_4_to_8, low_4_to_8, high_4_to_8, first64, last64, first_9_to_16, second_9_to_16, high_word_9_to_16, low_word_9_to_16, both_words_9_to_16, product_9_to_16}

@@ -1,13 +1,8 @@
 -- Lemmas on the mixing steps of XXH3 for short inputs: each is one-to-one.
 use Rattle.std.proofs.Common.{◌≡◌, ℕ, ◌+◌, ◌-◌, ◌*◌, ◌/◌, ◌%◌, ◌^◌, ◌<◌, ◌≤◌, bit_xor, sym, ap, ap₂, refl, ◌∙◌, arith, lit≤, lit<, mod-lt, pow_pos}
-use Rattle.std.specs.Int.{w32, w64, swap_bytes}
-use Rattle.std.proofs.lemmas.Nat.{xor_shr, xor_mod, xor_lt}
-use Rattle.std.proofs.lemmas.Nat.Bits.{same_from_bits, bit_at_xor}
-use Rattle.std.proofs.Math.Nat.{mul-mod_left, div-eq_of_lt}
-use Rattle.std.specs.Int.Bits.{xor_zero_r}
+use Rattle.twox_core.proofs.Prelude.{bit_at_xor, div-eq_of_lt, mul-mod_left, prime32_2, prime64_2, prime64_3, prime_mx1, prime_mx2, same_from_bits, swap_bytes, w32, w64, xor_lt, xor_mod, xor_shr, xor_zero_r}
 use Rattle.twox_words.proofs.Rotations.{rotated, rotated-lt, rotated-xor, rotated-rotated, whole_turn, turned_back, left_is_rotated, left-lt}
 use Rattle.twox_words.proofs.OneToOne.{IsOneToOne, then_one_to_one, xor_cancel_right, xor_shift_told, xor_shift_one_to_one, xor_shift-lt, multiple_one_to_one, rotated_one_to_one, avalanche_told}
-use Rattle.twox_core.specs.Primes.{prime64_2, prime64_3, prime_mx1, prime_mx2, prime32_2}
 use Rattle.twox_core.specs.Steps.{avalanche, avalanche_xxh64}
 use Rattle.twox_core.specs.Short.{xor_rotated, strong, mixed_seed, sum_4_to_8, xor_4_to_8, low_4_to_8, high_4_to_8}
 

@@ -1,19 +1,11 @@
 -- Lemmas on streams: a stream represents the concatenation of its chunks.
 use Rattle.std.proofs.Common.{◌≡◌, ℕ, Option, zero, suc, ◌+◌, ◌-◌, ◌*◌, ◌/◌, ◌%◌, ◌^◌, ◌<◌, ◌≤◌, min, nat_le, nat_lt, if◌then◌else◌, Bool, true, false, List, [], ◌++◌, length, take, drop, refl, sym, ap, ◌∙◌, arith, length-append, length-drop}
-use Rattle.std.proofs.Math.Seq.{take-append-add}
-use Rattle.std.proofs.lemmas.Bool.Decides.{nat_tests}
+use Rattle.twox_core.proofs.Prelude.{CoreState, CoreView, StreamKey, TakenStripes, buffered_of, counted, done_of, nat_tests, short_secret, stream_seed, stripes_of, take-append-add, total_of}
 use Rattle.std.proofs.lemmas.List.{append-nil, append_assoc, drop-append-le, drop-drop, drop-take, drop_all, drop_at, take_at, length-take-le, take-append-drop}
-use Rattle.twox_words.specs.Word.{counted}
-use Rattle.twox_core.specs.Value.{short_secret, stream_seed}
-use Rattle.twox_core.specs.Long.{stripes_of}
 use Rattle.twox_core.specs.Ending.{accumulators_after, stream_accumulators, stream_block, last_stripe}
-use Rattle.twox_core.specs.StreamKey.{StreamKey}
-use Rattle.twox_core.specs.CoreView.{CoreView, total_of, done_of, buffered_of}
 use Rattle.twox_core.specs.AfterWrite.{after_taking, empty_state, stripes_in_place, after_rest, after_long_piece, state_after_write, core_after_write}
 use Rattle.twox_core.specs.Finish.{last_bytes, buffered_bytes, stripes_left, end_accumulators, end_block, state_finish, core_finish}
 use Rattle.twox_core.specs.StandsFor.{Holds, LeavesLast, Follows, StandsFor, IsCopy}
-use Rattle.twox_core.specs.declared.xxhash3.streaming.taken_stripes.TakenStripes.{TakenStripes}
-use Rattle.twox_core.specs.declared.xxhash3.streaming.core_state.CoreState.{CoreState}
 use Rattle.twox_core.proofs.StripeFacts.{folded_more}
 use Rattle.twox_core.proofs.TakenFacts.{took_none, took_longer, took_more}
 

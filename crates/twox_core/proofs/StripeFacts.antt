@@ -1,14 +1,9 @@
 -- Lemmas on taking stripes one by one: they give the accumulators of the definition.
 use Rattle.std.proofs.Common.{◌≡◌, ℕ, zero, suc, ◌+◌, ◌-◌, ◌*◌, ◌/◌, ◌%◌, ◌<◌, ◌≤◌, ◌==◌, Bool, true, false, List, [], ◌++◌, length, take, drop, refl, sym, ap, ap₂, ◌∙◌, arith, add-zero, add-one, length-drop}
-use Rattle.std.proofs.Math.Nat.{zero-mod}
-use Rattle.std.proofs.lemmas.Bool.Decides.{nat_tests}
-use Rattle.std.proofs.lemmas.List.{append-nil, drop-append-le, drop-drop, take-append-le}
+use Rattle.twox_core.proofs.Prelude.{StripeAccumulator, append-nil, drop-append-le, drop-drop, eight, nat_tests, stripe_at, take-append-le, zero-mod}
 use Rattle.std.proofs.lemmas.Nat.{div-add-mod', mod-mul-add, mod_below}
-use Rattle.twox_core.specs.Parts.{stripe_at}
 use Rattle.twox_core.specs.Long.{accumulate_one, scramble_one, accumulator_after, stripes_of}
-use Rattle.twox_core.specs.Kernel.{eight}
 use Rattle.twox_core.specs.Stripes.{sum_at_place, no_stripe, after_stripe, after_stripes, HasTaken}
-use Rattle.twox_core.specs.declared.xxhash3.stripes.StripeAccumulator.{StripeAccumulator}
 use Rattle.twox_core.proofs.PartFacts.{stripe_at-take, stripe_at-drop}
 use Rattle.twox_core.proofs.AccumulatorFacts.{accumulates, scrambles, same_accumulators, stripe_done, next_with, next_without, accumulator_after-append}
 

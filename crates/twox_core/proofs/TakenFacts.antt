@@ -1,11 +1,7 @@
 -- Lemmas on the stripes that a stream has taken, and on the last of them.
 use Rattle.std.proofs.Common.{◌≡◌, ℕ, zero, suc, ◌+◌, ◌-◌, ◌*◌, ◌<◌, ◌≤◌, List, ◌++◌, length, take, drop, refl, sym, ap, ◌∙◌, arith, add-zero, length-drop}
-use Rattle.std.proofs.lemmas.List.{drop-append-le, take-append-le, drop-drop}
-use Rattle.twox_core.specs.Parts.{stripe_at}
-use Rattle.twox_core.specs.Long.{stripes_of}
+use Rattle.twox_core.proofs.Prelude.{TakenStripes, TookStripes, drop-append-le, drop-drop, stripe_at, stripes_of, take-append-le}
 use Rattle.twox_core.specs.AfterWrite.{newest_stripe, after_taking, none_taken}
-use Rattle.twox_core.specs.StandsFor.{TookStripes}
-use Rattle.twox_core.specs.declared.xxhash3.streaming.taken_stripes.TakenStripes.{TakenStripes}
 use Rattle.twox_core.proofs.PartFacts.{stripe_at-take}
 use Rattle.twox_core.proofs.StripeFacts.{after_stripes-take, folded_none, folded_more, folded_longer}
 

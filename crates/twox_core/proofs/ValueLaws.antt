@@ -1,16 +1,11 @@
 -- Laws of the values: other bytes, another seed, and the low half of the 128-bit value.
 use Rattle.std.proofs.Common.{◌≡◌, ◌≢◌, ℕ, ◌+◌, ◌*◌, ◌/◌, ◌%◌, ◌^◌, ◌<◌, ◌≤◌, ◌⊎◌, List, length, nat_lt, true, false, inl, inr, refl, sym, ap, ◌∙◌, arith, mod-lt, pow_pos}
-use Rattle.std.proofs.lemmas.Bool.{cases_lt}
-use Rattle.std.proofs.lemmas.Bool.Decides.{nat_tests}
-use Rattle.std.proofs.lemmas.Grind.{same_number_lists}
-use Rattle.twox_words.specs.Word.{IsBytes}
-use Rattle.twox_words.proofs.OneToOne.{xor_shift-lt}
+use Rattle.twox_core.proofs.Prelude.{IsBytes, IsOtherShort128, IsOtherShort64, cases_lt, nat_tests, same_number_lists, xor_shift-lt}
 use Rattle.twox_core.specs.Steps.{avalanche, avalanche_xxh64}
 use Rattle.twox_core.specs.Short.{value64_0, low_0, high_0, combined_bytes, low_1_to_3, high_1_to_3, value64_4_to_8, product_4_to_8, low_4_to_8, high_4_to_8, product_9_to_16}
 use Rattle.twox_core.specs.Long.{merge_accumulators, low_above_240, high_above_240}
 use Rattle.twox_core.specs.Value.{Bytes0, Bytes1To3, Bytes4To8, Bytes9To16, Bytes17To128, Bytes129To240, BytesAbove240, range_of, value64_in, low_in, high_in, xxh3_64, xxh3_128, effective_secret}
 use Rattle.twox_core.specs.Secret.{default_secret}
-use Rattle.twox_core.specs.OtherBytes.{IsOtherShort64, IsOtherShort128}
 use Rattle.twox_core.proofs.ShortLaws.{empty64_in_seed, empty128_in_seed, tiny_one_to_one, tiny_in_seed, four64_one_to_one, four64_in_seed, four128_told, four128_in_seed, nine128_told, nine128_in_seed}
 
 -- ---- the ranges of lengths

@@ -1,6 +1,5 @@
 -- Lemmas on the bytes of a vector: the bytes of a vector of four words are the bytes of the words in order.
-use Rattle.std.proofs.Common.{◌≡◌, ℕ, zero, suc, ◌+◌, ◌*◌, ◌/◌, ◌%◌, ◌^◌, ◌<◌, List, [], ◌∷◌, ◌++◌, refl, arith, ap, ◌∙◌}
-use Rattle.std.specs.Int.{w64, to_le_bytes}
+use Rattle.twox_core.proofs.Prelude.{[], ◌%◌, ◌*◌, ◌++◌, ◌+◌, ◌/◌, ◌<◌, ◌^◌, ◌∙◌, ◌∷◌, ◌≡◌, List, ap, arith, refl, suc, to_le_bytes, w64, zero, ℕ}
 
 -- The k lowest bytes of n.
 abbrev pub low_bytes : ℕ → ℕ → List ℕ

@@ -1,11 +1,8 @@
 -- Lemmas on the words of a vector of any width that is loaded from bytes.
 use Rattle.std.proofs.Common.{◌≡◌, ℕ, ◌+◌, ◌*◌, ◌^◌, ◌<◌, ◌≤◌, List, [], ◌∷◌, take, drop, get_or, Fits, w8, refl, ◌∙◌, arith, add-zero, length, length-drop, length-take-le}
 use lib.Lanes.{number_l, digits_l}
-use Rattle.std.proofs.lemmas.Simd.{get_or_wider, chunk-fits, below_from_Fits}
-use Rattle.std.specs.Int.{w64, from_le_bytes}
+use Rattle.twox_core.proofs.Prelude.{below_from_Fits, chunk-fits, from_le_bytes, get_or_wider, listed, take_listed, w64, word64, word_at-part}
 use Rattle.twox_words.specs.Word.{word_at}
-use Rattle.twox_words.proofs.WordFacts.{listed, take_listed, word_at-part}
-use Rattle.twox_core.specs.Steps.{word64}
 
 number_of_eight : (a b c d e f g h : ℕ) → number_l 256 (a ∷ b ∷ c ∷ d ∷ e ∷ f ∷ g ∷ h ∷ []) ≡ from_le_bytes w64 (a ∷ b ∷ c ∷ d ∷ e ∷ f ∷ g ∷ h ∷ [])
 number_of_eight a b c d e f g h = omega arith

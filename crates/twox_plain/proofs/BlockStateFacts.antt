@@ -1,13 +1,7 @@
 -- Lemmas on a state that follows a message in chunks, for any block length and any accumulators.
 use Rattle.std.proofs.Common.{◌≡◌, ℕ, ◌+◌, ◌-◌, ◌*◌, ◌/◌, ◌%◌, ◌^◌, ◌<◌, ◌≤◌, min, List, [], ◌++◌, length, take, drop, nat_lt, true, false, inl, inr, refl, sym, ap, ap₂, subst, ◌∙◌, arith, length-append, length-drop}
-use Rattle.std.proofs.lemmas.Bool.{cases_lt}
-use Rattle.std.proofs.lemmas.Bool.Decides.{nat_tests}
+use Rattle.twox_plain.proofs.Prelude.{cases_lt, counted, div-add-mod', div-eq_of_lt, div-mul-add, drop-append-add, mod-mul-add, mod_below, nat_tests, take-append-add, take-put_mid}
 use Rattle.std.proofs.lemmas.List.{append-nil, drop-append-le, drop-drop, drop_all, drop_at, take_at, length-take-le}
-use Rattle.std.proofs.lemmas.Nat.{div-mul-add, mod-mul-add, div-add-mod', mod_below}
-use Rattle.std.proofs.lemmas.Slice.{take-put_mid}
-use Rattle.std.proofs.Math.Nat.{div-eq_of_lt}
-use Rattle.std.proofs.Math.Seq.{take-append-add, drop-append-add}
-use Rattle.twox_words.specs.Word.{counted}
 use Rattle.twox_plain.specs.BlockState.{BlockState, Follows, AgreeInUse, buffer_with, after_blocks, after_piece}
 
 -- Lemma: the count of m plus the length of d, at most 2 ^ 64 - 1, is the count of m ++ d.

@@ -1,12 +1,6 @@
 -- Lemmas on a JSON array that is read byte by byte.
 use Rattle.std.proofs.Common.{◌≡◌, ◌<◌, ◌≤◌, ◌+◌, ◌++◌, ◌∙◌, ℕ, List, [], ◌∷◌, Option, None, Some, option_map, length, append_assoc, take, drop, set, get_or, refl, ap, sym, arith}
-use Rattle.std.proofs.lemmas.Bool.{eq-eqb, ne_eqb}
-use Rattle.std.proofs.lemmas.List.{take_more_set, drop_more, append-nil, take_all, drop_all}
-use Rattle.serde_json.specs.Data.{Data, no_items}
-use Rattle.serde_json.specs.Find.{as_array}
-use Rattle.serde_json.specs.View.{items_view, view}
-use Rattle.serde_json.specs.declared.value.Value.{Value}
-use Rattle.twox_plain.specs.SavedText.{item_count, item_bytes, bytes_of_data, whole_number}
+use Rattle.twox_plain.proofs.Prelude.{Data, Value, append-nil, as_array, bytes_of_data, drop_all, drop_more, eq-eqb, item_bytes, item_count, items_view, ne_eqb, no_items, take_all, take_more_set, view, whole_number}
 
 -- Lemma: an array has as many elements as the list that it views.
 item_count-items_view : (vs : List Value) → item_count (items_view vs) ≡ length vs

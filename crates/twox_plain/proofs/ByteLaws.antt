@@ -1,10 +1,7 @@
 -- Lemmas on values that take the bytes of a list one after another: one-to-one steps determine the start and detect a
 -- changed byte.
-use Rattle.std.proofs.Common.{◌≡◌, ◌≢◌, ℕ, ◌+◌, ◌-◌, ◌^◌, ◌<◌, ◌≤◌, List, slice_index, inl, inr, sym, ap, subst, ◌∙◌, arith}
-use Rattle.std.proofs.lemmas.Bool.{cases_lt}
-use Rattle.twox_words.specs.Word.{IsBytes}
+use Rattle.twox_plain.proofs.Prelude.{◌+◌, ◌-◌, ◌<◌, ◌^◌, ◌∙◌, ◌≡◌, ◌≢◌, ◌≤◌, DiffersWithin, IsBytes, List, ap, arith, cases_lt, inl, inr, slice_index, subst, sym, ℕ}
 use Rattle.twox_plain.specs.Units.{after_units}
-use Rattle.twox_plain.specs.ChangedUnit.{DiffersWithin}
 use Rattle.twox_plain.proofs.UnitFacts.{after_units_same}
 use Rattle.twox_plain.proofs.UnitLaws.{IsTelling, start_told, unit_told}
 use Rattle.twox_plain.proofs.ChangedUnitFacts.{differ}

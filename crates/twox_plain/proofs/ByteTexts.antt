@@ -1,11 +1,6 @@
 -- Lemmas on the texts and values of arrays of bytes, and on reading them back.
-use Rattle.std.proofs.Common.{◌≡◌, ◌∷◌, ℕ, suc, false, true, nat_lt, List, [], Some, length, refl, ap, arith}
-use Rattle.std.proofs.lemmas.Bool.{eq-eqb}
-use Rattle.std.proofs.lemmas.Bool.Decides.{nat_tests}
-use Rattle.serde_json.specs.Data.{items_depth}
-use Rattle.serde_json.specs.Written.{items_have_float, items_text}
+use Rattle.twox_plain.proofs.Prelude.{[], ◌∷◌, ◌≡◌, IsBytes, List, Some, ap, arith, eq-eqb, false, items_depth, items_have_float, items_text, length, nat_lt, nat_tests, refl, suc, true, ℕ}
 use Rattle.serde_json.proofs.OnLiterals.{serde_json_on_literals}
-use Rattle.twox_words.specs.Word.{IsBytes}
 use Rattle.twox_plain.specs.SavedText.{item_count, item_bytes, bytes_of_data, more_numbers, numbers_text, items_of_bytes, bytes_data}
 
 pub no_float : (bytes : List ℕ) → items_have_float (items_of_bytes bytes) ≡ false

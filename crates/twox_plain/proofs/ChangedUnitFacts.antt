@@ -1,11 +1,7 @@
 -- Lemmas on lists that differ within one unit.
 use Rattle.std.proofs.Common.{◌≡◌, ℕ, ◌+◌, ◌-◌, ◌<◌, ◌≤◌, ◌⊎◌, List, length, take, drop, slice_index, inl, inr, sym, ap, subst, ◌∙◌, arith}
-use Rattle.std.proofs.lemmas.Bool.{cases_lt}
-use Rattle.std.proofs.lemmas.Grind.{same_number_lists}
-use Rattle.std.specs.Int.{Width, byte_len, from_le_bytes}
+use Rattle.twox_plain.proofs.Prelude.{DiffersWithin, Width, at_part, byte_len, cases_lt, from_le_bytes, length-part, same_number_lists}
 use Rattle.twox_words.specs.Word.{word_at}
-use Rattle.twox_words.proofs.WordLaws.{at_part, length-part}
-use Rattle.twox_plain.specs.ChangedUnit.{DiffersWithin}
 
 -- Lemma: lists that differ within a unit differ in a byte of the unit.
 pub differ : (m n : List ℕ) (from size : ℕ) → DiffersWithin from size m n → ((k : ℕ) → k < size → slice_index m (from + k) ≡ slice_index n (from + k)) → ⊥

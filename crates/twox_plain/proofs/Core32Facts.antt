@@ -1,9 +1,7 @@
 -- Lemmas on the accumulators of XXH32, which follow the message stripe by stripe.
-use Rattle.std.proofs.Common.{◌≡◌, ℕ, ◌+◌, ◌*◌, ◌≤◌, List, ◌++◌, take, drop, length, slice_index}
-use Rattle.std.specs.Int.{w32}
+use Rattle.twox_plain.proofs.Prelude.{◌*◌, ◌++◌, ◌+◌, ◌≡◌, ◌≤◌, Core, List, drop, length, slice_index, take, w32, ℕ}
 use Rattle.twox_plain.specs.Xxh32.{initial_accumulators, round, accumulator}
 use Rattle.twox_plain.specs.Core32.{core_of_stripes, core_after_stripes}
-use Rattle.twox_plain.specs.declared.xxhash32.Core.{Core}
 use Rattle.twox_plain.proofs.FourAccumulators.{after_stripes_one, after_stripes_part, after_stripes_more, after_stripes_longer}
 
 abbrev pub core_of : ℕ → ℕ → ℕ → ℕ → Core

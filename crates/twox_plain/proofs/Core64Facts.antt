@@ -1,6 +1,5 @@
 -- Lemmas on the accumulators of XXH64, which follow the message stripe by stripe.
-use Rattle.std.proofs.Common.{◌≡◌, ℕ, ◌+◌, ◌*◌, ◌≤◌, List, ◌++◌, take, drop, length, slice_index}
-use Rattle.std.specs.Int.{w64}
+use Rattle.twox_plain.proofs.Prelude.{◌*◌, ◌++◌, ◌+◌, ◌≡◌, ◌≤◌, List, drop, length, slice_index, take, w64, ℕ}
 use Rattle.twox_plain.specs.Xxh64.{initial_accumulators, round, accumulator}
 use Rattle.twox_plain.specs.Core64.{core_of_stripes, core_after_stripes}
 use Rattle.twox_plain.specs.declared.xxhash64.Core.{Core}

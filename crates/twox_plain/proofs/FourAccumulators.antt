@@ -1,8 +1,6 @@
 -- Lemmas on four accumulators that take whole stripes of four words, for any width of the words, any round, and any
 -- type that holds the four accumulators.
-use Rattle.std.proofs.Common.{◌≡◌, ℕ, ◌+◌, ◌*◌, ◌≤◌, List, ◌++◌, take, drop, length, sym, ◌∙◌, arith}
-use Rattle.std.proofs.lemmas.List.{take-append-drop}
-use Rattle.std.specs.Int.{Width, byte_len}
+use Rattle.twox_plain.proofs.Prelude.{◌*◌, ◌++◌, ◌+◌, ◌∙◌, ◌≡◌, ◌≤◌, List, Width, arith, byte_len, drop, length, sym, take, take-append-drop, ℕ}
 use Rattle.twox_words.specs.Word.{word_at}
 use Rattle.twox_plain.specs.Units.{after_units}
 use Rattle.twox_plain.proofs.UnitFacts.{words_one, words_more, words_longer}

@@ -1,18 +1,13 @@
 -- Laws of XXH32: a changed unit changes the value at any length, and a changed seed does under 16 bytes.
 use Rattle.std.proofs.Common.{◌≡◌, ◌≢◌, ℕ, zero, suc, ◌+◌, ◌-◌, ◌*◌, ◌/◌, ◌%◌, ◌^◌, ◌<◌, ◌≤◌, List, length, nat_lt, true, false, slice_index, inl, inr, refl, sym, ap, subst, ◌∙◌, arith, lit<, lit≤, mod-lt, pow_pos}
-use Rattle.std.proofs.lemmas.Bool.{cases_lt}
-use Rattle.std.proofs.lemmas.Bool.Decides.{nat_tests}
-use Rattle.std.specs.Int.{w32, rotate_left}
+use Rattle.twox_plain.proofs.Prelude.{DiffersWithin, IsUnit32, cases_lt, left-lt, nat_tests, rotate_left, told_by_word_32, w32, word_at-lt_32}
 use Rattle.twox_words.specs.Word.{IsBytes, word_at, counted}
 use Rattle.twox_plain.specs.Units.{after_units}
-use Rattle.twox_plain.specs.ChangedUnit.{DiffersWithin, IsUnit32}
 use Rattle.twox_plain.specs.Xxh32.{p1, p2, p3, p4, p5, initial_accumulators, round, accumulator, convergence, start, take_word, take_byte, after_words, after_tail, avalanche, xxh32}
-use Rattle.twox_words.proofs.Rotations.{left-lt}
 use Rattle.twox_words.proofs.OneToOne.{IsOneToOne, multiple_one_to_one, sum_one_to_one_32, left_one_to_one, turned_multiple_told, avalanche_told}
 use Rattle.twox_plain.proofs.ByteLaws.{bytes_told, byte_noticed}
 use Rattle.twox_plain.proofs.UnitFacts.{after_units_same}
 use Rattle.twox_plain.proofs.UnitLaws.{IsTelling, after_units-lt, start_told, unit_told}
-use Rattle.twox_words.proofs.WordLaws.{word_at-lt_32, told_by_word_32}
 use Rattle.twox_plain.proofs.ChangedUnitFacts.{differ, word_outside}
 
 -- ---- the steps

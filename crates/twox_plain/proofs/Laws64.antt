@@ -1,18 +1,13 @@
 -- Laws of XXH64: a changed unit of the tail changes the value, and a changed seed does under 32 bytes.
 use Rattle.std.proofs.Common.{◌≡◌, ◌≢◌, ℕ, ◌+◌, ◌-◌, ◌*◌, ◌/◌, ◌%◌, ◌^◌, ◌<◌, ◌≤◌, List, length, nat_lt, true, slice_index, bit_xor, inl, inr, refl, sym, ap, subst, ◌∙◌, arith, lit<, lit≤, mod-lt, pow_pos}
-use Rattle.std.proofs.lemmas.Bool.{cases_lt}
-use Rattle.std.proofs.lemmas.Bool.Decides.{nat_tests}
-use Rattle.std.proofs.lemmas.Nat.{xor_lt}
-use Rattle.std.specs.Int.{w32, w64, rotate_left}
+use Rattle.twox_plain.proofs.Prelude.{DiffersWithin, IsTailUnit64, cases_lt, nat_tests, rotate_left, told_by_word_32, told_by_word_64, w32, w64, word_at-lt_32, word_at-lt_64, xor_lt}
 use Rattle.twox_words.specs.Word.{IsBytes, word_at, counted}
 use Rattle.twox_plain.specs.Units.{after_units}
-use Rattle.twox_plain.specs.ChangedUnit.{DiffersWithin, IsTailUnit64}
 use Rattle.twox_plain.specs.Xxh64.{p1, p2, p3, p4, p5, initial_accumulators, round, accumulator, start, take_eight, take_four, take_byte, after_eights, after_words, after_tail, avalanche, xxh64}
 use Rattle.twox_words.proofs.OneToOne.{IsOneToOne, xor_cancel_left, xor_cancel_right, multiple_one_to_one, sum_one_to_one_64, turned_multiple_told, avalanche_told}
 use Rattle.twox_plain.proofs.ByteLaws.{bytes_told, byte_noticed}
 use Rattle.twox_plain.proofs.UnitFacts.{after_units_same}
 use Rattle.twox_plain.proofs.UnitLaws.{IsTelling, after_units-lt, start_told, unit_told}
-use Rattle.twox_words.proofs.WordLaws.{word_at-lt_32, word_at-lt_64, told_by_word_32, told_by_word_64}
 use Rattle.twox_plain.proofs.ChangedUnitFacts.{differ, word_outside}
 use Rattle.twox_plain.proofs.Tail64.{after_words_short, after_words_long}
 

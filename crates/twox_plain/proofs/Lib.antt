@@ -10,11 +10,12 @@ pub mod Laws32
 pub mod Laws64
 pub mod Message32
 pub mod Message64
-pub mod Reachability32
-pub mod Reachability64
-pub mod Reachability
 pub mod OutsideVectors32
 pub mod OutsideVectors64
+mod Prelude
+pub mod Reachability
+pub mod Reachability32
+pub mod Reachability64
 pub mod RecordFacts
 pub mod SavedTexts
 pub mod SavedTexts32

@@ -1,14 +1,9 @@
 -- Lemmas on the list that a record of XXH32 represents, from call to call, and on the value of the message.
 use Rattle.std.proofs.Common.{◌≡◌, ℕ, ◌*◌, ◌/◌, ◌%◌, ◌<◌, ◌^◌, List, [], ◌++◌, drop, length, nat_lt, if◌then◌else◌, true, false, inl, inr, refl, ap, ◌∙◌, arith, lit<, length-drop}
-use Rattle.std.proofs.lemmas.Bool.{cases_lt}
-use Rattle.std.proofs.lemmas.Bool.Decides.{nat_tests}
-use Rattle.std.specs.Int.{w32}
-use Rattle.twox_words.specs.Word.{wrap_add, counted}
+use Rattle.twox_plain.proofs.Prelude.{Core, SavedState, cases_lt, counted, nat_tests, w32, wrap_add}
 use Rattle.twox_plain.specs.Xxh32.{p5, convergence, start, after_tail, avalanche, xxh32}
 use Rattle.twox_plain.specs.Core32.{core_of_stripes, core_after_stripes}
 use Rattle.twox_plain.specs.Record32.{StandsFor, AgreeInUse, parts, initial_record, after_write, value_of, finish_value}
-use Rattle.twox_plain.specs.declared.xxhash32.Core.{Core}
-use Rattle.twox_plain.specs.declared.xxhash32.SavedState.{SavedState}
 use Rattle.twox_plain.proofs.RecordFacts
 use Rattle.twox_plain.proofs.Core32Facts.{core_of_stripes_longer, core_of_stripes_one, core_of_stripes_more}
 use Rattle.twox_plain.proofs.Tail32.{after_tail-drop}

@@ -1,9 +1,5 @@
 -- Lemmas on the list that a record of XXH64 represents, from call to call, and on the value of the message.
-use Rattle.std.proofs.Common.{◌≡◌, ℕ, ◌*◌, ◌/◌, ◌%◌, ◌<◌, List, [], ◌++◌, drop, length, nat_lt, if◌then◌else◌, true, false, inl, inr, refl, ap, ◌∙◌, arith, lit<, length-drop}
-use Rattle.std.proofs.lemmas.Bool.{cases_lt}
-use Rattle.std.proofs.lemmas.Bool.Decides.{nat_tests}
-use Rattle.std.specs.Int.{w64}
-use Rattle.twox_words.specs.Word.{wrap_add, counted}
+use Rattle.twox_plain.proofs.Prelude.{[], ◌%◌, ◌*◌, ◌++◌, ◌/◌, ◌<◌, ◌∙◌, ◌≡◌, List, ap, arith, cases_lt, counted, drop, false, if◌then◌else◌, inl, inr, length, length-drop, lit<, nat_lt, nat_tests, refl, true, w64, wrap_add, ℕ}
 use Rattle.twox_plain.specs.Xxh64.{p5, convergence, start, after_tail, avalanche, xxh64}
 use Rattle.twox_plain.specs.Core64.{core_of_stripes, core_after_stripes}
 use Rattle.twox_plain.specs.Record64.{StandsFor, AgreeInUse, parts, initial_record, after_write, value_of, finish_value}

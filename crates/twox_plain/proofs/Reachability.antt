@@ -1,7 +1,7 @@
 -- Lemmas on reachability: a block of words takes any accumulators to any others, so each state that fits its count
 -- follows some list of bytes. They hold for any width, any block length and any accumulators.
 use Rattle.std.proofs.Common.{◌≡◌, ℕ, zero, suc, ◌+◌, ◌-◌, ◌*◌, ◌/◌, ◌%◌, ◌^◌, ◌<◌, ◌≤◌, List, [], ◌∷◌, ◌++◌, length, take, drop, replicate, inl, inr, refl, sym, ap, ◌∙◌, arith, lit<, mod-lt, pow_pos, zero-mul, zero-add, slice_index, length-append}
-use Rattle.std.proofs.lemmas.Bool.{cases_lt}
+use Rattle.twox_plain.proofs.Prelude.{BlockState, Follows, IsBytes-part, cases_lt, left_is_rotated, multiple_back, rotated, rotated-lt, turned_back, word_at-append, word_at-append_right}
 use Rattle.std.proofs.lemmas.List.{drop_at, take_at, drop-drop, length-replicate, length-take-le, take_all}
 use Rattle.std.proofs.lemmas.Nat.{from_le_bytes-to_le_bytes_4, from_le_bytes-to_le_bytes_8, div-add-mod', mod_below, mul-le, le-div}
 use Rattle.std.proofs.Math.Nat.{add-mod-mod, add-mod_left, mod-eq_of_lt, eq-or-lt_of_le, mul-le-mul_left}
@@ -9,11 +9,6 @@ use Rattle.std.specs.Int.{Width, w32, w64, byte_len, from_le_bytes, to_le_bytes,
 use mir.Val.{bits}
 use Rattle.twox_words.specs.Word.{IsBytes, word_at, wrap_add, wrap_mul, counted}
 use Rattle.twox_plain.specs.Units.{after_units}
-use Rattle.twox_plain.specs.BlockState.{BlockState, Follows}
-use Rattle.twox_words.proofs.Rotations.{rotated, turned_back, left_is_rotated, rotated-lt}
-use Rattle.twox_words.proofs.OneToOne.{multiple_back}
-use Rattle.twox_words.proofs.WordFacts.{word_at-append, word_at-append_right}
-use Rattle.twox_words.proofs.WordLaws.{IsBytes-part}
 use Rattle.twox_plain.proofs.BlockStateFacts.{follows_from}
 use Rattle.twox_plain.proofs.FourAccumulators.{after_stripes}
 

@@ -1,13 +1,9 @@
 -- Lemmas on the records of XXH32: a record represents some list of bytes if and only if it fits.
-use Rattle.std.proofs.Common.{◌≡◌, ℕ, zero, suc, ◌*◌, ◌/◌, ◌%◌, ◌^◌, ◌<◌, List, [], length, replicate, refl, ap, ◌∙◌, arith, lit<, lit≤, mod-lt, pow_pos}
-use Rattle.std.specs.Int.{w32}
-use Rattle.twox_words.specs.Word.{IsBytes}
+use Rattle.twox_plain.proofs.Prelude.{[], ◌%◌, ◌*◌, ◌/◌, ◌<◌, ◌^◌, ◌∙◌, ◌≡◌, Core, IsBytes, List, SavedState, ap, arith, length, lit<, lit≤, mod-lt, pow_pos, refl, replicate, suc, w32, zero, ℕ}
 use Rattle.twox_plain.specs.Units.{after_units}
 use Rattle.twox_plain.specs.Xxh32.{p1, p2, round, accumulator}
 use Rattle.twox_plain.specs.Core32.{core_of_stripes, core_after_stripes}
 use Rattle.twox_plain.specs.Record32.{StandsFor, UsageFits, CoreFits, parts}
-use Rattle.twox_plain.specs.declared.xxhash32.Core.{Core}
-use Rattle.twox_plain.specs.declared.xxhash32.SavedState.{SavedState}
 use Rattle.twox_plain.proofs.Core32Facts.{core_of, core_of_stripes_longer, core_of_stripes_one}
 use Rattle.twox_plain.proofs.Reachability.{IsReaching, writable_32, round_reaches, AreWords, stripe_between, IsBytes-stripe_between, length-stripe_between, four_reached}
 use Rattle.twox_plain.proofs.RecordFacts

@@ -1,7 +1,5 @@
 -- Lemmas on the records of XXH64: a record represents some list of bytes if and only if it fits.
-use Rattle.std.proofs.Common.{◌≡◌, ℕ, zero, suc, ◌*◌, ◌/◌, ◌%◌, ◌^◌, ◌<◌, List, [], length, replicate, refl, ap, ◌∙◌, arith, lit<, lit≤, mod-lt, pow_pos}
-use Rattle.std.specs.Int.{w64}
-use Rattle.twox_words.specs.Word.{IsBytes}
+use Rattle.twox_plain.proofs.Prelude.{[], ◌%◌, ◌*◌, ◌/◌, ◌<◌, ◌^◌, ◌∙◌, ◌≡◌, IsBytes, List, ap, arith, length, lit<, lit≤, mod-lt, pow_pos, refl, replicate, suc, w64, zero, ℕ}
 use Rattle.twox_plain.specs.Units.{after_units}
 use Rattle.twox_plain.specs.Xxh64.{p1, p2, round, accumulator}
 use Rattle.twox_plain.specs.Core64.{core_of_stripes, core_after_stripes}

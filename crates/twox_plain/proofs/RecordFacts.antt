@@ -1,6 +1,5 @@
 -- Lemmas on the list that a record represents, from call to call, for both plain hashes.
-use Rattle.std.proofs.Common.{◌≡◌, ℕ, ◌*◌, ◌+◌, ◌-◌, ◌^◌, ◌<◌, ◌≤◌, min, List, ◌++◌, take, drop, length, ap}
-use Rattle.twox_words.specs.Word.{IsBytes}
+use Rattle.twox_plain.proofs.Prelude.{◌*◌, ◌++◌, ◌+◌, ◌-◌, ◌<◌, ◌^◌, ◌≡◌, ◌≤◌, IsBytes, List, ap, drop, length, min, take, ℕ}
 use Rattle.twox_plain.specs.Record.{Record, StandsFor, after_write, UsageFits, CoreFits, AgreeInUse}
 use Rattle.twox_plain.proofs.BlockStateFacts.{counted_more, after_piece_follows, after_piece_agree}
 use Rattle.twox_plain.proofs.Reachability.{LastBlock, some_followed}

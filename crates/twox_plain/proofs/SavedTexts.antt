@@ -1,9 +1,5 @@
 -- Lemmas on the texts and values of records, and on reading them back, for both plain hashes.
-use Rattle.std.proofs.Common.{◌≡◌, ◌<◌, ◌≤◌, ◌^◌, ℕ, List, false, true, nat_lt, Option, Some, refl, arith, lit≤}
-use Rattle.std.proofs.lemmas.Bool.Decides.{nat_tests}
-use Rattle.serde_json.specs.Data.{Data, depth}
-use Rattle.serde_json.specs.Read.{max_depth}
-use Rattle.serde_json.specs.Written.{has_float, compact_text}
+use Rattle.twox_plain.proofs.Prelude.{◌<◌, ◌^◌, ◌≡◌, ◌≤◌, Data, List, Option, Some, arith, compact_text, depth, false, has_float, lit≤, max_depth, nat_lt, nat_tests, refl, true, ℕ}
 use Rattle.serde_json.proofs.OnLiterals.{serde_json_on_literals}
 use Rattle.twox_plain.specs.SavedText.{bytes_of_data, bytes_data, core_of_data, record_of_data, core_text, saved_text, core_data, record_data}
 use Rattle.twox_plain.proofs.ByteTexts.{no_float, flat, array_of}

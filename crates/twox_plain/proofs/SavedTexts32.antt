@@ -1,11 +1,5 @@
 -- Lemmas on the text and the value of a record of XXH32, and on reading the record back.
-use Rattle.std.proofs.Common.{◌≡◌, ◌<◌, ◌≤◌, ◌^◌, false, Some}
-use Rattle.serde_json.specs.Data.{depth}
-use Rattle.serde_json.specs.Read.{max_depth}
-use Rattle.serde_json.specs.Written.{has_float, compact_text}
-use Rattle.twox_plain.specs.declared.xxhash32.Core.{Core}
-use Rattle.twox_plain.specs.declared.xxhash32.SavedState.{SavedState}
-use Rattle.twox_plain.specs.SavedText.{bytes_of_data, bytes_data}
+use Rattle.twox_plain.proofs.Prelude.{◌<◌, ◌^◌, ◌≡◌, ◌≤◌, Core, SavedState, Some, bytes_data, bytes_of_data, compact_text, depth, false, has_float, max_depth}
 use Rattle.twox_plain.specs.Saved32.{core_of_data, record_of_data, core_data, record_data, saved_text}
 use Rattle.twox_plain.proofs.SavedTexts
 

@@ -1,12 +1,7 @@
 -- Lemmas on the text and the value of a record of XXH64, and on reading the record back.
-use Rattle.std.proofs.Common.{◌≡◌, ◌<◌, ◌≤◌, ◌^◌, false, Some}
-use Rattle.serde_json.specs.Data.{depth}
-use Rattle.serde_json.specs.Read.{max_depth}
-use Rattle.serde_json.specs.Written.{has_float, compact_text}
+use Rattle.twox_plain.proofs.Prelude.{◌<◌, ◌^◌, ◌≡◌, ◌≤◌, Some, bytes_data, bytes_of_data, compact_text, core_data, core_of_data, depth, false, has_float, max_depth, record_data, record_of_data, saved_text}
 use Rattle.twox_plain.specs.declared.xxhash64.Core.{Core}
 use Rattle.twox_plain.specs.declared.xxhash64.SavedState.{SavedState}
-use Rattle.twox_plain.specs.SavedText.{bytes_of_data, bytes_data}
-use Rattle.twox_plain.specs.Saved64.{core_of_data, record_of_data, core_data, record_data, saved_text}
 use Rattle.twox_plain.proofs.SavedTexts
 
 pub has_no_float : (s : SavedState) → has_float (record_data s) ≡ false

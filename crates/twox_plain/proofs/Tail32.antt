@@ -1,6 +1,5 @@
 -- Lemmas on the bytes that fill no stripe: as a separate list and in the whole list, they give the same value.
-use Rattle.std.proofs.Common.{◌≡◌, ℕ, ◌*◌, ◌/◌, ◌%◌, List, drop}
-use Rattle.std.specs.Int.{w32}
+use Rattle.twox_plain.proofs.Prelude.{◌%◌, ◌*◌, ◌/◌, ◌≡◌, List, drop, w32, ℕ}
 use Rattle.twox_plain.specs.Xxh32.{take_word, take_byte, after_words, after_tail}
 use Rattle.twox_plain.proofs.UnitFacts.{words_drop, bytes_drop}
 

@@ -1,10 +1,7 @@
 -- Lemmas on the bytes that fill no stripe: as a separate list and in the whole list, they give the same value.
-use Rattle.std.proofs.Common.{◌≡◌, ℕ, ◌+◌, ◌*◌, ◌/◌, ◌%◌, ◌<◌, ◌≤◌, List, drop, nat_lt, true, false, refl, ap, ◌∙◌, arith}
-use Rattle.std.proofs.lemmas.Bool.Decides.{nat_tests}
-use Rattle.std.specs.Int.{w32, w64}
+use Rattle.twox_plain.proofs.Prelude.{◌%◌, ◌*◌, ◌+◌, ◌/◌, ◌<◌, ◌∙◌, ◌≡◌, ◌≤◌, List, ap, arith, drop, false, nat_lt, nat_tests, refl, true, w32, w64, word_at-drop, ℕ}
 use Rattle.twox_words.specs.Word.{word_at}
 use Rattle.twox_plain.specs.Xxh64.{take_eight, take_byte, take_four, after_eights, after_words, after_tail}
-use Rattle.twox_words.proofs.WordFacts.{word_at-drop}
 use Rattle.twox_plain.proofs.UnitFacts.{words_drop, bytes_drop}
 
 after_eights-drop : (i : ℕ) (m : List ℕ) (x n : ℕ) → after_eights (drop i m) 0 x n ≡ after_eights m i x n

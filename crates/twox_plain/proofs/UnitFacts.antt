@@ -1,12 +1,9 @@
 -- Lemmas on values that take words or bytes of a list one after another, for lists that are split or joined.
 use Rattle.std.proofs.Common.{◌≡◌, ℕ, zero, suc, ◌+◌, ◌-◌, ◌*◌, ◌/◌, ◌<◌, ◌≤◌, List, ◌++◌, length, take, drop, slice_index, refl, sym, ap, ap₂, ◌∙◌, arith, add-one, add-zero, add-suc}
 use Rattle.std.proofs.Math.Nat.{add-div_right, add-mul, div-mul-le_self, one-mul, zero-mul}
-use Rattle.std.proofs.lemmas.List.{drop-drop, get_or-drop}
-use Rattle.std.proofs.lemmas.Nat.{le-div, mul-le}
-use Rattle.std.specs.Int.{Width, byte_len}
+use Rattle.twox_plain.proofs.Prelude.{Width, byte_len, drop-drop, get_or-drop, le-div, mul-le, word_at-append, word_at-drop, word_at-part}
 use Rattle.twox_words.specs.Word.{word_at}
 use Rattle.twox_plain.specs.Units.{after_units}
-use Rattle.twox_words.proofs.WordFacts.{word_at-drop, word_at-append, word_at-part}
 
 pub after_units_next : (step : ℕ → ℕ → ℕ) (unit : ℕ → ℕ) (a k : ℕ) → after_units step unit a (k + 1) ≡ step (after_units step unit a k) (unit k)
 unfolding after_units

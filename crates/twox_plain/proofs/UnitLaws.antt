@@ -1,8 +1,6 @@
 -- Lemmas on values that take units one after another: one-to-one steps determine the start and each unit.
-use Rattle.std.proofs.Common.{◌≡◌, ◌≢◌, ℕ, zero, suc, ◌<◌, ◌≤◌, inl, inr, sym, ap, subst, ◌∙◌, arith}
-use Rattle.std.proofs.Math.Nat.{eq-or-lt_of_le}
+use Rattle.twox_plain.proofs.Prelude.{◌<◌, ◌∙◌, ◌≡◌, ◌≢◌, ◌≤◌, IsOneToOne, ap, arith, eq-or-lt_of_le, inl, inr, subst, suc, sym, zero, ℕ}
 use Rattle.twox_plain.specs.Units.{after_units}
-use Rattle.twox_words.proofs.OneToOne.{IsOneToOne}
 use Rattle.twox_plain.proofs.UnitFacts.{after_units_same}
 
 -- True if a step from states and units to states is one-to-one in each of the two.

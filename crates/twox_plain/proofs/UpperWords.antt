@@ -1,8 +1,6 @@
 -- Lemma on the upper half of an eight-byte word.
-use Rattle.std.proofs.Common.{◌≡◌, ℕ, ◌+◌, ◌*◌, ◌/◌, ◌^◌, ◌<◌, ◌≤◌, List, length, slice_index, sym, ap, ◌∙◌, arith}
-use Rattle.std.specs.Int.{w32, w64}
+use Rattle.twox_plain.proofs.Prelude.{◌*◌, ◌+◌, ◌/◌, ◌<◌, ◌^◌, ◌∙◌, ◌≡◌, ◌≤◌, List, ap, arith, length, slice_index, sym, w32, w64, word_at_listed, ℕ}
 use Rattle.twox_words.specs.Word.{word_at}
-use Rattle.twox_words.proofs.WordFacts.{word_at_listed}
 
 -- Lemma: the upper half of the eight-byte word at offset i is the four-byte word at offset i + 4.
 pub upper_word : (m : List ℕ) (i : ℕ) → ((k : ℕ) → slice_index m k < 256) → i + 8 ≤ length m → word_at w64 m i / 2 ^ 32 ≡ word_at w32 m (i + 4)

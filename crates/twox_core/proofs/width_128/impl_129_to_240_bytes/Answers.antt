@@ -1,7 +1,5 @@
-use Rattle.std.proofs.Common.{◌≡◌, ℕ, List, [], get_or, ◌+◌, ◌*◌, ◌-◌, ◌/◌, ◌^◌, ◌<◌, length, arith, refl, sym, ap, ap₂, ◌∙◌}
+use Rattle.twox_core.proofs.Prelude.{[], ◌*◌, ◌+◌, ◌-◌, ◌/◌, ◌<◌, ◌^◌, ◌∙◌, ◌≡◌, List, ap, ap₂, arith, get_or, length, prime64_1, refl, secret_bytes, sym, ℕ}
 use Rattle.twox_core.specs.Parts.{chunk_at, pair_at, pairs_at}
-use Rattle.twox_core.specs.SecretBytes.{secret_bytes}
-use Rattle.twox_core.specs.Primes.{prime64_1}
 use Rattle.twox_core.specs.Steps.{avalanche, mul64, sub64}
 use Rattle.twox_core.specs.Middle.{accumulator_step, merge_high, merge_low, first_129_to_240, second_129_to_240, pairs_first, pairs_second}
 use Rattle.twox_core.specs.Value.{high_in, low_in}

@@ -1,6 +1,4 @@
-use Rattle.std.proofs.Common.{◌≡◌, length}
-use Rattle.twox_core.specs.Primes.{prime64_1}
-use Rattle.twox_core.specs.SecretBytes.{secret_bytes}
+use Rattle.twox_core.proofs.Prelude.{◌≡◌, length, prime64_1, secret_bytes}
 use Rattle.twox_core.specs.Steps.{avalanche, mul64}
 use Rattle.twox_core.specs.Middle.{pairs_first, pairs_second}
 use Rattle.twox_core.proofs.width_128.impl_129_to_240_bytes.Given as goal

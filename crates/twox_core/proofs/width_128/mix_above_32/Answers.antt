@@ -1,7 +1,5 @@
-use Rattle.std.proofs.Common.{◌≡◌, ◌+◌, ◌-◌, arith, ap, ◌∙◌}
-use Rattle.twox_core.specs.SecretBytes.{secret_bytes}
+use Rattle.twox_core.proofs.Prelude.{◌+◌, ◌-◌, ◌∙◌, ◌≡◌, ap, arith, secret_bytes, steps_of}
 use Rattle.twox_core.specs.Middle.{first_17_to_128, second_17_to_128}
-use Rattle.twox_core.specs.Value.{steps_of}
 use Rattle.twox_core.proofs.width_128.mix_above_32.Goals as goal
 
 pub loop-step-init : goal.loop-step-init

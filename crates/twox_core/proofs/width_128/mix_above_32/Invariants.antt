@@ -1,7 +1,5 @@
-use Rattle.std.proofs.Common.{◌≡◌, ◌-◌}
-use Rattle.twox_core.specs.SecretBytes.{secret_bytes}
+use Rattle.twox_core.proofs.Prelude.{◌-◌, ◌≡◌, secret_bytes, steps_of}
 use Rattle.twox_core.specs.Middle.{first_17_to_128, second_17_to_128}
-use Rattle.twox_core.specs.Value.{steps_of}
 use Rattle.twox_core.proofs.width_128.mix_above_32.Given as goal
 
 -- Invariant: n - (4 - step) of the n steps are taken, or none if n < 4 - step. The loop leaves the last step.

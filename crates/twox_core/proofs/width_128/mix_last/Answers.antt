@@ -1,5 +1,4 @@
-use Rattle.std.proofs.Common.{◌≡◌, ℕ, ◌+◌, ◌*◌, ◌-◌, ◌^◌, length, arith, sym, ap, ap₂, ◌∙◌}
-use Rattle.twox_core.specs.SecretBytes.{secret_bytes}
+use Rattle.twox_core.proofs.Prelude.{◌*◌, ◌+◌, ◌-◌, ◌^◌, ◌∙◌, ◌≡◌, ap, ap₂, arith, length, secret_bytes, sym, ℕ}
 use Rattle.twox_core.specs.Middle.{merge_high, merge_low, first_17_to_128, second_17_to_128}
 use Rattle.twox_core.specs.Value.{high_in, low_in, steps_of}
 use Rattle.twox_core.proofs.ValueLaws.{middle_17_to_128}

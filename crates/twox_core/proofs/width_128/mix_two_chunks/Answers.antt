@@ -1,6 +1,4 @@
-use Rattle.std.proofs.Common.{[], get_or, ◌+◌, ◌*◌, ◌-◌, length, arith, sym, ap, ◌∙◌}
-use Rattle.twox_core.specs.SecretBytes.{secret_bytes}
-use Rattle.twox_core.specs.Value.{steps_of}
+use Rattle.twox_core.proofs.Prelude.{[], ◌*◌, ◌+◌, ◌-◌, ◌∙◌, ap, arith, get_or, length, secret_bytes, steps_of, sym}
 use Rattle.twox_core.proofs.MixFacts.{accumulator_step-of_chunks, first_17_to_128-chunk, second_17_to_128-chunk}
 use Rattle.twox_core.proofs.width_128.mix_two_chunks.Goals as goal
 

@@ -1,6 +1,4 @@
-use Rattle.std.proofs.Common.{◌≡◌, ℕ, [], get_or, ◌+◌, ◌*◌, ◌-◌, length, arith, ap, ◌∙◌}
-use Rattle.twox_core.specs.Parts.{pair_at}
-use Rattle.twox_core.specs.SecretBytes.{secret_bytes}
+use Rattle.twox_core.proofs.Prelude.{[], ◌*◌, ◌+◌, ◌-◌, ◌∙◌, ◌≡◌, ap, arith, get_or, length, pair_at, secret_bytes, ℕ}
 use Rattle.twox_core.specs.Middle.{both_ends}
 use Rattle.twox_core.proofs.MixFacts.{sum_below-next, mix-of_chunks}
 use Rattle.twox_core.proofs.width_64.add_both_ends.Goals as goal

@@ -1,7 +1,5 @@
-use Rattle.std.proofs.Common.{◌≡◌, ℕ, ◌<◌, ◌+◌, ◌*◌, ◌-◌, ◌/◌, ◌%◌, ◌^◌, [], length, arith, ap, ◌∙◌}
-use Rattle.twox_core.specs.Primes.{prime64_1}
+use Rattle.twox_core.proofs.Prelude.{[], ◌%◌, ◌*◌, ◌+◌, ◌-◌, ◌/◌, ◌<◌, ◌^◌, ◌∙◌, ◌≡◌, ap, arith, length, prime64_1, secret_bytes, ℕ}
 use Rattle.twox_core.specs.Parts.{chunk_at, chunks_at}
-use Rattle.twox_core.specs.SecretBytes.{secret_bytes}
 use Rattle.twox_core.specs.Steps.{avalanche, sum_below}
 use Rattle.twox_core.specs.Middle.{early, later, value64_129_to_240}
 use Rattle.twox_core.proofs.MixFacts.{sum_below-next, mix-of_key}

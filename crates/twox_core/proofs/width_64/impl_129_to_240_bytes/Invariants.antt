@@ -1,6 +1,4 @@
-use Rattle.std.proofs.Common.{◌≡◌, ◌+◌, ◌-◌, ◌*◌, ◌/◌, ◌%◌, ◌^◌, length}
-use Rattle.twox_core.specs.Primes.{prime64_1}
-use Rattle.twox_core.specs.SecretBytes.{secret_bytes}
+use Rattle.twox_core.proofs.Prelude.{◌%◌, ◌*◌, ◌+◌, ◌-◌, ◌/◌, ◌^◌, ◌≡◌, length, prime64_1, secret_bytes}
 use Rattle.twox_core.specs.Steps.{avalanche, sum_below}
 use Rattle.twox_core.specs.Middle.{early, later}
 use Rattle.twox_core.proofs.width_64.impl_129_to_240_bytes.Given as goal

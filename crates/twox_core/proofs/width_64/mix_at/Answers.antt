@@ -1,7 +1,4 @@
-use Rattle.std.proofs.Common.{◌≡◌, ◌+◌, arith, ap, ◌∙◌}
-use Rattle.std.specs.Int.{w64}
-use Rattle.twox_words.proofs.WordFacts.{word_at-drop}
-use Rattle.twox_core.specs.Steps.{word64}
+use Rattle.twox_core.proofs.Prelude.{◌+◌, ◌∙◌, ◌≡◌, ap, arith, w64, word64, word_at-drop}
 use Rattle.twox_core.proofs.width_64.mix_at.Goals as goal
 
 pub returns : goal.returns

@@ -1,6 +1,4 @@
-use Rattle.std.proofs.Common.{◌≡◌, ℕ, ◌+◌, ◌*◌, ◌-◌, ◌/◌, ◌%◌, ◌^◌, List, length, arith, ap, ◌∙◌}
-use Rattle.twox_core.specs.Primes.{prime64_1}
-use Rattle.twox_core.specs.SecretBytes.{secret_bytes}
+use Rattle.twox_core.proofs.Prelude.{◌%◌, ◌*◌, ◌+◌, ◌-◌, ◌/◌, ◌^◌, ◌∙◌, ◌≡◌, List, ap, arith, length, prime64_1, secret_bytes, ℕ}
 use Rattle.twox_core.specs.Steps.{sum_below}
 use Rattle.twox_core.specs.Middle.{both_ends}
 use Rattle.twox_core.proofs.width_64.sum_17_to_128.Goals as goal

@@ -1,6 +1,4 @@
-use Rattle.std.proofs.Common.{◌≡◌, length, take, drop, ◌++◌, option_map}
-use Rattle.serde_json.specs.View.{items_view}
-use Rattle.twox_plain.specs.SavedText.{item_bytes}
+use Rattle.twox_plain.proofs.Prelude.{◌++◌, ◌≡◌, drop, item_bytes, items_view, length, option_map, take}
 use Rattle.twox_plain.proofs.saved_text.byte_array.Given as goal
 
 -- Invariant: the first i elements of the array are the first i bytes.

@@ -1,6 +1,4 @@
-use Rattle.std.proofs.Common.{◌≡◌, map, take}
-use Rattle.serde_json.specs.Data.{number, unsigned}
-use Rattle.serde_json.specs.View.{view}
+use Rattle.twox_plain.proofs.Prelude.{◌≡◌, map, number, take, unsigned, view}
 use Rattle.twox_plain.proofs.saved_text.byte_values.Given as goal
 
 abbrev pub invariant-loop-byte : goal.invariant-loop-byte

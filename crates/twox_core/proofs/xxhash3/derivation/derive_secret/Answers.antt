@@ -1,6 +1,4 @@
-use Rattle.std.proofs.Common.{◌≡◌, ◌+◌, ◌-◌, ◌*◌, ◌%◌, ◌^◌, ◌++◌, [], ℕ, List, length, drop, get_or, Fits, w8, rules, refl, ap, ◌∙◌, arith}
-use Rattle.std.proofs.lemmas.List.{append-nil}
-use Rattle.std.proofs.Math.ListN.{drop_of_length-le}
+use Rattle.twox_core.proofs.Prelude.{[], ◌%◌, ◌*◌, ◌++◌, ◌+◌, ◌-◌, ◌^◌, ◌∙◌, ◌≡◌, Fits, List, ap, append-nil, arith, drop, drop_of_length-le, get_or, length, refl, rules, w8, ℕ}
 use Rattle.twox_core.specs.Secret.{derived_pairs, derived_secret}
 use Rattle.twox_core.proofs.DerivedFacts.{two_pairs_changed}
 use Rattle.twox_core.proofs.xxhash3.derivation.derive_secret.Goals as goal

@@ -1,7 +1,4 @@
-use Rattle.std.proofs.Common.{◌≡◌, ◌-◌, ◌*◌, ◌/◌, ◌≤◌, length, take, drop, ◌∙◌, arith, length-drop}
-use Rattle.std.proofs.lemmas.List.{length-take-le, take_all}
-use Rattle.twox_core.specs.SecretBytes.{secret_bytes}
-use Rattle.twox_core.specs.Stripes.{no_stripe}
+use Rattle.twox_core.proofs.Prelude.{◌*◌, ◌-◌, ◌/◌, ◌∙◌, ◌≡◌, ◌≤◌, arith, drop, length, length-drop, length-take-le, no_stripe, secret_bytes, take, take_all}
 use Rattle.twox_core.specs.Ending.{accumulators_after, stream_accumulators, last_stripe}
 use Rattle.twox_core.proofs.StripeFacts.{after_stripes-take, folded_first}
 use Rattle.twox_core.proofs.xxhash3.large.oneshot_widened.Goals as goal

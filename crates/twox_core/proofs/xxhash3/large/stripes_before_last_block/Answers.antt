@@ -1,5 +1,4 @@
-use Rattle.std.proofs.Common.{◌≡◌, ℕ, ◌*◌, ◌/◌, ◌-◌, sym, ap, ◌∙◌, arith}
-use Rattle.std.proofs.Math.Nat.{div-div-eq-div-mul, div-eq_of_lt}
+use Rattle.twox_core.proofs.Prelude.{◌*◌, ◌-◌, ◌/◌, ◌∙◌, ◌≡◌, ap, arith, div-div-eq-div-mul, div-eq_of_lt, sym, ℕ}
 use Rattle.twox_core.proofs.xxhash3.large.stripes_before_last_block.Goals as goal
 
 pub returns-then-count-n_stripes : goal.returns-then-count-n_stripes

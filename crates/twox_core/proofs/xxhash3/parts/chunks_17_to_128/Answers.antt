@@ -1,5 +1,4 @@
-use Rattle.std.proofs.Common.{[], arith, ◌∙◌}
-use Rattle.twox_core.specs.SecretBytes.{secret_bytes}
+use Rattle.twox_core.proofs.Prelude.{[], ◌∙◌, arith, secret_bytes}
 use Rattle.twox_core.proofs.PartFacts.{pairs_at-eight, pairs_at-pair}
 use Rattle.twox_core.proofs.xxhash3.parts.chunks_17_to_128.Goals as goal
 

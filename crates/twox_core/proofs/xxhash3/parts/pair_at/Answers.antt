@@ -1,5 +1,4 @@
-use Rattle.std.proofs.Common.{◌/◌, ◌≡◌, [], ap, arith, length, ◌∙◌}
-use Rattle.std.specs.Simd.{first_chunks}
+use Rattle.twox_core.proofs.Prelude.{[], ◌/◌, ◌∙◌, ◌≡◌, ap, arith, first_chunks, length}
 use Rattle.twox_core.specs.Parts.{chunks_at}
 use Rattle.twox_core.proofs.PartFacts.{chunks_at-part, pairs_at-chunks, pairs_at-pair}
 use Rattle.twox_core.proofs.xxhash3.parts.pair_at.Goals as goal

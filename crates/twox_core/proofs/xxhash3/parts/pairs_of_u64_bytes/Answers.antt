@@ -1,5 +1,4 @@
-use Rattle.std.proofs.Common.{◌/◌, ◌≡◌, ap, arith, length, ◌∙◌}
-use Rattle.std.specs.Simd.{first_chunks}
+use Rattle.twox_core.proofs.Prelude.{◌/◌, ◌∙◌, ◌≡◌, ap, arith, first_chunks, length}
 use Rattle.twox_core.proofs.PartFacts.{pairs_at-chunks}
 use Rattle.twox_core.proofs.xxhash3.parts.pairs_of_u64_bytes.Goals as goal
 

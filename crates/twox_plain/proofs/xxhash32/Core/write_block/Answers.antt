@@ -1,10 +1,7 @@
-use Rattle.std.proofs.Common.{◌≡◌, ℕ, ◌+◌, ◌*◌, ◌<◌, refl, sym, ap, ◌∙◌, arith}
-use Rattle.std.specs.Int.{w32}
+use Rattle.twox_plain.proofs.Prelude.{◌*◌, ◌+◌, ◌<◌, ◌∙◌, ◌≡◌, Core, ap, arith, p2, refl, round, sym, w32, ℕ}
 use Rattle.twox_words.specs.Word.{word_at, wrap_mul}
 use Rattle.twox_plain.specs.Units.{after_units}
-use Rattle.twox_plain.specs.Xxh32.{p2, round}
 use Rattle.twox_plain.specs.Core32.{core_after_stripes}
-use Rattle.twox_plain.specs.declared.xxhash32.Core.{Core}
 use Rattle.twox_plain.proofs.UnitFacts.{after_units_next}
 use Rattle.twox_plain.proofs.Core32Facts.{core_of}
 use Rattle.twox_plain.proofs.xxhash32.Core.write_block.Goals as goal

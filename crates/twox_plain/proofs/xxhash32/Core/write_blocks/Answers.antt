@@ -1,5 +1,4 @@
-use Rattle.std.proofs.Common.{◌≡◌, ℕ, ◌≤◌, ◌+◌, ◌-◌, ◌*◌, ◌/◌, length, take, drop, refl, ap, ◌∙◌, arith}
-use Rattle.std.proofs.lemmas.List.{length-take-le}
+use Rattle.twox_plain.proofs.Prelude.{◌*◌, ◌+◌, ◌-◌, ◌/◌, ◌∙◌, ◌≡◌, ◌≤◌, ap, arith, drop, length, length-take-le, refl, take, ℕ}
 use Rattle.twox_plain.specs.Core32.{core_after_stripes}
 use Rattle.twox_plain.specs.Units.{after_units}
 use Rattle.twox_plain.proofs.Core32Facts.{core_after_stripes_part}

@@ -1,5 +1,4 @@
-use Rattle.std.proofs.Common.{refl, sym, ◌∙◌, arith, rules}
-use Rattle.std.proofs.lemmas.Bool.{false≢true}
+use Rattle.twox_plain.proofs.Prelude.{◌∙◌, arith, false≢true, refl, rules, sym}
 use Rattle.twox_plain.proofs.Reachability32.{fits_stands, stands_fits}
 use Rattle.twox_plain.proofs.xxhash32.Hasher.from_state.Goals as goal
 

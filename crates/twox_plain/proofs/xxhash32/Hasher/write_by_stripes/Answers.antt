@@ -1,6 +1,5 @@
-use Rattle.std.proofs.Common.{◌++◌, sym, ap, subst, ◌∙◌, length, arith}
+use Rattle.twox_plain.proofs.Prelude.{◌++◌, ◌∙◌, SavedState, ap, arith, length, subst, sym}
 use Rattle.twox_plain.specs.Record32.{StandsFor, after_write}
-use Rattle.twox_plain.specs.declared.xxhash32.SavedState.{SavedState}
 use Rattle.twox_plain.proofs.Message32.{after_write_stands}
 use Rattle.twox_plain.proofs.xxhash32.Hasher.write_by_stripes.Goals as goal
 

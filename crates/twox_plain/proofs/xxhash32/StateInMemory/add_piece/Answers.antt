@@ -1,7 +1,5 @@
-use Rattle.std.proofs.Common.{◌++◌, sym, subst, arith}
+use Rattle.twox_plain.proofs.Prelude.{◌++◌, SavedState, arith, record_of, subst, sym}
 use Rattle.twox_plain.specs.Record32.{StandsFor}
-use Rattle.twox_plain.specs.StateInMemory32.{record_of}
-use Rattle.twox_plain.specs.declared.xxhash32.SavedState.{SavedState}
 use Rattle.twox_plain.proofs.Message32.{after_write_stands}
 use Rattle.twox_plain.proofs.xxhash32.StateInMemory.add_piece.Goals as goal
 

@@ -1,8 +1,7 @@
-use Rattle.std.proofs.Common.{◌≡◌, ℕ, ◌+◌, ◌-◌, ◌*◌, ◌/◌, ◌<◌, List, ◌++◌, length, length-drop, drop, refl, arith}
+use Rattle.twox_plain.proofs.Prelude.{◌*◌, ◌++◌, ◌/◌, ◌<◌, ◌≡◌, List, SavedState, arith, drop, length, length-drop, refl, ℕ}
 use Rattle.twox_plain.specs.Core32.{core_after_stripes}
 use Rattle.twox_plain.specs.Units.{after_units}
 use Rattle.twox_plain.specs.StateInMemory32.{after_rest}
-use Rattle.twox_plain.specs.declared.xxhash32.SavedState.{SavedState}
 use Rattle.twox_plain.proofs.Usage32.{usage_marked}
 use Rattle.twox_plain.proofs.xxhash32.StateInMemory.add_stripes.Goals as goal
 use Rattle.twox_plain.proofs.xxhash32.StateInMemory.add_stripes.Goals.{then-input-ge-BYTES_IN_STRIPE, else-input-ge-BYTES_IN_STRIPE}

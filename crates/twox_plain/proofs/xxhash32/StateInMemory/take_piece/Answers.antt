@@ -1,5 +1,4 @@
-use Rattle.std.proofs.Common.{◌≡◌, ◌+◌, ◌-◌, length, take, refl, arith}
-use Rattle.std.proofs.lemmas.List.{length-take-le}
+use Rattle.twox_plain.proofs.Prelude.{◌+◌, ◌-◌, ◌≡◌, arith, length, length-take-le, refl, take}
 use Rattle.twox_plain.specs.Core32.{core_after_stripes}
 use Rattle.twox_plain.specs.Record32.{parts, after_write}
 use Rattle.twox_plain.specs.StateInMemory32.{record_of, after_rest}

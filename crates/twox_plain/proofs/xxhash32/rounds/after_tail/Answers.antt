@@ -1,5 +1,4 @@
-use Rattle.std.proofs.Common.{◌+◌, ◌*◌, ◌/◌, length, slice_index, refl, sym, ap, ap₂, ◌∙◌, arith}
-use Rattle.std.specs.Int.{w32}
+use Rattle.twox_plain.proofs.Prelude.{◌*◌, ◌+◌, ◌/◌, ◌∙◌, ap, ap₂, arith, length, refl, slice_index, sym, w32}
 use Rattle.twox_words.specs.Word.{word_at}
 use Rattle.twox_plain.specs.Units.{after_units}
 use Rattle.twox_plain.specs.Xxh32.{take_word, take_byte, after_words, after_tail}

@@ -1,7 +1,5 @@
-use Rattle.std.proofs.Common.{rules, ◌≡◌, ◌*◌, ◌/◌, ◌%◌, ◌≤◌, length, refl, ap, zero-add, ◌∙◌, arith, length-drop}
-use Rattle.std.proofs.lemmas.List.{take_all}
+use Rattle.twox_plain.proofs.Prelude.{◌%◌, ◌*◌, ◌/◌, ◌∙◌, ◌≡◌, ◌≤◌, Core, ap, arith, length, length-drop, refl, rules, take_all, zero-add}
 use Rattle.twox_plain.specs.Core32.{core_of_stripes, core_after_stripes}
-use Rattle.twox_plain.specs.declared.xxhash32.Core.{Core}
 use Rattle.twox_plain.proofs.Core32Facts.{core_of_stripes_more}
 use Rattle.twox_plain.proofs.Message32.{value_of_message}
 use Rattle.twox_plain.proofs.xxhash32.rounds.impl_long.Goals as goal

@@ -1,7 +1,5 @@
-use Rattle.std.proofs.Common.{◌≡◌, ℕ, ◌*◌, ◌<◌, length, slice_index}
-use Rattle.std.specs.Int.{w32}
+use Rattle.twox_plain.proofs.Prelude.{◌*◌, ◌<◌, ◌≡◌, length, p2, slice_index, w32, ℕ}
 use Rattle.twox_words.specs.Word.{word_at, wrap_mul}
-use Rattle.twox_plain.specs.Xxh32.{p2}
 use Rattle.twox_plain.proofs.xxhash32.rounds.products_of_block.Given as goal
 
 abbrev pub invariant-words : goal.invariant-words

@@ -1,9 +1,4 @@
-use Rattle.std.proofs.Common.{◌≡◌, ◌∙◌, length, ap, refl, arith}
-use Rattle.std.specs.Prelude.{option_and_then}
-use Rattle.std.proofs.lemmas.Result.{IfOk-weaker}
-use Rattle.serde_json.specs.View.{view}
-use Rattle.serde_json.specs.Written.{compact_text}
-use Rattle.twox_plain.specs.Saved64.{record_of_data, record_data}
+use Rattle.twox_plain.proofs.Prelude.{◌∙◌, ◌≡◌, IfOk-weaker, ap, arith, compact_text, length, option_and_then, record_data, record_of_data, refl, view}
 use Rattle.twox_plain.proofs.SavedTexts64.{has_no_float, shallow, compact_text-record_data, core_of_data-core_data, record_of_data-record_data}
 use Rattle.twox_plain.proofs.xxhash64.SavedState.to_json.Goals as goal
 

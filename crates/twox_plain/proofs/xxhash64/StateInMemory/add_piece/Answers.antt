@@ -1,5 +1,4 @@
-use Rattle.std.proofs.Common.{◌≡◌, ◌+◌, ◌-◌, ◌++◌, length, take, refl, sym, subst, arith}
-use Rattle.std.proofs.lemmas.List.{length-take-le}
+use Rattle.twox_plain.proofs.Prelude.{◌++◌, ◌+◌, ◌-◌, ◌≡◌, arith, length, length-take-le, refl, subst, sym, take}
 use Rattle.twox_plain.specs.Core64.{core_after_stripes}
 use Rattle.twox_plain.specs.Record64.{StandsFor, parts, after_write}
 use Rattle.twox_plain.specs.StateInMemory64.{record_of, after_rest}

@@ -1,5 +1,4 @@
-use Rattle.std.proofs.Common.{◌≡◌, ◌+◌, ◌*◌, ◌/◌, length, slice_index}
-use Rattle.std.specs.Int.{w64}
+use Rattle.twox_plain.proofs.Prelude.{◌*◌, ◌+◌, ◌/◌, ◌≡◌, length, slice_index, w64}
 use Rattle.twox_words.specs.Word.{word_at}
 use Rattle.twox_plain.specs.Units.{after_units}
 use Rattle.twox_plain.specs.Xxh64.{take_eight, take_byte, after_words}

@@ -1,5 +1,4 @@
-use Rattle.std.proofs.Common.{rules, ◌≡◌, ◌*◌, ◌/◌, ◌%◌, ◌≤◌, length, refl, ap, zero-add, ◌∙◌, arith, length-drop}
-use Rattle.std.proofs.lemmas.List.{take_all}
+use Rattle.twox_plain.proofs.Prelude.{◌%◌, ◌*◌, ◌/◌, ◌∙◌, ◌≡◌, ◌≤◌, ap, arith, length, length-drop, refl, rules, take_all, zero-add}
 use Rattle.twox_plain.specs.Core64.{core_of_stripes, core_after_stripes}
 use Rattle.twox_plain.specs.declared.xxhash64.Core.{Core}
 use Rattle.twox_plain.proofs.Core64Facts.{core_of_stripes_more}

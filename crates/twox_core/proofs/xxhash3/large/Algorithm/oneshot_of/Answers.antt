@@ -1,9 +1,4 @@
-use Rattle.std.proofs.Common.{◌≡◌, ◌-◌, ◌*◌, ◌/◌, ◌≤◌, length, take, drop, ◌∙◌, arith, length-drop}
-use Rattle.std.proofs.Math.Nat.{mul-div-le}
-use Rattle.std.proofs.lemmas.List.{length-take-le, take_all}
-use Rattle.twox_core.specs.Long.{stripes_of}
-use Rattle.twox_core.specs.SecretBytes.{secret_bytes}
-use Rattle.twox_core.specs.Stripes.{no_stripe}
+use Rattle.twox_core.proofs.Prelude.{◌*◌, ◌-◌, ◌/◌, ◌∙◌, ◌≡◌, ◌≤◌, arith, drop, length, length-drop, length-take-le, mul-div-le, no_stripe, secret_bytes, stripes_of, take, take_all}
 use Rattle.twox_core.specs.Ending.{accumulators_after, stripes_before, block_accumulators, last_block, last_stripe}
 use Rattle.twox_core.proofs.StripeFacts.{after_stripes-take, folded_first}
 use Rattle.twox_core.proofs.xxhash3.large.Algorithm.oneshot_of.Goals as goal

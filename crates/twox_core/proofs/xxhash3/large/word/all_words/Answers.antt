@@ -1,5 +1,4 @@
-use Rattle.std.proofs.Common.{◌≡◌, ℕ, ◌<◌, rules, Fits, w8, get_or, take, drop, refl, arith}
-use Rattle.std.proofs.lemmas.List.{take-take}
+use Rattle.twox_core.proofs.Prelude.{◌<◌, ◌≡◌, Fits, arith, drop, get_or, refl, rules, take, take-take, w8, ℕ}
 use Rattle.twox_core.proofs.VectorWords.{word_of_vector}
 use Rattle.twox_core.proofs.xxhash3.large.word.all_words.Goals as goal
 

@@ -1,6 +1,4 @@
-use Rattle.std.proofs.Common.{◌≡◌, ℕ, ◌+◌, ◌-◌, ◌*◌, rules, Fits, w8, get_or, take, drop, refl, ◌∙◌, ap, arith}
-use Rattle.std.proofs.lemmas.List.{take-take}
-use Rattle.twox_core.specs.Steps.{word64}
+use Rattle.twox_core.proofs.Prelude.{◌*◌, ◌+◌, ◌-◌, ◌∙◌, ◌≡◌, Fits, ap, arith, drop, get_or, refl, rules, take, take-take, w8, word64, ℕ}
 use Rattle.twox_core.proofs.VectorWords.{word_of_vector}
 use Rattle.twox_core.proofs.xxhash3.large.word.words.Goals as goal
 

@@ -1,6 +1,4 @@
-use Rattle.std.proofs.Common.{◌∙◌, arith}
-use Rattle.std.proofs.lemmas.List.{take_all}
-use Rattle.twox_core.specs.SecretBytes.{secret_bytes}
+use Rattle.twox_core.proofs.Prelude.{◌∙◌, arith, secret_bytes, take_all}
 use Rattle.twox_core.proofs.xxhash3.secret.Secret.of_default_length.Goals as goal
 
 pub returns : goal.returns

@@ -1,6 +1,4 @@
-use Rattle.std.proofs.Common.{◌≡◌, ◌/◌, length, ◌∙◌, refl, arith}
-use Rattle.twox_words.proofs.WordFacts.{first_chunks_at}
-use Rattle.twox_core.specs.SecretBytes.{secret_bytes}
+use Rattle.twox_core.proofs.Prelude.{◌/◌, ◌∙◌, ◌≡◌, arith, first_chunks_at, length, refl, secret_bytes}
 use Rattle.twox_core.specs.Stripes.{after_stripes}
 use Rattle.twox_core.proofs.StripeFacts.{next_four}
 use Rattle.twox_core.proofs.xxhash3.stripes.StripeAccumulator.process_fours.Goals as goal

@@ -1,7 +1,4 @@
-use Rattle.std.proofs.Common.{◌≡◌, ◌+◌, ◌==◌, true, false, refl, arith}
-use Rattle.std.proofs.lemmas.Bool.Decides.{nat_tests}
-use Rattle.twox_core.specs.Long.{stripes_of}
-use Rattle.twox_core.specs.SecretBytes.{secret_bytes}
+use Rattle.twox_core.proofs.Prelude.{◌+◌, ◌==◌, ◌≡◌, arith, false, nat_tests, refl, secret_bytes, stripes_of, true}
 use Rattle.twox_core.specs.Stripes.{after_stripe}
 use Rattle.twox_core.proofs.xxhash3.stripes.StripeAccumulator.process_stripe.Goals as goal
 

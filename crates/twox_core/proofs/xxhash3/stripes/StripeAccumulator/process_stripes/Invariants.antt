@@ -1,6 +1,4 @@
-use Rattle.std.proofs.Common.{◌≡◌, ◌<◌}
-use Rattle.twox_core.specs.Long.{stripes_of}
-use Rattle.twox_core.specs.SecretBytes.{secret_bytes}
+use Rattle.twox_core.proofs.Prelude.{◌<◌, ◌≡◌, secret_bytes, stripes_of}
 use Rattle.twox_core.specs.Stripes.{after_stripes}
 use Rattle.twox_core.proofs.xxhash3.stripes.StripeAccumulator.process_stripes.Given as goal
 

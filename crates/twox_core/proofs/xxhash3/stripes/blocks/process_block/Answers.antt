@@ -1,5 +1,4 @@
-use Rattle.std.proofs.Common.{◌≡◌, ◌*◌, ◌∙◌, refl, arith}
-use Rattle.twox_core.specs.SecretBytes.{secret_bytes}
+use Rattle.twox_core.proofs.Prelude.{◌*◌, ◌∙◌, ◌≡◌, arith, refl, secret_bytes}
 use Rattle.twox_core.specs.Ending.{accumulate_block}
 use Rattle.twox_core.proofs.EndingFacts.{accumulate_block-four}
 use Rattle.twox_core.proofs.xxhash3.stripes.blocks.process_block.Goals as goal

@@ -1,6 +1,5 @@
-use Rattle.std.proofs.Common.{◌≡◌, ◌*◌}
+use Rattle.twox_core.proofs.Prelude.{◌*◌, ◌≡◌, secret_bytes}
 use Rattle.twox_core.specs.Ending.{accumulate_block}
-use Rattle.twox_core.specs.SecretBytes.{secret_bytes}
 use Rattle.twox_core.proofs.xxhash3.stripes.blocks.process_block.Given as goal
 
 abbrev pub invariant-fours : goal.invariant-fours

@@ -1,5 +1,4 @@
-use Rattle.std.proofs.Common.{◌≡◌, ◌*◌}
-use Rattle.twox_core.specs.SecretBytes.{secret_bytes}
+use Rattle.twox_core.proofs.Prelude.{◌*◌, ◌≡◌, secret_bytes}
 use Rattle.twox_core.specs.Stripes.{at_start, after_stripes}
 use Rattle.twox_core.proofs.xxhash3.stripes.blocks.process_blocks.Given as goal
 

@@ -1,7 +1,5 @@
-use Rattle.std.proofs.Common.{◌≡◌, ◌+◌, ◌*◌, ◌/◌, drop, length, ◌∙◌, refl, sym, arith}
-use Rattle.twox_words.proofs.WordFacts.{first_chunks_at}
+use Rattle.twox_core.proofs.Prelude.{◌*◌, ◌+◌, ◌/◌, ◌∙◌, ◌≡◌, arith, drop, first_chunks_at, length, refl, secret_bytes, sym}
 use Rattle.twox_core.specs.Ending.{accumulate_block}
-use Rattle.twox_core.specs.SecretBytes.{secret_bytes}
 use Rattle.twox_core.proofs.EndingFacts.{accumulate_block-next}
 use Rattle.twox_core.proofs.PartFacts.{stripe_at-drop}
 use Rattle.twox_core.proofs.xxhash3.stripes.within.accumulate_within.Goals as goal

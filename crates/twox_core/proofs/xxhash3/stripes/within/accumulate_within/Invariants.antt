@@ -1,6 +1,5 @@
-use Rattle.std.proofs.Common.{◌≡◌, ◌*◌, drop}
+use Rattle.twox_core.proofs.Prelude.{◌*◌, ◌≡◌, drop, secret_bytes}
 use Rattle.twox_core.specs.Ending.{accumulate_block}
-use Rattle.twox_core.specs.SecretBytes.{secret_bytes}
 use Rattle.twox_core.proofs.xxhash3.stripes.within.accumulate_within.Given as goal
 
 abbrev pub invariant-stripes : goal.invariant-stripes

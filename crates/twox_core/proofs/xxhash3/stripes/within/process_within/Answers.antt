@@ -1,6 +1,4 @@
-use Rattle.std.proofs.Common.{◌≡◌, ◌+◌, ◌/◌, ◌<◌, length, sym, ◌∙◌, arith}
-use Rattle.twox_core.specs.Long.{stripes_of}
-use Rattle.twox_core.specs.SecretBytes.{secret_bytes}
+use Rattle.twox_core.proofs.Prelude.{◌+◌, ◌/◌, ◌<◌, ◌∙◌, ◌≡◌, arith, length, secret_bytes, stripes_of, sym}
 use Rattle.twox_core.proofs.BlockFacts.{stripes_within, stripes_to_block_end}
 use Rattle.twox_core.proofs.xxhash3.stripes.within.process_within.Goals as goal
 

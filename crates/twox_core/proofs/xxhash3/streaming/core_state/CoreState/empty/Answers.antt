@@ -1,5 +1,4 @@
-use Rattle.std.proofs.Common.{refl, arith}
-use Rattle.std.proofs.lemmas.List.{length-take-le}
+use Rattle.twox_core.proofs.Prelude.{arith, length-take-le, refl}
 use Rattle.twox_core.proofs.xxhash3.streaming.core_state.CoreState.empty.Goals as goal
 
 pub returns-clause-exact : goal.returns-clause-exact

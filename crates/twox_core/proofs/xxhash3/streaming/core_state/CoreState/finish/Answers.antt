@@ -1,7 +1,4 @@
-use Rattle.std.proofs.Common.{◌≡◌, ◌*◌, ◌/◌, nat_le, true, false, length, arith, ◌∙◌}
-use Rattle.std.proofs.lemmas.Bool.Decides.{nat_tests}
-use Rattle.std.proofs.lemmas.List.{length-take-le}
-use Rattle.twox_core.specs.SecretBytes.{secret_bytes}
+use Rattle.twox_core.proofs.Prelude.{◌*◌, ◌/◌, ◌∙◌, ◌≡◌, arith, false, length, length-take-le, nat_le, nat_tests, secret_bytes, true}
 use Rattle.twox_core.specs.Finish.{buffered_bytes, stripes_left, end_accumulators, end_block, state_finish}
 use Rattle.twox_core.proofs.StripeFacts.{after_stripes-take}
 use Rattle.twox_core.proofs.xxhash3.streaming.core_state.CoreState.finish.Goals as goal

@@ -1,6 +1,4 @@
-use Rattle.std.proofs.Common.{◌≡◌, ◌-◌, List, ℕ, ◌++◌, take, drop, nat_lt, true, arith, ap, ◌∙◌, length-drop}
-use Rattle.std.proofs.lemmas.Bool.Decides.{nat_tests}
-use Rattle.std.proofs.lemmas.List.{take_all}
+use Rattle.twox_core.proofs.Prelude.{◌++◌, ◌-◌, ◌∙◌, ◌≡◌, List, ap, arith, drop, length-drop, nat_lt, nat_tests, take, take_all, true, ℕ}
 use Rattle.twox_core.specs.Finish.{last_bytes}
 use Rattle.twox_core.proofs.xxhash3.streaming.core_state.CoreState.last_stripe.Goals as goal
 

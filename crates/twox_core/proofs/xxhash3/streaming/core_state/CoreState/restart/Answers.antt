@@ -1,6 +1,4 @@
-use Rattle.std.proofs.Common.{◌≡◌, ◌*◌, ◌/◌, length, take, refl, arith, ◌∙◌, length-drop}
-use Rattle.std.proofs.lemmas.List.{length-take-le}
-use Rattle.twox_core.specs.SecretBytes.{secret_bytes}
+use Rattle.twox_core.proofs.Prelude.{◌*◌, ◌/◌, ◌∙◌, ◌≡◌, arith, length, length-drop, length-take-le, refl, secret_bytes, take}
 use Rattle.twox_core.specs.AfterWrite.{after_rest, after_taking, stripes_in_place}
 use Rattle.twox_core.proofs.TakenFacts.{after_taking-take}
 use Rattle.twox_core.proofs.xxhash3.streaming.core_state.CoreState.restart.Goals as goal

@@ -1,5 +1,4 @@
-use Rattle.std.proofs.Common.{◌≡◌, ◌-◌, length, nat_le, true, false, refl, arith}
-use Rattle.std.proofs.lemmas.Bool.Decides.{nat_tests}
+use Rattle.twox_core.proofs.Prelude.{◌-◌, ◌≡◌, arith, false, length, nat_le, nat_tests, refl, true}
 use Rattle.twox_core.specs.AfterWrite.{state_after_write}
 use Rattle.twox_core.proofs.xxhash3.streaming.core_state.CoreState.write.Goals as goal
 

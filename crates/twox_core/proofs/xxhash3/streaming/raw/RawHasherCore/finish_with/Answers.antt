@@ -1,5 +1,4 @@
-use Rattle.std.proofs.Common.{◌≡◌, length, ap, subst, ◌∙◌, arith}
-use Rattle.twox_words.specs.Word.{counted}
+use Rattle.twox_core.proofs.Prelude.{◌∙◌, ◌≡◌, ap, arith, counted, length, subst}
 use Rattle.twox_core.specs.Ending.{stream_accumulators, stream_block, last_stripe}
 use Rattle.twox_core.specs.StandsFor.{StandsFor}
 use Rattle.twox_core.specs.Finish.{core_finish}

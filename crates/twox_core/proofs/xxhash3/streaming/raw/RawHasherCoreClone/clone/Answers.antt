@@ -1,6 +1,4 @@
-use Rattle.std.proofs.Common.{refl, subst}
-use Rattle.twox_core.specs.CoreView.{CoreView}
-use Rattle.twox_core.specs.StandsFor.{IsCopy}
+use Rattle.twox_core.proofs.Prelude.{CoreView, IsCopy, refl, subst}
 use Rattle.twox_core.proofs.StreamFacts.{stands_copied}
 use Rattle.twox_core.proofs.xxhash3.streaming.raw.RawHasherCoreClone.clone.Goals as goal
 
