@@ -10,7 +10,7 @@ use crate::programs::xxh_io::ends::{Failed, Source};
 const BUFFER: usize = 65536;
 
 // Maximum length of a line in bytes, without its line feed. A longer line is skipped.
-const MOST: usize = 32767;
+const LONGEST_LINE: usize = 32767;
 
 /// The next item of a list.
 #[derive(Clone, Copy, Debug, PartialEq, Eq)]
@@ -34,7 +34,7 @@ pub struct Lines<R, T> {
     // `buf[line_start..line_end]` is the current line, without its line feed.
     line_start: usize,
     line_end: usize,
-    // True if the current line has more than MOST bytes.
+    // True if the current line has more than LONGEST_LINE bytes.
     is_long: bool,
     has_ended: bool,
 }
@@ -79,7 +79,7 @@ impl<R: Source , T: Ticks> Lines<R, T> {
     fn gather(&mut self) -> Result<Option<usize>, Failed> {
         loop {
             let found = self.before_line_feed();
-            if found.is_some() || self.has_ended || self.end - self.start > MOST {
+            if found.is_some() || self.has_ended || self.end - self.start > LONGEST_LINE {
                 return Ok(found);
             }
             self.refill()?;
@@ -94,7 +94,7 @@ impl<R: Source , T: Ticks> Lines<R, T> {
         self.is_long = is_long;
     }
 
-    // Skips a line with more than MOST buffered bytes, up to its line feed or the end.
+    // Skips a line with more than LONGEST_LINE buffered bytes, up to its line feed or the end.
     fn pass_over(&mut self) -> Next {
         for turn in 0..u64::MAX {
             let waiting = self.end - self.start;
@@ -118,7 +118,7 @@ impl<R: Source , T: Ticks> Lines<R, T> {
     pub fn next(&mut self) -> Next {
         match self.gather() {
             Err(Failed) => Next::Failed,
-            Ok(Some(len)) if len > MOST => {
+            Ok(Some(len)) if len > LONGEST_LINE => {
                 self.take(0, len + 1, true);
                 Next::Line
             }
@@ -128,7 +128,7 @@ impl<R: Source , T: Ticks> Lines<R, T> {
             }
             Ok(None) => match self.end - self.start {
                 0 => Next::End,
-                waiting if waiting > MOST => self.pass_over(),
+                waiting if waiting > LONGEST_LINE => self.pass_over(),
                 waiting => {
                     self.take(waiting, waiting, false);
                     Next::Line
