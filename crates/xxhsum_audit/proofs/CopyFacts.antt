@@ -1,7 +1,7 @@
 -- Lemmas on copies of unchanged files.
-use Rattle.xxhsum_audit.proofs.Prelude.{◌≡◌, Bool, true, false, List, [], ◌∷◌, ◌++◌, Option, Some, None, map, refl, sym, ap, subst, ◌∙◌, inl, inr, flat_map, Ordering, Less}
-use Rattle.xxhsum_audit.proofs.Prelude.{Equal, Greater, cond-true, cond-false, alike_right, tied_itself, is_eq, is_lt, ordering_reverse, copied, missing_one, new_one, original, with_copy, Changed, Copied, Found, Missing, Moved, New, Same}
-use Rattle.xxhsum_audit.proofs.Prelude.{line_in, name_in, HasSameDigest, IsAmong, Item, Ascends, compare_digests, rank_digests}
+use Rattle.xxhsum_audit.proofs.Prelude.{◌≡◌, Bool, true, false, List, [], ◌∷◌, ◌++◌, Option, Some, None, map, refl, sym, ap, subst, ◌∙◌, inl, inr, flat_map, Ordering, Less, Equal, Greater, cond-true, cond-false, alike_right, tied_itself}
+use Rattle.xxhsum_audit.proofs.Prelude.{is_eq, is_lt, ordering_reverse, copied, missing_one, new_one, original, with_copy, Changed, Copied, Found, Missing, Moved, New, Same, line_in, name_in, HasSameDigest, IsAmong, Item, Ascends}
+use Rattle.xxhsum_audit.proofs.Prelude.{compare_digests, rank_digests}
 use Rattle.xxhsum_audit.proofs.OrderFacts.{all_total, digests_exact, digests_tied, digests_total, eq_true}
 
 -- ---- results that have the same items with and without copies

@@ -1,6 +1,5 @@
 -- Proves that the counts of the classes add up.
-use Rattle.xxhsum_audit.proofs.Prelude.{◌≡◌, ℕ, ◌+◌, List, [], ◌∷◌, length, length-append, refl, cond, arith, count_by, flat_map, sum_by-cons, Changed, Copied, Found, Missing, Moved, New, Same, is_of_class, line_in, name_in}
-use Rattle.xxhsum_audit.proofs.Prelude.{CountsAddUp}
+use Rattle.xxhsum_audit.proofs.Prelude.{◌≡◌, ℕ, ◌+◌, List, [], ◌∷◌, length, length-append, refl, cond, arith, count_by, flat_map, sum_by-cons, Changed, Copied, Found, Missing, Moved, New, Same, is_of_class, line_in, name_in, CountsAddUp}
 use Rattle.xxhsum_audit.specs.declared.verdict.Class.{Class}
 use Rattle.xxhsum_audit.specs.declared.verdict.Class.TheVariants as Of
 

@@ -1,6 +1,6 @@
 -- Proves that a binary search finds the first file with a digest.
-use Rattle.xxhsum_audit.proofs.Prelude.{◌≡◌, ℕ, suc, zero, ◌+◌, ◌<◌, ◌≤◌, Bool, true, false, List, [], ◌∷◌, Some, None, drop, get_or, length, refl, sym, ap, subst, ◌∙◌, inl, inr, arith, ◌==◌, Ordering, Less, Equal, Greater}
-use Rattle.xxhsum_audit.proofs.Prelude.{alike_right, drop_all, drop_more, is_lt, ordering_index, original, IsAmong, Item, item_of, items_of, Ascends, compare_digests}
+use Rattle.xxhsum_audit.proofs.Prelude.{◌≡◌, ℕ, suc, zero, ◌+◌, ◌<◌, ◌≤◌, Bool, true, false, List, [], ◌∷◌, Some, None, drop, get_or, length, refl, sym, ap, subst, ◌∙◌, inl, inr, arith, ◌==◌, Ordering, Less, Equal, Greater, alike_right}
+use Rattle.xxhsum_audit.proofs.Prelude.{drop_all, drop_more, is_lt, ordering_index, original, IsAmong, Item, item_of, items_of, Ascends, compare_digests}
 use Rattle.std.specs.List.Sorted.{IsPartitionedBy}
 use Rattle.xxhsum_audit.specs.declared.digest.FileDigest.{FileDigest}
 use Rattle.xxhsum_audit.proofs.CopyFacts.{original-above, original-here, original-passed}

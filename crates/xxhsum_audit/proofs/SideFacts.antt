@@ -1,6 +1,6 @@
 -- Proves that an unmatched element of a merge has no partner.
-use Rattle.xxhsum_audit.proofs.Prelude.{◌≡◌, ◌≢◌, List, [], ◌∷◌, ◌++◌, refl, sym, ap, subst, ◌∙◌, inl, inr, flat_map, Less, Equal, Greater, compared, missing_in, missing_one, new_in, new_one, settled_one, Changed, Copied}
-use Rattle.xxhsum_audit.proofs.Prelude.{Found, Missing, Moved, New, Same, line_in, lines_in, met, name_in, names_in, IsAmong, Item, LacksPath, name_of, path_of, Rises, compare_lines}
+use Rattle.xxhsum_audit.proofs.Prelude.{◌≡◌, ◌≢◌, List, [], ◌∷◌, ◌++◌, refl, sym, ap, subst, ◌∙◌, inl, inr, flat_map, Less, Equal, Greater, compared, missing_in, missing_one, new_in, new_one, settled_one, Changed, Copied, Found, Missing}
+use Rattle.xxhsum_audit.proofs.Prelude.{Moved, New, Same, line_in, lines_in, met, name_in, names_in, IsAmong, Item, LacksPath, name_of, path_of, Rises, compare_lines}
 use Rattle.xxhsum_audit.proofs.AmongFacts.{among_either, among_left, among_right}
 use Rattle.xxhsum_audit.proofs.FoundFacts.{Covers, by_founds, met_is, met_pair}
 use Rattle.xxhsum_audit.proofs.OrderFacts.{back, lines_exact, lines_total, paths_tied}

@@ -1,6 +1,6 @@
 -- Lemmas on escaped names: their meaning, the bytes that they lack, and their length.
-use Rattle.xxhsum_line.proofs.Prelude.{◌≡◌, ◌≢◌, ◌⊎◌, ℕ, ◌+◌, ◌*◌, ◌<◌, ◌≤◌, Bool, true, false, ◌||◌, nat_eq, List, [], ◌∷◌, ◌++◌, length, take, get_or, Option, Some, None, refl, sym, ap, ◌∙◌, inl, inr, append-nil, append_assoc}
-use Rattle.xxhsum_line.proofs.Prelude.{drop_more, length-append, arith, option_and_then, cases_eq, cond-false, ne_eqb, or_parts, take_more, before, escape, escaped, is_special, meant_behind, meant_by, needs_escape, unescaped, Lacks}
+use Rattle.xxhsum_line.proofs.Prelude.{◌≡◌, ◌≢◌, ◌⊎◌, ℕ, ◌+◌, ◌*◌, ◌<◌, ◌≤◌, Bool, true, false, ◌||◌, nat_eq, List, [], ◌∷◌, ◌++◌, length, take, get_or, Option, Some, None, refl, sym, ap, ◌∙◌, inl, inr, append-nil, append_assoc, drop_more}
+use Rattle.xxhsum_line.proofs.Prelude.{length-append, arith, option_and_then, cases_eq, cond-false, ne_eqb, or_parts, take_more, before, escape, escaped, is_special, meant_behind, meant_by, needs_escape, unescaped, Lacks}
 use Rattle.xxhsum_line.proofs.LackFacts.{lacks_both}
 
 -- ---- bytes of an escaped name

@@ -1,6 +1,6 @@
 -- Lemmas on lists that lack a byte, and on splits at the first or last position of a byte.
-use Rattle.xxhsum_line.proofs.Prelude.{ne_eqb, rules, true, refl, eq-eqb, take_rest, is_byte, ◌≡◌, ◌≢◌, ℕ, suc, ◌+◌, ◌-◌, ◌<◌, ◌≤◌, List, [], ◌∷◌, ◌++◌, length, take, drop, get_or, sym, ap, subst, ◌∙◌, inl, inr, arith, drop_more, take-append-drop, length-take-le, length-drop, get_or-take}
-use Rattle.xxhsum_line.proofs.Prelude.{get_or-drop, eqb_tells, Lacks, up_to_nul, without_return}
+use Rattle.xxhsum_line.proofs.Prelude.{ne_eqb, rules, true, refl, eq-eqb, take_rest, is_byte, ◌≡◌, ◌≢◌, ℕ, suc, ◌+◌, ◌-◌, ◌<◌, ◌≤◌, List, [], ◌∷◌, ◌++◌, length, take, drop, get_or, sym, ap, subst, ◌∙◌, inl, inr, arith, drop_more}
+use Rattle.xxhsum_line.proofs.Prelude.{take-append-drop, length-take-le, length-drop, get_or-take, get_or-drop, eqb_tells, Lacks, up_to_nul, without_return}
 use Rattle.memchr.specs.Find.{NoneAfter, NoneBefore, Nowhere, Passes}
 
 pub lacks_right : (b : ℕ) (x y : List ℕ) → Lacks b (x ++ y) → Lacks b y

@@ -1,7 +1,7 @@
 -- Proves that reading the digits of a value returns the value.
-use Rattle.xxhsum_line.proofs.Prelude.{add-one, pow-le-pow_right, ◌-◌, ◌≤◌, ◌≡◌, ◌≢◌, ◌⊎◌, ℕ, zero, suc, ◌+◌, ◌*◌, ◌/◌, ◌%◌, ◌^◌, ◌<◌, Bool, true, false, List, [], ◌∷◌, ◌++◌, length, Some, None, inl, inr, refl, sym, ap, subst, ◌∙◌, arith, length-append, eq-eqb}
-use Rattle.xxhsum_line.proofs.Prelude.{option_and_then, pow-suc, nat_tests, option_and_then_some, same_Some, digits_of, Kind, X32, X64, X3_64, X3_128, digit_of, number_after, number_of}
-use Rattle.xxhsum_line.proofs.Prelude.{bytes_reversed, in_order, option_map, value_shown, Lacks, shown}
+use Rattle.xxhsum_line.proofs.Prelude.{add-one, pow-le-pow_right, ◌-◌, ◌≤◌, ◌≡◌, ◌≢◌, ◌⊎◌, ℕ, zero, suc, ◌+◌, ◌*◌, ◌/◌, ◌%◌, ◌^◌, ◌<◌, Bool, true, false, List, [], ◌∷◌, ◌++◌, length, Some, None, inl, inr, refl, sym, ap, subst, ◌∙◌, arith}
+use Rattle.xxhsum_line.proofs.Prelude.{length-append, eq-eqb, option_and_then, pow-suc, nat_tests, option_and_then_some, same_Some, digits_of, Kind, X32, X64, X3_64, X3_128, digit_of, number_after, number_of, bytes_reversed, in_order}
+use Rattle.xxhsum_line.proofs.Prelude.{option_map, value_shown, Lacks, shown}
 use Rattle.xxh_io.specs.Hex.{hex_digit, hex_digits}
 use Rattle.std.proofs.Math.Nat.{le-mul_of_pos_right, pow-succ'}
 use Rattle.std.proofs.lemmas.Nat.{mul-add-lt}
