@@ -1,4 +1,3 @@
-#!/usr/bin/env python3
 """Proves and tests everything: the checks that a change must pass.
 
     checks/all [--anew]
@@ -15,15 +14,15 @@ import os
 import re
 import shutil
 import subprocess
-import sys
 import tempfile
 import threading
 import time
 
-TOP = os.path.dirname(os.path.dirname(os.path.abspath(__file__)))
-sys.dont_write_bytecode = True
-sys.path.insert(0, os.path.join(TOP, "checks"))
-from parts import Part
+import command
+from report import Report
+from tools import TOP
+
+from .parts import Part
 
 # Checks over symbols, which need no proof: they use the processors that the proofs leave idle.
 FOR_ALL_BYTES = [("the definitions beside the reference's code", 32, "oracle/symbolic"),
@@ -99,19 +98,15 @@ def parts(top, anew):
 
 
 def main():
-    anew = sys.argv[1:]
-    if anew not in ([], ["--anew"]):
-        sys.exit(__doc__)
-    began, memory = time.monotonic(), MostMemory()
+    parser = command.parser(__doc__)
+    parser.add_argument("--anew", action="store_true", help="use no result of an earlier run")
+    anew = ["--anew"] if parser.parse_args().anew else []
+    began, memory, report = time.monotonic(), MostMemory(), Report()
     with tempfile.TemporaryDirectory(prefix="checks-all-") as room:
         if anew:
             os.environ["XDG_CACHE_HOME"] = f"{room}/cache"
         told, passed, failed = zip(*parts(copied(room), words_for_ci(room, anew)))
     print("", *told, sep="\n")
     print(f"in all: {(time.monotonic() - began) / 60:.1f} minutes, {memory.beyond_start():.1f} GB of memory")
-    print(f"{sum(passed)} passed, {sum(failed)} failed")
-    return 1 if sum(failed) else 0
-
-
-if __name__ == "__main__":
-    sys.exit(main())
+    report.count(sum(passed), sum(failed))
+    return report.end()

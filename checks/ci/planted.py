@@ -1,4 +1,3 @@
-#!/usr/bin/env python3
 """Faults that CI itself must detect:
 
     checks/planted
@@ -12,15 +11,14 @@ import fcntl
 import io
 import os
 import subprocess
-import sys
 import tempfile
 import time
 
-TOP = os.path.dirname(os.path.dirname(os.path.abspath(__file__)))
-sys.dont_write_bytecode = True
-sys.path[:0] = [os.path.join(TOP, 'checks'), os.path.join(TOP, 'checks', 'lib')]
-from parts import Part
+import command
 from report import Report, want
+from tools import TOP
+
+from .parts import Part
 
 # A part's name, its script, and whether it passes.
 PARTS = {
@@ -81,6 +79,7 @@ def installation_waits():
 
 
 def main():
+    command.parser(__doc__).parse_args()
     report = Report()
     for name, words in PARTS.items():
         report.attempt(name, is_judged, *words)
@@ -88,7 +87,3 @@ def main():
         report.attempt(name, is_counted, *words)
     report.attempt('an installation waits for another one', installation_waits)
     return report.end()
-
-
-if __name__ == '__main__':
-    sys.exit(main())

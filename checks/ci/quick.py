@@ -1,4 +1,3 @@
-#!/usr/bin/env python3
 """Runs the tests of every crate with no proof, and some hundred vectors: the check to run while working.
 
     checks/quick [CRATE..]
@@ -17,7 +16,10 @@ import subprocess
 import sys
 import time
 
-TOP = os.path.dirname(os.path.dirname(os.path.abspath(__file__)))
+import command
+from report import Report
+from tools import TOP, text_of
+
 CRATES = os.path.join(TOP, 'crates')
 AT_A_TIME = min(4, len(os.sched_getaffinity(0)))
 # `rt try` interprets each step, so the longest tests would take minutes. It also counts the time that a test waits for
@@ -30,11 +32,6 @@ LEFT_TO_THE_GATE = '_past_four_gibibytes'
 def crates_with_tests():
     sources = glob.glob(os.path.join(CRATES, '*', 'src', '**', '*.rt'), recursive=True)
     return sorted({os.path.relpath(path, CRATES).split(os.sep)[0] for path in sources if '#[test]' in text_of(path)})
-
-
-def text_of(path):
-    with open(path, encoding='utf-8') as file:
-        return file.read()
 
 
 def tried(crate, *words, given=''):
@@ -75,24 +72,22 @@ def vectors():
 
 
 def main():
+    parser = command.parser(__doc__)
+    parser.add_argument('crates', nargs='*', metavar='CRATE')
+    named = parser.parse_args().crates
     if not shutil.which('rt'):
         sys.exit('checks/quick: no rt, which compiles the tests')
-    named, known = sys.argv[1:], crates_with_tests()
+    known = crates_with_tests()
     unknown = [name for name in named if name not in [*known, 'vectors']]
     if unknown:
         sys.exit(f'checks/quick: {unknown[0]} has no tests; there are {", ".join(known)} and vectors')
-    began, passed, failed = time.monotonic(), 0, 0
+    began, report = time.monotonic(), Report()
     with concurrent.futures.ThreadPoolExecutor(AT_A_TIME) as pool:
         jobs = {name: pool.submit(vectors if name == 'vectors' else lambda it=name: tests_of(it))
                 for name in ['vectors', *known] if not named or name in named}
         for name, job in jobs.items():
             good, bad, told = job.result()
-            passed, failed = passed + good, failed + bad
+            report.count(good, bad)
             print(f'{name}: {good} passed, {bad} failed', *told, sep='\n  ', flush=True)
     print(f'{time.monotonic() - began:.0f} s; nothing was proved')
-    print(f'{passed} passed, {failed} failed')
-    return 1 if failed or not passed else 0
-
-
-if __name__ == '__main__':
-    sys.exit(main())
+    return report.end()

@@ -1,4 +1,3 @@
-#!/usr/bin/env python3
 """Proves crates from nothing, and lists the functions whose proofs take the longest:
 
     checks/slowest [--most N] [--test] CRATE..
@@ -6,16 +5,14 @@
 A function's time is from the end of the proof before it to the end of its own, in one process. So it includes that
 of the lemmas that it is the first to need, and the first one's that of the start. --test includes a crate's tests.
 Run it on an idle machine."""
-import argparse
 import os
 import re
 import subprocess
 import sys
 import time
 
-sys.dont_write_bytecode = True
-sys.path.insert(0, os.path.dirname(os.path.abspath(__file__)))
-from wrong_bodies import kit
+import command
+from mutants import kit
 
 ENDED = re.compile(r"checked (\S+), \d+ of \d+")
 
@@ -38,7 +35,7 @@ def times(crate, is_test):
 
 
 def main():
-    parser = argparse.ArgumentParser(description=__doc__, formatter_class=argparse.RawDescriptionHelpFormatter)
+    parser = command.parser(__doc__)
     parser.add_argument("--most", type=int, default=10)
     parser.add_argument("--test", action="store_true")
     parser.add_argument("crates", nargs="+", metavar="CRATE")
@@ -53,7 +50,3 @@ def main():
         print(f"{name}: {len(found)} functions, {whole:.0f} s")
         for function, took in sorted(found.items(), key=lambda it: -it[1])[:given.most]:
             print(f"  {took:5.1f} s  {function.partition('::')[2]}", flush=True)
-
-
-if __name__ == "__main__":
-    main()

@@ -3,7 +3,8 @@ import os
 import re
 import subprocess
 
-TOP = os.path.dirname(os.path.dirname(os.path.abspath(__file__)))
+from tools import TOP
+
 LONGEST_SUBJECT = 72
 # Folders that every system has aren't a machine's own.
 MACHINE_PATH = re.compile(r'(?:^|(?<=[\s\'"(=]))/(?!(?:dev|proc|sys|usr|etc|bin|lib)\b)[\w.+-]+(?:/[\w.+-]+)+', re.M)
@@ -26,6 +27,7 @@ def messages():
     """The message of each commit from the one that introduced this rule on, by its hash. None without git's history."""
     if not os.path.exists(os.path.join(TOP, '.git')):
         return None
+    # Its first path.
     first = git('log', '--diff-filter=A', '--reverse', '--format=%H', '--', 'checks/commits.py').split()
     if not first:
         return None

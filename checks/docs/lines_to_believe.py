@@ -1,4 +1,3 @@
-#!/usr/bin/env python3
 """Counts what a reader must trust of the main theorem: the lines of this repository's definitions of the hashes, of
 the clauses of crates/headline, and of those that it names, and the definitions of the toolchain's library that these
 cite, each of which counts as one. The same for `xxhsum`: the clauses of crates/xxhsum_headline, and each definition
@@ -8,7 +7,9 @@ import glob
 import os
 import re
 
-TOP = os.path.dirname(os.path.dirname(os.path.abspath(__file__)))
+import command
+from tools import TOP, text_of
+
 SPECS = ['twox_words/specs/Word'] + ['twox_plain/specs/' + name for name in ('Units', 'Xxh32', 'Xxh64')]
 SPECS += ['twox_core/specs/' + name for name in ('Primes', 'Steps', 'Secret', 'Short', 'Middle', 'Long', 'Value')]
 SPECS += ['headline/specs/Headline']
@@ -35,8 +36,7 @@ CITED = re.compile(r'(?:ghost )?use (Rattle\.std|mir)\S*\.\{(.*)\}')
 
 
 def text_lines(name):
-    with open(os.path.join(TOP, 'crates', name)) as file:
-        return [line.strip() for line in file]
+    return [line.strip() for line in text_of(f'crates/{name}').splitlines()]
 
 
 def cited_words(lines):
@@ -63,8 +63,7 @@ def lines_of_clauses(lines):
 
 def items(name, heads):
     """The lines of each item of a file whose first line begins with one of the heads."""
-    with open(os.path.join(TOP, 'crates', name)) as file:
-        text = file.read()
+    text = text_of(f'crates/{name}')
     found = [item for head in heads for _, item in re.findall(rf'^( *)({head}.*\n(?:.*\n)*?)\1}}$', text, re.M)]
     return [[line.strip() for line in item.splitlines()] for item in found]
 
@@ -155,11 +154,8 @@ def counted_of_program(path, head):
 
 
 def main():
+    command.parser(__doc__).parse_args()
     lines, words = counted()
     print(f'{lines} lines of this repository and {words} definitions of the toolchain\'s library')
     print(f'{counted_of_program(PROGRAM_HEADLINE, r"pub fn ")} lines for `xxhsum`')
     print(f'{counted_of_program(*PROGRAM):,} lines for the contract of `run`')
-
-
-if __name__ == '__main__':
-    main()

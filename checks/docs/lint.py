@@ -1,14 +1,13 @@
-#!/usr/bin/env python3
 """Checks what the proofs don't cover: scripts, Python, Rust, JavaScript, and the wording of pages, comments and messages.
 
     checks/lint
 
 - shellcheck reads the shell scripts, pyflakes the Python, rustfmt and clippy the Rust, and node the JavaScript;
-- pages, comments, help texts and error messages have none of the words of checks/words.txt, and doc comments don't begin
+- pages, comments, help texts and error messages have none of the words of checks/docs/words.txt, and doc comments don't begin
   with "Whether" or "What";
 - docs/CONTRACTS.md names each file of `specs/`;
 - commits since this rule have a subject of at most 72 characters, and no absolute path of a machine in their message
-  (checks/commits.py).
+  (checks/docs/commits.py).
 
 Each check must first detect planted mistakes. A check that fails without a message counts as failed. One line per check,
 with what it found; the last line is "N passed, M failed". It takes half a minute, and installs missing packages: Debian's
@@ -19,16 +18,13 @@ import io
 import os
 import re
 import subprocess
-import sys
 import tempfile
 
-TOP = os.path.dirname(os.path.dirname(os.path.abspath(__file__)))
-sys.dont_write_bytecode = True
-sys.path[:0] = [os.path.join(TOP, 'checks', 'lib'), os.path.join(TOP, 'checks')]
-import commits
-import words
+import command
 from report import Report, want
-from tools import install_packages
+from tools import TOP, install_packages, text_of
+
+from . import commits, words
 
 PACKAGES = {'shellcheck': 'shellcheck', 'pyflakes3': 'pyflakes3', 'rustfmt': 'rustfmt', 'clippy-driver': 'rust-clippy',
             'node': 'nodejs'}
@@ -116,8 +112,8 @@ def puzzles(*paths):
 
 def unnamed(*specs):
     """The files of definitions that no row of the page names."""
-    with open(os.path.join(TOP, 'docs', 'CONTRACTS.md'), encoding='utf-8') as file:
-        named = set(re.findall(r'\w+', ''.join(line for line in file if line.startswith('| '))))
+    rows = [line for line in text_of('docs/CONTRACTS.md').splitlines() if line.startswith('| ')]
+    named = set(re.findall(r'\w+', ' '.join(rows)))
     return [f'{path} is in no row of docs/CONTRACTS.md' for path in specs
             if os.path.basename(path).removesuffix('.antt') not in named]
 
@@ -176,6 +172,7 @@ def empty_faults_count():
 
 
 def main():
+    command.parser(__doc__).parse_args()
     install_packages(PACKAGES)
     report, every = Report(), list(files())
     # The erased source has the layout of its source.
@@ -193,7 +190,3 @@ def main():
                    [path for path in every if '/specs/' in path and not path.endswith('/Lib.antt')])
     report.attempt('faults without a text', empty_faults_count)
     return report.end()
-
-
-if __name__ == '__main__':
-    sys.exit(main())

@@ -1,4 +1,3 @@
-#!/usr/bin/env python3
 """Runs the commands of the pages as they are printed, on a copy of this machine whose changes are discarded.
 
     checks/pages [--list] [PAGE..]
@@ -18,14 +17,14 @@ import subprocess
 import sys
 import tempfile
 
-TOP = os.path.dirname(os.path.dirname(os.path.abspath(__file__)))
-sys.dont_write_bytecode = True
-sys.path[:0] = [os.path.join(TOP, 'checks'), os.path.join(TOP, 'release', 'parts'), os.path.join(TOP, 'checks', 'lib')]
-
-import printed
+import command
 from report import Fault, Report
+from tools import TOP, clean_copy, install_packages, must
+
+from . import printed
+
+sys.path.append(os.path.join(TOP, 'release', 'parts'))
 from roots import CLONE, Root
-from tools import clean_copy, install_packages, must
 
 # Sections that must fail: each is wrong in one way.
 PLANTED = {
@@ -112,10 +111,12 @@ def check_planted(room):
 
 
 def main():
-    words = sys.argv[1:]
-    is_list = words[:1] == ['--list']
-    pages = words[is_list:] or printed.PAGES
-    if is_list:
+    parser = command.parser(__doc__)
+    parser.add_argument('--list', action='store_true', help='list the blocks, and run none')
+    parser.add_argument('pages', nargs='*', metavar='PAGE')
+    given = parser.parse_args()
+    pages = given.pages or printed.PAGES
+    if given.list:
         tell_list(pages)
         return 0
     cargo = 'cargo-web' if suite_of_this_machine() == 'bookworm' else 'cargo'
@@ -131,7 +132,3 @@ def main():
         report.attempt('planted commands are noticed', check_planted, room)
     tell_list(pages)
     return report.end()
-
-
-if __name__ == '__main__':
-    sys.exit(main())

@@ -12,7 +12,7 @@ import subprocess
 from collections import namedtuple
 
 from report import Fault, tail, want
-from tools import TOP
+from tools import TOP, text_of
 
 # The commands of RELEASES run in the folder of the archives, and those of every other page at the top of the
 # repository.
@@ -33,11 +33,6 @@ Block = namedtuple('Block', 'line text reason')
 Section = namedtuple('Section', 'page heading blocks packages')
 # A command, its location, and its expected output or None.
 Command = namedtuple('Command', 'where text shown')
-
-
-def text_of(page):
-    with open(os.path.join(TOP, page), encoding='utf-8') as file:
-        return file.read()
 
 
 def sections(page, suite, text=None):

@@ -3,7 +3,8 @@ import os
 import re
 import sys
 
-TOP = os.path.dirname(os.path.dirname(os.path.abspath(__file__)))
+from tools import TOP, text_of
+
 SPEED = 'docs/SPEED.md'
 SUMMARY, LOWEST_ROWS, DISPATCH = (SPEED, '# Speed'), (SPEED, '## The lowest ratios'), (SPEED, "Debian's functions `.._dispatch`")
 XXHSUM, CARGO = (SPEED, '`xxhsum` and the same program'), (SPEED, '## Through cargo')
@@ -26,11 +27,6 @@ SAID = [
 ]
 # A bound.
 APART = {'0.95'}
-
-
-def text_of(path):
-    with open(os.path.join(TOP, path), encoding='utf-8') as file:
-        return file.read()
 
 
 def rows_of(page, before):

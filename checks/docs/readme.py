@@ -1,20 +1,19 @@
-#!/usr/bin/env python3
 """Compares the pages with the tree: CALLING.md quotes the code of crates/example and crates/calling, and docs/C.md a
 program in C; links, also to headings, and the workflow's commands exist; docs/SPEED.md agrees with its data; README.md has
 the counts of checks/lines-to-believe, and docs/VERIFICATION.md those of oracle/lines-to-trust; ratios in README.md are the
-minimum, maximum or median of their tables (checks/ratios.py), and no table of it is one of docs/SPEED.md; docs/api.txt has
+minimum, maximum or median of their tables (checks/docs/ratios.py), and no table of it is one of docs/SPEED.md; docs/api.txt has
 every public name, docs/CONTRACTS.md every clause and docs/MANUAL.md the manual pages; all versions are equal; and the pages
 have at most as many words as WORDS allows."""
 import glob
 import os
 import re
 import subprocess
-import sys
 
-TOP = os.path.dirname(os.path.dirname(os.path.abspath(__file__)))
-sys.dont_write_bytecode = True
-sys.path.append(os.path.join(TOP, 'checks'))
-import ratios
+import command
+from report import Report
+from tools import TOP, text_of
+
+from . import ratios
 
 # A page, a source that it quotes, the beginning of the quoted part, and its end, if it isn't the end of the source.
 QUOTES = [
@@ -46,11 +45,6 @@ MOST_WORDS_OF_README, MOST_WORDS = 1200, 15000
 WORKFLOW = '.github/workflows/checks.yml'
 INTERFACES = [('crates/twox_rust/src/lib.rt', r'fn twox_rust_interface_(\d+)'),
               ('docs/RELEASES.md', r"and interface (\d+) of the crate's assembly")]
-
-
-def text_of(path):
-    with open(os.path.join(TOP, path), encoding='utf-8') as file:
-        return file.read()
 
 
 def pages():
@@ -154,15 +148,11 @@ def wrong_bodies_that_differ():
 
 
 def main():
+    command.parser(__doc__).parse_args()
     checks = (quotes_that_differ, links_that_lead_nowhere, names_that_differ, versions_that_differ, releases_that_differ,
               figures_that_differ, tables_that_repeat, words_over_the_limit, ratios_that_differ, wrong_bodies_that_differ)
-    faults = {check: list(check()) for check in checks}
-    for fault in sum(faults.values(), []):
-        print(fault)
-    failed = sum(map(bool, faults.values()))
-    print(f'{len(faults) - failed} passed, {failed} failed')
-    return 1 if failed else 0
-
-
-if __name__ == '__main__':
-    sys.exit(main())
+    report = Report()
+    for faults in [list(check()) for check in checks]:
+        print(*faults, sep='\n', end='\n' * bool(faults))
+        report.count(not faults, bool(faults))
+    return report.end()

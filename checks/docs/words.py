@@ -1,4 +1,4 @@
-"""The words of checks/words.txt in pages, comments, help texts and error messages, outside of code."""
+"""The words of checks/docs/words.txt in pages, comments, help texts and error messages, outside of code."""
 import fnmatch
 import functools
 import io
@@ -6,8 +6,9 @@ import os
 import re
 import tokenize
 
-TOP = os.path.dirname(os.path.dirname(os.path.abspath(__file__)))
-LIST = os.path.join(TOP, 'checks', 'words.txt')
+from tools import TOP, text_of
+
+LIST = 'checks/docs/words.txt'
 # Code in a page, and in a comment.
 CODE = re.compile(r'^```.*?^```$|`[^`\n]*`|(?<=\])\([^)\n]*\)', re.M | re.S)
 # A value in a message.
@@ -26,8 +27,7 @@ PUZZLE = re.compile(r'(?:Whether|What)\b')
 @functools.cache
 def lists():
     """The words, as a pattern for each place in which they are looked for, and the exceptions: (paths, words)."""
-    with open(LIST, encoding='utf-8') as file:
-        parts = file.read().split('# Exceptions')
+    parts = text_of(LIST).split('# Exceptions')
     rows = [[[cell.strip() for cell in line.split('|')] for line in part.splitlines()[1:] if '|' in line and line[0] != '#']
             for part in parts]
     patterns = {}
@@ -92,12 +92,15 @@ def is_page(name):
     return name.endswith(('.md', '.1'))
 
 
+def name_of(path):
+    """The path of a file from the top, or the name of one that is elsewhere."""
+    return os.path.relpath(path, TOP) if path.startswith(TOP + os.sep) else os.path.basename(path)
+
+
 def lines_with_words(*paths):
     """Each use of a word of the list, with its line."""
     for path in paths:
-        name = os.path.relpath(path, TOP) if path.startswith(TOP + os.sep) else os.path.basename(path)
-        with open(path, encoding='utf-8') as file:
-            text = file.read()
+        name, text = name_of(path), text_of(path)
         if is_page(name):
             parts, scope = [(1, without_code(text))], 'pages'
         else:
@@ -114,12 +117,10 @@ def lines_with_words(*paths):
 def puzzles(*paths):
     """Each doc comment that begins with a word that a reader has to solve."""
     for path in paths:
-        name = os.path.relpath(path, TOP) if path.startswith(TOP + os.sep) else os.path.basename(path)
-        with open(path, encoding='utf-8') as file:
-            text = file.read()
         before = ''
-        for line, part in parts_of(path, text)[0]:
+        for line, part in parts_of(path, text_of(path))[0]:
             shown = part.strip().lstrip('/!*"').strip()
-            if not before.strip() and part.lstrip().startswith(('///', '/**', '"""')) and PUZZLE.match(shown) and not is_allowed(name, '*'):
+            is_begun = not before.strip() and part.lstrip().startswith(('///', '/**', '"""'))
+            if is_begun and PUZZLE.match(shown) and not is_allowed(name_of(path), '*'):
                 yield f'{path}:{line}: {shown[:60]}'
             before = '' if part.lstrip().startswith('"""') else part

@@ -1,4 +1,3 @@
-#!/usr/bin/env python3
 """Checks examples/blocks-parallel on a file of 1 GiB, compared with one run of `xxh blocks`:
 
     checks/blocks-parallel
@@ -15,15 +14,13 @@ is missing, and openssh-server if that starts no server. It needs `rt` and 2 GiB
 import filecmp
 import os
 import subprocess
-import sys
-import tempfile
 import time
 
-TOP = os.path.dirname(os.path.dirname(os.path.abspath(__file__)))
-sys.path += [os.path.join(TOP, 'checks', 'lib'), os.path.join(TOP, 'checks')]
-from report import Report, want
-from ssh_hosts import Hosts, RoomOfSshd, install_packages
-from tools import proved_program
+import command
+from report import want
+from tools import TOP, proved_program
+
+from .ssh_hosts import Hosts, run_checks
 
 SIZE = 4096
 
@@ -124,14 +121,5 @@ def check_all(report, room):
 
 
 def main():
-    if sys.argv[1:]:
-        sys.exit(__doc__)
-    install_packages()
-    report = Report()
-    with RoomOfSshd(), tempfile.TemporaryDirectory() as room:
-        check_all(report, room)
-    sys.exit(report.end())
-
-
-if __name__ == '__main__':
-    main()
+    command.parser(__doc__).parse_args()
+    return run_checks(check_all)

@@ -1,4 +1,3 @@
-#!/usr/bin/env python3
 """Checks examples/files-parallel on a tree of 12,000 files, compared with one run of our `xxhsum`:
 
     checks/files-parallel [XXHSUM]
@@ -18,15 +17,13 @@ import os
 import random
 import signal
 import subprocess
-import sys
-import tempfile
 import time
 
-TOP = os.path.dirname(os.path.dirname(os.path.abspath(__file__)))
-sys.path += [os.path.join(TOP, 'checks', 'lib'), os.path.join(TOP, 'checks')]
-from report import Report, want
-from ssh_hosts import Hosts, RoomOfSshd, install_packages
-from tools import proved_program
+import command
+from report import want
+from tools import TOP, proved_program
+
+from .ssh_hosts import Hosts, run_checks
 
 PROGRAM = os.path.join(TOP, 'examples', 'files-parallel')
 FILES = 12000
@@ -277,8 +274,8 @@ def one_lies(tree, hosts):
     want(tree.taken() != tree.lines, 'wrong lines are not noticed')
 
 
-def check_all(report, room):
-    xxhsum = os.path.abspath(sys.argv[1]) if sys.argv[1:] else proved_program('xxhsum')
+def check_all(report, room, program):
+    xxhsum = os.path.abspath(program) if program else proved_program('xxhsum')
     os.mkdir(f'{room}/parallel')
     tree = Tree(room, xxhsum)
     for jobs in (1, 4):
@@ -301,14 +298,6 @@ def check_all(report, room):
 
 
 def main():
-    if sys.argv[2:] or sys.argv[1:2] == ['--help']:
-        sys.exit(__doc__)
-    install_packages()
-    report = Report()
-    with RoomOfSshd(), tempfile.TemporaryDirectory() as room:
-        check_all(report, room)
-    sys.exit(report.end())
-
-
-if __name__ == '__main__':
-    main()
+    parser = command.parser(__doc__)
+    parser.add_argument('xxhsum', nargs='?')
+    return run_checks(check_all, parser.parse_args().xxhsum)

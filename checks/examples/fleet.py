@@ -1,4 +1,3 @@
-#!/usr/bin/python3
 """Checks examples/fleet on a Dask cluster of this machine, on 100,000 small files and ten large ones:
 
     checks/fleet [XXHSUM]
@@ -36,10 +35,11 @@ import tempfile
 import threading
 import time
 
-TOP = os.path.dirname(os.path.dirname(os.path.abspath(__file__)))
-sys.path += [os.path.join(TOP, 'checks', 'lib'), os.path.join(TOP, 'checks')]
+import command
 from report import Fault, Report, want
-from tools import install_packages, must, proved_program
+from tools import TOP, install_packages, must, proved_program
+
+from .ssh_hosts import free_port
 
 # Neither files nor bytes fill the last task, and some tasks are full of bytes.
 FILES, MEDIUM, LARGE, BLOCK = 100050, 12 << 20, 64 << 20, 1000003
@@ -112,9 +112,7 @@ class Cluster:
     def __init__(self, room, library):
         self.room, self.library = room, library
         self.run_as = {'user': NOBODY, 'group': NOBODY, 'extra_groups': []} if os.geteuid() == 0 else {}
-        with socket.socket() as probe:
-            probe.bind(('127.0.0.1', 0))
-            port = str(probe.getsockname()[1])
+        port = str(free_port())
         self.address, self.processes, self.workers = 'tcp://127.0.0.1:' + port, [], []
         self.start('dask-scheduler', '--host', '127.0.0.1', '--port', port, *QUIET)
         until(lambda: not socket.socket().connect_ex(('127.0.0.1', int(port))), 'the scheduler does not listen')
@@ -593,10 +591,10 @@ def no_scheduler(fleet):
     return told[0]
 
 
-def check_all(report, room):
+def check_all(report, room, program):
     library = os.path.join(room, 'prefix', 'lib')
     must(['make', '-s', '-C', os.path.join(TOP, 'c'), 'install', f'lib={room}/lib', f'PREFIX={room}/prefix'])
-    xxhsum = os.path.abspath(sys.argv[1]) if sys.argv[1:] else proved_program('xxhsum')
+    xxhsum = os.path.abspath(program) if program else proved_program('xxhsum')
     fleet = Fleet(room, library, xxhsum)
     report.row('one process of xxhsum', None, f'{len(fleet.lines)} files in {fleet.alone:.1f} s')
     try:
@@ -618,16 +616,13 @@ def check_all(report, room):
 
 
 def main():
-    if sys.argv[2:] or sys.argv[1:2] == ['--help']:
-        sys.exit(__doc__)
+    parser = command.parser(__doc__)
+    parser.add_argument('xxhsum', nargs='?')
+    program = parser.parse_args().xxhsum
     install_packages(PACKAGES)
     # Dask's messages about missing workers are no errors.
     logging.disable(logging.CRITICAL)
     report = Report()
     with tempfile.TemporaryDirectory() as room:
-        check_all(report, room)
-    sys.exit(report.end())
-
-
-if __name__ == '__main__':
-    main()
+        check_all(report, room, program)
+    return report.end()

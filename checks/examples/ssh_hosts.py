@@ -6,10 +6,11 @@ import signal
 import socket
 import subprocess
 import sys
+import tempfile
 import time
 
-import tools
-from report import Fault, want
+from report import Fault, Report, want
+from tools import install_packages
 
 SSHD = '/usr/sbin/sshd'
 PACKAGES = {'parallel': 'parallel', 'ssh': 'openssh-client', 'ssh-keygen': 'openssh-client', SSHD: 'openssh-server'}
@@ -29,11 +30,16 @@ exec {program} "$@"
 '''
 
 
-def install_packages():
-    """Installing a server starts it if systemd runs, which only the machine's owner should do."""
+def run_checks(check_all, *words):
+    """Runs the checks of an example in a temporary folder, after the packages are installed. Returns the status."""
+    # Installing a server starts it if systemd runs, which only the machine's owner should do.
     if not shutil.which(SSHD) and os.path.isdir('/run/systemd/system'):
         sys.exit('no sshd: install the package openssh-server, which starts a server')
-    tools.install_packages(PACKAGES)
+    install_packages(PACKAGES)
+    report = Report()
+    with RoomOfSshd(), tempfile.TemporaryDirectory() as room:
+        check_all(report, room, *words)
+    return report.end()
 
 
 class RoomOfSshd:

@@ -13,6 +13,12 @@ QUIET = {**os.environ, 'DEBIAN_FRONTEND': 'noninteractive', 'LC_ALL': 'C.UTF-8'}
 PATIENCE = 900
 
 
+def text_of(path):
+    """The text of a file, by its path from the top of the repository."""
+    with open(os.path.join(TOP, path), encoding='utf-8') as file:
+        return file.read()
+
+
 def must(words, **more):
     """Runs a tool of the check itself, which must succeed."""
     done = subprocess.run(words, stdout=subprocess.PIPE, stderr=subprocess.STDOUT, text=True, **more)

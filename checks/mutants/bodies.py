@@ -1,4 +1,3 @@
-#!/usr/bin/env python3
 """Tries the mutants of every crate, many in one check: the prover must refuse each.
 
     checks/wrong-bodies [--jobs N] [--since REV] [--anew] [-v] [CRATE..]
@@ -14,7 +13,7 @@ reports "not refused" or "bad edit". CONTRIBUTING.md explains why this is sound.
 
 A refusal is remembered by a checksum of everything that it depends on: the edit, the body with its proof answers, the
 statements of its crate and those below, the prover, and this program. This machine remembers its own, and the
-repository, in wrong_bodies/refused.txt, those of a run with --write; each run tries a random tenth of the latter again.
+repository, in mutants/refused.txt, those of a run with --write; each run tries a random tenth of the latter again.
 --anew tries all.
 
 --hard tries those again that are refused only because a proof answer no longer fits, without the proof answers of their
@@ -22,17 +21,15 @@ function. A mutant that is then proved was never refused by the contract. It tak
 
 Each edit that isn't refused has a line, and each crate; the last line is "N passed, M failed". The status is 0 only
 if all were refused."""
-import argparse
 import os
-import sys
 
-sys.dont_write_bytecode = True
-sys.path.insert(0, os.path.dirname(os.path.abspath(__file__)))
-from wrong_bodies import run, self_test
+import command
+
+from . import run, self_test
 
 
 def main():
-    parser = argparse.ArgumentParser(description=__doc__, formatter_class=argparse.RawDescriptionHelpFormatter)
+    parser = command.parser(__doc__)
     parser.add_argument("--jobs", type=int, default=len(os.sched_getaffinity(0)), help="checks at a time")
     parser.add_argument("--since", metavar="REV", help="only crates that changed since REV, or whose libraries' contracts did")
     parser.add_argument("--beside-ci", action="store_true", help="try those of each crate once rt ci says that it's proved")
@@ -47,7 +44,3 @@ def main():
     if given.write and (given.crates or given.since):
         parser.error("--write is for all crates")
     return self_test.main(given.jobs, given.crates) if given.self_test else run.main(given)
-
-
-if __name__ == "__main__":
-    sys.exit(main())

@@ -1,4 +1,3 @@
-#!/usr/bin/env python3
 """Compares the audit of `xxhsum` with a slow one, over a tree of many files.
 
     checks/xxhsum-audit OURS [--files N]
@@ -10,19 +9,18 @@ the order of the arguments, for a list from three jobs, and for one whose names 
 reported, and nothing else. Six planted reports, for example one that reports a moved file as new, must be detected.
 The last line is "N passed, M failed"; the status is 1 if one failed. It prints how much memory the audit took per
 line."""
-import argparse
 import collections
+import contextlib
 import os
 import random
 import re
 import subprocess
-import sys
 import tempfile
 
-sys.path.append(os.path.join(os.path.dirname(os.path.abspath(__file__)), 'lib'))
-sys.dont_write_bytecode = True
-
+import command
 from report import Report
+
+from .runs import escaped, found, write
 
 SEED = 20261127
 PLANTED = {
@@ -33,11 +31,6 @@ PLANTED = {
     'a copy that is new': lambda text: re.sub(rb'(?m): copy of .*$', b': new', text, count=1),
     'a copy of itself': lambda text: re.sub(rb'(?m)^([^\n\\]*): copy of .*$', rb'\1: copy of \1', text, count=1),
 }
-
-
-def run(words, given=b''):
-    done = subprocess.run(words, input=given, capture_output=True, check=False)
-    return done.stdout, done.stderr, done.returncode
 
 
 def peak_of(words):
@@ -54,12 +47,6 @@ def name_of(number):
     """Names that together have each byte that a name of UTF-8 may have."""
     odd = bytes(c for c in (number % 127 + 1, number // 127 % 127 + 1) if c not in b'/') + chr(0x80 + number % 0x700).encode()
     return b'd%d/%d-' % (number % 97, number) + odd
-
-
-def write(name, text):
-    os.makedirs(os.path.dirname(name), exist_ok=True)
-    with open(name, 'wb') as file:
-        file.write(text)
 
 
 def change(tree, draw):
@@ -85,10 +72,6 @@ def change(tree, draw):
     for one, other in zip(next(parts), next(parts)):
         after[one], after[other] = tree[other], tree[one]
     return after
-
-
-def escaped(name):
-    return name.replace(b'\\', b'\\\\').replace(b'\n', b'\\n').replace(b'\r', b'\\r')
 
 
 def told(name, word, other=None):
@@ -131,8 +114,8 @@ def slow_audit(before, after):
 
 def is_as(report, wanted):
     lines, last = wanted
-    found = report.splitlines(keepends=True)
-    return sorted(found[:-1]) == sorted(lines) and found[-1:] == [last]
+    printed = report.splitlines(keepends=True)
+    return sorted(printed[:-1]) == sorted(lines) and printed[-1:] == [last]
 
 
 def lay_out(before, after):
@@ -144,7 +127,7 @@ def lay_out(before, after):
 
 
 def main():
-    parser = argparse.ArgumentParser(description=__doc__, formatter_class=argparse.RawDescriptionHelpFormatter)
+    parser = command.parser(__doc__)
     parser.add_argument('ours')
     parser.add_argument('--files', type=int, default=100000)
     given = parser.parse_args()
@@ -155,28 +138,30 @@ def main():
     def check(name, is_right, note=''):
         report.row(name, None if is_right else 'it is otherwise', note)
 
-    with tempfile.TemporaryDirectory() as room:
-        os.chdir(room)
+    def run(words, given=b''):
+        return found(ours, words, given)
+
+    with tempfile.TemporaryDirectory() as room, contextlib.chdir(room):
         before = {name_of(number): b'file %d' % (number // 3 * 3 if number % 100 < 3 else number)
                   for number in range(given.files)}
         for name, text in before.items():
             write(name, text)
         names = b''.join(name + b'\0' for name in before)
-        listed = run([ours, '-H3', '--files0-from', '-'], names)
+        listed = run(['-H3', '--files0-from', '-'], names)
         lines = listed[0].splitlines(keepends=True)
         check('the list of the tree, by names that end in NUL', listed[1:] == (b'', 0) and len(lines) == len(before))
-        write('./list', listed[0])
-        same = run([ours, '--audit', '--files0-from', './list'], names)
+        write('list', listed[0])
+        same = run(['--audit', '--files0-from', './list'], names)
         check('a tree that stayed', is_as(same[0], slow_audit(before, before)) and same[1:] == (b'', 0))
 
         after = change(before, draw)
         lay_out(before, after)
         names = [name + b'\0' for name in after]
         wanted = slow_audit(before, after)
-        changed_told = run([ours, '--audit', '--files0-from', './list'], b''.join(names))
+        changed_told = run(['--audit', '--files0-from', './list'], b''.join(names))
         check('a tree that was changed', is_as(changed_told[0], wanted) and changed_told[1:] == (b'', 1), wanted[1].decode().strip())
-        write('./names', b''.join(names))
-        write('./none', b'')
+        write('names', b''.join(names))
+        write('none', b'')
         none, peak = (peak_of([ours, '--audit', '--status', '--files0-from', *it])
                       for it in (['./none', './none'], ['./list', './names']))
         print(f'memory: {(peak - none) / len(before):.0f} bytes a line and a name, of which the list and the names are '
@@ -186,28 +171,28 @@ def main():
         for word in ('the lines in another order', 'the lines of three jobs, joined'):
             if word.startswith('the lines in'):
                 draw.shuffle(lines)
-                write('./other', b''.join(lines))
+                write('other', b''.join(lines))
             else:
-                write('./other', b''.join(b''.join(sorted(lines)[job::3]) for job in (2, 0, 1)))
-            again = run([ours, '--audit', '--files0-from', './other'], b''.join(names))
+                write('other', b''.join(b''.join(sorted(lines)[job::3]) for job in (2, 0, 1)))
+            again = run(['--audit', '--files0-from', './other'], b''.join(names))
             check(word, again == changed_told)
-        write('./other', b''.join(lines))
-        dotted = run([ours, '--audit', '--files0-from', './other'], b''.join(b'./' + name for name in names))
+        write('other', b''.join(lines))
+        dotted = run(['--audit', '--files0-from', './other'], b''.join(b'./' + name for name in names))
         check('names that begin with ./', dotted[0].splitlines()[-1:] == changed_told[0].splitlines()[-1:] and dotted[1:] == (b'', 1)
               and sorted(re.findall(rb'(?m): (?:same|changed|new|missing)$', dotted[0]))
               == sorted(re.findall(rb'(?m): (?:same|changed|new|missing)$', changed_told[0])))
         few = sorted(after)[:500]
-        words = run([ours, '--audit', './list', *few])
-        part = run([ours, '--audit', '--files0-from', './list'], b''.join(name + b'\0' for name in few))
+        words = run(['--audit', './list', *few])
+        part = run(['--audit', '--files0-from', './list'], b''.join(name + b'\0' for name in few))
         check('names that are words', words == part)
-        write('./names', b''.join(name + b'\n' for name in few if b'\n' not in name))
-        by_lines = run([ours, '--audit', '--files-from', './list', './names'])
-        part = run([ours, '--audit', './list', *[name for name in few if b'\n' not in name]])
+        write('names', b''.join(name + b'\n' for name in few if b'\n' not in name))
+        by_lines = run(['--audit', '--files-from', './list', './names'])
+        part = run(['--audit', './list', *[name for name in few if b'\n' not in name]])
         check('names that are lines', by_lines == part)
-        quiet = run([ours, '--audit', '-q', '--files0-from', './list'], b''.join(names))[0]
+        quiet = run(['--audit', '-q', '--files0-from', './list'], b''.join(names))[0]
         check('-q leaves out what is the same', quiet == b''.join(
             line for line in changed_told[0].splitlines(keepends=True) if not line.endswith(b': same\n')))
-        silent = run([ours, '--audit', '--status', '--files0-from', './list'], b''.join(names))
+        silent = run(['--audit', '--status', '--files0-from', './list'], b''.join(names))
         check('--status says nothing', silent == (b'', b'', 1))
 
         bad = {
@@ -219,15 +204,11 @@ def main():
                                       b'duplicate name'),
         }
         for word, (text, told_names, said) in bad.items():
-            write('./other', text)
-            answer = run([ours, '--audit', '--files0-from', './other'], told_names)
+            write('other', text)
+            answer = run(['--audit', '--files0-from', './other'], told_names)
             check(word, answer[0] == b'' and said in answer[1] and answer[2] == 1)
-        answer = run([ours, '--audit', './nowhere', 'd0/0'])
+        answer = run(['--audit', './nowhere', 'd0/0'])
         check('a list that is not there', answer[0] == b'' and b'./nowhere' in answer[1] and answer[2] == 1)
         for word, plant in PLANTED.items():
             check('noticed: ' + word, not is_as(plant(changed_told[0]), wanted))
     return report.end()
-
-
-if __name__ == '__main__':
-    sys.exit(main())

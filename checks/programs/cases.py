@@ -5,6 +5,8 @@ docs/XXHSUM.md has the reason of each. The digests in lists are those of the fil
 them."""
 from typing import NamedTuple, Optional
 
+from .runs import marked
+
 # The parts of two runs that must be equal. Help and version have their maker's name, so their text is not compared.
 ALL = ('out', 'err', 'status')
 NO_ERROR_TEXT = ('out', 'status')
@@ -28,8 +30,7 @@ class Case(NamedTuple):
 
 def one_line(text):
     """A reported text, as one line: as names are in lists, with a backslash before it if it needs one."""
-    escaped = text.replace(b'\\', b'\\\\').replace(b'\n', b'\\n').replace(b'\r', b'\\r')
-    return (b'\\' if escaped != text else b'') + escaped + b'\n'
+    return marked(text) + b'\n'
 
 
 def fails(told, out=b''):

@@ -1,4 +1,3 @@
-#!/usr/bin/env python3
 """Gives a program `xxhsum` the lines of checks/lines.json, and compares how it parses them with what is there.
 
     checks/xxhsum-lines PROGRAM             ours, which parses lines as release 0.8.3 does, except a carriage return at
@@ -11,18 +10,16 @@ the name that it has, with the content `some bytes`: so a line counts as parsed 
 digits and the name are the test case's. The page reads the same table (web/tests/lines_test.mjs).
 
 A changed test case must fail. The last line is "N passed, M failed"."""
-import argparse
 import json
 import os
 import subprocess
-import sys
 import tempfile
 
-HERE = os.path.dirname(os.path.abspath(__file__))
-sys.path.append(os.path.join(HERE, 'lib'))
-sys.dont_write_bytecode = True
-
+import command
 from report import Report
+from tools import text_of
+
+from .runs import marked
 
 CONTENT = b'some bytes'
 # The line of the other file in each folder: a tagged one, which is the same with --little-endian.
@@ -37,11 +34,6 @@ def said(row, is_older):
     return (None, older['name']) if isinstance(older, dict) else (older, None)
 
 
-def escaped(name):
-    shown = name.replace(b'\\', b'\\\\').replace(b'\n', b'\\n').replace(b'\r', b'\\r')
-    return shown if shown == name else b'\\' + shown
-
-
 def wanted(word, name, is_older):
     """Standard output, standard error, and the status of a strict check of the line and of the other one."""
     good, bad = b'other: OK\n', b'L:1: Error: Improperly formatted checksum line.\n'
@@ -52,7 +44,7 @@ def wanted(word, name, is_older):
     if not name:
         gone = b"L:1: Could not open or read '': No such file or directory.\n"
         return gone + good + b'1 listed file could not be read\n', b'', 1
-    return (name if is_older else escaped(name)) + b': OK\n' + good, b'', 0
+    return (name if is_older else marked(name)) + b': OK\n' + good, b'', 0
 
 
 def found(program, row, name):
@@ -85,13 +77,12 @@ def changed(row, is_older):
 
 
 def main():
-    parser = argparse.ArgumentParser(description=__doc__, formatter_class=argparse.RawDescriptionHelpFormatter)
+    parser = command.parser(__doc__)
     parser.add_argument('--older', action='store_true', help='what 0.8.1 takes a line for')
     parser.add_argument('program')
     given = parser.parse_args()
     program = os.path.abspath(given.program)
-    with open(os.path.join(HERE, 'lines.json'), encoding='utf-8') as file:
-        rows = json.load(file)
+    rows = json.loads(text_of('checks/lines.json'))
     report = Report()
     for row in rows:
         is_same, answer = is_as_said(program, row, given.older)
@@ -100,7 +91,3 @@ def main():
             fault = 'it passed with another meaning'
         report.row(repr(row['line']), fault)
     return report.end()
-
-
-if __name__ == '__main__':
-    sys.exit(main())

@@ -1,4 +1,3 @@
-#!/usr/bin/env python3
 """Lists of hostile names: one `xxhsum` makes them, and another one checks them.
 
     checks/xxhsum-lists ORIGINAL OURS [--older PROGRAM] [--lists N] [--only WORD]
@@ -14,7 +13,6 @@ order.
 
 Each part must also detect wrong lists: with another digest, or with a backslash removed. The last line is "N passed,
 M failed". It takes about two minutes."""
-import argparse
 import array
 import contextlib
 import fcntl
@@ -22,18 +20,17 @@ import os
 import random
 import re
 import subprocess
-import sys
 import tempfile
 import termios
 import time
 
-sys.dont_write_bytecode = True
-sys.path.insert(0, os.path.join(os.path.dirname(os.path.abspath(__file__)), 'lib'))
+import command
 from report import Report, want
+
+from .runs import HASHES, found, marked, write
 
 # One seed, so that each run draws the names of the run before.
 SEED = 20261126
-HASHES = ('-H0', '-H1', '-H2', '-H3')
 SHAPES = ((), ('--tag',), ('--little-endian',), ('--tag', '--little-endian'))
 # The parts of random names: parts of lines, escaped characters, and what looks like an escape.
 PARTS = [b'\\', b'\\', b'\\', b'\n', b'\n', b'\r', b'n', b'r', b' ', b'(', b')', b'=', b') = ', b'#', b'*', b'\t', b'a', b'\x01',
@@ -42,25 +39,14 @@ POOL = 1500
 NOT_UTF8 = b'The name is not UTF-8'
 
 
-def found(program, words, given=b''):
-    done = subprocess.run([program, *words], input=given, capture_output=True, check=False)
-    return done.stdout, done.stderr, done.returncode
-
-
-def escaped(name):
-    shown = name.replace(b'\\', b'\\\\').replace(b'\n', b'\\n').replace(b'\r', b'\\r')
-    return shown if shown == name else b'\\' + shown
-
-
 def make_files(names):
     for name in names:
-        with open(name, 'wb') as file:
-            file.write(b'content of ' + name)
+        write(name, b'content of ' + name)
 
 
 def all_good(names):
     """A checker's output for a list of these files."""
-    return b''.join(escaped(name) + b': OK\n' for name in names), b'', 0
+    return b''.join(marked(name) + b': OK\n' for name in names), b'', 0
 
 
 def made(program, words, names):
@@ -119,7 +105,7 @@ def refusing(names, text):
     said, unread = b'', 0
     for number, name in enumerate(names, 1):
         if is_utf8(name):
-            said += escaped(name) + b': OK\n'
+            said += marked(name) + b': OK\n'
         else:
             said += b"stdin:%d: Could not open or read '%s': %s.\n" % (number, name, NOT_UTF8)
             unread += 1
@@ -210,24 +196,12 @@ def cut_lists(original, ours):
     return f'{len(text) - 1} places'
 
 
-@contextlib.contextmanager
-def room():
-    before = os.getcwd()
-    with tempfile.TemporaryDirectory() as folder:
-        os.chdir(folder)
-        try:
-            yield
-        finally:
-            os.chdir(before)
-
-
 def main():
-    parser = argparse.ArgumentParser(description=__doc__, formatter_class=argparse.RawDescriptionHelpFormatter)
+    parser = command.parser(__doc__, 'parts')
     parser.add_argument('original')
     parser.add_argument('ours')
     parser.add_argument('--older', metavar='PROGRAM', help='release 0.8.1')
     parser.add_argument('--lists', type=int, default=10000)
-    parser.add_argument('--only', metavar='WORD', default='', help='the parts whose name has the word')
     given = parser.parse_args()
     original, ours = os.path.abspath(given.original), os.path.abspath(given.ours)
     parts = {
@@ -240,10 +214,6 @@ def main():
     report = Report()
     for name, part in parts.items():
         if given.only in name:
-            with room():
+            with tempfile.TemporaryDirectory() as room, contextlib.chdir(room):
                 report.attempt(name, part)
     return report.end()
-
-
-if __name__ == '__main__':
-    sys.exit(main())

@@ -1,4 +1,3 @@
-#!/usr/bin/env python3
 """Runs `xxhsum` on many files, names, reads and arguments.
 
     checks/xxhsum-many PROGRAM.. [--only WORD]
@@ -7,16 +6,15 @@ A tree of 150,000 names, of which one directory has 120,000; an audit of 70,000 
 comes in 150,000 reads; 130,000 arguments. All files are empty, and the expected output is derived from the digest of
 no bytes. Wrong programs are planted, which must be detected. The last line is "N passed, M failed". It takes some 20
 seconds of processor time for each program, and no space except that of the names."""
-import argparse
+import contextlib
 import os
 import subprocess
-import sys
 import tempfile
 
-sys.dont_write_bytecode = True
-HERE = os.path.dirname(os.path.abspath(__file__))
-sys.path.insert(0, os.path.join(HERE, 'lib'))
+import command
 from report import Report, want
+
+from .runs import found, plant
 
 # XXH64 of no bytes.
 EMPTY = b'ef46db3751d8e999'
@@ -55,21 +53,15 @@ def lines(names):
     return b''.join(b'%s  %s\n' % (EMPTY, name) for name in names)
 
 
-def ran(program, words, **streams):
-    done = subprocess.run([program, *words], stdout=subprocess.PIPE, stderr=subprocess.PIPE, timeout=SECONDS, check=False,
-                          **streams)
-    return done.stdout, done.stderr, done.returncode
-
-
-def wanted(found, out, status=0):
-    """True if a run printed this and no message."""
-    want(found[1] == b'', f'it reports {found[1][:300]!r}')
-    want(found[2] == status, f'its status is {found[2]}')
-    want(found[0] == out, f'it prints {found[0].count(10)} lines, and {out.count(10)} others are wanted')
+def wanted(result, out):
+    """The run printed this and no message, and succeeded."""
+    want(result[1] == b'', f'it reports {result[1][:300]!r}')
+    want(result[2] == 0, f'its status is {result[2]}')
+    want(result[0] == out, f'it prints {result[0].count(10)} lines, and {out.count(10)} others are wanted')
 
 
 def many_names(program, names):
-    wanted(ran(program, ['-r', 'tree']), lines(names))
+    wanted(found(program, ['-r', 'tree'], seconds=SECONDS), lines(names))
     return f'{len(names):,} names'
 
 
@@ -78,8 +70,8 @@ def audit_of_equal_files(program, names):
     with open('list', 'wb') as file:
         file.write(lines(chosen))
     counts = b'%d same, 0 changed, 0 moved, 0 copied, 0 new, 0 missing\n' % len(chosen)
-    found = ran(program, ['--audit', '--files0-from', 'list'], input=b'\0'.join(chosen))
-    wanted(found, b''.join(b'%s: same\n' % name for name in chosen) + counts)
+    done = found(program, ['--audit', '--files0-from', 'list'], b'\0'.join(chosen), SECONDS)
+    wanted(done, b''.join(b'%s: same\n' % name for name in chosen) + counts)
     return f'{len(chosen):,} files'
 
 
@@ -106,7 +98,7 @@ def many_reads(program, names):
 
 def many_arguments(program, _names):
     make_empty('e') if not os.path.exists('e') else None
-    wanted(ran(program, ['e'] * ARGUMENTS), lines([b'e'] * ARGUMENTS))
+    wanted(found(program, ['e'] * ARGUMENTS, seconds=SECONDS), lines([b'e'] * ARGUMENTS))
     return f'{ARGUMENTS:,} arguments'
 
 
@@ -115,28 +107,23 @@ ROWS = {'a tree of many names': many_names, 'an audit of many equal files': audi
 
 
 def is_detected(script, row, program, names):
-    """True if a test detects a planted program."""
-    with tempfile.NamedTemporaryFile('w', suffix='.sh', delete=False) as file:
-        file.write(f'#!/bin/sh\nREAL={program}\n{script}\n')
-    os.chmod(file.name, 0o755)
-    try:
-        ROWS[row](file.name, names)
-    except Exception:
-        return 'detected'
-    finally:
-        os.remove(file.name)
+    """A test fails with a planted program."""
+    with tempfile.TemporaryDirectory() as room:
+        plant(f'{room}/xxhsum', program, script)
+        try:
+            ROWS[row](f'{room}/xxhsum', names)
+        except Exception:
+            return 'detected'
     raise AssertionError('it is not detected')
 
 
 def main():
-    parser = argparse.ArgumentParser(description=__doc__, formatter_class=argparse.RawDescriptionHelpFormatter)
+    parser = command.parser(__doc__, 'rows')
     parser.add_argument('programs', nargs='+')
-    parser.add_argument('--only', metavar='WORD', default='', help='the rows whose name has the word')
     given = parser.parse_args()
     programs = [os.path.abspath(program) for program in given.programs]
     report, names = Report(), tree_names()
-    with tempfile.TemporaryDirectory() as room:
-        os.chdir(room)
+    with tempfile.TemporaryDirectory() as room, contextlib.chdir(room):
         make_tree(names)
         for program in programs:
             for name, row in ROWS.items():
@@ -144,9 +131,4 @@ def main():
                     report.attempt(f'{os.path.basename(program)}, {name}', row, program, names)
         for title, (script, row) in PLANTED.items() if not given.only else ():
             report.attempt(f'planted, {title}', is_detected, script, row, programs[0], names)
-        os.chdir('/')
     return report.end()
-
-
-if __name__ == '__main__':
-    sys.exit(main())

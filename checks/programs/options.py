@@ -1,21 +1,19 @@
 """The options of `xxhsum` in its help, its page, its manual page and the cases: the manual page and the cases have those
 of the help, the page some of them."""
-import os
 import re
 import subprocess
 
-from xxhsum_cases import CASES
+from tools import text_of
 
-DOCS = os.path.join(os.path.dirname(os.path.dirname(os.path.abspath(__file__))), 'docs')
+from .cases import CASES
+
 # What the pages have besides the options: standard input, and the end of the options.
 MARKS = {'-', '--'}
 
 
 def section(path, begins, ends):
     """A section of a page, from the line that begins it to the next one with the same beginning."""
-    with open(os.path.join(DOCS, path), encoding='utf-8') as file:
-        text = file.read()
-    return text.split(begins, 1)[1].split(ends, 1)[0]
+    return text_of(f'docs/{path}').split(begins, 1)[1].split(ends, 1)[0]
 
 
 def of_help(program):

@@ -1,7 +1,7 @@
 """`xxhsum` with streams that are terminals: tests of checks/xxhsum.
 
 Each test runs the program with some of its streams on pseudo-terminals, which are read to their end after the
-program has ended. Its clock is that of checks/known_clock.c, so progress is compared byte by byte. A test is its
+program has ended. Its clock is that of known_clock.c, so progress is compared byte by byte. A test is its
 name, and its error, or nothing."""
 import concurrent.futures
 import contextlib
@@ -26,7 +26,6 @@ VAST = 1 << 38
 TEBIBYTE_AND_MORE = (1 << 40) + (1 << 36)
 # The rate of the known clock in KiB per second, and that of one that fails, which counts as a millisecond.
 RATE, RATE_OF_NO_TIME = 128000, STEP // KIB * 1000
-HERE = os.path.dirname(os.path.abspath(__file__))
 # The line of progress from which on the program's start time is negligible.
 SETTLED = 2048
 WIDTHS = (80, 40, 20, 10)
@@ -53,7 +52,7 @@ OF_INPUT, OF_FILE, NOTHING = progress_of(LONG, False), progress_of(LONG, True), 
 def known_clock(folder):
     """The clock, compiled as a library to preload."""
     library = os.path.join(folder, 'clock.so')
-    must(['gcc', '-O1', '-shared', '-fPIC', '-o', library, os.path.join(HERE, 'known_clock.c'), '-ldl'])
+    must(['gcc', '-O1', '-shared', '-fPIC', '-o', library, os.path.join(os.path.dirname(__file__), 'known_clock.c'), '-ldl'])
     return {**SETTINGS, 'LD_PRELOAD': library}
 
 

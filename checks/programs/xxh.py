@@ -1,4 +1,3 @@
-#!/usr/bin/env python3
 """Runs the built program `xxh` on a table of arguments and inputs: its output, its messages, and its status, also if a
 stream is closed, full, broken or a directory.
 
@@ -8,18 +7,15 @@ stream is closed, full, broken or a directory.
 
 The last line is "N passed, M failed". The digests are those of the reference library 0.8.1: of `oracle/vectors.txt`
 and of Debian's `xxhsum`, which were run by hand; none is from this program. It needs /dev/full."""
-import argparse
 import os
 import shutil
 import subprocess
 import sys
 import tempfile
 
-TOP = os.path.dirname(os.path.dirname(os.path.abspath(__file__)))
-sys.path.append(os.path.join(TOP, 'checks', 'lib'))
-sys.dont_write_bytecode = True
-
-from tools import proved_program
+import command
+from report import Report
+from tools import TOP, proved_program
 
 USAGE = b'xxh: usage: xxh hash|save|resume 32|64|3-64|3-128 [SEED|JSON] or xxh blocks SIZE\n'
 SEED = b'xxh: bad seed\n'
@@ -224,28 +220,24 @@ def built(backend, room, is_of_ci):
     return program
 
 
-def over_all(program, title, room):
+def over_all(program, title, room, report):
     run = Run(program, title)
     over_table(run)
     over_hostile_ends(run, room)
     over_slow_pipe(run)
     over_a_stream(run)
     print(f'{title}: {run.count} checks, {run.failed} failed')
-    return run
+    report.count(run.count - run.failed, run.failed)
 
 
 def main():
-    parser = argparse.ArgumentParser(description=__doc__, formatter_class=argparse.RawDescriptionHelpFormatter)
+    parser = command.parser(__doc__)
     parser.add_argument('--of-ci', action='store_true')
     parser.add_argument('programs', nargs='*', metavar='PROGRAM')
-    given = parser.parse_args()
+    given, report = parser.parse_args(), Report()
     with tempfile.TemporaryDirectory() as room:
         programs = [(os.path.abspath(program), program) for program in given.programs] or [
             (built(backend, room, given.of_ci), f'xxh as {backend} builds it') for backend in ('rattle', 'llvm')]
-        runs = [over_all(program, title, room) for program, title in programs]
-    count, failed = sum(run.count for run in runs), sum(run.failed for run in runs)
-    print(f'{count - failed} passed, {failed} failed')
-    sys.exit(1 if failed or not count else 0)
-
-
-main()
+        for program, title in programs:
+            over_all(program, title, room, report)
+    return report.end()

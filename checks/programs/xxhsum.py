@@ -1,11 +1,9 @@
-#!/usr/bin/env python3
-"""Compares `xxhsum` with the table of checks/xxhsum_cases.py.
+"""Compares `xxhsum` with the table of checks/programs/cases.py.
 
     checks/xxhsum ORIGINAL OURS          runs both, and prints which cases differ, and how
     checks/xxhsum --stored PROGRAM..     compares each program with the stored results, runs it on terminals
-                                         (checks/xxhsum_terminals.py) and into pipes (checks/xxhsum_pipes.py),
-                                         plants wrong programs, and compares the pages' options with the help's
-                                         (checks/xxhsum_options.py)
+                                         (terminals.py) and into pipes (pipes.py), plants wrong programs, and
+                                         compares the pages' options with the help's (options.py)
     checks/xxhsum --store OLDER NEWER    writes the stored results, by the originals of both releases
 
     --only WORD                          runs the cases whose name contains the word
@@ -15,7 +13,6 @@ output, standard error and the status byte for byte. An original is 0.8.1 (Debia
 xxhsum` in its sources); its version identifies it. The stored results are 0.8.3's, except for the cases for which
 the table has others. The last line is "N passed, M failed"; against an original, cases that differ as documented
 pass, and fail if they no longer differ."""
-import argparse
 import hashlib
 import json
 import os
@@ -23,18 +20,18 @@ import subprocess
 import sys
 import tempfile
 
-HERE = os.path.dirname(os.path.abspath(__file__))
-sys.dont_write_bytecode = True
-sys.path[:0] = [HERE, os.path.join(HERE, 'lib')]
+import command
 from report import Report
 from tools import install_packages
-from xxhsum_cases import CASES, FILES, NEWER_DIFFERS, OLDER_DIFFERS, one_line
-from xxhsum_options import over_pages
-from xxhsum_pipes import PLANTED_ON_PIPES, rows_on_pipes
-from xxhsum_terminals import PLANTED_ON_TERMINALS, rows_on_terminals
+
+from .cases import CASES, FILES, NEWER_DIFFERS, OLDER_DIFFERS, one_line
+from .options import over_pages
+from .pipes import PLANTED_ON_PIPES, rows_on_pipes
+from .runs import plant
+from .terminals import PLANTED_ON_TERMINALS, rows_on_terminals
 
 SHOWN = 400
-ANSWERS = os.path.join(HERE, 'xxhsum_answers.json')
+ANSWERS = os.path.join(os.path.dirname(__file__), 'answers.json')
 # Of a longer text the stored results have the beginning, the length and the SHA-256.
 LONGEST = 2000
 # Each program has its own usage text, after a line of these, and in ours the wrong argument.
@@ -218,15 +215,13 @@ def faults_of(program, cases, answers):
 
 def planted(program, script):
     """Writes a program that does what the script does with the real one."""
-    def plant(called, case):
+    def planted_as(called, case):
         real = os.path.join(os.path.dirname(called), 'real')
         os.mkdir(real)
         for name in {case.called, 'xxhsum'}:
             os.symlink(os.path.abspath(program), os.path.join(real, name))
-        with open(called, 'w', encoding='ascii') as file:
-            file.write(f'#!/bin/sh\nREAL={real}/{case.called}\n{script}\n')
-        os.chmod(called, 0o755)
-    return plant
+        plant(called, f'{real}/{case.called}', script)
+    return planted_as
 
 
 def over_streams(programs, report, where, rows_of, wrong_ones):
@@ -270,9 +265,8 @@ def over_stored(programs, cases, report):
 
 
 def main():
-    parser = argparse.ArgumentParser(description=__doc__, formatter_class=argparse.RawDescriptionHelpFormatter)
+    parser = command.parser(__doc__, 'cases')
     parser.add_argument('programs', nargs='+')
-    parser.add_argument('--only', metavar='WORD', default='', help='the cases whose name has the word')
     way = parser.add_mutually_exclusive_group()
     way.add_argument('--stored', action='store_true', help='compare with the stored answers')
     way.add_argument('--store', action='store_true', help='write the stored answers')
@@ -288,7 +282,3 @@ def main():
     else:
         beside(*given.programs, cases, report)
     return report.end()
-
-
-if __name__ == '__main__':
-    sys.exit(main())

@@ -1,29 +1,25 @@
-#!/usr/bin/env python3
 """Makes each system call of `xxhsum` and `xxh` fail in turn.
 
     checks/failing_calls XXHSUM XXH [--all] [--no-memory] [--only WORD] [--jobs N]
 
 Each scenario is run once unchanged, and then with one call failing, by strace: each call from `main` on that opens,
 reads, writes, looks up, lists a directory, closes or tests for a terminal, with each error of its kind; and each
-call for memory, with all those after it. A run must end as checks/failing expects: with the correct output and
+call for memory, with all those after it. A run must end as scenarios.py and judge.py expect: with the correct output and
 status, or with a message that names what failed, and only true lines. A failed close or look-up of a terminal
 changes nothing; `xxhsum` repeats an interrupted read. It tries some calls of each scenario, of each kind the first
 and one at random, or each with --all. Wrong results are planted, which must be detected. It takes any two programs
 by their paths, and installs Debian's strace and xxhash. The last line is "N passed, M failed"."""
-import argparse
 import concurrent.futures
 import os
 import random
 import subprocess
-import sys
 import tempfile
 
-sys.dont_write_bytecode = True
-HERE = os.path.dirname(os.path.abspath(__file__))
-sys.path[:0] = [HERE, os.path.join(HERE, 'lib')]
-from failing import judge, planted, scenarios, traces, worlds
+import command
 from report import Report, want
 from tools import install_packages
+
+from . import judge, planted, scenarios, traces, worlds
 
 PACKAGES = {'strace': 'strace', 'xxhsum': 'xxhash'}
 # One seed, so that each run tries the calls of the run before.
@@ -122,12 +118,11 @@ def detects(title, programs, world, rows):
 
 
 def main():
-    parser = argparse.ArgumentParser(description=__doc__, formatter_class=argparse.RawDescriptionHelpFormatter)
+    parser = command.parser(__doc__, 'scenarios')
     parser.add_argument('xxhsum')
     parser.add_argument('xxh')
     parser.add_argument('--all', action='store_true', help='try each call')
     parser.add_argument('--no-memory', action='store_true', help='leave out the calls for memory')
-    parser.add_argument('--only', metavar='WORD', default='', help='the scenarios whose name has the word')
     parser.add_argument('--jobs', type=int, default=2, help='how many runs at a time')
     given = parser.parse_args()
     install_packages(PACKAGES)
@@ -145,7 +140,3 @@ def main():
         for title in planted.PLANTED if not given.only else ():
             report.attempt(f'planted, {title}', detects, title, programs, world, {it.name: it for it in every})
     return report.end()
-
-
-if __name__ == '__main__':
-    sys.exit(main())

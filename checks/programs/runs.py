@@ -1,0 +1,39 @@
+"""Shared by the tests of `xxhsum`: runs, names as lines have them, and planted programs."""
+import os
+import subprocess
+
+# The options of the algorithms.
+HASHES = ('-H0', '-H1', '-H2', '-H3')
+
+
+def found(program, words, given=b'', seconds=None):
+    """The output, the errors and the status of a run with this standard input."""
+    done = subprocess.run([program, *words], input=given, capture_output=True, timeout=seconds, check=False)
+    return done.stdout, done.stderr, done.returncode
+
+
+def escaped(text):
+    """A text in a line, which has no line ends."""
+    return text.replace(b'\\', b'\\\\').replace(b'\n', b'\\n').replace(b'\r', b'\\r')
+
+
+def marked(text):
+    """A text that begins a line: with a backslash before it if it is escaped."""
+    shown = escaped(text)
+    return shown if shown == text else b'\\' + shown
+
+
+def plant(path, real, script):
+    """Writes a program that does what the script does with the real one, $REAL."""
+    with open(path, 'w', encoding='ascii') as file:
+        file.write(f'#!/bin/sh\nREAL={real}\n{script}\n')
+    os.chmod(path, 0o755)
+
+
+def write(path, text):
+    """Writes a file, in a folder that is created if it is missing."""
+    folder = os.path.dirname(path)
+    if folder:
+        os.makedirs(folder, exist_ok=True)
+    with open(path, 'wb') as file:
+        file.write(text)
