@@ -16,7 +16,7 @@ import time
 
 import command
 from report import Report, want
-from tools import TOP
+from tools import TOP, write
 
 from .parts import Part
 
@@ -58,9 +58,8 @@ def is_judged(script, passes):
 def is_counted(name, wrong, checked, last):
     """The last line of checks/quick with this output of `rt`."""
     with tempfile.TemporaryDirectory() as room:
-        with open(f'{room}/rt', 'w') as file:
-            file.write('#!/bin/sh\n' + LATE.replace('WRONG', wrong).replace('NAME', name).replace('CHECKED', checked))
-        os.chmod(f'{room}/rt', 0o755)
+        text = LATE.replace('WRONG', wrong).replace('NAME', name).replace('CHECKED', checked)
+        write(f'{room}/rt', f'#!/bin/sh\n{text}', 0o755)
         done = subprocess.run([os.path.join(TOP, 'checks', 'quick'), 'twox_tests'], stdout=subprocess.PIPE, text=True,
                               env={**os.environ, 'PATH': f'{room}:{os.environ["PATH"]}'})
     want(done.stdout.splitlines()[-1:] == [last] and (done.returncode == 0) == last.endswith(' 0 failed'),

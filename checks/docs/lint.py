@@ -22,7 +22,7 @@ import tempfile
 
 import command
 from report import Report, want
-from tools import TOP, install_packages, text_of
+from tools import TOP, install_packages, text_of, write
 
 from . import commits, words
 
@@ -141,10 +141,7 @@ WRONG_MESSAGES = ('A' * 73 + '\n\nWhy.', "Merge branch 'main' of /work/main", 'F
 def is_clean(tool, paths):
     for name, text in WRONG[tool]:
         with tempfile.TemporaryDirectory() as room:
-            path = os.path.join(room, name)
-            with open(path, 'w') as file:
-                file.write(text)
-            want(tool(path), f'it does not detect {text!r}')
+            want(tool(write(os.path.join(room, name), text)), f'it does not detect {text!r}')
     want(paths, 'no file')
     lines = tool(*paths)
     want(not lines, '\n  '.join([f'{len(lines)} lines', *lines[:20]]))

@@ -18,7 +18,7 @@ import time
 
 import command
 from report import want
-from tools import TOP, proved_program
+from tools import TOP, proved_program, write
 
 from .ssh_hosts import Hosts, run_checks
 
@@ -50,8 +50,7 @@ def paths_are_quoted(room, xxh):
     file, program = os.path.join(folder, 'file {}\n'), os.path.join(folder, 'xxh {}; touch program')
     os.mkdir(folder)
     os.symlink(xxh, program)
-    with open(file, 'wb') as it:
-        it.write(bytes(range(256)) * 1000)
+    write(file, bytes(range(256)) * 1000)
     with open(file, 'rb') as it:
         lines = subprocess.run([xxh, 'blocks', '1000'], stdin=it, stdout=subprocess.PIPE).stdout
     done = subprocess.run([f'{TOP}/examples/blocks-parallel', '1000', file, '4'], cwd=folder, stdout=subprocess.PIPE,

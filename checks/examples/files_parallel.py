@@ -21,7 +21,7 @@ import time
 
 import command
 from report import want
-from tools import TOP, proved_program
+from tools import TOP, proved_program, text_of, write
 
 from .ssh_hosts import Hosts, run_checks
 
@@ -44,10 +44,7 @@ class Tree:
         want(self.lines.count(b'\n') == FILES + 127, 'one run has not a line for each file')
 
     def write(self, name, data):
-        path = os.path.join(os.fsencode(self.folder), name)
-        os.makedirs(os.path.dirname(path), exist_ok=True)
-        with open(path, 'wb') as file:
-            file.write(data)
+        write(os.path.join(os.fsencode(self.folder), name), data)
 
     def one_run(self, *options):
         words = 'find . -type f -print0 | LC_ALL=C sort -z | xargs -0 -n 100000 "$@"'
@@ -77,11 +74,8 @@ class Tree:
         return text
 
     def script(self, text):
-        path = f'{self.room}/xxhsum-of-check'
-        with open(path, 'w') as file:
-            file.write('#!/bin/sh\n' + text.replace('{room}', self.room).replace('{xxhsum}', self.xxhsum))
-        os.chmod(path, 0o700)
-        return path
+        text = text.replace('{room}', self.room).replace('{xxhsum}', self.xxhsum)
+        return write(f'{self.room}/xxhsum-of-check', f'#!/bin/sh\n{text}', 0o700)
 
 
 def agrees(tree, jobs, *options):
@@ -137,8 +131,7 @@ def goes_on(tree):
     status, said = tree.run(1, xxhsum=slow)
     want(status == 0 and not said, f'status {status}: {said[-200:]}')
     want(tree.taken() == tree.lines, 'the lines differ')
-    with open(f'{tree.room}/calls') as file:
-        calls = len(file.readlines())
+    calls = len(text_of(f'{tree.room}/calls').splitlines())
     jobs = -(-(FILES + 127) // 2000)
     want(jobs <= calls <= jobs + 2, f'{calls} calls of {jobs} jobs')
     return f'{calls} calls of {jobs} jobs'
@@ -148,7 +141,7 @@ def starts_over(tree):
     """Killed, and restarted after each of these: the list is that of one run over the current files."""
     folder = os.path.join(tree.folder, 'folder 0')
     first, second = os.path.join(folder, 'file-1'), os.path.join(folder, 'file-2')
-    changes = {'a file of the same length and time': lambda: same_length_and_time(first), 'one that came': lambda: write(folder + '/new'),
+    changes = {'a file of the same length and time': lambda: same_length_and_time(first), 'one that came': lambda: write(folder + '/new', b''),
                'one that went': lambda: os.remove(folder + '/new'), 'one in the place of another': lambda: os.replace(second, first)}
     slow = tree.script('sleep 1\nexec {xxhsum} "$@"\n')
     for what, change in changes.items():
@@ -174,16 +167,9 @@ def same_length_and_time(path):
     os.utime(path, ns=(before.st_atime_ns, before.st_mtime_ns))
 
 
-def write(path):
-    with open(path, 'wb'):
-        pass
-
-
 def a_folder_of_others(tree):
     """Files that aren't the example's own stay, and are reported."""
-    os.mkdir(tree.list + '.parts')
-    mine = os.path.join(tree.list + '.parts', 'mine')
-    write(mine)
+    mine = write(os.path.join(tree.list + '.parts', 'mine'), b'')
     status, said = tree.run()
     want(status == 2 and 'is no folder of a run' in said and os.path.exists(mine) and tree.taken() is None, f'{status}: {said}')
     os.remove(mine)

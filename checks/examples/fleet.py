@@ -37,7 +37,7 @@ import time
 
 import command
 from report import Fault, Report, want
-from tools import TOP, install_packages, must, proved_program
+from tools import TOP, install_packages, must, proved_program, write
 
 from .ssh_hosts import free_port
 
@@ -79,11 +79,6 @@ def write_tree(tree):
             write(os.path.join(tree, f'{name}-{number}'), chance.randbytes(length + number))
     # A file that changed a second ago may change again and keep its time, so no run relies on it.
     time.sleep(1.1)
-
-
-def write(path, data):
-    with open(path, 'wb') as file:
-        file.write(data)
 
 
 def lines_of_xxhsum(xxhsum, tree):

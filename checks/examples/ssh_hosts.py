@@ -10,7 +10,7 @@ import tempfile
 import time
 
 from report import Fault, Report, want
-from tools import install_packages
+from tools import install_packages, text_of, write
 
 SSHD = '/usr/sbin/sshd'
 PACKAGES = {'parallel': 'parallel', 'ssh': 'openssh-client', 'ssh-keygen': 'openssh-client', SSHD: 'openssh-server'}
@@ -98,8 +98,7 @@ class Hosts:
         self.room, self.servers = room, [Server(room), Server(room)]
         for key in ('host', 'user'):
             subprocess.run(['ssh-keygen', '-q', '-t', 'ed25519', '-N', '', '-f', f'{room}/{key}'], check=True)
-        with open(f'{room}/host.pub') as file:
-            key = ' '.join(file.read().split()[:2])
+        key = ' '.join(text_of(f'{room}/host.pub').split()[:2])
         self.write('known', ''.join(f'[127.0.0.1]:{server.port} {key}\n' for server in self.servers))
         self.write('ssh', f'#!/bin/sh\nexec ssh -F none -i {room}/user -o UserKnownHostsFile={room}/known '
                           '-o GlobalKnownHostsFile=none -o BatchMode=yes "$@"\n')
@@ -111,11 +110,7 @@ class Hosts:
         os.makedirs(f'{room}/parallel', exist_ok=True)
 
     def write(self, name, text):
-        path = os.path.join(self.room, name)
-        with open(path, 'w') as file:
-            file.write(text)
-        os.chmod(path, 0o700)
-        return path
+        return write(os.path.join(self.room, name), text, 0o700)
 
     def forget(self):
         """Removes what an earlier check requested of the hosts, and what they logged."""
@@ -152,8 +147,7 @@ class Hosts:
         raise Fault('no host stopped')
 
     def asked(self):
-        with open(f'{self.room}/asked') as file:
-            return {line.strip() for line in file} - {''}
+        return set(text_of(f'{self.room}/asked').split())
 
     def end(self):
         for server in self.servers:

@@ -19,6 +19,17 @@ def text_of(path):
         return file.read()
 
 
+def write(path, data, mode=None):
+    """Writes a file of bytes or text, in a folder that is created if it is missing. Returns the path."""
+    if folder := os.path.dirname(path):
+        os.makedirs(folder, exist_ok=True)
+    with open(path, 'wb') as file:
+        file.write(data.encode() if isinstance(data, str) else data)
+    if mode:
+        os.chmod(path, mode)
+    return path
+
+
 def must(words, **more):
     """Runs a tool of the check itself, which must succeed."""
     done = subprocess.run(words, stdout=subprocess.PIPE, stderr=subprocess.STDOUT, text=True, **more)

@@ -19,8 +19,9 @@ import tempfile
 
 import command
 from report import Report
+from tools import write
 
-from .runs import escaped, found, write
+from .runs import escaped, found
 
 SEED = 20261127
 PLANTED = {

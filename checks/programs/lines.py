@@ -17,7 +17,7 @@ import tempfile
 
 import command
 from report import Report
-from tools import text_of
+from tools import text_of, write
 
 from .runs import marked
 
@@ -52,10 +52,8 @@ def found(program, row, name):
     with tempfile.TemporaryDirectory() as room:
         for file_name in (b'other', name):
             if file_name:
-                with open(os.path.join(room.encode(), file_name), 'wb') as file:
-                    file.write(CONTENT)
-        with open(os.path.join(room, 'L'), 'wb') as file:
-            file.write(row['line'].encode() + b'\n' + OTHER)
+                write(os.path.join(room.encode(), file_name), CONTENT)
+        write(f'{room}/L', row['line'].encode() + b'\n' + OTHER)
         little = ['--little-endian'] if row.get('little') else []
         done = subprocess.run([program, *little, '-c', '--strict', '-w', 'L'], cwd=room, stdin=subprocess.DEVNULL,
                               capture_output=True, check=False)

@@ -26,8 +26,9 @@ import time
 
 import command
 from report import Report, want
+from tools import write
 
-from .runs import HASHES, found, marked, write
+from .runs import HASHES, found, marked
 
 # One seed, so that each run draws the names of the run before.
 SEED = 20261126

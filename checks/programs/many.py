@@ -13,6 +13,7 @@ import tempfile
 
 import command
 from report import Report, want
+from tools import write
 
 from .runs import found, plant
 
@@ -67,8 +68,7 @@ def many_names(program, names):
 
 def audit_of_equal_files(program, names):
     chosen = names[:AUDITED]
-    with open('list', 'wb') as file:
-        file.write(lines(chosen))
+    write('list', lines(chosen))
     counts = b'%d same, 0 changed, 0 moved, 0 copied, 0 new, 0 missing\n' % len(chosen)
     done = found(program, ['--audit', '--files0-from', 'list'], b'\0'.join(chosen), SECONDS)
     wanted(done, b''.join(b'%s: same\n' % name for name in chosen) + counts)

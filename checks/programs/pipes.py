@@ -7,12 +7,15 @@ import os
 import subprocess
 import tempfile
 
+from tools import write
+
+from .runs import SETTINGS
+
 SECONDS = 60
 # Maximum length of a write of more than one line.
 MOST = 4096
 FILES = 400
 PROCESSES = 8
-SETTINGS = {**os.environ, 'LC_ALL': 'C'}
 
 
 def writes_of(programs, folder):
@@ -32,8 +35,7 @@ def names_in(folder, count, lengths=(1, 40, 90)):
     """Creates this many files, whose names have these lengths in turn."""
     names = [f'{number:04}-' + 'n' * lengths[number % len(lengths)] for number in range(count)]
     for name in names:
-        with open(os.path.join(folder, name), 'w', encoding='ascii') as file:
-            file.write(name)
+        write(os.path.join(folder, name), name)
     return names
 
 
@@ -65,8 +67,7 @@ def nul_lines(program, folder):
     """The same for lines that end with NULs, whose names have newlines."""
     names = [f'{number:04}\n' + 'n' * 60 for number in range(FILES)]
     for name in names:
-        with open(os.path.join(folder, name), 'w', encoding='ascii') as file:
-            file.write(name)
+        write(os.path.join(folder, name), name)
     parts, (status,) = writes_of([[program, '-z', *names]], folder)
     wrong = [part[-20:] for part in parts if not part.endswith(b'\0')]
     return f'status {status}, writes that end with {wrong[:3]}' if status or wrong else None
@@ -76,8 +77,8 @@ def checked_lines(program, folder):
     """The same for a list that is checked, with its counts."""
     names = names_in(folder, FILES)
     done = subprocess.run([program, *names], capture_output=True, cwd=folder, env=SETTINGS, check=True)
-    with open(os.path.join(folder, 'list'), 'wb') as file:
-        file.write(done.stdout + b'junk\n' + done.stdout.replace(b'  ', b'  gone-', 20)[:2000] + b'\n')
+    checked = done.stdout + b'junk\n' + done.stdout.replace(b'  ', b'  gone-', 20)[:2000] + b'\n'
+    write(os.path.join(folder, 'list'), checked)
     parts, _status = writes_of([[program, '-c', 'list']], folder)
     return None if all(part.endswith(b'\n') for part in parts) and len(parts) < 20 else f'{len(parts)} writes'
 
@@ -96,8 +97,7 @@ def before_messages_of_lists(program, folder):
     """The same for messages about lines of a list, and about a list that can't be opened."""
     name, = names_in(folder, 1)
     line = subprocess.run([program, name], capture_output=True, cwd=folder, env=SETTINGS, check=True).stdout
-    with open(os.path.join(folder, 'list'), 'wb') as file:
-        file.write(line + b'junk\n' + line + b'x' * 40000 + b'\n')
+    write(os.path.join(folder, 'list'), line + b'junk\n' + line + b'x' * 40000 + b'\n')
     parts, _status = writes_of([[program, '-cw', 'list', 'gone', 'list']], folder)
     lines = b''.join(parts).splitlines()
     said = [line.endswith(b': OK') and 'OK' or (line.startswith((b'list:', b'Error:')) and 'message') or 'count' for line in lines]
@@ -110,8 +110,7 @@ def before_messages_of_empty_lists(program, folder):
     name, = names_in(folder, 1)
     line = subprocess.run([program, name], capture_output=True, cwd=folder, env=SETTINGS, check=True).stdout
     for listed, text in (('list', line), ('none', b'junk\n')):
-        with open(os.path.join(folder, listed), 'wb') as file:
-            file.write(text)
+        write(os.path.join(folder, listed), text)
     parts, _status = writes_of([[program, '-c', 'list', 'none', 'list']], folder)
     ok = name.encode() + b': OK'
     wanted = [ok, b'none: no properly formatted xxHash checksum lines found', ok]
@@ -133,8 +132,7 @@ def runs_into_one_pipe(program, folder):
 
 def long_line(program, folder):
     """A line longer than that is one write, except for the limit of a pipe's packets."""
-    with open(os.path.join(folder, 'list'), 'wb') as file:
-        file.write(b'26c7827d889f6da3  ' + b'x' * 9000 + b'\n')
+    write(os.path.join(folder, 'list'), b'26c7827d889f6da3  ' + b'x' * 9000 + b'\n')
     parts, _status = writes_of([[program, '-c', 'list']], folder)
     return None if [len(part) for part in parts[:2]] == [MOST, MOST] else f'{[len(part) for part in parts]}'
 

@@ -2,6 +2,10 @@
 import os
 import subprocess
 
+from tools import write
+
+# Messages of the system are in English.
+SETTINGS = {**os.environ, 'LC_ALL': 'C'}
 # The options of the algorithms.
 HASHES = ('-H0', '-H1', '-H2', '-H3')
 
@@ -25,15 +29,4 @@ def marked(text):
 
 def plant(path, real, script):
     """Writes a program that does what the script does with the real one, $REAL."""
-    with open(path, 'w', encoding='ascii') as file:
-        file.write(f'#!/bin/sh\nREAL={real}\n{script}\n')
-    os.chmod(path, 0o755)
-
-
-def write(path, text):
-    """Writes a file, in a folder that is created if it is missing."""
-    folder = os.path.dirname(path)
-    if folder:
-        os.makedirs(folder, exist_ok=True)
-    with open(path, 'wb') as file:
-        file.write(text)
+    write(path, f'#!/bin/sh\nREAL={real}\n{script}\n', 0o755)

@@ -14,7 +14,9 @@ import tempfile
 import threading
 import time
 
-from tools import must
+from tools import TOP, must, write
+
+from . import runs
 
 # The time after which a program that hangs is killed. On a busy machine a long file takes a minute.
 SECONDS = 300
@@ -31,7 +33,7 @@ SETTLED = 2048
 WIDTHS = (80, 40, 20, 10)
 # A cleared row, no wrapping from here on, and wrapping again.
 EMPTY_ROW, ONE_ROW, ROW_END = b'\r\x1b[K', b'\x1b[?7l', b'\x1b[?7h\r'
-SETTINGS = {**os.environ, 'LC_ALL': 'C', 'TERM': 'xterm'}
+SETTINGS = {**runs.SETTINGS, 'TERM': 'xterm'}
 
 
 def line_of_progress(count, size, rate=RATE):
@@ -51,8 +53,8 @@ OF_INPUT, OF_FILE, NOTHING = progress_of(LONG, False), progress_of(LONG, True), 
 
 def known_clock(folder):
     """The clock, compiled as a library to preload."""
-    library = os.path.join(folder, 'clock.so')
-    must(['gcc', '-O1', '-shared', '-fPIC', '-o', library, os.path.join(os.path.dirname(__file__), 'known_clock.c'), '-ldl'])
+    library, source = os.path.join(folder, 'clock.so'), os.path.join(TOP, 'checks', 'programs', 'known_clock.c')
+    must(['gcc', '-O1', '-shared', '-fPIC', '-o', library, source, '-ldl'])
     return {**SETTINGS, 'LD_PRELOAD': library}
 
 
@@ -240,11 +242,8 @@ def painting_rows(program, room):
     names = [os.fsencode(room) + b'/' + name for name in PAINTING]
     gone = [name + b'-gone' for name in names]
     for name in names:
-        with open(name, 'wb') as file:
-            file.write(b'hello')
-    lines = os.path.join(room, 'painting')
-    with open(lines, 'wb') as file:
-        file.writelines(b'26c7827d889f6da3  %s\n' % name for name in names)
+        write(name, b'hello')
+    lines = write(os.path.join(room, 'painting'), b''.join(b'26c7827d889f6da3  %s\n' % name for name in names))
     counts = b'%d same, 0 changed, 0 moved, 0 copied, 0 new, 0 missing\n' % len(names)
     for terminals in ((), ('out',), ('err',), ('out', 'err')):
         on_out, on_err = (visible if stream in terminals else bytes for stream in ('out', 'err'))
@@ -316,8 +315,7 @@ def rows_on_terminals(program, names=None):
             file.truncate(LONG)
         short, names_list, digests = (os.path.join(room, name) for name in ('short', 'names', 'digests'))
         for path, text in ((short, 'hello'), (names_list, f'{long}\n'), (digests, f'XXH3 ({long}) = 0123456789abcdef\n')):
-            with open(path, 'w', encoding='ascii') as file:
-                file.write(text)
+            write(path, text)
         settings = known_clock(room)
         for name, (check, *given) in rows_over(program, short, long, (names_list, digests), settings).items():
             if names is None or name in names:

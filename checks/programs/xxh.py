@@ -15,7 +15,7 @@ import tempfile
 
 import command
 from report import Report
-from tools import TOP, proved_program
+from tools import TOP, proved_program, write
 
 USAGE = b'xxh: usage: xxh hash|save|resume 32|64|3-64|3-128 [SEED|JSON] or xxh blocks SIZE\n'
 SEED = b'xxh: bad seed\n'
@@ -164,9 +164,7 @@ ALL = ['hash 64 1234', 'save 64 1234', 'blocks 4', [b'resume', b'64', STATE_64]]
 
 
 def over_hostile_ends(run, room):
-    given = os.path.join(room, 'input')
-    with open(given, 'wb') as file:
-        file.write(SOME)
+    given = write(os.path.join(room, 'input'), SOME)
     for words in ALL:
         # A full disk, a pipe without a reader, and no output at all.
         with open(given, 'rb') as r, open('/dev/full', 'wb') as w:

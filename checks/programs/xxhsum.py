@@ -22,16 +22,16 @@ import tempfile
 
 import command
 from report import Report
-from tools import install_packages
+from tools import TOP, install_packages, text_of, write
 
 from .cases import CASES, FILES, NEWER_DIFFERS, OLDER_DIFFERS, one_line
 from .options import over_pages
 from .pipes import PLANTED_ON_PIPES, rows_on_pipes
-from .runs import plant
+from .runs import SETTINGS, plant
 from .terminals import PLANTED_ON_TERMINALS, rows_on_terminals
 
 SHOWN = 400
-ANSWERS = os.path.join(os.path.dirname(__file__), 'answers.json')
+ANSWERS = os.path.join(TOP, 'checks', 'programs', 'answers.json')
 # Of a longer text the stored results have the beginning, the length and the SHA-256.
 LONGEST = 2000
 # Each program has its own usage text, after a line of these, and in ours the wrong argument.
@@ -59,8 +59,7 @@ def lay_out(folder, files):
     """Creates the folder d, these files and some links."""
     os.mkdir(os.path.join(folder, b'd'))
     for name, text in files.items():
-        with open(os.path.join(folder, in_bytes(name)), 'wb') as file:
-            file.write(text)
+        write(os.path.join(folder, in_bytes(name)), text)
     for target, name in ((b'a', b'link'), (b'd', b'linked-folder'), (b'nowhere', b'broken'), (b'loop', b'loop')):
         os.symlink(target, os.path.join(folder, name))
 
@@ -84,7 +83,7 @@ def found_in(room, program, case):
     words = ['sh', '-c', case.shell] if case.shell else [in_bytes(word) for word in (called, *case.words)]
     try:
         done = subprocess.run(words, input=case.given, capture_output=True, cwd=folder, timeout=SECONDS,
-                              env={**os.environ, 'LC_ALL': 'C', 'X': called})
+                              env={**SETTINGS, 'X': called})
     except subprocess.TimeoutExpired:
         return {'out': b'', 'err': b'', 'status': f'not ended after {SECONDS} s'}
     return {'out': done.stdout, 'err': done.stderr, 'status': done.returncode}
@@ -182,15 +181,12 @@ def store(older, newer, report):
             tell('the originals, ', case, [(part, by_older[part], by_newer[part]) for part in by_older])
         taken = by_older if case.name in NEWER_DIFFERS else by_newer
         rows.append(json.dumps({'name': case.name, **{part: as_stored(taken[part]) for part in taken}}))
-    with open(ANSWERS, 'w', encoding='ascii') as file:
-        file.write('[\n' + ',\n'.join(rows) + '\n]\n')
+    write(ANSWERS, '[\n' + ',\n'.join(rows) + '\n]\n')
     report.count(len(rows) - faults, faults)
 
 
 def stored():
-    with open(ANSWERS, encoding='ascii') as file:
-        rows = json.load(file)
-    return {row.pop('name'): row for row in rows}
+    return {row.pop('name'): row for row in json.loads(text_of(ANSWERS))}
 
 
 def wanted_of(case, answers):

@@ -5,6 +5,8 @@ import signal
 import subprocess
 from typing import NamedTuple
 
+from programs.runs import SETTINGS
+
 # The calls that are made to fail: those with a name, those with a descriptor, and those for memory.
 BY_NAME = ('open', 'openat', 'stat', 'lstat', 'statx', 'newfstatat', 'readlink', 'readlinkat')
 BY_DESCRIPTOR = ('read', 'readv', 'pread64', 'write', 'writev', 'fstat', 'getdents64', 'close', 'ioctl', 'lseek')
@@ -13,7 +15,6 @@ FOR_MEMORY = ('brk', 'mmap', 'mremap')
 MAIN = ('rt_sigaction', 'SIGPIPE')
 SECONDS = 20
 CALL = re.compile(r'^(\w+)\((.*)\) += (\S+)(.*)$')
-SETTINGS = {**os.environ, 'LC_ALL': 'C'}
 
 
 class Call(NamedTuple):

@@ -7,6 +7,8 @@ import re
 import subprocess
 from typing import NamedTuple
 
+from tools import write
+
 HELLO = b'hello'
 # Three full reads of a file, and a part of one.
 LONG = bytes(at * 7 % 251 for at in range(400_001))
@@ -48,9 +50,7 @@ class World:
         return os.path.join(self.folder, name)
 
     def write(self, name, text):
-        os.makedirs(os.path.dirname(self.path(name)), exist_ok=True)
-        with open(self.path(name), 'wb') as file:
-            file.write(text)
+        write(self.path(name), text)
 
     def digest(self, name, algorithm='64'):
         """The digits of Debian's xxhsum."""
