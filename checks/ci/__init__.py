@@ -1,1 +1,1 @@
-"""CI (`checks/all`): its parts with their minimum numbers of checks, faults that it must detect, and short and slow runs."""
+"""CI (`checks/all`): its parts, faults that it must detect, quick tests, and the slowest proofs."""

@@ -13,14 +13,13 @@ installs missing Debian packages."""
 import os
 import re
 import shutil
-import subprocess
 import tempfile
 import threading
 import time
 
 import command
 from report import Report
-from tools import TOP
+from tools import TOP, ran
 
 from .parts import Part
 
@@ -64,8 +63,7 @@ def copied(room):
 def words_for_ci(room, anew):
     """Arguments by which `rt ci` also proves what this machine has kept. Release 13b keeps nothing, and prints its
     usage for such an argument."""
-    told = subprocess.run(["rt", "ci", *anew], cwd=room, stdout=subprocess.PIPE, stderr=subprocess.STDOUT, text=True)
-    return [] if told.stdout.startswith("usage:") else anew
+    return [] if ran(["rt", "ci", *anew], cwd=room).stdout.startswith("usage:") else anew
 
 
 def parts(top, anew):

@@ -12,13 +12,12 @@ import glob
 import os
 import re
 import shutil
-import subprocess
 import sys
 import time
 
 import command
 from report import Report
-from tools import TOP, text_of
+from tools import TOP, ran, text_of
 
 CRATES = os.path.join(TOP, 'crates')
 AT_A_TIME = min(4, len(os.sched_getaffinity(0)))
@@ -35,8 +34,7 @@ def crates_with_tests():
 
 
 def tried(crate, *words, given=''):
-    return subprocess.run(['rt', 'try', *words], cwd=os.path.join(CRATES, crate), input=given, stdout=subprocess.PIPE,
-                          stderr=subprocess.STDOUT, text=True, errors='replace')
+    return ran(['rt', 'try', *words], cwd=os.path.join(CRATES, crate), input=given)
 
 
 def tests_of(crate):

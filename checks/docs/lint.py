@@ -1,28 +1,27 @@
-"""Checks what the proofs don't cover: scripts, Python, Rust, JavaScript, and the wording of pages, comments and messages.
+"""Checks what the proofs don't cover: scripts, Python, Rust, JavaScript, and wording.
 
     checks/lint
 
 - shellcheck reads the shell scripts, pyflakes the Python, rustfmt and clippy the Rust, and node the JavaScript;
-- pages, comments, help texts and error messages have none of the words of checks/docs/words.txt, and doc comments don't begin
-  with "Whether" or "What";
+- pages, comments, help texts and error messages have none of the words of checks/docs/words.txt, and doc comments
+  don't begin with "Whether" or "What";
 - docs/CONTRACTS.md names each file of `specs/`;
 - commits since this rule have a subject of at most 72 characters, and no absolute path of a machine in their message
   (checks/docs/commits.py).
 
-Each check must first detect planted mistakes. A check that fails without a message counts as failed. One line per check,
-with what it found; the last line is "N passed, M failed". It takes half a minute, and installs missing packages: Debian's
-shellcheck, pyflakes3, rustfmt, rust-clippy and nodejs."""
+Each check must first detect planted mistakes. A check that fails without a message counts as failed. One line per
+check, with what it found; the last line is "N passed, M failed". It takes half a minute, and installs missing packages:
+Debian's shellcheck, pyflakes3, rustfmt, rust-clippy and nodejs."""
 import contextlib
 import fnmatch
 import io
 import os
 import re
-import subprocess
 import tempfile
 
 import command
 from report import Report, want
-from tools import TOP, install_packages, text_of, write
+from tools import TOP, install_packages, ran, text_of, write
 
 from . import commits, words
 
@@ -71,7 +70,7 @@ def documented(paths):
 
 def found(*command):
     """The lines of a tool's output, if it fails."""
-    done = subprocess.run(command, cwd=TOP, stdout=subprocess.PIPE, stderr=subprocess.STDOUT, text=True, errors='replace')
+    done = ran(command, cwd=TOP)
     lines = [line.replace(TOP + os.sep, '') for line in done.stdout.splitlines() if line.strip()]
     return lines if done.returncode else []
 

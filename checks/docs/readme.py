@@ -1,9 +1,14 @@
-"""Compares the pages with the tree: CALLING.md quotes the code of crates/example and crates/calling, and docs/C.md a
-program in C; links, also to headings, and the workflow's commands exist; docs/SPEED.md agrees with its data; README.md has
-the counts of checks/lines-to-believe, and docs/VERIFICATION.md those of oracle/lines-to-trust; ratios in README.md are the
-minimum, maximum or median of their tables (checks/docs/ratios.py), and no table of it is one of docs/SPEED.md; docs/api.txt has
-every public name, docs/CONTRACTS.md every clause and docs/MANUAL.md the manual pages; all versions are equal; and the pages
-have at most as many words as WORDS allows."""
+"""Compares the pages with the tree:
+
+- CALLING.md quotes the code of crates/example and crates/calling, and docs/C.md a program in C;
+- links, also to headings, and the workflow's commands exist;
+- docs/SPEED.md agrees with its data;
+- README.md has the counts of checks/lines-to-believe, and docs/VERIFICATION.md those of oracle/lines-to-trust;
+- ratios in README.md are the minimum, maximum or median of their tables (checks/docs/ratios.py), and no table of it is
+  one of docs/SPEED.md;
+- docs/api.txt has every public name, docs/CONTRACTS.md every clause and docs/MANUAL.md the manual pages;
+- all versions are equal;
+- the pages have at most MOST_WORDS words."""
 import glob
 import os
 import re

@@ -141,8 +141,10 @@ def starts_over(tree):
     """Killed, and restarted after each of these: the list is that of one run over the current files."""
     folder = os.path.join(tree.folder, 'folder 0')
     first, second = os.path.join(folder, 'file-1'), os.path.join(folder, 'file-2')
-    changes = {'a file of the same length and time': lambda: same_length_and_time(first), 'one that came': lambda: write(folder + '/new', b''),
-               'one that went': lambda: os.remove(folder + '/new'), 'one in the place of another': lambda: os.replace(second, first)}
+    changes = {'a file of the same length and time': lambda: same_length_and_time(first),
+               'one that came': lambda: write(folder + '/new', b''),
+               'one that went': lambda: os.remove(folder + '/new'),
+               'one in the place of another': lambda: os.replace(second, first)}
     slow = tree.script('sleep 1\nexec {xxhsum} "$@"\n')
     for what, change in changes.items():
         run = subprocess.Popen(tree.words(1), env=tree.environment(slow), stderr=subprocess.DEVNULL, start_new_session=True)

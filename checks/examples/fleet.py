@@ -37,7 +37,7 @@ import time
 
 import command
 from report import Fault, Report, want
-from tools import TOP, install_packages, must, proved_program, write
+from tools import TOP, install_packages, must, proved_program, text_of, write
 
 from .ssh_hosts import free_port
 
@@ -222,11 +222,18 @@ class Fleet:
         want(run.returncode == status, f'status {run.returncode}: {told.strip()[-300:]}')
         return out, told.splitlines()
 
+    def printed(self):
+        """The lines of the manifest."""
+        with open(self.manifest, 'rb') as file:
+            return file.readlines()
+
+    def line_of(self, name):
+        return next(line for line in self.printed() if line.endswith(name))
+
     def has_all(self, without=()):
         """The manifest and the indexes are those of one run, except the lines of these names."""
         gone = {b'  ./' + os.fsencode(name) + b'\n' for name in without}
-        with open(self.manifest, 'rb') as file:
-            want(file.readlines() == [line for line in self.lines if line[32:] not in gone], 'the manifest differs')
+        want(self.printed() == [line for line in self.lines if line[32:] not in gone], 'the manifest differs')
         want(not os.path.exists(self.manifest + '.parts'), 'the folder of parts is left')
         self.has_indexes(self.blocks)
 
@@ -235,8 +242,7 @@ class Fleet:
         found = sorted(name for name in os.listdir(self.indexes) if name.endswith('.blocks'))
         want(found == sorted(blocks), f'there are other indexes: {set(found) ^ set(blocks)}')
         for name, lines in blocks.items():
-            with open(os.path.join(self.indexes, name)) as file:
-                want(file.read() == lines, f'{name} differs')
+            want(text_of(os.path.join(self.indexes, name)) == lines, f'{name} differs')
 
     def with_workers(self, count):
         self.cluster.remove_workers()
@@ -284,8 +290,7 @@ def names_that_are_no_text(fleet):
     fleet.end(fleet.start())
     for path in paths:
         os.remove(path)
-    with open(fleet.manifest, 'rb') as file:
-        found = file.readlines()
+    found = fleet.printed()
     want(set(found) - set(fleet.lines) == set(done.stdout.splitlines(keepends=True)), 'their lines differ')
     want(found == sorted(found, key=name_of_line), 'the order is not that of the names')
 
@@ -386,8 +391,7 @@ def since_an_older_one(fleet):
     time.sleep(1.1)
     out, told = fleet.end(fleet.start('--since', older, goes_on=True))
     lines, _ = lines_of_xxhsum(fleet.xxhsum, fleet.tree)
-    with open(fleet.manifest, 'rb') as file:
-        found = file.readlines()
+    found = fleet.printed()
     write(f'{changed}/file-555', data)
     os.remove(f'{changed}/new')
     os.rename(f'{changed}/renamed', f'{changed}/file-556')
@@ -418,8 +422,9 @@ def indexes_are_of_their_files(fleet):
         fleet.has_indexes({f'{name}.blocks': blocks_by_python(fleet.tree, name, block) for name in names})
         seen.append(int(re.search(r', (\d+) indexes', out)[1]))
     inode = os.stat(kept).st_ino
-    with open(os.path.join(fleet.indexes, 'large-3.state')) as file:
-        want(file.read() == f'{BLOCK + 7} {LARGE + 3} {os.stat(kept).st_ctime_ns} {inode}\n', 'the state beside an index is another')
+    state = text_of(os.path.join(fleet.indexes, 'large-3.state'))
+    wanted = f'{BLOCK + 7} {LARGE + 3} {os.stat(kept).st_ctime_ns} {inode}\n'
+    want(state == wanted, 'the state beside an index is another')
     for path in (changed, shorter):
         shutil.copy(os.path.join(fleet.folder, os.path.basename(path)), path)
     time.sleep(1.1)
@@ -451,8 +456,8 @@ def indexes_are_on_disk(fleet):
     finally:
         parts.os.fsync, parts.os.replace = real
     want(seen == [path + '.part', (path + '.part', path)], seen)
-    with open(fleet.program) as file:
-        want(len(re.findall(r'write\(self.index_of\(.*is_lasting=True', file.read())) == 2, 'an index is written in another way')
+    written = re.findall(r'write\(self.index_of\(.*is_lasting=True', text_of(fleet.program))
+    want(len(written) == 2, 'an index is written in another way')
 
 
 def through_a_mapping(fleet):
@@ -468,9 +473,9 @@ def through_a_mapping(fleet):
         bytes_of_file[5] = byte ^ 1
         is_moved = os.stat(path).st_ctime_ns != before
         fleet.end(fleet.start('--since', fleet.manifest, goes_on=True))
-        kept = line_of(fleet.manifest, name)
+        kept = fleet.line_of(name)
         fleet.end(fleet.start('--since', fleet.manifest, '--anew', goes_on=True))
-        found = line_of(fleet.manifest, name)
+        found = fleet.line_of(name)
         lines, _ = lines_of_xxhsum(fleet.xxhsum, fleet.tree)
         fleet.has_indexes({**fleet.blocks, 'large-7.blocks': blocks_by_python(fleet.tree, 'large-7')})
         bytes_of_file[5] = byte
@@ -479,11 +484,6 @@ def through_a_mapping(fleet):
     want([found] == [line for line in lines if line.endswith(name)], '--anew does not read it')
     want(is_moved or kept != found, '--since has read it, and its time was as it was')
     return 'its time moved here' if is_moved else 'its time was as it was'
-
-
-def line_of(manifest, name):
-    with open(manifest, 'rb') as file:
-        return next(line for line in file if line.endswith(name))
 
 
 def long_names(fleet):
@@ -496,8 +496,7 @@ def long_names(fleet):
     lines, _ = lines_of_xxhsum(fleet.xxhsum, fleet.tree)
     os.remove(path)
     want(told == [f'fleet: {name}: its index: File name too long'], told)
-    with open(fleet.manifest, 'rb') as file:
-        want(file.readlines() == lines, 'the manifest differs')
+    want(fleet.printed() == lines, 'the manifest differs')
     fleet.has_indexes(fleet.blocks)
 
 
@@ -518,13 +517,11 @@ def a_file_grows(fleet):
     finally:
         is_over.set()
         growing.join()
-    with open(fleet.manifest, 'rb') as file:
-        found = [line for line in file if line.endswith(b'  ./growing\n')]
+    found = [line for line in fleet.printed() if line.endswith(b'  ./growing\n')]
     want(not told and len(found) == 1, f'{len(found)} lines: {told}')
     time.sleep(1.1)
     fleet.end(fleet.start('--since', fleet.manifest, goes_on=True))
-    with open(fleet.manifest, 'rb') as file:
-        found = file.readlines()
+    found = fleet.printed()
     lines, _ = lines_of_xxhsum(fleet.xxhsum, fleet.tree)
     os.remove(path)
     want(found == lines, 'the next manifest differs')

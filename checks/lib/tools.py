@@ -30,9 +30,14 @@ def write(path, data, mode=None):
     return path
 
 
+def ran(words, **more):
+    """Runs a tool to its end. Its messages are in its output."""
+    return subprocess.run(words, stdout=subprocess.PIPE, stderr=subprocess.STDOUT, text=True, errors='replace', **more)
+
+
 def must(words, **more):
     """Runs a tool of the check itself, which must succeed."""
-    done = subprocess.run(words, stdout=subprocess.PIPE, stderr=subprocess.STDOUT, text=True, **more)
+    done = ran(words, **more)
     if done.returncode:
         sys.exit(f'{os.path.relpath(sys.argv[0], TOP)}: {" ".join(words)}:\n{done.stdout[-2000:]}')
     return done.stdout
@@ -69,7 +74,7 @@ def apt_get(*words):
     until = time.monotonic() + PATIENCE
     command = ['apt-get', '-qq', '-o', f'DPkg::Lock::Timeout={PATIENCE}', *words]
     while True:
-        done = subprocess.run(command, env=QUIET, stdout=subprocess.PIPE, stderr=subprocess.STDOUT, text=True)
+        done = ran(command, env=QUIET)
         if not done.returncode:
             return
         if 'Could not get lock' not in done.stdout or time.monotonic() > until:
@@ -84,8 +89,7 @@ def proved_program(name, *flags):
     program = os.path.join(crate, 'out', name)
     if os.path.exists(program):
         os.remove(program)
-    done = subprocess.run(['rt', 'run', *flags], cwd=crate, stdin=subprocess.DEVNULL, stdout=subprocess.PIPE,
-                          stderr=subprocess.STDOUT, text=True)
+    done = ran(['rt', 'run', *flags], cwd=crate, stdin=subprocess.DEVNULL)
     if not os.path.exists(program):
         sys.exit(f'{done.stdout[-2000:]}\n{name} was not built')
     return program

@@ -237,8 +237,7 @@ def over_streams(programs, report, where, rows_of, wrong_ones):
             called = os.path.join(room, 'xxhsum')
             planted(programs[0], script)(called, CASES[0])
             silent = [name for name, fault in rows_of(called, names) if not fault]
-        print(f'planted, {title}: ' + (f'not noticed by {silent}' if silent else f'noticed by {len(names)} rows'))
-        report.count(not silent, bool(silent))
+        report.row(f'planted, {title}', silent and f'not noticed by {silent}', f'{len(names)} rows')
 
 
 def over_stored(programs, cases, report):
@@ -253,8 +252,7 @@ def over_stored(programs, cases, report):
         report.count(len(cases) - faults, faults)
     for title, script in PLANTED.items():
         notices = next(faults_of(planted(programs[0], script), cases, answers), None)
-        print(f'planted, {title}: ' + (f'noticed by "{notices[0].name}"' if notices else 'nothing notices it'))
-        report.count(bool(notices), not notices)
+        report.row(f'planted, {title}', not notices and 'nothing notices it', notices and notices[0].name)
     over_pages(programs[0], report)
     over_streams(programs, report, 'terminals', rows_on_terminals, PLANTED_ON_TERMINALS)
     over_streams(programs, report, 'pipes', rows_on_pipes, PLANTED_ON_PIPES)

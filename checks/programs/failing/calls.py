@@ -4,8 +4,8 @@
 
 Each scenario is run once unchanged, and then with one call failing, by strace: each call from `main` on that opens,
 reads, writes, looks up, lists a directory, closes or tests for a terminal, with each error of its kind; and each
-call for memory, with all those after it. A run must end as scenarios.py and judge.py expect: with the correct output and
-status, or with a message that names what failed, and only true lines. A failed close or look-up of a terminal
+call for memory, with all those after it. A run must end as scenarios.py and judge.py expect: with the correct output
+and status, or with a message that names what failed, and only true lines. A failed close or look-up of a terminal
 changes nothing; `xxhsum` repeats an interrupted read. It tries some calls of each scenario, of each kind the first
 and one at random, or each with --all. Wrong results are planted, which must be detected. It takes any two programs
 by their paths, and installs Debian's strace and xxhash. The last line is "N passed, M failed"."""
