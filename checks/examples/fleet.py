@@ -37,9 +37,7 @@ import time
 
 import command
 from report import Fault, Report, want
-from tools import TOP, install_packages, must, proved_program, text_of, write
-
-from .ssh_hosts import free_port
+from tools import TOP, free_port, install_packages, must, proved_program, text_of, write
 
 # Neither files nor bytes fill the last task, and some tasks are full of bytes.
 FILES, MEDIUM, LARGE, BLOCK = 100050, 12 << 20, 64 << 20, 1000003

@@ -10,7 +10,7 @@ import tempfile
 import time
 
 from report import Fault, Report, want
-from tools import install_packages, text_of, write
+from tools import free_port, install_packages, text_of, write
 
 SSHD = '/usr/sbin/sshd'
 PACKAGES = {'parallel': 'parallel', 'ssh': 'openssh-client', 'ssh-keygen': 'openssh-client', SSHD: 'openssh-server'}
@@ -53,12 +53,6 @@ class RoomOfSshd:
     def __exit__(self, *_):
         if self.is_made:
             os.rmdir('/run/sshd')
-
-
-def free_port():
-    with socket.socket() as probe:
-        probe.bind(('127.0.0.1', 0))
-        return probe.getsockname()[1]
 
 
 class Server:

@@ -2,6 +2,7 @@
 import fcntl
 import os
 import shutil
+import socket
 import subprocess
 import sys
 import time
@@ -28,6 +29,12 @@ def write(path, data, mode=None):
     if mode:
         os.chmod(path, mode)
     return path
+
+
+def free_port():
+    with socket.socket() as probe:
+        probe.bind(('127.0.0.1', 0))
+        return probe.getsockname()[1]
 
 
 def ran(words, **more):
