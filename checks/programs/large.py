@@ -21,7 +21,7 @@ from report import Fault, Report, want
 from tools import TOP, write
 
 from .cases import FILES
-from .runs import HASHES, found, marked
+from .runs import HASHES, found, is_utf8, marked
 from .terminals import EMPTY_ROW, ONE_ROW, ROW_END, run
 
 # One seed, so that each run draws the lists of the run before.
@@ -70,10 +70,7 @@ def damaged(line, draw):
 
 def is_odd(text):
     """True if it could name standard input, or a file by invalid UTF-8: there the programs differ."""
-    try:
-        return 'stdin' in text.decode()
-    except UnicodeDecodeError:
-        return True
+    return not is_utf8(text) or b'stdin' in text
 
 
 def random_lists(programs, count):

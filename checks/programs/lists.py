@@ -28,7 +28,7 @@ import command
 from report import Report, want
 from tools import write
 
-from .runs import HASHES, found, marked
+from .runs import HASHES, found, is_utf8, marked
 
 # One seed, so that each run draws the names of the run before.
 SEED = 20261126
@@ -90,14 +90,6 @@ def names_of_each_byte(original, ours):
         wrong = spoiled(made(ours, ('-H1',), readable), draw)
         want(found(original, ['-c'], wrong) != all_good(readable), 'a wrong list is not noticed')
     return f'{len(names)} names'
-
-
-def is_utf8(name):
-    try:
-        name.decode()
-        return True
-    except UnicodeDecodeError:
-        return False
 
 
 def refusing(names, text):

@@ -17,14 +17,22 @@ def found(program, words, given=b'', seconds=None):
 
 
 def escaped(text):
-    """A text in a line, which has no line ends."""
+    """Escapes backslashes and line ends, as lines of lists do."""
     return text.replace(b'\\', b'\\\\').replace(b'\n', b'\\n').replace(b'\r', b'\\r')
 
 
 def marked(text):
-    """A text that begins a line: with a backslash before it if it is escaped."""
+    """Escapes a text that begins a line, which then begins with a backslash."""
     shown = escaped(text)
     return shown if shown == text else b'\\' + shown
+
+
+def is_utf8(text):
+    try:
+        text.decode()
+        return True
+    except UnicodeDecodeError:
+        return False
 
 
 def plant(path, real, script):
