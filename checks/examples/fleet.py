@@ -142,6 +142,21 @@ class Cluster:
 
     def kill_in_the_middle(self):
         """Kills a worker while it has tasks, and returns their number."""
+        # A function of the module would be sent by its name, which the scheduler can't import.
+        async def stop_in_the_middle(dask_scheduler, address, pid):
+            """Stops a worker when it has tasks and at most two thirds of all are left. Returns how many it has."""
+            import asyncio
+            most, end = 0, time.monotonic() + 60
+            while time.monotonic() < end:
+                tasks = dask_scheduler.tasks.values()
+                left = sum(task.state in ('processing', 'queued', 'no-worker') for task in tasks)
+                most, held = max(most, left), len(dask_scheduler.workers[address].processing)
+                if 3 * left <= 2 * most and held:
+                    os.kill(pid, signal.SIGSTOP)
+                    return held
+                await asyncio.sleep(0.001)
+            return 0
+
         worker = self.workers[0]
         found = self.asks(lambda dask_scheduler: {it.pid: it.address for it in dask_scheduler.workers.values()})
         held = self.asks(stop_in_the_middle, address=found[worker.pid], pid=worker.pid)
@@ -159,20 +174,6 @@ class Cluster:
         for process in self.processes:
             process.kill()
             process.wait()
-
-
-async def stop_in_the_middle(dask_scheduler, address, pid):
-    """Stops a worker when at most two thirds of the tasks are left and it has some of them. Returns their number."""
-    import asyncio
-    most, end = 0, time.monotonic() + 60
-    while time.monotonic() < end:
-        left = sum(task.state in ('processing', 'queued', 'no-worker') for task in dask_scheduler.tasks.values())
-        most, held = max(most, left), len(dask_scheduler.workers[address].processing)
-        if 3 * left <= 2 * most and held:
-            os.kill(pid, signal.SIGSTOP)
-            return held
-        await asyncio.sleep(0.001)
-    return 0
 
 
 # ---- Runs of the example ----
