@@ -13,7 +13,7 @@ TOP = os.path.dirname(os.path.dirname(os.path.abspath(__file__)))
 sys.path.insert(0, os.path.join(TOP, 'checks'))
 sys.dont_write_bytecode = True
 
-from wrong_bodies import kit
+from mutants import kit
 
 
 def main(verb, *words):

@@ -10,6 +10,7 @@ import time
 
 from report import Fault, tail, want
 from sides import loaded, run, want_library
+from tools import free_port, write
 
 HERE = os.path.dirname(os.path.abspath(__file__))
 PYTHON = '/usr/bin/python3'
@@ -20,11 +21,6 @@ class Sides:
 
     def __init__(self, theirs, ours, wrong, stopping):
         self.theirs, self.ours, self.wrong, self.stopping = theirs, ours, wrong, stopping
-
-
-def write(path, text):
-    with open(path, 'w') as file:
-        file.write(text)
 
 
 # ---- python3-xxhash ----
@@ -202,12 +198,6 @@ def gdb_session(sides):
 
 
 # ---- lighttpd ----
-
-def free_port():
-    with socket.socket() as probe:
-        probe.bind(('127.0.0.1', 0))
-        return probe.getsockname()[1]
-
 
 def listens(port):
     with socket.socket() as probe:

@@ -1,7 +1,7 @@
 """Debian's packages for 64-bit ARM below a folder of their own, and a compiler over them."""
 import os
 
-from tools import QUIET, must
+from tools import QUIET, must, text_of, write
 
 TOOLS = 'aarch64-linux-gnu-'
 
@@ -30,11 +30,6 @@ def musl_gcc(room):
     """A compiler for musl on 64-bit ARM: Debian's cross compiler, over Debian's musl for that processor."""
     root = debian_root(os.path.join(room, 'musl'), 'musl-dev')
     specs, path = os.path.join(room, 'musl-gcc.specs'), os.path.join(room, 'aarch64-linux-musl-gcc')
-    with open(os.path.join(root, 'usr/lib/aarch64-linux-musl/musl-gcc.specs')) as file:
-        text = file.read()
-    with open(specs, 'w') as file:
-        file.write(text.replace('/usr/', root + '/usr/'))
-    with open(path, 'w') as file:
-        file.write(f'#!/bin/sh\nexec {TOOLS}gcc "$@" -specs {specs}\n')
-    os.chmod(path, 0o755)
-    return path
+    text = text_of(os.path.join(root, 'usr/lib/aarch64-linux-musl/musl-gcc.specs'))
+    write(specs, text.replace('/usr/', root + '/usr/'))
+    return write(path, f'#!/bin/sh\nexec {TOOLS}gcc "$@" -specs {specs}\n', 0o755)

@@ -2,6 +2,7 @@
 import fcntl
 import os
 import shutil
+import socket
 import subprocess
 import sys
 import time
@@ -13,9 +14,37 @@ QUIET = {**os.environ, 'DEBIAN_FRONTEND': 'noninteractive', 'LC_ALL': 'C.UTF-8'}
 PATIENCE = 900
 
 
+def text_of(path):
+    """The text of a file, by its path from the top of the repository."""
+    with open(os.path.join(TOP, path), encoding='utf-8') as file:
+        return file.read()
+
+
+def write(path, data, mode=None):
+    """Writes a file of bytes or text, in a folder that is created if it is missing. Returns the path."""
+    if folder := os.path.dirname(path):
+        os.makedirs(folder, exist_ok=True)
+    with open(path, 'wb') as file:
+        file.write(data.encode() if isinstance(data, str) else data)
+    if mode:
+        os.chmod(path, mode)
+    return path
+
+
+def free_port():
+    with socket.socket() as probe:
+        probe.bind(('127.0.0.1', 0))
+        return probe.getsockname()[1]
+
+
+def ran(words, **more):
+    """Runs a tool to its end. Its messages are in its output."""
+    return subprocess.run(words, stdout=subprocess.PIPE, stderr=subprocess.STDOUT, text=True, errors='replace', **more)
+
+
 def must(words, **more):
     """Runs a tool of the check itself, which must succeed."""
-    done = subprocess.run(words, stdout=subprocess.PIPE, stderr=subprocess.STDOUT, text=True, **more)
+    done = ran(words, **more)
     if done.returncode:
         sys.exit(f'{os.path.relpath(sys.argv[0], TOP)}: {" ".join(words)}:\n{done.stdout[-2000:]}')
     return done.stdout
@@ -52,7 +81,7 @@ def apt_get(*words):
     until = time.monotonic() + PATIENCE
     command = ['apt-get', '-qq', '-o', f'DPkg::Lock::Timeout={PATIENCE}', *words]
     while True:
-        done = subprocess.run(command, env=QUIET, stdout=subprocess.PIPE, stderr=subprocess.STDOUT, text=True)
+        done = ran(command, env=QUIET)
         if not done.returncode:
             return
         if 'Could not get lock' not in done.stdout or time.monotonic() > until:
@@ -67,8 +96,7 @@ def proved_program(name, *flags):
     program = os.path.join(crate, 'out', name)
     if os.path.exists(program):
         os.remove(program)
-    done = subprocess.run(['rt', 'run', *flags], cwd=crate, stdin=subprocess.DEVNULL, stdout=subprocess.PIPE,
-                          stderr=subprocess.STDOUT, text=True)
+    done = ran(['rt', 'run', *flags], cwd=crate, stdin=subprocess.DEVNULL)
     if not os.path.exists(program):
         sys.exit(f'{done.stdout[-2000:]}\n{name} was not built')
     return program

@@ -6,11 +6,11 @@ import re
 from collections import namedtuple
 
 import made
-import printed
+from docs import printed
 from packing import read_tar
 from report import Fault, want
 from roots import CLONE, TAKEN
-from tools import TOP, four_hashes, must
+from tools import TOP, four_hashes, must, text_of
 
 LICENSE = os.path.join(TOP, 'LICENSE')
 OURS = {'The library for C': '/opt/{stem}-c-x86_64/lib/', 'The Debian package': '/usr/lib/twox-hash/lib/'}
@@ -79,7 +79,7 @@ def glibc_of(root):
     files = [os.path.join(place, name) for place, _, names in os.walk(folder) for name in names]
     names = set(re.findall(r'GLIBC_([\d.]+)', must(['objdump', '-T', *files])))
     oldest = max(names, key=lambda name: tuple(map(int, name.split('.'))))
-    want(f'glibc {oldest} or later' in printed.text_of(printed.RELEASES), f'they need glibc {oldest}, and the page says something else')
+    want(f'glibc {oldest} or later' in text_of(printed.RELEASES), f'they need glibc {oldest}, and the page says something else')
     return oldest
 
 
@@ -133,7 +133,7 @@ def crate(root):
     root.copy(os.path.join(TOP, 'examples', 'rust'), 'program')
     with open(os.path.join(TOP, 'examples', 'rust', 'Cargo.toml')) as file:
         manifest = file.read().split('# The one line')[0]
-    patch, = re.findall(r'```toml\n(\[patch.*?)```', printed.text_of(printed.RELEASES), re.S)
+    patch, = re.findall(r'```toml\n(\[patch.*?)```', text_of(printed.RELEASES), re.S)
     root.write('program/Cargo.toml', (manifest + patch.replace('"twox-hash', '"../twox-hash')).encode())
     root.copy(LICENSE, 'LICENSE')
     out = root.must('cd program; rm -f Cargo.lock; cargo run -q --offline --release ../LICENSE')
@@ -183,7 +183,7 @@ def static_page(root):
 def made_without_rt(root):
     """release/make --without-rt with the packages of the page, by a user who may install nothing, with only Debian's
     cargo: everything it writes equals the full release, except PROVENANCE."""
-    packages, = re.findall(r'These packages of Debian 12 are needed: `(.*)`', printed.text_of(printed.RELEASES))
+    packages, = re.findall(r'These packages of Debian 12 are needed: `(.*)`', text_of(printed.RELEASES))
     root.install(*packages.split())
     must(['git', 'clone', '-q', TOP, root.at('/srv/clone')])
     must(['git', '-C', root.at('/srv/clone'), 'checkout', '-q', made.commit_of(root.at(TAKEN))])

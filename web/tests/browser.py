@@ -13,15 +13,11 @@ import time
 import urllib.error
 import urllib.request
 
+from tools import free_port
+
 ELEMENT = "element-6066-11e4-a52e-4f735466cecf"
 KEYS = {"Tab": "\ue004", "Enter": "\ue007", "Space": " "}
 TIMEOUTS = {"script": 300_000, "pageLoad": 60_000}
-
-
-def free_port():
-    with socket.socket() as it:
-        it.bind(("127.0.0.1", 0))
-        return it.getsockname()[1]
 
 
 class Browser:

@@ -1,0 +1,110 @@
+"""Proves and tests everything: the checks that a change must pass.
+
+    checks/all [--anew]
+
+It works on a copy of the tree. What this machine has proved or seen refused before isn't tried again, except with
+--anew, which runs everything as on a new machine. The parts and the minimum number of checks of each are in one list
+below: a part that has fewer, or no counts in its last line, fails. The mutants of a crate are tried as soon as `rt
+ci` has proved it, in parallel with the crates above. The checks for users without `rt` run in parallel with the
+proofs, and so do those over symbols; the assembly source is compared with the proved code after them. Each part
+prints its time and its processor time. Before the last line it prints the maximum memory in use beyond that at the
+start. The last line is "N passed, M failed" over all parts; the status is 1 if one failed. It needs `rt`, and
+installs missing Debian packages."""
+import os
+import re
+import shutil
+import tempfile
+import threading
+import time
+
+import command
+from report import Report
+from tools import TOP, ran
+
+from .parts import Part
+
+# Checks over symbols, which need no proof: they use the processors that the proofs leave idle.
+FOR_ALL_BYTES = [("the definitions beside the reference's code", 32, "oracle/symbolic"),
+                 ("the assembly text beside the definitions", 118, "oracle/machine-text"),
+                 ("the erased source, as rustc compiles it, beside the definitions", 52, "oracle/rust-object"),
+                 ("the modules for browsers beside the definitions", 52, "oracle/modules")]
+
+
+def memory_in_use():
+    with open("/proc/meminfo") as file:
+        kib = dict(re.findall(r"^(\w+): +(\d+)", file.read(), re.M))
+    return (int(kib["MemTotal"]) - int(kib["MemAvailable"])) / 2 ** 20
+
+
+class MostMemory(threading.Thread):
+    """Samples once a second how much memory is in use."""
+
+    def __init__(self):
+        super().__init__(daemon=True)
+        self.start_value = self.most = memory_in_use()
+        self.start()
+
+    def run(self):
+        while True:
+            self.most = max(self.most, memory_in_use())
+            time.sleep(1)
+
+    def beyond_start(self):
+        return self.most - self.start_value
+
+
+def copied(room):
+    """A copy of the tree, with nothing that was built in it."""
+    top = f"{room}/{os.path.basename(TOP)}"
+    shutil.copytree(TOP, top, symlinks=True, ignore=shutil.ignore_patterns(".git", "out", "target", "__pycache__"))
+    return top
+
+
+def words_for_ci(room, anew):
+    """Arguments by which `rt ci` also proves what this machine has kept. Release 13b keeps nothing, and prints its
+    usage for such an argument."""
+    return [] if ran(["rt", "ci", *anew], cwd=room).stdout.startswith("usage:") else anew
+
+
+def parts(top, anew):
+    """Runs the parts, each with the minimum number of its checks, and returns their results. Parts that are started
+    before they are followed run in parallel with the others. `anew` are the arguments for `rt ci`."""
+    yield Part(top, "what the pages quote", 10, "checks/readme").follow()
+    wrong_bodies = Part(top, "wrong bodies, beside and after the proofs", 1026, "checks/wrong-bodies", "--beside-ci")
+    beside = [Part(top, "the library for C without rt", 22, "c/check", "--without-rt"),
+              Part(top, "the cargo crate without rt", 37, "rust/check", "--without-rt"),
+              Part(top, "the eraser, and the source that it wrote", 120, "rust/checks/eraser"),
+              Part(top, "scripts, and what is no Rattle", 11, "checks/lint"),
+              Part(top, "the commands of the pages, as they are printed", 5, "checks/pages"),
+              Part(top, "what the gate has to notice", 11, "checks/planted"),
+              *(Part(top, f"{what}, for all bytes", least, "nice", "-n10", command) for what, least, command in FOR_ALL_BYTES)]
+    yield Part(top, "the table beside the reference library", 4, "oracle/make-vectors", "--check").follow()
+    yield Part(top, "proofs of outside vectors, beside the table", 5, "oracle/make-proofs", "--check").follow()
+    yield Part(top, "proofs, tests and programs", 36, "rt", "ci", *anew).follow(hearer=wrong_bodies)
+    after = [Part(top, "the assembly text beside what is proved", 48, "assembly/check.py", "--of-ci"),
+             Part(top, "the modules for browsers beside what is proved", 2, "web/build", "--of-ci"),
+             Part(top, "the check of wrong bodies, on planted ones", 23, "checks/wrong-bodies", "--self-test", "twox_words",
+                  "xxhsum_words"),
+             Part(top, "both programs, as cargo builds them", 1170, "rust/programs/check", "--of-ci")]
+    yield Part(top, "the program `xxh`", 196, "checks/program", "--of-ci").follow()
+    xxhsum = "crates/xxhsum/out/xxhsum"
+    yield Part(top, "the program `xxhsum`", 993, "checks/xxhsum", "--stored", xxhsum, f"{xxhsum}.by-rattle").follow()
+    yield Part(top, "many names, files, reads and arguments", 12, "checks/xxhsum-many", xxhsum, f"{xxhsum}.by-rattle").follow()
+    yield Part(top, "failing system calls", 1200, "checks/failing_calls", xxhsum, "crates/xxh/out/xxh").follow()
+    for part in [*beside, *after[:2], wrong_bodies, *after[2:]]:
+        yield part.follow()
+
+
+def main():
+    parser = command.parser(__doc__)
+    parser.add_argument("--anew", action="store_true", help="use no result of an earlier run")
+    anew = ["--anew"] if parser.parse_args().anew else []
+    began, memory, report = time.monotonic(), MostMemory(), Report()
+    with tempfile.TemporaryDirectory(prefix="checks-all-") as room:
+        if anew:
+            os.environ["XDG_CACHE_HOME"] = f"{room}/cache"
+        told, passed, failed = zip(*parts(copied(room), words_for_ci(room, anew)))
+    print("", *told, sep="\n")
+    print(f"in all: {(time.monotonic() - began) / 60:.1f} minutes, {memory.beyond_start():.1f} GB of memory")
+    report.count(sum(passed), sum(failed))
+    return report.end()

@@ -1,0 +1,52 @@
+"""Proves crates from nothing, and lists the functions whose proofs take the longest:
+
+    checks/slowest [--most N] [--test] CRATE..
+
+A function's time is from the end of the proof before it to the end of its own, in one process. So it includes that
+of the lemmas that it is the first to need, and the first one's that of the start. --test includes a crate's tests.
+Run it on an idle machine."""
+import os
+import re
+import subprocess
+import sys
+import time
+
+import command
+from mutants import kit
+
+ENDED = re.compile(r"checked (\S+), \d+ of \d+")
+
+
+def times(crate, is_test):
+    """The seconds of each function's proof, and of the whole check."""
+    words = crate.words([*kit.one_job(), "--progress"], tests=is_test, keeps=False)
+    how = {"cwd": crate.folder, "stdin": subprocess.DEVNULL, "stdout": subprocess.PIPE, "stderr": subprocess.STDOUT}
+    began = last = time.monotonic()
+    found = {}
+    with subprocess.Popen([*kit.rt.rtlib.guarded(), kit.rt.rtlib.RATTLE, "check", *words], text=True,
+                          errors="replace", **how) as check:
+        for line in check.stdout:
+            now = time.monotonic()
+            if ended := ENDED.match(line):
+                found[ended[1]], last = now - last, now
+    if check.returncode:
+        sys.exit(f"slowest: {crate.name} is not proved")
+    return found, time.monotonic() - began
+
+
+def main():
+    parser = command.parser(__doc__)
+    parser.add_argument("--most", type=int, default=10)
+    parser.add_argument("--test", action="store_true")
+    parser.add_argument("crates", nargs="+", metavar="CRATE")
+    given = parser.parse_args()
+    os.chdir(kit.TOP)
+    crates = kit.crates()
+    for name in given.crates:
+        crate = crates.get(name) or sys.exit(f"slowest: crates.txt has no {name}")
+        for below in crate.below():
+            kit.build_library(below)
+        found, whole = times(crate, given.test)
+        print(f"{name}: {len(found)} functions, {whole:.0f} s")
+        for function, took in sorted(found.items(), key=lambda it: -it[1])[:given.most]:
+            print(f"  {took:5.1f} s  {function.partition('::')[2]}", flush=True)

@@ -1,0 +1,188 @@
+"""Checks what the proofs don't cover: scripts, Python, Rust, JavaScript, and wording.
+
+    checks/lint
+
+- shellcheck reads the shell scripts, pyflakes the Python, rustfmt and clippy the Rust, and node the JavaScript;
+- pages, comments, help texts and error messages have none of the words of checks/docs/words.txt, and doc comments
+  don't begin with "Whether" or "What";
+- docs/CONTRACTS.md names each file of `specs/`;
+- commits since this rule have a subject of at most 72 characters, and no absolute path of a machine in their message
+  (checks/docs/commits.py).
+
+Each check must first detect planted mistakes. A check that fails without a message counts as failed. One line per
+check, with what it found; the last line is "N passed, M failed". It takes half a minute, and installs missing packages:
+Debian's shellcheck, pyflakes3, rustfmt, rust-clippy and nodejs."""
+import contextlib
+import fnmatch
+import io
+import os
+import re
+import tempfile
+
+import command
+from report import Report, want
+from tools import TOP, install_packages, ran, text_of, write
+
+from . import commits, words
+
+PACKAGES = {'shellcheck': 'shellcheck', 'pyflakes3': 'pyflakes3', 'rustfmt': 'rustfmt', 'clippy-driver': 'rust-clippy',
+            'node': 'nodejs'}
+LEFT_OUT = {'out', 'target', '.git', '__pycache__', 'node_modules'}
+# Copies that a program writes, data, and texts of others.
+GENERATED = re.compile(r'/(src/erased|asm|docs/history)/|/(refused|words|saved_by_xxh|vectors|api)\.txt$|/OutsideVectors[0-9]+\.antt$|/LICENSE$|/HANDLES$|/stdin$|/stdout$')
+FEATURES = ('random', 'xxhash32', 'xxhash64', 'xxhash3_64', 'xxhash3_128', 'std', 'alloc')
+
+
+def files():
+    """The files of the tree, without build output."""
+    for folder, folders, names in os.walk(TOP):
+        folders[:] = sorted(set(folders) - LEFT_OUT)
+        yield from (os.path.join(folder, name) for name in sorted(names))
+
+
+def first_line(path):
+    with open(path, 'rb') as file:
+        return file.readline(100).decode(errors='replace')
+
+
+def of_kind(paths, ending, interpreter):
+    """The files whose name has the ending, if there is one, or that the interpreter runs."""
+    return [path for path in paths if ending and path.endswith(ending)
+            or '.' not in os.path.basename(path) and re.match(rf'#!.*{interpreter}\s*$', first_line(path))]
+
+
+def pages(paths):
+    """The pages and manual pages, except the changelog."""
+    return [path for path in paths if path.endswith(('.md', '.1'))
+            and os.path.basename(path) != 'CHANGELOG.md']
+
+
+def sources(paths):
+    """The sources and scripts, except generated copies and data."""
+    return [path for path in paths if not GENERATED.search(path) and not words.is_page(path) and '\0' not in first_line(path)
+            and (os.path.splitext(path)[1] in (*words.LIKE_C, *words.LIKE_SHELL, '.py', '.pyi', '.antt', '.html'))]
+
+
+def documented(paths):
+    """The sources whose comments are documentation."""
+    return [path for path in sources(paths) if any(fnmatch.fnmatch(os.path.relpath(path, TOP), it) for it in words.DOCUMENTED)]
+
+
+def found(*command):
+    """The lines of a tool's output, if it fails."""
+    done = ran(command, cwd=TOP)
+    lines = [line.replace(TOP + os.sep, '') for line in done.stdout.splitlines() if line.strip()]
+    return lines if done.returncode else []
+
+
+def shellcheck(*paths):
+    """Reads scripts, each with the files that it sources."""
+    return found('shellcheck', '--external-sources', '--source-path=SCRIPTDIR', '--severity=warning', '--format=gcc', *paths)
+
+
+def pyflakes(*paths):
+    return found('pyflakes3', *paths)
+
+
+def rustfmt(*paths):
+    return found('rustfmt', '--check', '-l', '--edition', '2021', *paths)
+
+
+def clippy(*roots):
+    """Reads the root of each crate that needs no other crate. Those of the programs have no features."""
+    features = [word for name in FEATURES for word in ('--cfg', f'feature="{name}"')]
+    with tempfile.TemporaryDirectory() as room:
+        return sum((found('clippy-driver', '--edition', '2021', '--crate-type', 'lib', '--crate-name', 'twox_hash',
+                          *([] if '/programs/' in root else features), '--emit', 'metadata', '--out-dir', room, '-D', 'warnings',
+                          root) for root in roots), [])
+
+
+def node(*paths):
+    return sum((found('node', '--check', path) for path in paths), [])
+
+
+def listed_words(*paths):
+    return [line.replace(TOP + os.sep, '') for line in words.lines_with_words(*paths)]
+
+
+def puzzles(*paths):
+    return [line.replace(TOP + os.sep, '') for line in words.puzzles(*paths)]
+
+
+def unnamed(*specs):
+    """The files of definitions that no row of the page names."""
+    rows = [line for line in text_of('docs/CONTRACTS.md').splitlines() if line.startswith('| ')]
+    named = set(re.findall(r'\w+', ' '.join(rows)))
+    return [f'{path} is in no row of docs/CONTRACTS.md' for path in specs
+            if os.path.basename(path).removesuffix('.antt') not in named]
+
+
+# For each check a file name and a mistake; several for the words, which are looked for in several places.
+WRONG = {
+    shellcheck: [('wrong.sh', '#!/bin/bash\nrm -rf "$nowhere/"*\n')],
+    pyflakes: [('wrong.py', 'import os\n')],
+    rustfmt: [('wrong.rs', 'fn  main(){}\n')],
+    clippy: [('wrong.rs', 'pub fn one(a: bool) -> bool { a == true }\n')],
+    node: [('wrong.js', 'let = ;\n')],
+    listed_words: [('wrong.md', 'It `tells` what it tells.\n'), ('wrong.rt', '/// Works but for zero.\nfn f() {}\n'),
+                   ('wrong.antt', 'use a\n\n-- the piece\n'), ('wrong.c', 'int a;\n/* Used by\n * whoever calls. */\n'),
+                   ('wrong.js', 'let a = "//"; // made anew\n'), ('wrong.py', '"""Answers no."""\n'), ('wrong.py', 'A = 1  # by lot\n'),
+                   ('wrong.sh', '#!/bin/bash\necho a # the gate\n'), ('Makefile', '# kit\n'),
+                   ('message.py', 'print(f"nobody was told of {fault}")\n'), ('message.sh', 'fail "is right"\n'),
+                   ('message.js', 'throw new Error("handed over");\n'), ('message.html', '<p>tells</p>\n')],
+    puzzles: [('wrong.rt', '/// Whether it fits.\nfn f() {}\n'), ('wrong.h', 'int a;\n\n/** What it is. */\n'),
+              ('wrong.py', 'def f():\n    """Whether it fits."""\n')],
+    unnamed: [('OfNoRow.antt', '')],
+}
+WRONG_MESSAGES = ('A' * 73 + '\n\nWhy.', "Merge branch 'main' of /work/main", 'Fix it\n\nSee (/home/a/b.c).')
+
+
+def is_clean(tool, paths):
+    for name, text in WRONG[tool]:
+        with tempfile.TemporaryDirectory() as room:
+            want(tool(write(os.path.join(room, name), text)), f'it does not detect {text!r}')
+    want(paths, 'no file')
+    lines = tool(*paths)
+    want(not lines, '\n  '.join([f'{len(lines)} lines', *lines[:20]]))
+    return f'{len(paths)} files'
+
+
+def commits_are_clean():
+    for message in WRONG_MESSAGES:
+        want(list(commits.faults(message)), f'it does not detect {message!r}')
+    want(not list(commits.faults('Read /proc/self/mem and /usr/lib')), 'it refuses a path of every system')
+    messages = commits.messages()
+    if messages is None:
+        return 'skipped: no history of git'
+    wrong = [f'{commit[:12]}: {fault}' for commit, message in messages.items() for fault in commits.faults(message)]
+    want(not wrong, '\n  '.join(wrong))
+    return f'{len(messages)} commits'
+
+
+def empty_faults_count():
+    """A fault without a text, as of a program that fails and prints nothing, counts."""
+    report = Report()
+    with contextlib.redirect_stdout(io.StringIO()):
+        report.attempt('a check', want, False, '')
+    want((report.passed, report.failed) == (0, 1), 'a fault without a text counts as passed')
+
+
+def main():
+    command.parser(__doc__).parse_args()
+    install_packages(PACKAGES)
+    report, every = Report(), list(files())
+    # The erased source has the layout of its source.
+    rust = [path for path in every if path.endswith('.rs') and '/src/erased/' not in path]
+    report.attempt('shellcheck', is_clean, shellcheck, of_kind(every, None, 'sh'))
+    report.attempt('pyflakes', is_clean, pyflakes, of_kind(every, '.py', 'python3'))
+    report.attempt('rustfmt', is_clean, rustfmt, rust)
+    report.attempt('clippy', is_clean, clippy, [os.path.join(TOP, 'rust', *folder, 'src', 'lib.rs') for folder in ((), ('programs',))])
+    report.attempt('node', is_clean, node, [path for path in every if path.endswith(('.js', '.mjs'))])
+    report.attempt('words of pages', is_clean, listed_words, pages(every))
+    report.attempt('words of comments and messages', is_clean, listed_words, sources(every))
+    report.attempt('beginnings of doc comments', is_clean, puzzles, documented(every))
+    report.attempt('commits', commits_are_clean)
+    report.attempt('files of definitions', is_clean, unnamed,
+                   [path for path in every if '/specs/' in path and not path.endswith('/Lib.antt')])
+    report.attempt('faults without a text', empty_faults_count)
+    return report.end()

@@ -1,0 +1,1 @@
+"""The programs of examples/ over several processes and hosts."""

@@ -1,0 +1,619 @@
+"""Checks examples/fleet on a Dask cluster of this machine, on 100,000 small files and ten large ones:
+
+    checks/fleet [XXHSUM]
+
+- with 1, 2 and 4 workers: the lines of one process of our xxhsum, and the blocks of python3-xxhash on Debian's library;
+  names of every byte;
+- our xxhsum accepts the manifest, and detects a changed byte;
+- with a worker that is killed in the middle, and a driver that is killed twice and continues;
+- --since an older manifest, after files were changed, added, renamed and removed, and with indexes of other bytes, of
+  other blocks, that are empty or truncated; a name that is too long for an index; an index is on disk before it has its
+  name;
+- --anew, over a file that was changed through a shared mapping and kept its time;
+- with a file that vanishes, one that can't be read, one that grows while it is read, and a directory that can't be
+  read;
+- with no worker left, no scheduler, a worker on Debian's library, and a second concurrent run, each of which must be
+  reported;
+- the driver's memory over 20,000 and over 200,000 files.
+
+Scheduler and workers are processes on loopback, of the user nobody if root runs this, with all their files in a
+temporary folder. It installs the library there, as `make -C c install` does, and installs missing Debian packages.
+XXHSUM is our program; without it `rt` builds it. It needs 3 GiB of space in TMPDIR. The last line is "N passed, M
+failed", and the status is 1 if one failed. CI does not run this."""
+import contextlib
+import logging
+import mmap
+import os
+import random
+import re
+import shutil
+import signal
+import socket
+import subprocess
+import sys
+import tempfile
+import threading
+import time
+
+import command
+from report import Fault, Report, want
+from tools import TOP, free_port, install_packages, must, proved_program, text_of, write
+
+# Neither files nor bytes fill the last task, and some tasks are full of bytes.
+FILES, MEDIUM, LARGE, BLOCK = 100050, 12 << 20, 64 << 20, 1000003
+# A name for each byte that a name may have, except those that are no text by themselves.
+BYTES = [byte for byte in range(1, 128) if byte != ord('/')]
+NOBODY = 65534
+# Without Dask's dashboard; what remains of it listens on loopback.
+QUIET = ('--no-dashboard', '--dashboard-address', '127.0.0.1:0')
+PACKAGES = {'dask-scheduler': 'python3-distributed', 'xxhsum': 'xxhash',
+            '/usr/lib/python3/dist-packages/xxhash/__init__.py': 'python3-xxhash'}
+
+
+def until(holds, fault):
+    """Waits a minute at most."""
+    for _ in range(600):
+        if holds():
+            return
+        time.sleep(0.1)
+    raise Fault(fault)
+
+
+# ---- Input ----
+
+def write_tree(tree):
+    """Files of 0 to 4,000 bytes in folders of 100, names of every byte, four files of 12 MiB, and ten large ones."""
+    chance = random.Random(7)
+    for number in range(FILES):
+        folder = os.path.join(tree, f'folder {number // 100}')
+        os.makedirs(folder, exist_ok=True)
+        name = {0: 'stdin', 1: '(a) = b', 2: '  two spaces', 3: 'größe €'}
+        write(os.path.join(folder, name.get(number % 100, f'file-{number}')), chance.randbytes(chance.randrange(4001)))
+    os.mkdir(os.path.join(tree, 'names'))
+    for byte in BYTES:
+        write(os.path.join(tree, 'names', f'{chr(byte)}\\'), bytes([byte]))
+    for name, length, count in (('large', LARGE, 10), ('medium', MEDIUM, 4)):
+        for number in range(count):
+            write(os.path.join(tree, f'{name}-{number}'), chance.randbytes(length + number))
+    # A file that changed a second ago may change again and keep its time, so no run relies on it.
+    time.sleep(1.1)
+
+
+def lines_of_xxhsum(xxhsum, tree):
+    """The manifest by one process of xxhsum, and its time."""
+    began = time.monotonic()
+    words = "find . -type f -print0 | LC_ALL=C sort -z | xargs -0 \"$0\" -H2"
+    done = subprocess.run(['sh', '-c', words, xxhsum], cwd=tree, stdout=subprocess.PIPE, stderr=subprocess.PIPE)
+    return done.stdout.splitlines(keepends=True), time.monotonic() - began
+
+
+def blocks_by_python(tree, name, block=BLOCK):
+    """The lines of a file's blocks by python3-xxhash, which runs on Debian's library here."""
+    import xxhash
+    lines = []
+    with open(os.path.join(tree, name), 'rb') as file:
+        while piece := file.read(block):
+            lines.append(f'{len(lines) * block:016x} {xxhash.xxh3_128_hexdigest(piece)}\n')
+    return ''.join(lines)
+
+
+# ---- The cluster ----
+
+class Cluster:
+    """A scheduler and workers, in a folder that they may write to."""
+
+    def __init__(self, room, library):
+        self.room, self.library = room, library
+        self.run_as = {'user': NOBODY, 'group': NOBODY, 'extra_groups': []} if os.geteuid() == 0 else {}
+        port = str(free_port())
+        self.address, self.processes, self.workers = 'tcp://127.0.0.1:' + port, [], []
+        self.start('dask-scheduler', '--host', '127.0.0.1', '--port', port, *QUIET)
+        until(lambda: not socket.socket().connect_ex(('127.0.0.1', int(port))), 'the scheduler does not listen')
+
+    def environment(self, library):
+        found = {name: value for name, value in os.environ.items() if not name.startswith('LD_')}
+        return {**found, 'HOME': self.room, **({'LD_LIBRARY_PATH': library} if library else {})}
+
+    def start(self, *words, library=None):
+        log = open(os.path.join(self.room, f'log-{len(self.processes)}'), 'wb')
+        process = subprocess.Popen(words, cwd=self.room, env=self.environment(library), stdin=subprocess.DEVNULL,
+                                   stdout=log, stderr=log, **self.run_as)
+        self.processes.append(process)
+        return process
+
+    def add_workers(self, count, library=None):
+        for _ in range(count):
+            self.workers.append(self.start('dask-worker', self.address, '--nthreads', '1', '--no-nanny', '--host',
+                                           '127.0.0.1', '--local-directory', self.room, *QUIET,
+                                           library=library or self.library))
+
+    def remove_workers(self):
+        for worker in self.workers:
+            worker.kill()
+            worker.wait()
+        self.workers = []
+        until(lambda: self.asks(lambda dask_scheduler: len(dask_scheduler.workers)) == 0, 'a worker is left')
+
+    def asks(self, question, **words):
+        """The scheduler's reply."""
+        from distributed import Client
+        with Client(self.address, timeout=10) as client:
+            return client.run_on_scheduler(question, **words)
+
+    def kill_in_the_middle(self):
+        """Kills a worker while it has tasks, and returns their number."""
+        # A function of the module would be sent by its name, which the scheduler can't import.
+        async def stop_in_the_middle(dask_scheduler, address, pid):
+            """Stops a worker when it has tasks and at most two thirds of all are left. Returns how many it has."""
+            import asyncio
+            most, end = 0, time.monotonic() + 60
+            while time.monotonic() < end:
+                tasks = dask_scheduler.tasks.values()
+                left = sum(task.state in ('processing', 'queued', 'no-worker') for task in tasks)
+                most, held = max(most, left), len(dask_scheduler.workers[address].processing)
+                if 3 * left <= 2 * most and held:
+                    os.kill(pid, signal.SIGSTOP)
+                    return held
+                await asyncio.sleep(0.001)
+            return 0
+
+        worker = self.workers[0]
+        found = self.asks(lambda dask_scheduler: {it.pid: it.address for it in dask_scheduler.workers.values()})
+        held = self.asks(stop_in_the_middle, address=found[worker.pid], pid=worker.pid)
+        worker.kill()
+        want(held, 'no worker was killed in the middle')
+        return held
+
+    def has_workers(self, count):
+        until(lambda: self.asks(lambda dask_scheduler: len(dask_scheduler.workers)) == count, 'the workers are missing')
+
+    def has_tasks(self):
+        until(lambda: self.asks(lambda dask_scheduler: len(dask_scheduler.tasks)), 'it hands out no tasks')
+
+    def end(self):
+        for process in self.processes:
+            process.kill()
+            process.wait()
+
+
+# ---- Runs of the example ----
+
+class Fleet:
+    """A tree with its expected results, and the example on a cluster."""
+
+    def __init__(self, room, library, xxhsum):
+        self.tree, self.folder, self.xxhsum = os.path.join(room, 'tree'), os.path.join(room, 'out'), xxhsum
+        write_tree(self.tree)
+        self.lines, self.alone = lines_of_xxhsum(xxhsum, self.tree)
+        want(len(self.lines) == FILES + len(BYTES) + 14, f'xxhsum printed {len(self.lines)} lines')
+        self.blocks = {f'large-{number}.blocks': blocks_by_python(self.tree, f'large-{number}') for number in range(10)}
+        os.chmod(room, 0o755)
+        for name in ('out', 'cluster'):
+            os.mkdir(os.path.join(room, name))
+            os.chmod(os.path.join(room, name), 0o777)
+        self.program = os.path.join(shutil.copytree(os.path.join(TOP, 'examples', 'fleet'), os.path.join(room, 'fleet')), 'fleet.py')
+        self.manifest, self.indexes = os.path.join(self.folder, 'manifest'), os.path.join(self.folder, 'indexes')
+        self.cluster = Cluster(os.path.join(room, 'cluster'), library)
+
+    def forget(self):
+        """Nothing is there from an earlier run."""
+        for folder in (self.indexes, self.manifest + '.parts'):
+            shutil.rmtree(folder, ignore_errors=True)
+        for file in (self.manifest, self.manifest + '.files'):
+            if os.path.exists(file):
+                os.remove(file)
+
+    def start(self, *more, address=None, goes_on=False, tree=None):
+        """A run, from the beginning unless it continues an earlier one."""
+        if not goes_on:
+            self.forget()
+        words = [self.program, '--indexes', self.indexes, '--large', str(LARGE), '--block', str(BLOCK), '--library',
+                 self.cluster.library, *more, address or self.cluster.address, tree or self.tree, self.manifest]
+        return subprocess.Popen(words, env=self.cluster.environment(None), stdout=subprocess.PIPE,
+                                stderr=subprocess.PIPE, text=True, cwd=self.folder, **self.cluster.run_as)
+
+    def end(self, run, status=0):
+        """The output of a finished run, and the lines with errors."""
+        try:
+            out, told = run.communicate(timeout=300)
+        finally:
+            run.kill()
+        want(run.returncode == status, f'status {run.returncode}: {told.strip()[-300:]}')
+        return out, told.splitlines()
+
+    def printed(self):
+        """The lines of the manifest."""
+        with open(self.manifest, 'rb') as file:
+            return file.readlines()
+
+    def line_of(self, name):
+        return next(line for line in self.printed() if line.endswith(name))
+
+    def has_all(self, without=()):
+        """The manifest and the indexes are those of one run, except the lines of these names."""
+        gone = {b'  ./' + os.fsencode(name) + b'\n' for name in without}
+        want(self.printed() == [line for line in self.lines if line[32:] not in gone], 'the manifest differs')
+        want(not os.path.exists(self.manifest + '.parts'), 'the folder of parts is left')
+        self.has_indexes(self.blocks)
+
+    def has_indexes(self, blocks):
+        """These are the indexes, by their names, and no others."""
+        found = sorted(name for name in os.listdir(self.indexes) if name.endswith('.blocks'))
+        want(found == sorted(blocks), f'there are other indexes: {set(found) ^ set(blocks)}')
+        for name, lines in blocks.items():
+            want(text_of(os.path.join(self.indexes, name)) == lines, f'{name} differs')
+
+    def with_workers(self, count):
+        self.cluster.remove_workers()
+        self.cluster.add_workers(count)
+        self.cluster.has_workers(count)
+
+
+def agrees(fleet, count):
+    """The fastest of three runs, whose lines are all equal."""
+    fleet.with_workers(count)
+    printed = []
+    for _ in range(3):
+        out, told = fleet.end(fleet.start())
+        want(not told, told[:1])
+        fleet.has_all()
+        printed.append(out.strip())
+    return min(printed, key=lambda line: float(re.search(r'in ([0-9.]+) s', line)[1]))
+
+
+def xxhsum_accepts(fleet):
+    """xxhsum -c accepts the list. With one byte changed, it reports that file."""
+    words = [fleet.xxhsum, '-c', '--quiet', fleet.manifest]
+    done = subprocess.run(words, cwd=fleet.tree, stdout=subprocess.PIPE)
+    want(done.returncode == 0, done.stdout.decode(errors='replace')[-300:])
+    path = os.path.join(fleet.tree, 'large-1')
+    with open(path, 'r+b') as file:
+        byte = file.read(1)
+        file.seek(0)
+        file.write(bytes([byte[0] ^ 1]))
+    done = subprocess.run(words, cwd=fleet.tree, stdout=subprocess.PIPE)
+    with open(path, 'r+b') as file:
+        file.write(byte)
+    time.sleep(1.1)
+    want(done.returncode == 1 and b'./large-1: FAILED' in done.stdout, 'a changed byte is not noticed')
+    return f'{len(fleet.lines)} lines; a changed byte is noticed'
+
+
+def names_that_are_no_text(fleet):
+    """Names that are not UTF-8, which Debian's xxhsum also prints."""
+    paths = [os.path.join(fleet.tree.encode(), b'names', bytes([byte])) for byte in (0x80, 0xff)]
+    for path in paths:
+        write(path, path)
+    done = subprocess.run(['xxhsum', '-q', '-H2', *(b'./names/' + path[-1:] for path in paths)], cwd=fleet.tree,
+                          stdout=subprocess.PIPE, stderr=subprocess.DEVNULL)
+    fleet.end(fleet.start())
+    for path in paths:
+        os.remove(path)
+    found = fleet.printed()
+    want(set(found) - set(fleet.lines) == set(done.stdout.splitlines(keepends=True)), 'their lines differ')
+    want(found == sorted(found, key=name_of_line), 'the order is not that of the names')
+
+
+def name_of_line(line):
+    """The name in a line of a list, unescaped."""
+    meant = {b'\\\\': b'\\', b'\\n': b'\n', b'\\r': b'\r'}
+    name = line[34 + line.startswith(b'\\'):-1]
+    return re.sub(rb'\\[\\nr]', lambda escape: meant[escape[0]], name) if line.startswith(b'\\') else name
+
+
+def worker_dies(fleet):
+    """One of two workers is killed."""
+    fleet.with_workers(2)
+    run = fleet.start()
+    held = fleet.cluster.kill_in_the_middle()
+    _, told = fleet.end(run)
+    want(not told, told[:1])
+    fleet.has_all()
+    return f'{held} of its tasks went to the other one'
+
+
+def no_worker_is_left(fleet):
+    fleet.with_workers(1)
+    run = fleet.start('--patience', '3')
+    fleet.cluster.kill_in_the_middle()
+    _, told = fleet.end(run, 1)
+    want(told == [f'fleet: no worker at {fleet.cluster.address} for 3 seconds'], told)
+    want(not os.path.exists(fleet.manifest), 'there is a manifest')
+    return told[0]
+
+
+def files_fail(fleet):
+    """Workers start when the first tasks exist. By then a file of theirs has vanished, and one can't be read. A
+    directory could never be read."""
+    vanishing, closed, folder = 'folder 0/file-7', 'folder 1/file-108', 'folder 9'
+    fleet.cluster.remove_workers()
+    os.chmod(os.path.join(fleet.tree, folder), 0)
+    run = fleet.start()
+    fleet.cluster.has_tasks()
+    time.sleep(1)
+    os.rename(os.path.join(fleet.tree, vanishing), os.path.join(fleet.folder, 'vanished'))
+    os.chmod(os.path.join(fleet.tree, closed), 0)
+    fleet.cluster.add_workers(2)
+    out, told = fleet.end(run, 1)
+    os.rename(os.path.join(fleet.folder, 'vanished'), os.path.join(fleet.tree, vanishing))
+    os.chmod(os.path.join(fleet.tree, closed), 0o644)
+    os.chmod(os.path.join(fleet.tree, folder), 0o755)
+    faults = {vanishing: 'No such file or directory', closed: 'Permission denied',
+              folder: 'Permission denied'}
+    want(sorted(told) == sorted(f'fleet: {name}: {why}' for name, why in faults.items()), told)
+    inside = [os.path.join(folder, name) for name in os.listdir(os.path.join(fleet.tree, folder))]
+    fleet.has_all([vanishing, closed, *inside])
+    want(out.endswith('3 failed\n') and not os.path.exists(fleet.manifest + '.parts'), out)
+    return 'each is named, and all others have their lines'
+
+
+def driver_dies(fleet):
+    """The driver is killed twice in the middle. The third run continues, and no file is reported or read twice."""
+    fleet.with_workers(2)
+    fleet.forget()
+    for parts in (60, 180):
+        run = fleet.start(goes_on=True)
+        until(lambda: count_parts(fleet) >= parts or run.poll() is not None, 'it writes no parts')
+        want(run.poll() is None, 'it ended before it was killed')
+        run.kill()
+        run.communicate()
+        want(not os.path.exists(fleet.manifest), 'there is a manifest')
+    out, told = fleet.end(fleet.start(goes_on=True))
+    want(not told, told[:1])
+    fleet.has_all()
+    kept = int(re.search(r'(\d+) of them kept', out)[1])
+    want(kept > 20000, out)
+    return f'{kept} of {len(fleet.lines)} lines were there'
+
+
+def count_parts(fleet):
+    """The number of parts of the run, and of earlier runs, by their records."""
+    folder = fleet.manifest + '.parts'
+    names = os.listdir(folder) if os.path.isdir(folder) else []
+    before = os.path.join(folder, 'before')
+    records = sum(1 for _ in open(before, 'rb')) if 'before' in names else 0
+    return sum(name.isdecimal() for name in names) + records // 200
+
+
+def since_an_older_one(fleet):
+    """Changed files are read again, and no others."""
+    fleet.end(fleet.start())
+    older = os.path.join(fleet.folder, 'older')
+    for end in ('', '.files'):
+        os.rename(fleet.manifest + end, older + end)
+    changed = os.path.join(fleet.tree, 'folder 5')
+    data = open(f'{changed}/file-555', 'rb').read()
+    write(f'{changed}/file-555', data[::-1])
+    write(f'{changed}/new', b'new')
+    os.rename(f'{changed}/file-556', f'{changed}/renamed')
+    os.rename(f'{changed}/file-557', os.path.join(fleet.folder, 'removed'))
+    time.sleep(1.1)
+    out, told = fleet.end(fleet.start('--since', older, goes_on=True))
+    lines, _ = lines_of_xxhsum(fleet.xxhsum, fleet.tree)
+    found = fleet.printed()
+    write(f'{changed}/file-555', data)
+    os.remove(f'{changed}/new')
+    os.rename(f'{changed}/renamed', f'{changed}/file-556')
+    os.rename(os.path.join(fleet.folder, 'removed'), f'{changed}/file-557')
+    time.sleep(1.1)
+    want(not told and found == lines, 'the manifest differs')
+    want(f', {len(lines) - 3} of them kept, 0 indexes' in out, out)
+    return out.strip()
+
+
+def indexes_are_of_their_files(fleet):
+    """An index of other bytes, or of another size of blocks, is computed again, also if the file's line is kept. One
+    of a file that has become small is removed."""
+    fleet.end(fleet.start())
+    changed, shorter, kept = (os.path.join(fleet.tree, f'large-{number}') for number in (1, 2, 3))
+    for path in (changed, shorter):
+        shutil.copy(path, os.path.join(fleet.folder, os.path.basename(path)))
+    with open(changed, 'r+b') as file:
+        file.write(b'other bytes')
+    os.truncate(shorter, 1000)
+    time.sleep(1.1)
+    fleet.end(fleet.start('--indexes', '', goes_on=True))
+    seen = []
+    for block in (BLOCK, BLOCK + 7):
+        names = [f'large-{number}' for number in range(10) if number != 2]
+        out, told = fleet.end(fleet.start('--since', fleet.manifest, '--block', str(block), goes_on=True))
+        want(not told, told[:1])
+        fleet.has_indexes({f'{name}.blocks': blocks_by_python(fleet.tree, name, block) for name in names})
+        seen.append(int(re.search(r', (\d+) indexes', out)[1]))
+    inode = os.stat(kept).st_ino
+    state = text_of(os.path.join(fleet.indexes, 'large-3.state'))
+    wanted = f'{BLOCK + 7} {LARGE + 3} {os.stat(kept).st_ctime_ns} {inode}\n'
+    want(state == wanted, 'the state beside an index is another')
+    for path in (changed, shorter):
+        shutil.copy(os.path.join(fleet.folder, os.path.basename(path)), path)
+    time.sleep(1.1)
+    want(seen == [1, 9], f'{seen} indexes were made anew')
+
+
+def indexes_that_are_cut(fleet):
+    """An index that is empty, or has a line less or more, is computed again. All others are kept."""
+    fleet.end(fleet.start())
+    for name, change in (('large-4', lambda length: 0), ('large-5', lambda length: length - 50), ('large-6', lambda length: length + 50)):
+        path = os.path.join(fleet.indexes, name + '.blocks')
+        os.truncate(path, change(os.path.getsize(path)))
+    out, told = fleet.end(fleet.start('--since', fleet.manifest, goes_on=True))
+    want(not told and ', 3 indexes' in out, f'{told[:1]}{out}')
+    fleet.has_all()
+    return out.strip()
+
+
+def indexes_are_on_disk(fleet):
+    """Files that a power loss must not truncate are flushed before they are renamed."""
+    sys.path.insert(0, os.path.dirname(fleet.program))
+    import parts
+    path, seen = os.path.join(fleet.folder, 'lasting'), []
+    real = os.fsync, os.replace
+    parts.os.fsync = lambda number: seen.append(os.readlink(f'/proc/self/fd/{number}')) or real[0](number)
+    parts.os.replace = lambda *names: seen.append(names) or real[1](*names)
+    try:
+        parts.write(path, [b'line\n'], is_lasting=True)
+    finally:
+        parts.os.fsync, parts.os.replace = real
+    want(seen == [path + '.part', (path + '.part', path)], seen)
+    written = re.findall(r'write\(self.index_of\(.*is_lasting=True', text_of(fleet.program))
+    want(len(written) == 2, 'an index is written in another way')
+
+
+def through_a_mapping(fleet):
+    """A mapped page stays writable: later writes to it don't change the file's time. --since keeps the old digest,
+    as documented on the page, and --anew finds the bytes."""
+    path, name = os.path.join(fleet.tree, 'large-7'), b'  ./large-7\n'
+    with open(path, 'r+b') as file, mmap.mmap(file.fileno(), 0) as bytes_of_file:
+        byte = bytes_of_file[5]
+        bytes_of_file[5] = byte
+        time.sleep(1.1)
+        fleet.end(fleet.start())
+        before = os.stat(path).st_ctime_ns
+        bytes_of_file[5] = byte ^ 1
+        is_moved = os.stat(path).st_ctime_ns != before
+        fleet.end(fleet.start('--since', fleet.manifest, goes_on=True))
+        kept = fleet.line_of(name)
+        fleet.end(fleet.start('--since', fleet.manifest, '--anew', goes_on=True))
+        found = fleet.line_of(name)
+        lines, _ = lines_of_xxhsum(fleet.xxhsum, fleet.tree)
+        fleet.has_indexes({**fleet.blocks, 'large-7.blocks': blocks_by_python(fleet.tree, 'large-7')})
+        bytes_of_file[5] = byte
+    os.utime(path)
+    time.sleep(1.1)
+    want([found] == [line for line in lines if line.endswith(name)], '--anew does not read it')
+    want(is_moved or kept != found, '--since has read it, and its time was as it was')
+    return 'its time moved here' if is_moved else 'its time was as it was'
+
+
+def long_names(fleet):
+    """A file whose index would have too long a name is reported, and it has its line as all others."""
+    name = 'n' * 250
+    path = os.path.join(fleet.tree, name)
+    shutil.copy(os.path.join(fleet.tree, 'large-1'), path)
+    os.chmod(path, 0o644)
+    _, told = fleet.end(fleet.start(), 1)
+    lines, _ = lines_of_xxhsum(fleet.xxhsum, fleet.tree)
+    os.remove(path)
+    want(told == [f'fleet: {name}: its index: File name too long'], told)
+    want(fleet.printed() == lines, 'the manifest differs')
+    fleet.has_indexes(fleet.blocks)
+
+
+def a_file_grows(fleet):
+    """A file that grows while it is read has one line, and is read again by the next run."""
+    path, is_over = os.path.join(fleet.tree, 'growing'), threading.Event()
+    write(path, b'')
+
+    def grow():
+        with open(path, 'ab', buffering=0) as file:
+            while not is_over.is_set():
+                file.write(bytes(1000))
+                time.sleep(0.001)
+    growing = threading.Thread(target=grow)
+    growing.start()
+    try:
+        _, told = fleet.end(fleet.start())
+    finally:
+        is_over.set()
+        growing.join()
+    found = [line for line in fleet.printed() if line.endswith(b'  ./growing\n')]
+    want(not told and len(found) == 1, f'{len(found)} lines: {told}')
+    time.sleep(1.1)
+    fleet.end(fleet.start('--since', fleet.manifest, goes_on=True))
+    found = fleet.printed()
+    lines, _ = lines_of_xxhsum(fleet.xxhsum, fleet.tree)
+    os.remove(path)
+    want(found == lines, 'the next manifest differs')
+
+
+def a_second_run(fleet):
+    fleet.cluster.remove_workers()
+    first = fleet.start()
+    fleet.cluster.has_tasks()
+    _, told = fleet.end(fleet.start(goes_on=True), 1)
+    want(told == [f'fleet: another run is at work in {fleet.manifest}.parts'], told)
+    fleet.with_workers(2)
+    fleet.end(first)
+    fleet.has_all()
+
+
+def memory(fleet):
+    """The maximum memory of the driver, over 20,000 and 200,000 files."""
+    fleet.with_workers(2)
+    found = {}
+    for count in (20000, 200000):
+        tree = os.path.join(fleet.folder, f'tree-{count}')
+        for number in range(count):
+            if number % 1000 == 0:
+                os.makedirs(f'{tree}/{number // 1000:04}')
+            write(f'{tree}/{number // 1000:04}/a-file-with-a-name-of-some-length-{number:08}', b'%d' % number)
+        os.chmod(fleet.folder, 0o777)
+        found[count] = most_memory(fleet.start(tree=tree), fleet)
+        shutil.rmtree(tree)
+    want(found[200000] - found[20000] < 20, f'{found} MB')
+    return ', '.join(f'{count} files: {most} MB' for count, most in found.items())
+
+
+def most_memory(run, fleet):
+    """In megabytes, as the system reports it of a run until it ends."""
+    most = 0
+    while run.poll() is None:
+        with contextlib.suppress(OSError), open(f'/proc/{run.pid}/status') as file:
+            most = max([most, *(int(line.split()[1]) for line in file if line.startswith('VmHWM'))])
+        time.sleep(0.05)
+    fleet.end(run)
+    return most // 1000
+
+
+def other_library_is_refused(fleet):
+    fleet.cluster.remove_workers()
+    fleet.cluster.add_workers(1, '/nowhere')
+    _, told = fleet.end(fleet.start(), 1)
+    want(len(told) == 1 and 'LD_LIBRARY_PATH=' + fleet.cluster.library in told[0], told)
+    want(not os.path.exists(fleet.manifest), 'there is a manifest')
+    return told[0]
+
+
+def no_scheduler(fleet):
+    with socket.socket() as unused:
+        unused.bind(('127.0.0.1', 0))
+        _, told = fleet.end(fleet.start(address=f'tcp://127.0.0.1:{unused.getsockname()[1]}'), 1)
+    want(len(told) == 1 and 'Timed out trying to connect' in told[0], told)
+    return told[0]
+
+
+def check_all(report, room, program):
+    library = os.path.join(room, 'prefix', 'lib')
+    must(['make', '-s', '-C', os.path.join(TOP, 'c'), 'install', f'lib={room}/lib', f'PREFIX={room}/prefix'])
+    xxhsum = os.path.abspath(program) if program else proved_program('xxhsum')
+    fleet = Fleet(room, library, xxhsum)
+    report.row('one process of xxhsum', None, f'{len(fleet.lines)} files in {fleet.alone:.1f} s')
+    try:
+        for count in (1, 2, 4):
+            report.attempt(f'{count} workers', agrees, fleet, count)
+        for name, check in (('xxhsum -c', xxhsum_accepts), ('names that are no text', names_that_are_no_text),
+                            ('a worker is killed', worker_dies), ('the driver is killed twice', driver_dies),
+                            ('since an older manifest', since_an_older_one),
+                            ('indexes of changed files and other blocks', indexes_are_of_their_files),
+                            ('indexes that are cut', indexes_that_are_cut), ('indexes are on disk', indexes_are_on_disk),
+                            ('a file changed through a mapping', through_a_mapping),
+                            ('a name too long for an index', long_names), ('files that fail', files_fail),
+                            ('a file grows', a_file_grows), ('a second run', a_second_run), ('no worker is left', no_worker_is_left),
+                            ("a worker on Debian's library", other_library_is_refused), ('no scheduler', no_scheduler),
+                            ("the driver's memory", memory)):
+            report.attempt(name, check, fleet)
+    finally:
+        fleet.cluster.end()
+
+
+def main():
+    parser = command.parser(__doc__)
+    parser.add_argument('xxhsum', nargs='?')
+    program = parser.parse_args().xxhsum
+    install_packages(PACKAGES)
+    # Dask's messages about missing workers are no errors.
+    logging.disable(logging.CRITICAL)
+    report = Report()
+    with tempfile.TemporaryDirectory() as room:
+        check_all(report, room, program)
+    return report.end()

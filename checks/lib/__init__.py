@@ -1,0 +1,1 @@
+"""Shared code: reports, tools, packages, and the start of commands."""

@@ -1,0 +1,734 @@
+"""The cases of checks/xxhsum: the arguments, the files in the working directory, and standard input.
+
+The originals define what is correct, so only a case in which ours intentionally differs has an expected result here;
+docs/XXHSUM.md has the reason of each. The digests in lists are those of the files below, as the originals printed
+them."""
+from typing import NamedTuple, Optional
+
+from .runs import marked
+
+# The parts of two runs that must be equal. Help and version have their maker's name, so their text is not compared.
+ALL = ('out', 'err', 'status')
+NO_ERROR_TEXT = ('out', 'status')
+
+
+class Case(NamedTuple):
+    name: str
+    words: tuple = ()
+    given: bytes = b''
+    files: dict = {}
+    compared: tuple = ALL
+    # The name by which the program is called.
+    called: str = 'xxhsum'
+    # A line of sh to run instead of the arguments. It finds the program as "$X".
+    shell: str = ''
+    # The expected result of ours if it intentionally differs from both originals, which are not run then.
+    wanted: Optional[dict] = None
+    # If the originals only print `Wrong parameters`: the argument that ours names after that, by default the first.
+    wrong: str = ''
+
+
+def one_line(text):
+    """A reported text, as one line: as names are in lists, with a backslash before it if it needs one."""
+    return marked(text) + b'\n'
+
+
+def fails(told, out=b''):
+    """Ours reports these lines, and ends with 1."""
+    return {'out': out, 'err': b''.join(map(one_line, told)), 'status': 1}
+
+
+def refused(status=1):
+    """Ours prints nothing and ends with this status."""
+    return {'out': b'', 'status': status}
+
+
+HELLO = b'hello'
+X32, X64 = b'fb0077f9', b'26c7827d889f6da3'
+X3, X128 = b'9555e8555c62dcfd', b'b5e9c1ad071b3e7fc779cfaa5e523818'
+X32_LE, X64_LE = b'f97700fb', b'a36d9f887d82c726'
+X3_LE, X128_LE = b'fddc625c55e85595', b'1838525eaacf79c77f3e1b07adc1e9b5'
+# XXH64 of no bytes, and one that differs from that of `hello` by one digit.
+EMPTY, WRONG = b'ef46db3751d8e999', b'26c7827d889f6da4'
+GOOD = X64 + b'  a\n'
+GOOD_OUT = b'a: OK\n'
+
+
+def unread(place, name, why=b'a failure occurred reading the input file'):
+    """The message for a file of a list that could not be read to its end, or not opened for another reason."""
+    return place + b": Could not open or read '" + name + b"': " + why + b'.\n'
+
+
+def no_stdin(place):
+    """The message for the file stdin, which doesn't exist, as for each missing file."""
+    return unread(place, b'stdin', b'No such file or directory')
+
+
+# A file that opens, and whose reads all fail.
+FAILING = '/proc/self/mem'
+# The message if `-` would be left unread.
+BESIDE_NAMES = b"Error: '-' is standard input, which can't be read with files; for a file of that name use './-'."
+NOT_READ = b"Error: Could not read '/proc/self/mem': a failure occurred reading the input file. \n"
+
+
+def gen(count):
+    """Bytes that repeat after 251."""
+    return bytes(i * 7 % 251 for i in range(count))
+
+
+# Lengths at which some hash takes another path, or a buffer is full.
+LENGTHS = (1, 3, 4, 8, 9, 15, 16, 17, 31, 32, 33, 63, 64, 65, 128, 129, 240, 241, 255, 256, 257, 511, 512, 513, 1023,
+           1024, 1025, 1088, 4095, 4096, 4097, 65535, 65536, 65537, 131071, 131072, 131073, 262144, 300001)
+SIZED = {f'length-{count:06}': gen(count) for count in LENGTHS}
+
+# The files of every case, besides the folder d and the links of `lay_out` in checks/xxhsum.
+FILES = {
+    'a': HELLO,
+    'b c': b'world',
+    'e': b'',
+    'back\\slash': HELLO,
+    'line\nfeed': HELLO,
+    'return\r': HELLO,
+    b'\xff\xfe': HELLO,
+    'é': HELLO,
+    '(p)': HELLO,
+    '*star': HELLO,
+    ' space': HELLO,
+    '-x': HELLO,
+    'n' * 255: HELLO,
+    'd/inner': HELLO,
+    'good': GOOD,
+    'wrong': WRONG + b'  a\n',
+    'junk': b'junk\n',
+    'empty': b'',
+}
+
+
+def names():
+    """Files by their names in the arguments."""
+    return [
+        Case('one file', ('a',)),
+        Case('three files, one with a space', ('a', 'b c', 'e')),
+        Case('an empty file', ('e',)),
+        Case('one file twice', ('a', 'a')),
+        Case('paths with folders', ('./a', 'd/inner', 'd/../a', './/a')),
+        Case('a missing file', ('gone',)),
+        Case('a missing file among others', ('a', 'gone', 'e')),
+        Case('missing files alone', ('gone', 'away')),
+        Case('a missing folder', ('gone/a',)),
+        Case('a folder', ('d',)),
+        Case('a folder with a slash', ('d/',)),
+        Case('the folder itself, and the root', ('.', '..', '/')),
+        Case('a folder among others', ('d', 'a', 'd')),
+        Case('links: to a file, to a folder, to nothing', ('link', 'linked-folder', 'broken')),
+        Case('a link to itself', ('loop',)),
+        Case('a file as a folder', ('a/b', 'a/')),
+        Case('no name at all', ('',)),
+        Case('no name among others', ('a', '', 'e')),
+        Case('a name longer than the system allows', ('x' * 300,)),
+        Case('a path longer than the system allows', ('x/' * 3000,)),
+        Case('a path of just the longest length', ('./' * 2046 + 'a',)),
+        Case('a path one byte too long', ('./' * 2047 + 'ab',)),
+        Case('a name of 255 bytes', ('n' * 255,)),
+        Case('a backslash in a name', ('back\\slash',)),
+        Case('a line feed in a name', ('line\nfeed',)),
+        Case('a carriage return in a name', ('return\r',)),
+        Case('a space first in a name', (' space',)),
+        Case('brackets and a star in names', ('(p)', '*star')),
+        Case('a name that is not UTF-8', (b'\xff\xfe', 'a'), wanted={
+            'out': X64 + b'  a\n', 'err': b"Error: Could not open '\xff\xfe': The name is not UTF-8. \n", 'status': 1}),
+        Case('a name beyond ASCII', ('é',)),
+        Case('devices', ('/dev/null', '/proc/self/gone')),
+        Case('a file named stdin', ('stdin',), given=b'world', files={'stdin': HELLO}),
+        Case('no file named stdin', ('stdin',), given=b'world'),
+        Case('a read that fails', (FAILING,), wanted={'out': b'', 'err': NOT_READ, 'status': 1}),
+        Case('reads that fail, among others', ('a', FAILING, FAILING, 'gone', 'a'), wanted={
+            'out': GOOD * 2, 'err': NOT_READ * 2 + b"Error: Could not open 'gone': No such file or directory. \n", 'status': 1}),
+        Case('2,000 names', ('a', 'e') * 1000),
+        Case('100,000 short names', ('a',) * 100000),
+        Case('12,000 arguments', ('-q',) * 11998 + ('gone', 'a')),
+        Case('words of 100,000 bytes', ('y' * 100000, 'a', 'z/' * 50000)),
+        Case('500 long names', ('n' * 255, 'x' * 255) * 250),
+        Case('spaces and tabs at both ends of names', (' both ', 'a ', ' a', 'a\t'), files={' both ': HELLO}),
+        Case('a pipe with a name', shell='mkfifo p; printf hello >p & "$X" p'),
+        Case('the device of standard input', shell='"$X" /dev/stdin <a'),
+    ]
+
+
+def kinds():
+    """The digest that is computed."""
+    cases = [Case(f'-H{number}', (f'-H{number}', 'a', 'e')) for number in ('0', '1', '2', '3', '32', '64', '128')]
+    cases += [Case(f'every length, -H{number}', (f'-H{number}', *SIZED), files=SIZED) for number in '0123']
+    cases += [Case(f'-H{number}, a number that is none', (f'-H{number}', 'a'))
+              for number in ('4', '5', '31', '129', 'x', '-1', '+1', ' 1', '0x1', '1K', '4294967289', '4194303K', '4095M')]
+    cases += [Case(f'-H{number}, a number too large', (f'-H{number}', 'a'))
+              for number in ('99999999999', '4294967290', '0004294967290', '4194304K', '4096M', '18446744073709551616')]
+    cases += [Case(f'-H{number}, a number with more', (f'-H{number}', 'a'))
+              for number in ('', '064', '0K', '0Ki', '0KiB', '0KB', '0MiB', '0iB', '0BK', '2q', '2H0', '0qw')]
+    return cases + [
+        Case('the last -H counts', ('-H0', '-H2', 'a')),
+        Case('the last -H counts in one word', ('-H0H1', 'a')),
+        Case('-H and a number apart', ('-H', '0', 'a')),
+        Case('an unknown kind before the version', ('-H9', '-V')),
+    ]
+
+
+def lines():
+    """The form of a printed line."""
+    cases = [Case(f'a tagged line, -H{number}', ('--tag', f'-H{number}', 'a', 'e')) for number in '0123']
+    cases += [Case(f'little endian, -H{number}', ('--little-endian', f'-H{number}', 'a', 'e')) for number in '0123']
+    cases += [Case(f'little endian and tagged, -H{number}', ('--tag', '--little-endian', f'-H{number}', 'a'))
+              for number in '0123']
+    return cases + [
+        Case('tagged lines of odd names', ('--tag', 'line\nfeed', '(p)', 'back\\slash', 'gone', 'd')),
+        Case('XXH3 of odd names', ('-H3', 'line\nfeed', '(p)', ' space')),
+    ]
+
+
+def options():
+    """The arguments before the names."""
+    bad = ('-x', '-l', '-t', '-v', '-Q', '-C', '-q-', '-q,', '-c=1', '-é', '--', '--nope', '--tag=1', '--Tag', '--ta',
+           '--warning', '--checks', '--chec', '--little', '--ignore-missing', '--ignore', '--zer', '--binary', '---', '-- ',
+           '--q')
+    cases = [Case(f'the word {word}', (word, 'a')) for word in bad]
+    silent = ('-q', '--quiet', '-w', '--warn', '--status', '--strict', '-i5', '-i', '-B64KiB', '-B', '-i5B5', '-i3H0')
+    cases += [Case(f'the word {word}, which changes no digest', (word, 'a', 'gone')) for word in silent]
+    told = ('-V', '--version', '-h', '--help', '-qV', '-Vx', '-hx', '-cV', '-H0h')
+    cases += [Case(f'the word {word}, which only tells', (word, 'a'), compared=NO_ERROR_TEXT) for word in told]
+    return cases + [
+        Case('options after a name are names', ('a', '-H0', '--tag')),
+        Case('names after --', ('--', '-x', '-H0')),
+        Case('-- and nothing more', ('--',), given=HELLO),
+        Case('names after --, one of them --', ('--', 'a', '--')),
+        Case('options before --', ('-H0', '--tag', '--', '-x')),
+        Case('letters together', ('-qH0w', 'a')),
+        Case('quiet twice', ('-q', '--quiet', 'd', 'a')),
+        Case('a bad option before the version', ('-Z', '-V')),
+        Case('a bad option behind good ones', ('-q', '--tag', '-H0x', 'a'), wrong='-H0x'),
+        Case('a bad option with a line feed', ('-x\na: OK', 'a')),
+        Case('the version before a bad option', ('-V', '-Z'), compared=NO_ERROR_TEXT),
+        Case('a number too large before a bad option', ('-i99999999999', '-Z')),
+        Case('a bad option after a file', ('a', '--nope')),
+        Case('an option that is not UTF-8', (b'-\xff', 'a')),
+        Case('the benchmark', ('-b', 'a'), wanted=refused()),
+        Case('the benchmark of all', ('--bench-all', 'a'), wanted=refused()),
+    ]
+
+
+def input_alone():
+    """Standard input instead of names."""
+    return [
+        Case('input', given=HELLO),
+        Case('input with no bytes'),
+        Case('input by -', ('-',), given=HELLO),
+        Case('input by - twice', ('-', '-'), given=HELLO),
+        Case('options after -', ('-', '-H0', '--tag'), given=HELLO),
+        # The originals ignore standard input if there is a name before it, or open a file of the name `-`: ours never
+        # leaves requested input unread, and reports that.
+        *(Case(name, words, given=b'world', files={'-': HELLO}, wanted=fails([BESIDE_NAMES])) for name, words in (
+            ('a name after -', ('-', 'a')), ('- after a name', ('a', '-')), ('- after --', ('--', '-')),
+            ('- between names', ('-H0', 'a', '-', 'a')), ('names after - and --', ('-', '--', 'a')),
+            ('- before a list', ('-c', '-', 'good')), ('- after a list', ('-c', 'good', '-')),
+            ('- before a list of names', ('--files-from', '-', 'a')), ('- among names of an audit', ('--audit', 'good', '-')),
+            ('- before an audit', ('--audit', '-', 'good')))),
+        Case('a file of the name -', ('./-',), given=b'world', files={'-': HELLO}),
+        Case('input, tagged', ('--tag',), given=HELLO),
+        Case('input, little endian', ('--little-endian', '-H0'), given=HELLO),
+        Case('input, quiet', ('-q',), given=HELLO),
+        Case('input, XXH3', ('-H3',), given=HELLO),
+        Case('a megabyte of input', ('-H2',), given=b'0123456789abcdef' * 65536),
+        Case('input that comes in pieces', shell='(printf hel; sleep 0.1; printf lo) | "$X" -H0'),
+        Case('a folder as input', shell='"$X" <d'),
+        Case('closed input', shell='"$X" <&-'),
+        Case('a file while input is closed', shell='"$X" a <&-'),
+        Case('a folder as input, and a file', shell='"$X" a <d'),
+    ]
+
+
+def program_names():
+    """The program by its other names."""
+    names = ('xxh32sum', 'xxh64sum', 'xxh128sum', 'xxh3sum', 'my-xxh32sum', 'xxh32sum.real', 'XXH32SUM',
+             'xxh128sumxxh32sum')
+    return [Case(f'called {name}', ('a', 'gone'), called=name) for name in names] + [
+        Case('called xxh32sum, another kind', ('-H2', 'a'), called='xxh32sum'),
+        Case('called xxh32sum, a list', ('-c', 'good', 'd'), called='xxh32sum'),
+        Case('called xxh128sum, a bad option', ('--nope',), called='xxh128sum'),
+        Case('called by a name with a line feed', ('-b',), called='a\nxxhsum', wanted=fails([
+            b'a\nxxhsum: this xxhsum has no benchmark'])),
+        Case('called xxh128sum, tagged', ('--tag', 'a'), called='xxh128sum'),
+    ]
+
+
+def of_list(name, text, *options, given=b'', wanted=None):
+    """A case that checks the list L with this text."""
+    return Case(name, (*(options or ('-c',)), 'L'), given=given, files={'L': text}, wanted=wanted)
+
+
+def verdicts():
+    """The messages about a list, by its options."""
+    mixed = b'junk\n' + WRONG + b'  a\n' + X64 + b'  gone\n' + GOOD
+    two_of_each = b'x\ny\n' + (WRONG + b'  a\n') * 2 + X64 + b'  gone\n' + X64 + b'  away\n' + GOOD * 2
+    cases = []
+    for words in (('-c',), ('-cw',), ('-cq',), ('-c', '--status'), ('-c', '--strict'), ('-cqw', '--strict'),
+                  ('-c', '--status', '-w', '--strict'), ('-c', '--little-endian'), ('-H0', '--tag', '-c')):
+        told = ' '.join(words)
+        cases += [of_list(f'a good list, {told}', GOOD + X32 + b'  a\n', *words),
+                  of_list(f'a list of all kinds, {told}', mixed, *words)]
+    return cases + [
+        of_list('two of each', two_of_each, '-cw'),
+        of_list('--check in full', GOOD, '--check'),
+        of_list('one wrong line', WRONG + b'  a\n'),
+        of_list('two wrong lines', (WRONG + b'  a\n') * 2),
+        of_list('a missing file alone', X64 + b'  gone\n'),
+        of_list('a missing file, quiet', X64 + b'  gone\n', '-cq'),
+        of_list('a missing file, status', X64 + b'  gone\n', '-c', '--status'),
+        of_list('a folder in a list', GOOD + X64 + b'  d\n' + GOOD, wanted={
+            'out': b'a: OK\n' + unread(b'L:2', b'd') + b'a: OK\n1 listed file could not be read\n', 'err': b'', 'status': 1}),
+        of_list('a folder in a list, status', X64 + b'  d\n' + GOOD, '-c', '--status', wanted=refused()),
+        of_list('a read that fails in a list', X64 + b'  ' + FAILING.encode() + b'\n' + GOOD, wanted={
+            'out': unread(b'L:1', FAILING.encode()) + b'a: OK\n1 listed file could not be read\n', 'err': b'', 'status': 1}),
+        of_list('an empty list', b''),
+        of_list('an empty list, status', b'', '-c', '--status'),
+        of_list('blank lines alone', b'\n\n'),
+        of_list('improper lines alone', b'x\ny\n', '-cw'),
+        of_list('improper lines alone, status', b'x\ny\n', '-c', '--status'),
+        of_list('a blank line among others', b'\n' + GOOD, '-cw', '--strict'),
+        of_list('a comment', b'# made today\n' + GOOD, '-cw'),
+        of_list('comments alone', b'# made today\n#\n', '-cw'),
+        of_list('a comment behind a space, and one within a line', b' # a\n' + GOOD[:-1] + b' # made today\n' + GOOD, '-cw'),
+    ]
+
+
+def plain_lines():
+    """Lines of a list in xxhsum's default form, and similar ones."""
+    return [
+        of_list('three lengths of digits', X32 + b'  a\n' + GOOD + X128 + b'  a\n'),
+        of_list('no line feed at the end', X64 + b'  a'),
+        # The originals parse a carriage return as a part of the line.
+        of_list('carriage returns', X64 + b'  a\r\n' + EMPTY + b'  e\r\n# no\r\n\r\n' + X64 + b'  a\r', '-cw', wanted={
+            'out': b'a: OK\ne: OK\na: OK\n1 line is improperly formatted\n',
+            'err': b'L:4: Error: Improperly formatted checksum line.\n', 'status': 0}),
+        of_list('two carriage returns', X64 + b'  return\r\r\n', '-cw', wanted={
+            'out': one_line(b'return\r: OK'), 'err': b'', 'status': 0}),
+        of_list('capital digits', X64.upper() + b'  a\n' + X64[:8].upper() + X64[8:] + b'  a\n'),
+        of_list('a star, a letter, a NUL before the name', X64 + b' *a\n' + X64 + b' xa\n' + X64 + b' \0a\n', '-cw'),
+        of_list('one space before the name', X64 + b' a\n', '-cw'),
+        of_list('three spaces before the name', X64 + b'   a\n' + X64 + b'   space\n', '-cw'),
+        of_list('no name', X64 + b'\n' + X64 + b' \n' + X64 + b'  \n', '-cw'),
+        of_list('a tab in place of a space', X64 + b'\ta\n' + X64 + b' \ta\n', '-cw'),
+        of_list('a space or a tab first', b' ' + GOOD + b'\t' + GOOD, '-cw'),
+        of_list('digits of other lengths', X64[1:] + b'  a\n' + X64 + b'0  a\n' + X32 + b'0  a\n' + X128 + b'00  a\n', '-cw'),
+        of_list('no digits', b'  a\n   a\n', '-cw'),
+        of_list('letters that are no digits', b'g' + X64[1:] + b'  a\n' + X64[:-1] + b'g  a\n' + b':' + GOOD[1:], '-cw'),
+        of_list('digits of another kind', X3 + b'  a\n' + X64_LE + b'  a\n', '-cw'),
+        of_list('little endian digits', X64_LE + b'  a\n' + X32_LE + b'  a\n' + X128_LE + b'  a\n' + GOOD,
+                '-c', '--little-endian'),
+        of_list('a NUL after the digits', X64 + b'\0  a\n', '-cw'),
+        of_list('a NUL in the name', X64 + b'  a\0b\n' + GOOD, '-cw'),
+        of_list('odd names', b''.join(X64 + b'  ' + name + b'\n' for name in (
+            b'back\\slash', b'(p)', b'*star', b'-x', b'b c', b'link', b'linked-folder/inner', b'broken'))),
+        of_list('a bracket after one space', X64 + b' (p)\n' + X64 + b' (a) = ' + X64 + b'\n', '-cw'),
+        of_list('a bracket after two spaces', X64 + b'  (p)\n', '-cw'),
+        of_list('a name of 255 bytes, and one that is too long', X64 + b'  ' + b'n' * 255 + b'\n' + X64 + b'  ' + b'x' * 5000 + b'\n'),
+        of_list('the prefix of later versions', b'XXH3_' + X3 + b'  a\n' + b'xxh3_' + X3 + b'  a\n', '-cw'),
+        of_list('a byte order mark', b'\xef\xbb\xbf' + GOOD, '-cw'),
+        of_list('a thousand lines', GOOD * 1000),
+    ]
+
+
+def line_of(count, end=b'\n'):
+    """A line of this many bytes, with digits and a name that no file has."""
+    return X64 + b'  ' + b'x' * (count - len(X64) - 2) + end
+
+
+def not_opened(count):
+    """The message for the file of line 2, whose name has this many bytes."""
+    return unread(b'L:2', b'x' * count, b'File name too long')
+
+
+def over_long(*lines, out=GOOD_OUT * 2):
+    """The messages for a list with lines of these numbers longer than 32,767 bytes."""
+    count = b'1 line is' if len(lines) == 1 else b'%d lines are' % len(lines)
+    return {'out': out and out + count + b' improperly formatted\n', 'status': 1,
+            'err': b''.join(b'L:%d: Error: Line too long.\n' % line for line in lines)}
+
+
+def long_lines():
+    """Lists with lines about as long as the maximum. At a longer one the originals end; ours continues after it."""
+    inside = b'x' * 70000 + b'\r' + X64 + b'  a\0' + X64 + b'  a'
+    return [
+        of_list('a line of 32766 bytes', line_of(32766) + GOOD),
+        # The limit of the originals for a line that ends with a newline is one byte less.
+        of_list('a line of 32767 bytes', GOOD + line_of(32767) + GOOD, wanted={
+            'out': GOOD_OUT + not_opened(32749) + GOOD_OUT + b'1 listed file could not be read\n', 'err': b'', 'status': 1}),
+        of_list('a line of 32768 bytes', GOOD + line_of(32768) + GOOD, wanted=over_long(2)),
+        of_list('a line of 100000 bytes', GOOD + line_of(100000) + GOOD, '-cw', wanted=over_long(2)),
+        of_list('a line of 40000 bytes, status', GOOD + b'x' * 40000 + b'\n' + GOOD, '-c', '--status'),
+        of_list('a last line of 32766 bytes', GOOD + line_of(32766, b'')),
+        of_list('a last line of 32767 bytes', GOOD + line_of(32767, b'')),
+        of_list('a last line of 32768 bytes', GOOD * 2 + line_of(32768, b''), wanted=over_long(3)),
+        of_list('a last line of 100000 bytes', GOOD * 2 + line_of(100000, b''), wanted=over_long(3)),
+        of_list('lines that fill the buffer', b''.join(GOOD + line_of(count) for count in (65516, 65535, 65536, 131072)) + GOOD,
+                wanted=over_long(2, 4, 6, 8, out=GOOD_OUT * 5)),
+        of_list('a long line with a NUL before its end', GOOD + X64 + b'  a\0' + b'x' * 32748 + b'\n' + GOOD, wanted=over_long(2)),
+        of_list('a long line with a carriage return at its end', GOOD + line_of(32767, b'\r\n') + GOOD, wanted=over_long(2)),
+        of_list('a line of 32766 bytes and a carriage return', GOOD + line_of(32766, b'\r\n') + GOOD, wanted={
+            'out': GOOD_OUT + not_opened(32748) + GOOD_OUT + b'1 listed file could not be read\n', 'err': b'', 'status': 1}),
+        of_list('lines within a long one', GOOD + inside + b'\n' + GOOD, wanted=over_long(2)),
+        of_list('lines within a long last one', GOOD * 2 + inside, wanted=over_long(3)),
+        of_list('a long comment', GOOD + b'#' + b'x' * 32767 + b'\n' + GOOD, wanted=over_long(2)),
+        of_list('a comment of 32767 bytes', b'#' + b'x' * 32766 + b'\n' + GOOD, wanted={
+            'out': GOOD_OUT, 'err': b'', 'status': 0}),
+        of_list('two long lines, strict', GOOD + line_of(40000) * 2 + b'junk\n' + GOOD, '-cw', '--strict', wanted={
+            'out': GOOD_OUT * 2 + b'3 lines are improperly formatted\n', 'status': 1,
+            'err': b'L:2: Error: Line too long.\nL:3: Error: Line too long.\n'
+                   b'L:4: Error: Improperly formatted checksum line.\n'}),
+        of_list('long lines alone', line_of(40000) * 2, wanted={
+            'out': b'', 'err': b'L:1: Error: Line too long.\nL:2: Error: Line too long.\n'
+                              b'L: no properly formatted xxHash checksum lines found\n', 'status': 1}),
+    ]
+
+
+def tagged_lines():
+    """Lines of a list in the form of --tag, and similar ones."""
+    tags = ((b'XXH32', X32), (b'XXH64', X64), (b'XXH128', X128), (b'XXH3', X3))
+    turned = ((b'XXH32_LE', X32_LE), (b'XXH64_LE', X64_LE), (b'XXH128_LE', X128_LE), (b'XXH3_LE', X3_LE))
+
+    def tagged(*rows):
+        return b''.join(tag + b' (a) = ' + digits + b'\n' for tag, digits in rows)
+
+    return [
+        of_list('tagged lines', tagged(*tags)),
+        of_list('tagged lines, turned', tagged(*turned)),
+        of_list('tagged lines, --little-endian', tagged(*tags, *turned), '-c', '--little-endian'),
+        of_list('wrong tagged lines', tagged((b'XXH64', X64_LE), (b'XXH3', X64), (b'XXH3_LE', X3), (b'XXH64', X3))),
+        of_list('tags with digits of another length',
+                tagged((b'XXH32', X64), (b'XXH64', X32), (b'XXH128', X64), (b'XXH3', X128)), '-cw'),
+        of_list('other tags', tagged((b'FOO', X64), (b'FOO', X32), (b'xXXH3', X64), (b'XXH', X64), (b'xxh3', X64)), '-cw'),
+        of_list('tags that go on', tagged((b'XXH3x', X3), (b'XXH32x', X32), (b'XXH128x', X128), (b'x_LEx', X64_LE)), '-cw'),
+        of_list('tags whose _LE stands elsewhere', tagged((b'_LEXXH32', X64_LE), (b'XXH32_L', X32), (b'XXH64__LE', X64_LE))),
+        of_list('capital digits after a tag', tagged((b'XXH64', X64.upper()), (b'XXH3', X3.upper()))),
+        of_list('spaces elsewhere', b''.join(line % X64 for line in (
+            b'XXH64  (a) = %s\n', b'XXH64 (a)  = %s\n', b'XXH64 (a)= %s\n', b'XXH64 (a) =%s\n', b'XXH64(a) = %s\n',
+            b'XXH64 (a) = %s \n', b'XXH64 (a) =  %s\n', b' XXH64 (a) = %s\n')), '-cw'),
+        of_list('names with brackets and spaces', b''.join(line % X64 for line in (
+            b'XXH64 ((p)) = %s\n', b'XXH64 (b c) = %s\n', b'XXH64 () = %s\n', b'XXH64 (a) (b) = %s\n',
+            b'XXH64 (a) = b) = %s\n'))),
+        of_list('tagged lines cut short', b'X (\nX ()\nX () =\nX () = \n (a) = %s\n(a) = %s\nXXH64 (a = %s\n' % (X64, X64, X64), '-cw'),
+        of_list('tagged lines with carriage returns', b'XXH64 (a) = ' + X64 + b'\r\n', '-cw', wanted={
+            'out': b'a: OK\n', 'err': b'', 'status': 0}),
+        of_list('a tagged line and no line feed', b'XXH64 (a) = ' + X64),
+        of_list('both shapes', tagged(*tags) + GOOD),
+    ]
+
+
+def missing_files():
+    """--ignore-missing, which 0.8.1 lacks. For 0.8.3 a file that can't be opened is missing, whatever the reason."""
+    gone, missing = X64 + b'  gone\n', ('-c', '--ignore-missing')
+    unopened = b"L:1: Could not open or read 'a/b': Not a directory.\n"
+    return [
+        of_list('a missing file is ignored', gone + GOOD + gone, *missing),
+        of_list('a missing file is ignored, --ignore-missing first', gone + GOOD, '--ignore-missing', '-c'),
+        of_list('a missing file is ignored, beside a wrong line', gone + WRONG + b'  a\n' + GOOD, *missing),
+        of_list('a missing file is ignored, beside an improper line', b'junk\n' + gone + GOOD, *missing, '-w', '--strict'),
+        of_list('a missing file is ignored, quiet', gone + GOOD, *missing, '-q'),
+        of_list('a missing file is ignored, status', gone + GOOD, *missing, '--status'),
+        of_list('a broken link is ignored', X64 + b'  broken\n' + GOOD, *missing),
+        of_list('a missing folder is ignored', X64 + b'  gone/a\n' + GOOD, *missing),
+        of_list('a list of missing files alone', gone * 2, *missing),
+        of_list('a list of missing files alone, quiet', gone, *missing, '-q'),
+        of_list('a list of missing files alone, status', gone, *missing, '--status'),
+        of_list('missing files and a wrong line', gone + WRONG + b'  a\n', *missing),
+        of_list('nothing is missing', GOOD, *missing),
+        of_list('no proper line, --ignore-missing', b'junk\n', *missing, '-w'),
+        of_list('an empty list, --ignore-missing', b'', *missing),
+        of_list('a line that is too long, --ignore-missing', gone + b'x' * 40000 + b'\n' + GOOD, *missing,
+                wanted=over_long(2, out=GOOD_OUT)),
+        Case('several lists, --ignore-missing', (*missing, 'L', 'good', 'wrong'), files={'L': gone}),
+        Case('a missing list, --ignore-missing', (*missing, 'gone', 'good')),
+        Case('a list from input, --ignore-missing', missing, given=gone),
+        Case('names, --ignore-missing', ('--ignore-missing', 'gone', 'a')),
+        of_list('a file below no folder is not missing', X64 + b'  a/b\n' + GOOD, *missing, wanted={
+            'out': unopened + b'a: OK\n1 listed file could not be read\n', 'err': b'', 'status': 1}),
+        of_list('a name that is not UTF-8 is not missing', X64 + b'  \xff\xfe\n' + GOOD, *missing, wanted={
+            'out': unread(b'L:1', b'\xff\xfe', b'The name is not UTF-8') + b'a: OK\n1 listed file could not be read\n',
+            'err': b'', 'status': 1}),
+        of_list('a link to itself is not missing', X64 + b'  loop\n' + GOOD, *missing, wanted={
+            'out': unread(b'L:1', b'loop', b'Too many levels of symbolic links') + b'a: OK\n1 listed file could not be read\n',
+            'err': b'', 'status': 1}),
+        of_list('a folder in a list is not missing', X64 + b'  d\n' + GOOD, *missing, wanted={
+            'out': unread(b'L:1', b'd') + b'a: OK\n1 listed file could not be read\n', 'err': b'', 'status': 1}),
+        of_list('a read that fails is not missing', X64 + b'  ' + FAILING.encode() + b'\n' + GOOD, *missing, wanted={
+            'out': unread(b'L:1', FAILING.encode()) + b'a: OK\n1 listed file could not be read\n', 'err': b'', 'status': 1}),
+    ]
+
+
+def lines_with_nuls():
+    """-z, which neither original has: each line as by `sha256sum -z`."""
+    odd = ('back\\slash', 'line\nfeed', 'return\r')
+
+    def beside(name, option, bare, form):
+        return Case(name, shell=f'for X in "$X" sha256sum; do "$X" {option} a "b c" *slash line* return* e | sed -z "{bare}" '
+                    '>"${X##*/}.z"; done; cmp xxhsum.z sha256sum.z && cat xxhsum.z',
+                    wanted={'out': b''.join(form % word.encode() for word in ('a', 'b c', *odd, 'e')), 'err': b'', 'status': 0})
+
+    def raw(digits, *names):
+        return b''.join(digits + b'  ' + name.encode() + b'\0' for name in names)
+
+    refused_words = fails([b"Wrong parameters: '-z' with '-c' or '--audit'"])
+    return [
+        beside('lines that NULs end, as sha256sum has them', '-z', 's/^[0-9a-f]*//', b'  %s\0'),
+        beside('tagged lines that NULs end, as sha256sum has them', '-z --tag', 's/^[A-Z0-9]* //; s/[0-9a-f]*$//',
+               b'(%s) = \0'),
+        Case('-z of odd names', ('-z', *odd), wanted={'out': raw(X64, *odd), 'err': b'', 'status': 0}),
+        Case('--zero and -H3', ('--zero', '-H3', *odd), wanted={'out': raw(b'XXH3_' + X3, *odd), 'err': b'', 'status': 0}),
+        Case('-z among other letters', ('-qzH0', *odd), wanted={'out': raw(X32, *odd), 'err': b'', 'status': 0}),
+        Case('-z and -H2, little endian', ('-z', '-H2', '--little-endian', 'a'), wanted={
+            'out': raw(X128_LE, 'a'), 'err': b'', 'status': 0}),
+        Case('-z of the input', ('-z', '--tag'), given=HELLO, wanted={
+            'out': b'XXH64 (stdin) = ' + X64 + b'\0', 'err': b'', 'status': 0}),
+        Case('-z of names that NULs end', ('-z', '--files0-from', '-'), given=b'a\0line\nfeed\0', wanted={
+            'out': raw(X64, 'a', 'line\nfeed'), 'err': b'', 'status': 0}),
+        Case('-z and a missing file', ('-z', 'gone', 'a'), wanted={
+            'out': raw(X64, 'a'), 'err': b"Error: Could not open 'gone': No such file or directory. \n", 'status': 1}),
+        Case('-z with -c', ('-z', '-c', 'good'), wanted=refused_words),
+        Case('-c with --zero', ('-c', '--zero', 'good'), wanted=refused_words),
+        Case('-z with --audit', ('-z', '--audit', 'good', 'a'), wanted=refused_words),
+    ]
+
+
+def several_lists():
+    """Lists by names, from standard input, and missing."""
+    return [
+        Case('several lists', ('-c', 'good', 'wrong', 'junk', 'good')),
+        Case('several lists, status', ('-c', '--status', 'wrong', 'good')),
+        Case('several lists, quiet and warned', ('-cqw', 'junk', 'good', 'empty')),
+        Case('a missing list', ('-c', 'gone', 'good')),
+        Case('a missing list alone', ('-c', 'gone')),
+        Case('a missing list, status', ('-c', '--status', 'gone')),
+        Case('a folder as a list', ('-c', 'd', 'good')),
+        Case('a list of which each read fails', ('-c', FAILING, 'good')),
+        Case('options after a list are lists', ('-c', 'good', '-q')),
+        Case('lists after --', ('-c', '--', 'good', '-x')),
+        Case('the last of two options', ('-q', '-c', 'wrong')),
+        Case('a list from input', ('-c',), given=GOOD + WRONG + b'  a\n'),
+        Case('a list from input by -', ('-c', '-'), given=WRONG + b'  a\n' + X64 + b'  gone\n' + b'junk\n'),
+        Case('a warned list from input', ('-cw',), given=b'junk\n' + GOOD),
+        Case('an empty list from input', ('-c',)),
+        Case('a list named stdin', ('-c', 'stdin'), given=WRONG + b'  a\n', files={'stdin': GOOD}),
+        Case('- in a list is a file', ('-c',), given=X64 + b'  -\n', files={'-': HELLO}),
+        Case('stdin in a list from input', ('-c',), given=GOOD + X64 + b'  stdin\n' + GOOD, wanted={
+            'out': b'a: OK\n' + no_stdin(b'stdin:2') + b'a: OK\n1 listed file could not be read\n', 'err': b'', 'status': 1}),
+        of_list('stdin in a list', X64 + b'  stdin\n', given=HELLO, wanted={
+            'out': no_stdin(b'L:1') + b'1 listed file could not be read\n', 'err': b'', 'status': 1}),
+        of_list('stdin in a list, twice', X64 + b'  stdin\n' + EMPTY + b'  stdin\n', given=HELLO, wanted={
+            'out': no_stdin(b'L:1') + no_stdin(b'L:2') + b'2 listed files could not be read\n', 'err': b'', 'status': 1}),
+        Case('a folder as input of lists', shell='"$X" -c <d'),
+        Case('closed input of lists', shell='"$X" -c <&-'),
+        Case('a pipe as a list', shell=f'mkfifo p; printf "{X64.decode()}  a\\n" >p & "$X" -c p'),
+    ]
+
+
+def ends():
+    """A full disk and closed streams. The original doesn't report that its output is lost; ours must."""
+    return [
+        Case('a full disk', shell='"$X" a >/dev/full', wanted=refused()),
+        Case('a full disk, many lines', ('a',) * 3, shell='"$X" a a a >/dev/full', wanted=refused()),
+        Case('a full disk, a list', shell='"$X" -c good >/dev/full', wanted=refused()),
+        Case('closed output', shell='"$X" a >&-', wanted=refused()),
+        Case('closed output, a list', shell='"$X" -c good >&-', wanted=refused()),
+        Case('closed error', shell='"$X" a gone 2>&-', compared=NO_ERROR_TEXT),
+        Case('a full disk for errors', shell='"$X" a gone 2>/dev/full', compared=NO_ERROR_TEXT),
+    ]
+
+
+def trees():
+    """Lists of names, and audits, which neither original has."""
+    listed = {'listed': b'a\nb c\n(p)\n', 'more': b'e\n*star'}
+    ended = {'ended': b'a\0line\nfeed\0e'}
+    lines = X64 + b'  a\n' + WRONG + b'  *star\n' + EMPTY + b'  e\n' + X64 + b'  old\n' + X64_LE + b'  lost\n'
+    told = (b'*star: changed\na: same\ne: same\n(p): moved from old\nlost: missing\nb c: new\n'
+            b'2 same, 1 changed, 1 moved, 0 copied, 1 new, 1 missing\n')
+    changed = {'out': told, 'err': b'', 'status': 1}
+    return [
+        Case('names of a file', ('--files-from', 'listed'), files=listed),
+        Case('names of a file, by the other word', ('--filelist', '-H0', 'listed'), files=listed),
+        Case('names of two files', ('--files-from', '--tag', 'listed', 'more'), files=listed),
+        Case('names of the input', ('--files-from',), given=b'a\ne\n'),
+        Case('names with carriage returns', ('--files-from', 'listed'), files={'listed': b'return\r\na\r\n'}, wanted={
+            'out': b'\\' + X64 + b'  return\\r\n', 'err': one_line(b"Error: Could not open 'a\r': No such file or directory. "),
+            'status': 1}),
+        Case('an audit of a list with carriage returns', ('--audit', 'lines', 'a'), files={'lines': X64 + b'  a\r\n'}, wanted={
+            'out': b'a: same\n1 same, 0 changed, 0 moved, 0 copied, 0 new, 0 missing\n', 'err': b'', 'status': 0}),
+        Case('names that NULs end', ('--files0-from', 'ended'), files=ended, wanted={
+            'out': X64 + b'  a\n\\' + X64 + b'  line\\nfeed\n' + EMPTY + b'  e\n', 'err': b'', 'status': 0}),
+        Case('an audit of names of the input, by -', ('--audit', '--files0-from', '-', 'good'), given=b'a\0', wanted={
+            'out': b'a: same\n1 same, 0 changed, 0 moved, 0 copied, 0 new, 0 missing\n', 'err': b'', 'status': 0}),
+        Case('names that NULs end, of the input', ('--files0-from', '-'), given=b'a\0e\0', wanted={
+            'out': X64 + b'  a\n' + EMPTY + b'  e\n', 'err': b'', 'status': 0}),
+        Case('an audit', ('--audit', 'lines', 'a', 'e', 'b c', '(p)', '*star'), files={'lines': lines}, wanted=changed),
+        Case('an audit of names of the input', ('--audit', '--files0-from', 'lines'), files={'lines': lines},
+             given=b'*star\0b c\0a\0(p)\0e', wanted=changed),
+        Case('an audit of what stayed', ('--audit', '-H0', 'lines', 'a'), files={'lines': GOOD},
+             wanted={'out': b'a: same\n1 same, 0 changed, 0 moved, 0 copied, 0 new, 0 missing\n', 'err': b'', 'status': 0}),
+        Case('an audit of copies', ('--audit', 'lines', 'z', 'a', 'y', 'k', '(p)'),
+             files={'lines': X64 + b'  a\n' + X64 + b'  (p)\n', 'y': HELLO, 'z': HELLO, 'k': b''}, wanted={
+                 'out': b'(p): same\na: same\ny: copy of (p)\nz: copy of (p)\nk: new\n'
+                        b'2 same, 0 changed, 0 moved, 2 copied, 1 new, 0 missing\n', 'err': b'', 'status': 1}),
+        Case('an audit of a copy beside a moved file', ('--audit', 'lines', 'a', 'y', 'z'),
+             files={'lines': X64 + b'  a\n' + X64 + b'  old\n', 'y': HELLO, 'z': HELLO}, wanted={
+                 'out': b'a: same\ny: moved from old\nz: copy of a\n'
+                        b'1 same, 0 changed, 1 moved, 1 copied, 0 new, 0 missing\n', 'err': b'', 'status': 1}),
+        Case('an audit of the bytes of a file before and after it changed', ('--audit', 'lines', 'a', 'y', 'k'),
+             files={'lines': EMPTY + b'  a\n', 'y': HELLO, 'k': b''}, wanted={
+                 'out': b'a: changed\ny: new\nk: new\n0 same, 1 changed, 0 moved, 0 copied, 2 new, 0 missing\n', 'err': b'',
+                 'status': 1}),
+        Case('an audit of a copy by another algorithm', ('--audit', 'lines', '(p)', 'a', 'z'),
+             files={'lines': b'XXH3_' + X3_LE + b'  (p)\n' + GOOD, 'z': HELLO}, wanted={
+                 'out': b'(p): changed\na: same\nz: new\n1 same, 1 changed, 0 moved, 0 copied, 1 new, 0 missing\n', 'err': b'',
+                 'status': 1}),
+        Case('an audit of names with ./', ('--audit', 'lines', './a', 'e', './z', '././y'),
+             files={'lines': GOOD + EMPTY + b'  ././e\n', 'y': HELLO, 'z': HELLO}, wanted={
+                 'out': b'./a: same\ne: same\n././y: copy of ./a\n./z: copy of ./a\n'
+                        b'2 same, 0 changed, 0 moved, 2 copied, 0 new, 0 missing\n', 'err': b'', 'status': 1}),
+        Case('an audit of a line with ./ that is missing', ('--audit', 'lines', 'z'),
+             files={'lines': X64 + b'  ./old\n', 'z': HELLO}, wanted={
+                 'out': b'z: moved from ./old\n0 same, 0 changed, 1 moved, 0 copied, 0 new, 0 missing\n', 'err': b'',
+                 'status': 1}),
+        Case('an audit of lines that differ by ./', ('--audit', 'lines', 'a'), files={'lines': GOOD + X64 + b'  ./a\n'},
+             wanted=fails([b"lines: duplicate name './a'."])),
+        Case('an audit of names that differ by ./', ('--audit', 'lines', 'a', '././a'), files={'lines': GOOD},
+             wanted=fails([b"Error: duplicate name '././a'."])),
+        Case('an audit of names that differ by ./ inside', ('--audit', 'lines', 'd/inner', 'd/./inner'),
+             files={'lines': X64 + b'  d/inner\n'}, wanted={
+                 'out': b'd/inner: same\nd/./inner: copy of d/inner\n1 same, 0 changed, 0 moved, 1 copied, 0 new, 0 missing\n',
+                 'err': b'', 'status': 1}),
+        Case('an audit of two kinds', ('--audit', 'lines', 'a'), files={'lines': X128 + b'  old\n'}, wanted={
+            'out': b'a: moved from old\n0 same, 0 changed, 1 moved, 0 copied, 0 new, 0 missing\n', 'err': b'', 'status': 1}),
+        Case('an audit of a name that is not there', ('--audit', 'lines', 'a', 'gone'), files={'lines': GOOD}, wanted={
+            'out': b'a: same\n1 same, 0 changed, 0 moved, 0 copied, 0 new, 0 missing\n',
+            'err': b"Error: Could not open 'gone': No such file or directory. \n", 'status': 1}),
+        Case('an audit of a line that stands twice', ('--audit', 'lines', 'a'), files={'lines': GOOD * 2}, wanted={
+            'out': b'', 'err': b"lines: duplicate name 'a'.\n", 'status': 1}),
+        Case('an audit of a name that stands twice', ('--audit', 'lines', 'a', 'a'), files={'lines': GOOD}, wanted={
+            'out': b'', 'err': b"Error: duplicate name 'a'.\n", 'status': 1}),
+        Case('an audit of a list that breaks off', ('--audit', 'lines', 'a'), files={'lines': GOOD + X64}, wanted={
+            'out': b'', 'err': b'lines:2: Error: Improperly formatted checksum line.\n', 'status': 1}),
+        Case('an audit of a list with a line of 32768 bytes', ('--audit', 'lines', 'a'), files={
+            'lines': GOOD + line_of(32768) + GOOD}, wanted={'out': b'', 'err': b'lines:2: Error: Line too long.\n', 'status': 1}),
+        Case('an audit of a list with a last line of 32767 bytes', ('--audit', 'lines', 'a'), files={
+            'lines': GOOD + line_of(32767, b'\r')[1:]}, wanted={
+                'out': b'', 'err': b'lines:2: Error: Improperly formatted checksum line.\n', 'status': 1}),
+        Case('an audit without a list', ('--audit',), wanted={
+            'out': b'', 'err': b'Error: --audit needs a list.\n', 'status': 1}),
+        Case('an audit to a full disk', files={'lines': GOOD}, shell='"$X" --audit lines a >/dev/full', wanted=refused()),
+    ]
+
+
+def folders():
+    """The files below directories, which neither original reads."""
+    tree = ('mkdir -p t/b/deep t/b.x t/none; cp a t/a; cp e t/B; cp a t/b/z; cp e t/b/deep/q; cp a t/b.x/c; ln -s ../a t/b/file; '
+            'ln -s ../../d t/b/folder; ln -s .. t/b/up; mkfifo t/pipe; ')
+    # Root in the tests can read all directories, unless it drops that capability.
+    bound = '[ "$(id -u)" = 0 ] && run="setpriv --bounding-set=-dac_override,-dac_read_search"; chmod 0 t/b; '
+    rows = [(EMPTY, b'B'), (X64, b'a'), (EMPTY, b'b/deep/q'), (X64, b'b/z'), (X64, b'b.x/c')]
+    found = b''.join(digits + b'  t/' + name + b'\n' for digits, name in rows)
+    same = b''.join(b't/' + name + b': same\n' for name in sorted(name for _, name in rows))
+    closed = b"Error: Could not open 't/b': Permission denied. "
+    beside = fails([b"Wrong parameters: '-r' with '-c' or lists of names"])
+    alone = fails([b"Wrong parameters: '-r' without a FILE"])
+
+    def well(text):
+        return {'out': text, 'err': b'', 'status': 0}
+
+    return [
+        Case('-r of a tree', shell=tree + '"$X" -r t', wanted=well(found)),
+        Case('-r as find and sort have it', shell=tree + 'rm t/b.x/c; "$X" -r t >ours; find t -type f -print0 | LC_ALL=C sort -z | '
+             '"$X" --files0-from >theirs; cmp ours theirs', wanted=well(b'')),
+        Case('-r of a name that ends with a slash', ('-r', 'd/'), wanted=well(X64 + b'  d/inner\n')),
+        Case('--recursive of names in the order in which they came', ('--recursive', 'e', 'd', 'a'), wanted=well(
+            EMPTY + b'  e\n' + X64 + b'  d/inner\n' + X64 + b'  a\n')),
+        Case('-r among other letters', ('-rzH0', 'd'), wanted=well(X32 + b'  d/inner\0')),
+        Case('-r of links that are named', ('-r', 'linked-folder', 'link'), wanted=well(
+            X64 + b'  linked-folder/inner\n' + X64 + b'  link\n')),
+        Case('-r of links that lead nowhere', ('-r', 'broken', 'd'), wanted=fails([
+            b"Error: Could not open 'broken': No such file or directory. "], X64 + b'  d/inner\n')),
+        Case('-r of an empty folder', shell='mkdir t; "$X" -r t', wanted=well(b'')),
+        Case('-r of a name that is not UTF-8', shell='mkdir t; cp a t; cp a "$(printf "t/\\377")"; "$X" -r t', wanted=fails([
+            b"Error: Could not open 't/\xff': The name is not UTF-8. "], X64 + b'  t/a\n')),
+        Case('-r of many names', shell='mkdir t; seq 3000 | sed "s#^#t/#" | xargs touch; "$X" -r t | wc -l', wanted=well(b'3000\n')),
+        Case('-r of deep folders', shell='mkdir -p "$(printf "t%.0s/" $(seq 900))"; cp a "$(printf "t%.0s/" $(seq 900))"; '
+             '"$X" -r t | cut -c1-16', wanted=well(X64 + b'\n')),
+        Case('-r of a folder that can not be read', shell=tree + bound + '$run "$X" -r t; status=$?; chmod 700 t/b; exit $status',
+             wanted=fails([closed], b''.join(line for line in found.splitlines(keepends=True) if b't/b/' not in line))),
+        Case('-r to a full disk', shell='"$X" -r d >/dev/full', wanted=refused()),
+        Case('an audit of a folder', shell=tree + '"$X" -r t >list; "$X" --audit -r list t', wanted=well(
+            same + b'5 same, 0 changed, 0 moved, 0 copied, 0 new, 0 missing\n')),
+        Case('an audit of a folder that has changed', shell=tree + '"$X" -rH3 t >list; mv t/b/deep/q t/q; rm t/B; echo >>t/a; '
+             '"$X" --audit -qr list t', wanted={
+                 'out': b't/a: changed\nt/q: moved from t/B\nt/b/deep/q: missing\n2 same, 1 changed, 1 moved, 0 copied, 0 new, 1 missing\n',
+                 'err': b'', 'status': 1}),
+        Case('an audit of a folder that can not be read', shell=tree + bound + '"$X" -r t/a >list; $run "$X" --audit -r list t; '
+             'status=$?; chmod 700 t/b; exit $status', wanted=fails([closed])),
+        Case('-r without a name', ('-r',), wanted=alone),
+        Case('-r of the input', ('-r', '-'), wanted=alone),
+        Case('an audit of no folder', ('-r', '--audit', 'good'), wanted=alone),
+        Case('-r with -c', ('-r', '-c', 'good'), wanted=beside),
+        Case('-r with names of a file', ('--files-from', '-r', 'good'), wanted=beside),
+        Case('-r with names that NULs end', ('--files0-from', '-r', 'good'), wanted=beside),
+    ]
+
+
+def told_names():
+    """Names that would end a line, in messages other than digests: one line, as in lists. The originals print them
+    unchanged, so that the author of a list or of a file's name can forge a line."""
+    odd = b'gone\na: OK'
+    escaped = b'\\' + X64 + b'  gone\\na: OK\n'
+    missing = b'No such file or directory'
+    unopened = b"Error: Could not open '" + odd + b"': " + missing
+
+    def in_folder(line, **wanted):
+        return {'shell': f'mkdir "$(printf "x\\ny")"; printf "junk\\n" >"$(printf "l\\nL")"; {line}', 'wanted': wanted}
+
+    listed = b"L:1: Could not open or read '" + odd + b"': " + missing + b'.'
+    return [
+        of_list('a list that forges a line', escaped + GOOD, wanted={
+            'out': one_line(listed) + b'a: OK\n1 listed file could not be read\n', 'err': b'', 'status': 1}),
+        of_list('a wrong line of an odd name', b'\\' + WRONG + b'  line\\nfeed\n', wanted={
+            'out': one_line(b'line\nfeed: FAILED') + b'1 computed checksum did NOT match\n', 'err': b'', 'status': 1}),
+        Case('a missing file of an odd name', (odd, 'back\\gone'), wanted=fails([
+            unopened + b'. ', b"Error: Could not open 'back\\gone': " + missing + b'. '])),
+        Case('a missing file of an odd name, -z', ('-z', odd), wanted=fails([unopened + b'. '])),
+        Case('a missing list of an odd name', ('-c', odd), wanted=fails([unopened])),
+        Case('a folder of an odd name', **in_folder('"$X" x*y', **fails([b'xxhsum: x\ny: Is a directory ']))),
+        Case('a list of an odd name', **in_folder('"$X" -cw l*L', **fails([
+            b'l\nL:1: Error: Improperly formatted checksum line.',
+            b'l\nL: no properly formatted xxHash checksum lines found']))),
+        Case('a list of an odd name, --ignore-missing', **in_folder(
+            f'printf "{X64.decode()}  gone\\n" >"$(printf "l\\nL")"; "$X" -c --ignore-missing l*L',
+            out=one_line(b'l\nL: no file was verified'), err=b'', status=1)),
+        Case('a missing list of names of an odd name', ('--files-from', odd), wanted=fails([unopened + b'.'])),
+        Case('an audit of a list of an odd name', **in_folder('"$X" --audit l*L a', **fails([
+            b'l\nL:1: Error: Improperly formatted checksum line.']))),
+        Case('an audit of an odd name that stands twice', ('--audit', 'good', 'line\nfeed', 'line\nfeed'), wanted=fails([
+            b"Error: duplicate name 'line\nfeed'."])),
+        Case('an audit of a line of an odd name that stands twice', ('--audit', 'L', 'a'), files={'L': escaped * 2},
+             wanted=fails([b"L: duplicate name '" + odd + b"'."])),
+        Case('an audit of odd names', ('--audit', 'L', 'line\nfeed'), files={'L': escaped}, wanted={
+            'out': one_line(b'line\nfeed: moved from ' + odd) + b'0 same, 0 changed, 1 moved, 0 copied, 0 new, 0 missing\n',
+            'err': b'', 'status': 1}),
+    ]
+
+
+CASES = (names() + kinds() + lines() + options() + input_alone() + program_names() + verdicts() + plain_lines() + long_lines()
+         + tagged_lines() + missing_files() + lines_with_nuls() + several_lists() + ends() + trees() + folders() + told_names())
+
+# The cases in which one of the originals differs from ours, for the reasons in docs/XXHSUM.md: 0.8.1 has no escapes,
+# comments and XXH3 without a tag, and has fewer options.
+OLDER_DIFFERS = {
+    'a backslash in a name', 'a line feed in a name', 'a carriage return in a name', '-H3', 'every length, -H3',
+    'little endian, -H3', 'tagged lines of odd names', 'XXH3 of odd names', 'input, XXH3', 'called xxh3sum', 'a comment',
+    'comments alone', 'odd names', 'the prefix of later versions', 'the word --binary', 'names of a file',
+    'names of a file, by the other word', 'names of two files', 'names of the input', 'the word --ignore-missing',
+    *(case.name for case in missing_files() if not case.wanted)}
+NEWER_DIFFERS = {'called xxh32sum, a list'}

@@ -1,0 +1,263 @@
+"""The files that the scenarios of checks/failing_calls read, and the correct output for them.
+
+The correct output is derived from docs/XXHSUM.md and the digests of Debian's xxhsum: none of it is our program's
+output."""
+import os
+import re
+import subprocess
+from typing import NamedTuple
+
+from tools import write
+
+HELLO = b'hello'
+# Three full reads of a file, and a part of one.
+LONG = bytes(at * 7 % 251 for at in range(400_001))
+FILES = {'a': HELLO, 'e': b'', 'b c': b'world', 'long': LONG, 'piped': LONG[:40_000], 'same': HELLO, 'd/inner': HELLO, 'd/other': b'world',
+         'd/sub/deep': b'deep', 'd/sub/last': b'', 'one/only': b'only'}
+FLAGS = {'32': '-H0', '64': '-H1', '128': '-H2', '3': '-H3'}
+MISSING, TOO_LONG = 'No such file or directory', 'File name too long'
+UNREAD = 'a failure occurred reading the input file'
+WRITE_FAILED = 'Error: a failure occurred writing the output.\n'
+NO_MEMORY = '\nError: Out of memory.\n'
+
+
+class Fault(NamedTuple):
+    """A call that the system refuses: `open` or `read` of a file, `folder` for its names, or `look-up` of a name; with the
+    name, the reason, and how many bytes of the file the reads before returned."""
+    step: str
+    name: str
+    why: str
+    given: int = 0
+
+
+class Outcome(NamedTuple):
+    out: str
+    err: str
+    status: int
+
+
+class World:
+    """A folder with the files, and two names below `d` that are skipped: a link, and a pipe without a writer."""
+
+    def __init__(self, folder):
+        self.folder, self.known = folder, {}
+        for name, text in FILES.items():
+            self.write(name, text)
+        os.symlink('../a', self.path('d/link'))
+        os.mkfifo(self.path('d/pipe'))
+
+    def path(self, name):
+        return os.path.join(self.folder, name)
+
+    def write(self, name, text):
+        write(self.path(name), text)
+
+    def digest(self, name, algorithm='64'):
+        """The digits of Debian's xxhsum."""
+        if (name, algorithm) not in self.known:
+            done = subprocess.run(['xxhsum', FLAGS[algorithm], self.path(name)], capture_output=True, text=True, check=True)
+            self.known[name, algorithm] = re.search(r'(?:^| = |XXH3_)([0-9a-f]{8,32})(?=  |$)', done.stdout, re.M)[1]
+        return self.known[name, algorithm]
+
+    def line(self, name, algorithm='64'):
+        return f'{"XXH3_" if algorithm == "3" else ""}{self.digest(name, algorithm)}  {name}\n'
+
+
+# ---- digests of names
+
+def refusal(name, fault):
+    """The message for a file or a directory that could not be opened or read."""
+    step, why = ('read', UNREAD) if fault.step == 'read' else ('open', fault.why)
+    return f"Error: Could not {step} '{name}': {why}. \n"
+
+
+def trouble(world, name, fault):
+    """The message for a name that has no digest, or nothing."""
+    if fault and fault.name == name:
+        return refusal(name, fault)
+    if os.path.isdir(world.path(name)):
+        return f'xxhsum: {name}: Is a directory \n'
+    if not os.path.exists(world.path(name)):
+        return refusal(name, Fault('open', name, MISSING))
+    return ''
+
+
+def digests(world, names, fault=None, form=World.line, before=''):
+    """A line of each name that has a digest, and a message for each other one."""
+    told = {name: trouble(world, name, fault) for name in names}
+    out = ''.join(form(world, name) for name in names if not told[name])
+    err = before + ''.join(told[name] for name in names)
+    return Outcome(out, err, 1 if err else 0)
+
+
+def of_input(world, name, fault, algorithm='64'):
+    if fault:
+        return Outcome('', f'Error: {UNREAD}.\n', 1)
+    return Outcome(world.line(name, algorithm).replace(f'  {name}', '  stdin'), '', 0)
+
+
+# ---- folders
+
+def walked(world, names, fault):
+    """The files below these names, in order, and the messages on the way."""
+    files, told = [], ''
+    for name in names:
+        if fault and fault.step in ('folder', 'look-up') and fault.name in (name, name + '/'):
+            told += refusal(name, fault)
+        elif os.path.isdir(world.path(name)):
+            below = [f'{name}/{it}' for it in sorted(os.listdir(world.path(name)), key=os.fsencode)]
+            plain = [it for it in below if not os.path.islink(world.path(it)) and not it.endswith('/pipe')
+                     or fault and fault.step == 'look-up' and fault.name == it]
+            more, said = walked(world, plain, fault)
+            files, told = files + more, told + said
+        else:
+            files.append(name)
+    return files, told
+
+
+def digests_below(world, names, fault=None):
+    files, told = walked(world, names, fault)
+    return digests(world, files, fault, before=told)
+
+
+# ---- checks of lists
+
+class Line(NamedTuple):
+    """A line of a list: its text, its file, if any, and whether that has the value."""
+    text: str
+    name: str = ''
+    is_good: bool = True
+
+
+def good(world, name):
+    return Line(world.line(name), name)
+
+
+def wrong(name):
+    return Line(f'{"0" * 16}  {name}\n', name, False)
+
+
+JUNK = Line('junk\n')
+# Some of them are longer than the read buffer of lists.
+COMMENT = Line('#' + 'x' * 20_000 + '\n')
+
+
+def verdict(world, listed, number, line, fault):
+    """The output for a well-formed line."""
+    why = ''
+    if fault and fault.name == line.name:
+        why = UNREAD if fault.step == 'read' else fault.why
+    elif not os.path.exists(world.path(line.name)):
+        why = TOO_LONG if len(line.name) > 4095 else MISSING
+    if why:
+        return f"{listed}:{number}: Could not open or read '{line.name}': {why}.\n"
+    return f'{line.name}: {"OK" if line.is_good else "FAILED"}\n'
+
+
+def counted(count, one, more):
+    return f'{count} {one if count == 1 else more}\n' if count else ''
+
+
+def checked(world, listed, lines, fault=None, warns=False):
+    """The check of one list, as far as it could be read."""
+    if fault and fault.name == listed and fault.step == 'open':
+        return Outcome('', f"Error: Could not open '{listed}': {fault.why}\n", 1)
+    is_cut = bool(fault) and fault.name == listed
+    given = lines[:''.join(line.text for line in lines)[:fault.given].count('\n')] if is_cut else lines
+    said, err = [], ''
+    for number, line in enumerate(given, 1):
+        if line.name:
+            said.append(verdict(world, listed, number, line, fault))
+        elif warns and line != COMMENT:
+            err += f'{listed}:{number}: Error: Improperly formatted checksum line.\n'
+    malformed = sum(not line.name and line != COMMENT for line in given)
+    if not said:
+        return Outcome('', err + f'{listed}: no properly formatted xxHash checksum lines found\n', 1)
+    if is_cut:
+        err += f'{listed}:{len(given) + 1}: Error: A failure occurred reading the list.\n'
+    unread = sum('Could not' in it for it in said)
+    failed = sum(it.endswith('FAILED\n') for it in said)
+    out = ''.join(said) + counted(malformed, 'line is improperly formatted', 'lines are improperly formatted')
+    out += counted(unread, 'listed file could not be read', 'listed files could not be read')
+    out += counted(failed, 'computed checksum did NOT match', 'computed checksums did NOT match')
+    return Outcome(out, err, 1 if unread or failed or is_cut else 0)
+
+
+def merged_check(world, listed, lines, fault=None):
+    """The content of one pipe of both streams, if every malformed line is reported: each message at its place, and
+    the counts after the last line."""
+    given = lines[:''.join(line.text for line in lines)[:fault.given].count('\n')] if fault else lines
+    both = [verdict(world, listed, number, line, None) if line.name else
+            f'{listed}:{number}: Error: Improperly formatted checksum line.\n' for number, line in enumerate(given, 1)]
+    found = checked(world, listed, lines, fault, warns=True)
+    if not any(line.name for line in given):
+        return Outcome(''.join(both) + found.err.splitlines(keepends=True)[-1], '', found.status)
+    break_of = found.err.splitlines(keepends=True)[-1:] if fault else []
+    counts = found.out.splitlines(keepends=True)[sum(bool(line.name) for line in given):]
+    return Outcome(''.join([*both, *break_of, *counts]), '', found.status)
+
+
+def all_checked(world, lists, fault=None, warns=False):
+    each = [checked(world, listed, lines, fault, warns) for listed, lines in lists.items()]
+    return Outcome(''.join(it.out for it in each), ''.join(it.err for it in each), max(it.status for it in each))
+
+
+# ---- lists of names
+
+def digests_listed(world, lists, fault=None):
+    """The digests of the names in lists."""
+    told = unread_list(lists, fault)
+    return Outcome('', told, 1) if told else digests(world, [name for names in lists.values() for name in names], fault)
+
+
+def unread_list(lists, fault):
+    """The message for a list of names, or one to audit, that could not be opened or read."""
+    if not fault or fault.name not in lists:
+        return ''
+    if fault.step == 'open':
+        return f"Error: Could not open '{fault.name}': {fault.why}.\n"
+    return f"Error: Could not read '{fault.name}': a failure occurred reading the list.\n"
+
+
+# ---- audits
+
+def classes(entries, found):
+    """The class of each line and name, in the order of the report: (the output, its class)."""
+    by_name = sorted(set(entries) & set(found), key=os.fsencode)
+    settled = [(name, 'same' if entries[name] == found[name] else 'changed') for name in by_name]
+    gone = sorted(((entries[name], name) for name in set(entries) - set(found)))
+    come = sorted(((found[name], name) for name in set(found) - set(entries)))
+    moved = []
+    for value, name in come:
+        old = next((pair for pair in gone if pair[0] == value), None)
+        copied = next((it for it, state in settled if state == 'same' and found[it] == value), None)
+        if old:
+            gone.remove(old)
+            moved.append((value, f'{name}: moved from {old[1]}', 'moved'))
+        elif copied:
+            moved.append((value, f'{name}: copy of {copied}', 'copied'))
+        else:
+            moved.append((value, f'{name}: new', 'new'))
+    moved += [(value, f'{name}: missing', 'missing') for value, name in gone]
+    return [(f'{name}: {state}', state) for name, state in settled] + [(text, state) for _, text, state in sorted(moved)]
+
+
+def audited(world, listed, entries, names, fault=None, before=''):
+    """The audit of names against a list with these digests. A name with no digest is left out, with its line."""
+    told = unread_list({listed: []}, fault)
+    if told:
+        return Outcome('', before + told, 1)
+    unread = {name: trouble(world, name, fault) for name in sorted(names, key=os.fsencode)}
+    found = {name: world.digest(name) for name in names if not unread[name]}
+    kept = {name: value for name, value in entries.items() if not unread.get(name)}
+    rows = classes(kept, found)
+    states = ('same', 'changed', 'moved', 'copied', 'new', 'missing')
+    counts = ', '.join(f'{sum(state == it for _, state in rows)} {it}' for it in states)
+    is_well = all(state == 'same' for _, state in rows) and not any(unread.values())
+    return Outcome(''.join(f'{text}\n' for text, _ in rows) + counts + '\n', ''.join(unread.values()), 0 if is_well else 1)
+
+
+def audited_below(world, listed, entries, names, fault=None):
+    """The audit of the files below directories: none if one of them can't be read."""
+    files, told = walked(world, names, fault)
+    return Outcome('', told, 1) if told else audited(world, listed, entries, files, fault)

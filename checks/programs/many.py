@@ -1,0 +1,134 @@
+"""Runs `xxhsum` on many files, names, reads and arguments.
+
+    checks/xxhsum-many PROGRAM.. [--only WORD]
+
+A tree of 150,000 names, of which one directory has 120,000; an audit of 70,000 equal files; a list of names that
+comes in 150,000 reads; 130,000 arguments. All files are empty, and the expected output is derived from the digest of
+no bytes. Wrong programs are planted, which must be detected. The last line is "N passed, M failed". It takes some 20
+seconds of processor time for each program, and no space except that of the names."""
+import contextlib
+import os
+import subprocess
+import tempfile
+
+import command
+from report import Report, want
+from tools import write
+
+from .runs import found, plant
+
+# XXH64 of no bytes.
+EMPTY = b'ef46db3751d8e999'
+WIDE, FOLDERS, EACH = 120_000, 30, 1000
+AUDITED = 70_000
+READS = 150_000
+ARGUMENTS = 130_000
+SECONDS = 120
+# Programs that do one thing wrong with the real one, which is $REAL, and the test that must detect it.
+PLANTED = {
+    'a folder whose names end early': ('"$REAL" "$@" | head -n 532', 'a tree of many names'),
+    'no memory for many files': ('echo "Error: Out of memory." >&2; exit 1', 'an audit of many equal files'),
+    'a list that is read in part': ('head -c 100000 | "$REAL" "$@"', 'a list in many reads'),
+    'arguments that are forgotten': ('for word; do last=$word; done; exec "$REAL" "$last"', 'many arguments'),
+}
+
+
+def make_empty(path):
+    os.close(os.open(path, os.O_CREAT | os.O_EXCL | os.O_WRONLY, 0o644))
+
+
+def tree_names():
+    """The files of the tree, in order."""
+    folders = {b'tree/wide': WIDE, **{b'tree/part-%02d' % number: EACH for number in range(FOLDERS)}}
+    return [b'%s/%06d' % (folder, number) for folder in sorted(folders) for number in range(folders[folder])]
+
+
+def make_tree(names):
+    for name in names:
+        if name.endswith(b'/000000'):
+            os.makedirs(os.path.dirname(name))
+        make_empty(name)
+
+
+def lines(names):
+    return b''.join(b'%s  %s\n' % (EMPTY, name) for name in names)
+
+
+def wanted(result, out):
+    """The run printed this and no message, and succeeded."""
+    want(result[1] == b'', f'it reports {result[1][:300]!r}')
+    want(result[2] == 0, f'its status is {result[2]}')
+    want(result[0] == out, f'it prints {result[0].count(10)} lines, and {out.count(10)} others are wanted')
+
+
+def many_names(program, names):
+    wanted(found(program, ['-r', 'tree'], seconds=SECONDS), lines(names))
+    return f'{len(names):,} names'
+
+
+def audit_of_equal_files(program, names):
+    chosen = names[:AUDITED]
+    write('list', lines(chosen))
+    counts = b'%d same, 0 changed, 0 moved, 0 copied, 0 new, 0 missing\n' % len(chosen)
+    done = found(program, ['--audit', '--files0-from', 'list'], b'\0'.join(chosen), SECONDS)
+    wanted(done, b''.join(b'%s: same\n' % name for name in chosen) + counts)
+    return f'{len(chosen):,} files'
+
+
+def many_reads(program, names):
+    """A pipe in packet mode returns one write per read."""
+    name = b'./' * 1500 + names[0]
+    text = (name + b'\0') * (READS // len(name) + 1)
+    ours, theirs = os.pipe2(os.O_DIRECT)
+    with tempfile.TemporaryFile() as out, tempfile.TemporaryFile() as err:
+        run = subprocess.Popen([program, '--files0-from', '-'], stdin=ours, stdout=out, stderr=err)
+        os.close(ours)
+        try:
+            for at in range(len(text)):
+                os.write(theirs, text[at:at + 1])
+        except BrokenPipeError:
+            pass
+        os.close(theirs)
+        status = run.wait(SECONDS)
+        out.seek(0)
+        err.seek(0)
+        wanted((out.read(), err.read(), status), lines([name] * text.count(b'\0')))
+    return f'{len(text):,} reads'
+
+
+def many_arguments(program, _names):
+    make_empty('e') if not os.path.exists('e') else None
+    wanted(found(program, ['e'] * ARGUMENTS, seconds=SECONDS), lines([b'e'] * ARGUMENTS))
+    return f'{ARGUMENTS:,} arguments'
+
+
+ROWS = {'a tree of many names': many_names, 'an audit of many equal files': audit_of_equal_files,
+        'a list in many reads': many_reads, 'many arguments': many_arguments}
+
+
+def is_detected(script, row, program, names):
+    """A test fails with a planted program."""
+    with tempfile.TemporaryDirectory() as room:
+        plant(f'{room}/xxhsum', program, script)
+        try:
+            ROWS[row](f'{room}/xxhsum', names)
+        except Exception:
+            return 'detected'
+    raise AssertionError('it is not detected')
+
+
+def main():
+    parser = command.parser(__doc__, 'rows')
+    parser.add_argument('programs', nargs='+')
+    given = parser.parse_args()
+    programs = [os.path.abspath(program) for program in given.programs]
+    report, names = Report(), tree_names()
+    with tempfile.TemporaryDirectory() as room, contextlib.chdir(room):
+        make_tree(names)
+        for program in programs:
+            for name, row in ROWS.items():
+                if given.only in name:
+                    report.attempt(f'{os.path.basename(program)}, {name}', row, program, names)
+        for title, (script, row) in PLANTED.items() if not given.only else ():
+            report.attempt(f'planted, {title}', is_detected, script, row, programs[0], names)
+    return report.end()

@@ -1,0 +1,170 @@
+"""The writes of `xxhsum` into pipes: tests of checks/xxhsum.
+
+A test is its name, and its error, or nothing. A pipe in packet mode keeps writes separate: each read of it returns
+one write, of at most 4,096 bytes."""
+import concurrent.futures
+import os
+import subprocess
+import tempfile
+
+from tools import write
+
+from .runs import SETTINGS
+
+SECONDS = 60
+# Maximum length of a write of more than one line.
+MOST = 4096
+FILES = 400
+PROCESSES = 8
+
+
+def writes_of(programs, folder):
+    """The writes of these runs into one pipe, in order, and the statuses. The runs overlap."""
+    ours, theirs = os.pipe2(os.O_DIRECT)
+    runs = [subprocess.Popen(words, stdin=subprocess.DEVNULL, stdout=theirs, stderr=theirs, cwd=folder, env=SETTINGS)
+            for words in programs]
+    os.close(theirs)
+    parts = []
+    while part := os.read(ours, 2 * MOST):
+        parts.append(part)
+    os.close(ours)
+    return parts, [run.wait(SECONDS) for run in runs]
+
+
+def names_in(folder, count, lengths=(1, 40, 90)):
+    """Creates this many files, whose names have these lengths in turn."""
+    names = [f'{number:04}-' + 'n' * lengths[number % len(lengths)] for number in range(count)]
+    for name in names:
+        write(os.path.join(folder, name), name)
+    return names
+
+
+def fewest(lines):
+    """The number of writes for these lines, if each has as many whole lines as 4,096 bytes hold."""
+    count, free = 0, 0
+    for line in lines:
+        if free < len(line):
+            count, free = count + 1, MOST
+        free -= len(line)
+    return count
+
+
+def whole_lines(program, folder):
+    """Each write has whole lines, at most 4,096 bytes of them, and as many as fit."""
+    names = names_in(folder, FILES)
+    parts, (status,) = writes_of([[program, *names]], folder)
+    lines = b''.join(parts).splitlines(keepends=True)
+    if status or len(lines) != len(names):
+        return f'status {status}, {len(lines)} lines'
+    if any(not part.endswith(b'\n') for part in parts):
+        return 'a line stands in two writes'
+    if len(parts) != fewest(lines):
+        return f'{len(parts)} writes, where {fewest(lines)} do'
+    return None
+
+
+def nul_lines(program, folder):
+    """The same for lines that end with NULs, whose names have newlines."""
+    names = [f'{number:04}\n' + 'n' * 60 for number in range(FILES)]
+    for name in names:
+        write(os.path.join(folder, name), name)
+    parts, (status,) = writes_of([[program, '-z', *names]], folder)
+    wrong = [part[-20:] for part in parts if not part.endswith(b'\0')]
+    return f'status {status}, writes that end with {wrong[:3]}' if status or wrong else None
+
+
+def checked_lines(program, folder):
+    """The same for a list that is checked, with its counts."""
+    names = names_in(folder, FILES)
+    done = subprocess.run([program, *names], capture_output=True, cwd=folder, env=SETTINGS, check=True)
+    checked = done.stdout + b'junk\n' + done.stdout.replace(b'  ', b'  gone-', 20)[:2000] + b'\n'
+    write(os.path.join(folder, 'list'), checked)
+    parts, _status = writes_of([[program, '-c', 'list']], folder)
+    return None if all(part.endswith(b'\n') for part in parts) and len(parts) < 20 else f'{len(parts)} writes'
+
+
+def before_messages(program, folder):
+    """Output comes before a message that is written after it."""
+    names = names_in(folder, 3)
+    words = [program, names[0], 'gone', names[1], '.', names[2]]
+    parts, (status,) = writes_of([words], folder)
+    ends = [line.split()[-1] if line[:1] in b'0123456789abcdef' else line[:6] for line in b''.join(parts).splitlines()]
+    wanted = [names[0].encode(), b'Error:', names[1].encode(), b'xxhsum', names[2].encode()]
+    return None if status == 1 and ends == wanted else f'status {status}, {ends}'
+
+
+def before_messages_of_lists(program, folder):
+    """The same for messages about lines of a list, and about a list that can't be opened."""
+    name, = names_in(folder, 1)
+    line = subprocess.run([program, name], capture_output=True, cwd=folder, env=SETTINGS, check=True).stdout
+    write(os.path.join(folder, 'list'), line + b'junk\n' + line + b'x' * 40000 + b'\n')
+    parts, _status = writes_of([[program, '-cw', 'list', 'gone', 'list']], folder)
+    lines = b''.join(parts).splitlines()
+    said = [line.endswith(b': OK') and 'OK' or (line.startswith((b'list:', b'Error:')) and 'message') or 'count' for line in lines]
+    one_list = ['OK', 'message', 'OK', 'message', 'count']
+    return None if said == [*one_list, 'message', *one_list] else f'{said}'
+
+
+def before_messages_of_empty_lists(program, folder):
+    """The same for the message that a list has no well-formed line."""
+    name, = names_in(folder, 1)
+    line = subprocess.run([program, name], capture_output=True, cwd=folder, env=SETTINGS, check=True).stdout
+    for listed, text in (('list', line), ('none', b'junk\n')):
+        write(os.path.join(folder, listed), text)
+    parts, _status = writes_of([[program, '-c', 'list', 'none', 'list']], folder)
+    ok = name.encode() + b': OK'
+    wanted = [ok, b'none: no properly formatted xxHash checksum lines found', ok]
+    found = b''.join(parts).splitlines()
+    return None if found == wanted else f'{found}'
+
+
+def runs_into_one_pipe(program, folder):
+    """Lines of several runs into one pipe stay whole, whatever the runs' order."""
+    names = names_in(folder, FILES)
+    done = subprocess.run([program, *names], capture_output=True, cwd=folder, env=SETTINGS, check=True)
+    lines = done.stdout.splitlines()
+    parts, statuses = writes_of([[program, *names]] * PROCESSES, folder)
+    found = b''.join(parts).splitlines()
+    if any(statuses) or sorted(found) != sorted(lines * PROCESSES):
+        return f'statuses {statuses}, {len(set(found) - set(lines))} lines that no run has'
+    return None
+
+
+def long_line(program, folder):
+    """A line longer than that is one write, except for the limit of a pipe's packets."""
+    write(os.path.join(folder, 'list'), b'26c7827d889f6da3  ' + b'x' * 9000 + b'\n')
+    parts, _status = writes_of([[program, '-c', 'list']], folder)
+    return None if [len(part) for part in parts[:2]] == [MOST, MOST] else f'{[len(part) for part in parts]}'
+
+
+ROWS = {
+    'whole lines': whole_lines,
+    'whole lines that NULs end': nul_lines,
+    'whole lines of a check': checked_lines,
+    'output before messages': before_messages,
+    'output before messages about lists': before_messages_of_lists,
+    'output before messages about lists with no line': before_messages_of_empty_lists,
+    'several runs into one pipe': runs_into_one_pipe,
+    'a long line': long_line,
+}
+
+
+def fault_of(program, row):
+    with tempfile.TemporaryDirectory() as folder:
+        return row(program, folder)
+
+
+def rows_on_pipes(program, names=tuple(ROWS)):
+    """The tests, each with its error."""
+    with concurrent.futures.ThreadPoolExecutor(2) as pool:
+        faults = pool.map(lambda name: fault_of(program, ROWS[name]), names)
+        yield from zip(names, faults)
+
+
+# Programs that write incorrectly, and the tests that must detect it.
+PLANTED_ON_PIPES = {
+    'lines that are cut anywhere': ('"$REAL" "$@" | dd bs=1000 2>/dev/null', ('whole lines', 'several runs into one pipe')),
+    'a write for each line': ('"$REAL" "$@" | while IFS= read -r line; do printf "%s\\n" "$line"; done', ('whole lines',)),
+    'messages first': ('"$REAL" "$@" >"$0.out"; status=$?; cat "$0.out"; exit $status',
+                       ('output before messages', 'output before messages about lists', 'output before messages about lists with no line')),
+}

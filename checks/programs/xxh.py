@@ -1,0 +1,241 @@
+"""Runs the built program `xxh` on a table of arguments and inputs: its output, its messages, and its status, also if a
+stream is closed, full, broken or a directory.
+
+    checks/program             proves and builds the program first, by both compilers of the toolchain
+    checks/program --of-ci     uses what `rt ci` has proved and built just before
+    checks/program PROGRAM..   uses these programs, and needs no `rt`
+
+The last line is "N passed, M failed". The digests are those of the reference library 0.8.1: of `oracle/vectors.txt`
+and of Debian's `xxhsum`, which were run by hand; none is from this program. It needs /dev/full."""
+import os
+import shutil
+import subprocess
+import sys
+import tempfile
+
+import command
+from report import Report
+from tools import TOP, proved_program, write
+
+USAGE = b'xxh: usage: xxh hash|save|resume 32|64|3-64|3-128 [SEED|JSON] or xxh blocks SIZE\n'
+SEED = b'xxh: bad seed\n'
+SIZE = b'xxh: bad size\n'
+STATE = b'xxh: bad state\n'
+READ = b'xxh: read failed\n'
+WRITE = b'xxh: write failed\n'
+
+SOME = b'some bytes'
+HELLO = b'Hello, world!\0'
+STATE_32 = (b'{"buffer":[72,101,108,108,111,44,32,119,111,114,108,100,33,0,0,0],"buffer_usage":14,'
+            b'"core":{"v1":606290984,"v2":2246822519,"v3":0,"v4":1640531535},"seed":0,"total_len":14}')
+STATE_64 = (b'{"buffer":[72,101,108,108,111,44,32,119,111,114,108,100,33' + b',0' * 19 + b'],"buffer_usage":14,'
+            b'"core":{"v1":6983438078262162902,"v2":14029467366897019727,"v3":0,"v4":7046029288634856825},'
+            b'"seed":0,"total_len":14}')
+# Of its low 32 bits the usage would be 14.
+LARGE_USAGE = b'"buffer_usage":%d,' % (2**32 + 14)
+LARGE_32, LARGE_64 = (state.replace(b'"buffer_usage":14,', LARGE_USAGE) for state in (STATE_32, STATE_64))
+PAIRS = (b'0000000000000000 6a4a5274c1b0d3add6645fc3051a9457\n'
+         b'0000000000000002 6a4a5274c1b0d3add6645fc3051a9457\n'
+         b'0000000000000004 a6cd5e9392000f6ac44bdff4074eecdb\n')
+
+
+def gen(n):
+    """The bytes 0 to 250, repeated."""
+    return bytes(i % 251 for i in range(n))
+
+
+# Arguments, input, output, messages, status.
+TABLE = [
+    # Digests: every algorithm, no seed, a seed, leading zeros, the maximum seeds, no input, input longer than the
+    # buffers.
+    ('hash 32', b'', b'02cc5d05\n', b'', 0),
+    ('hash 64', b'', b'ef46db3751d8e999\n', b'', 0),
+    ('hash 3-64', b'', b'2d06800538d394c2\n', b'', 0),
+    ('hash 3-128', b'', b'99aa06d3014798d86001c324468d497f\n', b'', 0),
+    ('hash 32', SOME, b'29f97ecd\n', b'', 0),
+    ('hash 64', SOME, b'55cfd3deadcabb2a\n', b'', 0),
+    ('hash 3-64', SOME, b'45c97cf9b0447624\n', b'', 0),
+    ('hash 3-128', SOME, b'99736577b441a1bbd3ec197fe371e984\n', b'', 0),
+    ('hash 32 1234', SOME, b'92f68bd9\n', b'', 0),
+    ('hash 64 1234', SOME, b'eab55659a496d78b\n', b'', 0),
+    ('hash 64 0001234', SOME, b'eab55659a496d78b\n', b'', 0),
+    ('hash 3-64 1234', SOME, b'582ee33d9ad8c6e9\n', b'', 0),
+    ('hash 3-128 1234', SOME, b'd13af43e9c4507cfc327b2ddc4f87078\n', b'', 0),
+    ('hash 32 4294967295', SOME, b'17343bb3\n', b'', 0),
+    ('hash 64 18446744073709551615', SOME, b'68cffc67a3e39e33\n', b'', 0),
+    ('hash 3-64 18446744073709551615', SOME, b'f2bedbe5c1d104be\n', b'', 0),
+    ('hash 3-128 18446744073709551615', SOME, b'bff237cde472fcf2e98c75f91e037435\n', b'', 0),
+    ('hash 64', gen(65535), b'fc26b00b70f81612\n', b'', 0),
+    ('hash 64', gen(65536), b'316c40df46fe2584\n', b'', 0),
+    ('hash 64', gen(65537), b'8c8e0218a8ee0fee\n', b'', 0),
+    ('hash 64', gen(200000), b'3c72c119d42ed27f\n', b'', 0),
+    # Saved texts, and digests that continue from them.
+    ('save 32', HELLO, STATE_32 + b'\n', b'', 0),
+    ('save 64 0', HELLO, STATE_64 + b'\n', b'', 0),
+    ([b'resume', b'32', STATE_32], b'', b'9e5e7e93\n', b'', 0),
+    ([b'resume', b'64', STATE_64], b'', b'7b06c531ea43e89f\n', b'', 0),
+    ([b'resume', b'64', STATE_64 + b'\n'], b'', b'7b06c531ea43e89f\n', b'', 0),
+    # Lines of blocks.
+    ('blocks 2', bytes([0, 1, 0, 1, 0]), PAIRS, b'', 0),
+    ('blocks 0002', bytes([0, 1, 0, 1]), PAIRS[:100], b'', 0),
+    ('blocks 2', b'', b'', b'', 0),
+    ('blocks 241', gen(241) + gen(4), b'0000000000000000 1da1cb61bcb8a2a102e8cd95421c6d02\n'
+     b'00000000000000f1 eb70bf5fc779e9e6a6111d53e80a3db5\n', b'', 0),
+    ('blocks 10240', gen(10240), b'0000000000000000 4f6375cca7ece1e1bcd63266df6e2244\n', b'', 0),
+    ('blocks 18446744073709551615', gen(10240),
+     b'0000000000000000 4f6375cca7ece1e1bcd63266df6e2244\n', b'', 0),
+    # Arguments that are no command.
+    ([], SOME, b'', USAGE, 2),
+    ('hash', SOME, b'', USAGE, 2),
+    ('hash 65', SOME, b'', USAGE, 2),
+    ('HASH 64', SOME, b'', USAGE, 2),
+    ('hash 64 1 2', SOME, b'', USAGE, 2),
+    ([b'hash ', b'64'], SOME, b'', USAGE, 2),
+    ([b'hash', b' 64'], SOME, b'', USAGE, 2),
+    ('save 3-64', SOME, b'', USAGE, 2),
+    ('save 3-128 1', SOME, b'', USAGE, 2),
+    ('resume 64', SOME, b'', USAGE, 2),
+    ('resume 3-64 {}', SOME, b'', USAGE, 2),
+    ('blocks', SOME, b'', USAGE, 2),
+    ('blocks 4 5', SOME, b'', USAGE, 2),
+    ('--help', SOME, b'', USAGE, 2),
+    # Arguments that are not UTF-8.
+    ([b'\xff'], SOME, b'', USAGE, 2),
+    ([b'hash', b'64\xff'], SOME, b'', USAGE, 2),
+    ([b'hash', b'64', b'\xc3('], SOME, b'', USAGE, 2),
+    ([b'resume', b'32', STATE_32, b'\x80'], SOME, b'', USAGE, 2),
+    # Invalid seeds, sizes and states.
+    ('hash 32 4294967296', SOME, b'', SEED, 2),
+    ('hash 64 18446744073709551616', SOME, b'', SEED, 2),
+    ('hash 64 +1', SOME, b'', SEED, 2),
+    ([b'hash', b'64', b''], SOME, b'', SEED, 2),
+    ([b'hash', b'64', b' 1'], SOME, b'', SEED, 2),
+    ('save 32 x', SOME, b'', SEED, 2),
+    ('blocks 0', SOME, b'', SIZE, 2),
+    ('blocks 18446744073709551616', SOME, b'', SIZE, 2),
+    ('blocks -1', SOME, b'', SIZE, 2),
+    ('resume 64 {}', SOME, b'', STATE, 2),
+    ([b'resume', b'32', STATE_64], SOME, b'', STATE, 2),
+    ([b'resume', b'32', STATE_32[:-1]], SOME, b'', STATE, 2),
+    ([b'resume', b'32', LARGE_32], SOME, b'', STATE, 2),
+    ([b'resume', b'64', LARGE_64], SOME, b'', STATE, 2),
+]
+
+
+class Run:
+    """A program, and the differences."""
+
+    def __init__(self, program, title):
+        self.program, self.title, self.count, self.failed = program, title, 0, 0
+
+    def check(self, name, found, wanted):
+        self.count += 1
+        if found != wanted:
+            self.failed += 1
+            print(f'{self.title}: {name}\n  found  {found}\n  wanted {wanted}', file=sys.stderr)
+
+    def words(self, words):
+        return [self.program] + (words.split() if isinstance(words, str) else words)
+
+    def row(self, words, given, out, err, status):
+        done = subprocess.run(self.words(words), input=given, capture_output=True, timeout=20)
+        self.check(words, (done.stdout, done.stderr, done.returncode), (out, err, status))
+
+    def ends(self, name, words, status, err, preexec=None, **ends):
+        """A run over streams of the caller: its status, and its messages if standard error is not closed."""
+        told = ends.pop('stderr', subprocess.PIPE)
+        done = subprocess.Popen(self.words(words), stderr=told, preexec_fn=preexec, **ends)
+        found = done.communicate(timeout=20)
+        self.check(name, (done.returncode, found[1] or b''), (status, err))
+        return found[0]
+
+
+def closed(number):
+    return lambda: os.close(number)
+
+
+def over_table(run):
+    for row in TABLE:
+        run.row(*row)
+
+
+# A digest, a saved text, lines of blocks and a digest that continues, all of ten bytes.
+ALL = ['hash 64 1234', 'save 64 1234', 'blocks 4', [b'resume', b'64', STATE_64]]
+
+
+def over_hostile_ends(run, room):
+    given = write(os.path.join(room, 'input'), SOME)
+    for words in ALL:
+        # A full disk, a pipe without a reader, and no output at all.
+        with open(given, 'rb') as r, open('/dev/full', 'wb') as w:
+            run.ends(('full', words), words, 1, WRITE, stdin=r, stdout=w)
+        reads, writes = os.pipe()
+        os.close(reads)
+        with open(given, 'rb') as r:
+            run.ends(('broken', words), words, 1, WRITE, stdin=r, stdout=writes)
+        os.close(writes)
+        with open(given, 'rb') as r:
+            run.ends(('closed output', words), words, 1, WRITE, closed(1), stdin=r)
+        # A directory as the input, and no input at all: nothing is printed.
+        folder = os.open(room, os.O_RDONLY)
+        out = run.ends(('folder', words), words, 1, READ, stdin=folder, stdout=subprocess.PIPE)
+        run.check(('folder, printed', words), out, b'')
+        os.close(folder)
+        out = run.ends(('closed input', words), words, 1, READ, closed(0), stdout=subprocess.PIPE)
+        run.check(('closed input, printed', words), out, b'')
+    # An error whose message cannot be written keeps its status.
+    with open('/dev/full', 'wb') as w:
+        run.ends('full error', 'hash 64 x', 2, b'', stdin=subprocess.DEVNULL, stdout=w, stderr=w)
+    run.ends('closed error', 'hash', 2, b'', closed(2), stdin=subprocess.DEVNULL, stdout=subprocess.DEVNULL)
+
+
+def over_slow_pipe(run):
+    """Lines are written before a read that blocks: the first is there while the input is still open."""
+    done = subprocess.Popen(run.words('blocks 2'), stdin=subprocess.PIPE, stdout=subprocess.PIPE)
+    done.stdin.write(bytes([0, 1, 0]))
+    done.stdin.flush()
+    run.check('a line before the next read', os.read(done.stdout.fileno(), 1000), PAIRS[:50])
+    done.stdin.write(bytes([1, 0]))
+    done.stdin.close()
+    rest = done.stdout.read()
+    run.check('the lines after it', (rest, done.wait(timeout=20)), (PAIRS[50:], 0))
+
+
+def over_a_stream(run):
+    """A saved text of one part, and the digest that continues with the other."""
+    for kind, want in (('32', b'92f68bd9\n'), ('64', b'eab55659a496d78b\n')):
+        saved = subprocess.run(run.words(f'save {kind} 1234'), input=b'some', capture_output=True)
+        words = [b'resume', kind.encode(), saved.stdout.strip()]
+        run.row(words, b' bytes', want, b'', 0)
+
+
+def built(backend, room, is_of_ci):
+    """The program built by this compiler. A build or a proof that fails ends the check."""
+    flags, ending = ([], '') if backend == 'llvm' else (['--backend', backend], '.by-rattle')
+    program = os.path.join(room, 'xxh-' + backend)
+    # `rt ci` leaves the program that it proved and built by both.
+    shutil.copy(f'{TOP}/crates/xxh/out/xxh{ending}' if is_of_ci else proved_program('xxh', *flags), program)
+    return program
+
+
+def over_all(program, title, room, report):
+    run = Run(program, title)
+    over_table(run)
+    over_hostile_ends(run, room)
+    over_slow_pipe(run)
+    over_a_stream(run)
+    print(f'{title}: {run.count} checks, {run.failed} failed')
+    report.count(run.count - run.failed, run.failed)
+
+
+def main():
+    parser = command.parser(__doc__)
+    parser.add_argument('--of-ci', action='store_true')
+    parser.add_argument('programs', nargs='*', metavar='PROGRAM')
+    given, report = parser.parse_args(), Report()
+    with tempfile.TemporaryDirectory() as room:
+        programs = [(os.path.abspath(program), program) for program in given.programs] or [
+            (built(backend, room, given.of_ci), f'xxh as {backend} builds it') for backend in ('rattle', 'llvm')]
+        for program, title in programs:
+            over_all(program, title, room, report)
+    return report.end()
