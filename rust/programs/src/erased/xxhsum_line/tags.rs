@@ -58,8 +58,8 @@ pub fn kind_of_tag(tag: &[u8]) -> Kind {
     }
 }
 
-/// True if the digits of a line with this tag are little-endian: the tag contains `_LE`.
 // The depth of the recursion is the length of the tag, at most 32,767 in lines of lists.
+/// True if the digits of a line with this tag are little-endian: the tag contains `_LE`.
 pub fn is_little_tag(tag: &[u8]) -> bool {
     match tag {
         [] => false,
