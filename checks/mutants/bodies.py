@@ -11,7 +11,7 @@ refused function and has a line for each, so edits of different functions share 
 line of its own function. What such a check can't judge is tried separately, as `rt must-fail` does, and only that
 reports "not refused" or "bad edit". CONTRIBUTING.md explains why this is sound.
 
-It needs the libraries that `rt ci` leaves in the crates' folders: a check of an edit can't use those of `rt check`.
+If it ends with "a library that was built can't be used", nothing was judged: use the form with `rt ci`, as CI does.
 
 A refusal is remembered by a checksum of everything that it depends on: the edit, the body with its proof answers, the
 statements of its crate and those below, the prover, and this program. This machine remembers its own, and the
