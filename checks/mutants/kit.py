@@ -43,25 +43,36 @@ WRITES_NO_FILE = ["sh", "-c", 'trap "" XFSZ; ulimit -f 0; exec "$@"', "sh"]
 
 def with_closed_files(guarded):
     """The arguments before each command that rt starts, and after them those that stop it from writing files."""
-    return lambda: [*guarded(), *(WRITES_NO_FILE if getattr(CLOSED, "is_closed", False) else ())]
+    return lambda: [*guarded(), *(WRITES_NO_FILE if is_closed_now() else ())]
 
 
 @contextlib.contextmanager
-def no_file_written():
-    """Meanwhile a check writes no file. Its proofs are not kept; and if it can't keep them, rattle doesn't load all
-    modules a second time, which it does to print the file that each refused function wants."""
-    CLOSED.is_closed = True
+def closed(is_closed):
+    before = is_closed_now()
+    CLOSED.is_closed = is_closed
     try:
         yield
     finally:
-        CLOSED.is_closed = False
+        CLOSED.is_closed = before
+
+
+def is_closed_now():
+    return getattr(CLOSED, "is_closed", False)
+
+
+def no_file_written():
+    """Meanwhile a check over kept work writes no file. Its proofs are not kept; and if it can't keep them, rattle
+    doesn't load all modules a second time, which it does to print the file that each refused function wants."""
+    return closed(True)
 
 
 def with_whole_messages(checked):
     """A check whose output has each message on one line. The prover continues in a further line, which begins with a
-    space, if a message has a long name; rt reads line by line, and so does everything here."""
-    def check(*words):
-        ran = checked(*words)
+    space, if a message has a long name; rt reads line by line, and so does everything here. A check over no kept work
+    writes files in any case: it can't use a library's build without."""
+    def check(crate, texts, flags, kept):
+        with closed(is_closed_now() and kept is not None):
+            ran = checked(crate, texts, flags, kept)
         ran.stdout = re.sub(r"\n +", " ", ran.stdout)
         return ran
     return check

@@ -108,11 +108,11 @@ def try_all(files, proofs, jobs, tell_end, remembered):
 
 
 def next_checks(trial, at_work):
-    """The trial's next checks. If there will be many, first, by itself, that of their common part, since they begin
-    with what it keeps; then the separate ones, each of which may take minutes, and the batches; finally the end."""
+    """The trial's next checks. First, by itself, that of their common part, since they begin with what it keeps; then
+    the separate ones, each of which may take minutes, and the batches; finally the end."""
     if trial.is_ended or at_work and trial.kept_files is None:
         return []
-    if trial.kept_files is None and trial.is_shared():
+    if trial.kept_files is None and trial.has_more():
         return [trial.prove]
     started = [functools.partial(trial.try_alone, *it) for it in trial.taken_alone()]
     while batch := trial.batch():

@@ -12,8 +12,6 @@ from .copies import with_copies
 
 # Maximum number of edits that share a check: a long batch fills one processor while others idle.
 MOST = 120
-# This many checks of a crate begin with nothing. For more than that, their common part is proved first.
-FEW = 3
 # An error of a proof file that names what the edit removed, which shows little of the contract.
 GONE = re.compile(r"has no field|is not in scope|has no `|was not admitted")
 # The message for an edit that no other error refuses, here and by rt.
@@ -61,11 +59,9 @@ class Trial:
         self.said = {edits.Edit(it, self.crate, set()): (False, "the crate is not proved") for it in self.files}
         self.is_ended = True
 
-    def is_shared(self):
-        """True if there will be so many checks that their common part is proved first."""
-        functions = [it.function for it in self.waiting]
-        turns = max(map(functions.count, functions), default=0)
-        return max(self.batches(), turns) + len(self.alone) > FEW
+    def has_more(self):
+        """True if edits wait."""
+        return bool(self.waiting or self.alone)
 
     def batches(self):
         return math.ceil(len(self.waiting) / MOST)
@@ -90,7 +86,7 @@ class Trial:
             sys.exit("\n".join([f"wrong-bodies: {crate.name} is not proved as it stands", *why[:5]]))
 
     def check(self, what, crate, texts, only):
-        """Checks the crate with these texts over a copy of the kept work, if there is any."""
+        """Checks the crate with these texts over a copy of the kept work."""
         with kit.no_file_written(), kit.copy_of(self.kept) as kept:
             return self.timed(what, kit.check, crate, texts, kept, only)
 
@@ -145,8 +141,7 @@ class Trial:
     def try_batch(self, batch):
         """Tries these edits in one check. What it can't judge waits again, or waits to be tried separately."""
         texts = edits.texts_with(self.twin, batch)
-        controls = self.controls(batch) if self.kept_files is None else []
-        status, lines = self.check(f"{len(batch)} edits", self.twin, texts, [*(it.function for it in batch), *controls])
+        status, lines = self.check(f"{len(batch)} edits", self.twin, texts, [it.function for it in batch])
         with self.lock:
             if status not in (0, 1) or not lines[-1].startswith("only=") or any(kit.is_front_end_error(it, texts) for it in lines):
                 self.without_verdict(batch, lines)
