@@ -3,8 +3,6 @@ use Rattle.std.specs.Prelude.{ℕ, ◌≡◌, List, [], ◌∷◌, ◌++◌}
 use Rattle.std.specs.List.{concat}
 use Rattle.xxh_io.specs.Pieces.{NoneEmpty, Pieces, Step}
 use Rattle.xxh_io.specs.Rules.{SourceRules}
-use Rattle.xxhsum_audit.specs.declared.read.ReadError.{ReadError}
-use Rattle.xxhsum_audit.specs.declared.read.ReadError.TheVariants.{ReadFailed, OutOfMemory}
 
 -- Reads returned these bytes, and then the end of the input.
 abbrev pub GivesAll : {R : Type 0} → Step R → R → R → List ℕ → Type 0
@@ -16,8 +14,3 @@ abbrev pub BreaksOff : {R : Type 0} → SourceRules R → R → R → Type 0
 BreaksOff {R} reading old new =
     (pieces : List (List ℕ)) × (met : R) × NoneEmpty pieces × Pieces reading.gives old pieces met
     × reading.fails met new
-
--- The source was not read to its end, for this reason.
-abbrev pub LacksAll : {R : Type 0} → SourceRules R → R → R → ReadError → Type 0
-LacksAll reading old new ReadFailed = BreaksOff reading old new
-LacksAll reading old new OutOfMemory = Unit {0}

@@ -1,63 +1,33 @@
 //! All bytes of a source.
 
-ghost use Rattle.std.specs.Prelude.{◌≡◌, false, MatchResult};
-ghost use Rattle.xxhsum_audit.specs.Read.{GivesAll, LacksAll};
+ghost use Rattle.std.specs.Prelude.{◌≡◌, false, IfOk, MatchOption};
+ghost use Rattle.xxhsum_audit.specs.Read.{BreaksOff, GivesAll};
 
 use std::alloc::{AllocError, Global};
-use xxh_io::ends::{Failed, Source};
+use xxh_io::ends::Source;
 
 // Size of the read buffer.
 const OFFERED: usize = 65536;
 
-/// The error if not all of a source was read.
-#[derive(Clone, Copy, Debug, PartialEq, Eq)]
-pub enum ReadError {
-    /// A read failed.
-    ReadFailed,
-    /// Out of memory.
-    OutOfMemory,
-}
-
-impl From<AllocError> for ReadError {
-    ghost use Rattle.xxhsum_audit.specs.declared.read.ReadError.TheVariants.{OutOfMemory};
-
-    ghost from_gives = { λ _ error. error ≡ OutOfMemory };
-
-    fn from(_error: AllocError) -> ReadError {
-        ReadError::OutOfMemory
-    }
-}
-
-impl From<Failed> for ReadError {
-    ghost use Rattle.xxhsum_audit.specs.declared.read.ReadError.TheVariants.{ReadFailed};
-
-    ghost from_gives = { λ _ error. error ≡ ReadFailed };
-
-    fn from(_error: Failed) -> ReadError {
-        ReadError::ReadFailed
-    }
-}
-
-/// Returns all bytes of a source, up to its end, however its reads split them.
+/// Returns all bytes of a source, up to its end, however its reads split them; `None` if a read fails. Returns
+/// `AllocError` if out of memory.
 ///
-/// # Errors
-///
-/// - [`ReadError::ReadFailed`] if a read fails.
-/// - [`ReadError::OutOfMemory`] if out of memory.
-pub fn read_text<R: Source>(alloc: Global, source: &mut R) -> Result<Vec<u8>, ReadError>
+/// The caller shows that the source has not failed.
+pub fn read_text<R: Source>(alloc: Global, source: &mut R) -> Result<Option<Vec<u8>>, AllocError>
     requires { R.has_failed source.old ≡ false }
-    ensures { MatchResult result
-        (λ bytes. GivesAll R.gives source.old source.new bytes.items)
-        (LacksAll R.Source source.old source.new) }
+    ensures { IfOk result (λ text. MatchOption text (BreaksOff R.Source source.old source.new)
+        (λ bytes. GivesAll R.gives source.old source.new bytes.items)) }
 {
     let mut bytes = Vec::new(alloc);
     let mut buf = [0; OFFERED];
     for _ in 0..u64::MAX {
-        let count = source.read(&mut buf)?;
+        let Ok(count) = source.read(&mut buf) else {
+            return Ok(None);
+        };
         if count == 0 {
-            return Ok(bytes);
+            return Ok(Some(bytes));
         }
         bytes.extend_from_slice(&buf[..count])?;
     }
-    Err(ReadError::OutOfMemory)
+    Err(AllocError)
 }

@@ -53,7 +53,7 @@ fn each_read_of_a_list_is_taken(rt: HostRuntime) -> Result<(), Fail> {
     let bytes = vec![in rt.alloc(); b'a'; 70_000]?;
     let sizes = vec![in rt.alloc(); 1usize; 70_000]?;
     let mut source = ScriptSource::new(&bytes, &sizes, 0);
-    let Ok(all) = read_text(rt.alloc(), &mut source) else {
+    let Ok(Some(all)) = read_text(rt.alloc(), &mut source) else {
         return Err(Fail::from("not all is there"));
     };
     assert!(rt; all.len() == 70_000);

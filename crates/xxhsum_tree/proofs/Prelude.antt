@@ -23,7 +23,7 @@ pub use Rattle.xxhsum_audit.specs.Item.{IsAmong, Item, Says, item_of, items_of, 
 pub use Rattle.xxhsum_audit.specs.List.{GiveAll, SayAll, SaysOne, TakesLine, said_by}
 pub use Rattle.xxhsum_audit.specs.Order.{IsOrder, Rises, clash_in, compare_lines, compare_paths, rank_lines, rank_names}
 pub use Rattle.xxhsum_audit.specs.Parts.{ArePartsOf}
-pub use Rattle.xxhsum_audit.specs.Read.{LacksAll}
+pub use Rattle.xxhsum_audit.specs.Read.{BreaksOff}
 pub use Rattle.xxhsum_audit.specs.Side.{by_path, compare_to_name, path_side}
 pub use Rattle.xxhsum_audit.specs.declared.digest.FileDigest.{FileDigest}
 pub use Rattle.xxhsum_audit.specs.declared.moves.Compared.{Compared}

@@ -11,7 +11,7 @@ ghost use Rattle.xxhsum_tree.specs.Texts.{Breaks, GiveTexts, GivesText, HasNoTex
 
 use std::alloc::{AllocError, Global};
 use xxh_io::ends::{Sink, Source};
-use xxhsum_audit::read::{ReadError, read_text};
+use xxhsum_audit::read::read_text;
 use xxhsum_files::refusal::Refusal;
 use xxhsum_files::store::Store;
 use xxhsum_program::job::Job;
@@ -88,10 +88,9 @@ pub fn text_of<R: Source + Drop, T: Ticks, E: Sink>(
         (λ told. Breaks R.Source (source_of source) × (told ≡ unread_text name.now)) err.old err.new }
 {
     let mut source = source;
-    match read_text(alloc, &mut source) {
-        Ok(text) => Ok(Some(text)),
-        Err(ReadError::OutOfMemory) => Err(Stop::OutOfMemory),
-        Err(ReadError::ReadFailed) => {
+    match read_text(alloc, &mut source)? {
+        Some(text) => Ok(Some(text)),
+        None => {
             tell_unread(name, err);
             Ok(None)
         }
