@@ -26,12 +26,15 @@ impl Vector for Impl {
 
     #[inline(always)]
     fn accumulate(&self, acc: &mut [u64; 8], stripe: &[u8; 64], secret: &[u8; 64]) {
-        accumulate_by_fours(*self, acc, stripe, secret);
+        accumulate_by_fours(Products {}, acc, stripe, secret);
     }
 }
 
 // Products of words of 32 bits.
-impl HalvesProducts for Impl {
+#[derive(Clone, Copy)]
+struct Products;
+
+impl HalvesProducts for Products {
     // Joins the halves of two vectors before widening them: from the halves of one LLVM would make a mask and a shift
     // again, and from these no product of words of 32 bits.
     #[inline(always)]

@@ -26,15 +26,15 @@ impl Vector for Impl {
 
     #[inline(always)]
     fn accumulate(&self, acc: &mut [u64; 8], stripe: &[u8; 64], secret: &[u8; 64]) {
-        accumulate_by_fours(*self, acc, stripe, secret);
+        accumulate_by_fours(Products {}, acc, stripe, secret);
     }
 
     #[tactic(auto, unfolding(crate::specs::Long::accumulate_one, crate::specs::Ending::accumulate_block))]
     #[inline(always)]
     fn accumulate_four_stripes(&self, acc: &mut [u64; 8], stripes: &[u8; 256], secret: &[u8; 88]) {
         let [a, b, c, d, e, f, g, h] = *acc;
-        let [a, b, c, d] = accumulate_four_by_four(*self, [a, b, c, d], stripes, secret, 0);
-        let [e, f, g, h] = accumulate_four_by_four(*self, [e, f, g, h], stripes, secret, 4);
+        let [a, b, c, d] = accumulate_four_by_four(Products {}, [a, b, c, d], stripes, secret, 0);
+        let [e, f, g, h] = accumulate_four_by_four(Products {}, [e, f, g, h], stripes, secret, 4);
         *acc = [a, b, c, d, e, f, g, h];
     }
 
@@ -47,7 +47,10 @@ impl Vector for Impl {
 }
 
 // Products of words of 64 bits whose upper halves are 0.
-impl HalvesProducts for Impl {
+#[derive(Clone, Copy)]
+struct Products;
+
+impl HalvesProducts for Products {
     #[inline(always)]
     fn halves_products(&self, words: [u64; 4], keys: [u64; 4]) -> [u64; 4] {
         let [w0, w1, w2, w3] = words;
