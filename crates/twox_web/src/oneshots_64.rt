@@ -18,11 +18,7 @@ use twox_hash::xxhash3_64::Finalize64;
 pub extern "C" fn twox_xxh3_64(input: &[u8]) -> u64
     ensures { result ≡ xxh3_64 0 default_secret input.now }
 {
-    if input.len() <= CUTOFF {
-        XxHash3_64::oneshot(input)
-    } else {
-        long_64(default_secret(), input)
-    }
+    default_64(input)
 }
 
 /// Returns the 64-bit hash of all bytes at once, with a seed.
@@ -52,11 +48,7 @@ pub extern "C" fn twox_xxh3_64_with_secret(secret: &[u8], input: &[u8], value: &
     let Ok(secret) = Secret::new(secret) else {
         return SECRET_TOO_SHORT;
     };
-    *value = if input.len() <= CUTOFF {
-        Finalize64.small(secret, DEFAULT_SEED, input)
-    } else {
-        long_64(secret, input)
-    };
+    *value = keyed_64(secret, input);
     DONE
 }
 
@@ -88,6 +80,29 @@ pub extern "C" fn twox_xxh3_64_with_seed_and_secret(
     };
     *value = long_64(own, input);
     DONE
+}
+
+// Returns the hash with the default secret and the seed 0. A separate function, as the next one: LLVM orders the operands
+// of an xor by the number of times that it simplifies them, and the module's bytes depend on it.
+fn default_64(input: &[u8]) -> u64
+    ensures { result ≡ xxh3_64 0 default_secret input.now }
+{
+    if input.len() <= CUTOFF {
+        XxHash3_64::oneshot(input)
+    } else {
+        long_64(default_secret(), input)
+    }
+}
+
+// Returns the hash with a secret and the seed 0.
+fn keyed_64(secret: Secret<'_>, input: &[u8]) -> u64
+    ensures { result ≡ xxh3_64 0 (secret_bytes secret.entry) input.now }
+{
+    if input.len() <= CUTOFF {
+        Finalize64.small(secret, DEFAULT_SEED, input)
+    } else {
+        long_64(secret, input)
+    }
 }
 
 // Returns the hash of more than 240 bytes under a secret. No seed is used. A separate call, so that short inputs don't
