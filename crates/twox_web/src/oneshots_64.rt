@@ -82,8 +82,8 @@ pub extern "C" fn twox_xxh3_64_with_seed_and_secret(
     DONE
 }
 
-// Returns the hash with the default secret and the seed 0. A separate function, as the next one: LLVM orders the operands
-// of an xor by the number of times that it simplifies them, and the module's bytes depend on it.
+// Returns the hash with the default secret and the seed 0. This function and the next are separate because LLVM orders
+// the operands of an xor by the number of times that it simplifies them, on which the module's bytes depend.
 fn default_64(input: &[u8]) -> u64
     ensures { result ≡ xxh3_64 0 default_secret input.now }
 {
