@@ -115,7 +115,7 @@ REPLACEMENTS = [(rows_of(old), rows_of(new), files) for old, new, files in (
      'u64::from_le_bytes(*crate::rattle::array_at(bytes, i))', 'twox_words/words'),
     ('items.as_chunks()', 'crate::rattle::as_chunks(items)', 'twox_words/words/chunks'),
     ('bytes.as_chunks::<8>()', 'crate::rattle::as_chunks::<_, 8>(bytes)', 'twox_core/xxhash3/large/word'),
-    ('use std::simd::u64x4;', 'use crate::rattle::simd::{self, u64x4};', 'twox_core/xxhash3/large'),
+    ('mod word;', 'mod word; use crate::rattle::simd;', 'twox_core/xxhash3/large'),
     ('std::simd', 'super::simd', 'twox_core/xxhash3/large/*'), ('std::simd', 'crate::rattle::simd', 'twox_core/xxhash3/derivation'),
     ('mod parts;', 'pub(crate) mod parts;', 'twox_core/xxhash3'),
     ('pub type Kernel = lanes4::Impl;', KERNELS, 'twox_core/xxhash3/large'),

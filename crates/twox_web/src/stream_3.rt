@@ -11,7 +11,7 @@ ghost use Rattle.twox_core.specs.AfterWrite.{state_after_write};
 ghost use Rattle.twox_exports.specs.Number.{number_of};
 ghost use Rattle.twox_web.specs.Stream.{seed_of, StandsFor, IsCounted, Fits};
 
-use crate::by_kernel::PageKernel;
+use crate::PageKernel;
 use twox_exports::stream_3::{finish_64, finish_128, start as begin, write};
 use twox_exports::{DONE, NOT_A_STREAM, SECRET_TOO_SHORT, Wide};
 use twox_hash::words::IntoU64;

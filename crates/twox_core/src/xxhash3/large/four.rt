@@ -1,7 +1,7 @@
 //! Code shared by the kernels of four accumulators at a time: everything except how they multiply and scramble.
 
 ghost use Rattle.std.specs.Prelude.{◌≡◌, ◌+◌, ◌*◌, ◌%◌, ◌^◌, ◌≤◌, [], ◌∷◌, slice_index, bit_xor};
-ghost use Rattle.twox_core.specs.Kernel.{four, sum_with_words_at, sum_with_four_stripes};
+ghost use Rattle.twox_core.specs.Kernel.{accumulate, four, sum_with_words_at, sum_with_four_stripes};
 ghost use Rattle.twox_core.specs.Long.{halves_product};
 
 use super::word::words;
@@ -16,11 +16,28 @@ pub(super) trait HalvesProducts: Copy {
             ≡ four (λ i. halves_product (bit_xor (slice_index words i) (slice_index keys i)) % 2 ^ 64) };
 }
 
+// Accumulates a stripe into all accumulators, four at a time.
+#[tactic(auto, unfolding(crate::specs::Long::accumulate_one))]
+#[inline(always)]
+pub(super) fn accumulate_by_fours<K: HalvesProducts>(
+    kernel: K,
+    acc: &mut [u64; 8],
+    stripe: &[u8; 64],
+    secret: &[u8; 64],
+)
+    ensures { acc.new ≡ accumulate acc.old stripe.now secret.now }
+{
+    let [a, b, c, d, e, f, g, h] = *acc;
+    let [a, b, c, d] = accumulate_four(kernel, [a, b, c, d], words(stripe, 0), words(secret, 0));
+    let [e, f, g, h] = accumulate_four(kernel, [e, f, g, h], words(stripe, 4), words(secret, 4));
+    *acc = [a, b, c, d, e, f, g, h];
+}
+
 // Accumulates into four accumulators: adds to each its neighbour's word and the product of the halves of its own word
 // under its key. The neighbours come first, so that the old accumulators are no longer needed and their registers are
 // free.
 #[inline]
-pub(super) fn accumulate_four<K: HalvesProducts>(
+fn accumulate_four<K: HalvesProducts>(
     kernel: K,
     acc: [u64; 4],
     words: [u64; 4],

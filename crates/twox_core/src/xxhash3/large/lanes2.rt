@@ -41,7 +41,7 @@ impl Vector for Impl {
 // under its key. The neighbours come first, so that the old accumulators are no longer needed and their registers are
 // free.
 #[inline]
-pub(super) fn accumulate_two(acc: [u64; 2], words: [u64; 2], keys: [u64; 2]) -> [u64; 2]
+fn accumulate_two(acc: [u64; 2], words: [u64; 2], keys: [u64; 2]) -> [u64; 2]
     ensures a { slice_index result 0
         ≡ sum_with_words (slice_index acc 0) (slice_index words 0) (slice_index words 1) (slice_index keys 0) }
     ensures b { slice_index result 1

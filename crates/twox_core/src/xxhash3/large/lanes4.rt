@@ -4,7 +4,7 @@ ghost use Rattle.std.specs.Prelude.{◌≡◌, ◌+◌, ◌*◌, ◌/◌, ◌%�
 ghost use Rattle.twox_core.specs.Kernel.{four, scramble_with_word};
 ghost use Rattle.twox_core.specs.Primes.{prime32_1};
 
-use super::four::{HalvesProducts, accumulate_four, accumulate_four_by_four};
+use super::four::{HalvesProducts, accumulate_by_fours, accumulate_four_by_four};
 use super::word::words;
 use crate::xxhash3::Vector;
 use crate::xxhash3::primes::PRIME32_1;
@@ -24,23 +24,9 @@ impl Vector for Impl {
         *acc = [a, b, c, d, e, f, g, h];
     }
 
-    #[tactic(auto, unfolding(crate::specs::Long::accumulate_one))]
     #[inline(always)]
     fn accumulate(&self, acc: &mut [u64; 8], stripe: &[u8; 64], secret: &[u8; 64]) {
-        let [a, b, c, d, e, f, g, h] = *acc;
-        let [a, b, c, d] = accumulate_four(
-            Products {},
-            [a, b, c, d],
-            words(stripe, 0),
-            words(secret, 0),
-        );
-        let [e, f, g, h] = accumulate_four(
-            Products {},
-            [e, f, g, h],
-            words(stripe, 4),
-            words(secret, 4),
-        );
-        *acc = [a, b, c, d, e, f, g, h];
+        accumulate_by_fours(Products {}, acc, stripe, secret);
     }
 
     #[tactic(auto, unfolding(crate::specs::Long::accumulate_one, crate::specs::Ending::accumulate_block))]

@@ -3,7 +3,7 @@
 ghost use Rattle.std.specs.Prelude.{◌≡◌, ◌*◌, ◌%◌, ◌^◌, List, [], ◌∷◌, slice_index};
 ghost use Rattle.twox_core.specs.Kernel.{scramble_with_word};
 
-use super::lanes2::{accumulate_two, words};
+use super::lanes2::{self, words};
 use crate::xxhash3::Vector;
 use crate::xxhash3::primes::PRIME32_1;
 use std::simd::u64x2;
@@ -24,15 +24,9 @@ impl Vector for Impl {
         *acc = [a, b, c, d, e, f, g, h];
     }
 
-    #[tactic(auto, unfolding(crate::specs::Long::accumulate_one))]
     #[inline(always)]
     fn accumulate(&self, acc: &mut [u64; 8], stripe: &[u8; 64], secret: &[u8; 64]) {
-        let [a, b, c, d, e, f, g, h] = *acc;
-        let [a, b] = accumulate_two([a, b], words(stripe, 0), words(secret, 0));
-        let [c, d] = accumulate_two([c, d], words(stripe, 2), words(secret, 2));
-        let [e, f] = accumulate_two([e, f], words(stripe, 4), words(secret, 4));
-        let [g, h] = accumulate_two([g, h], words(stripe, 6), words(secret, 6));
-        *acc = [a, b, c, d, e, f, g, h];
+        lanes2::Impl {}.accumulate(acc, stripe, secret);
     }
 }
 

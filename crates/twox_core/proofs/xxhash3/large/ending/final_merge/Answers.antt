@@ -1,7 +1,7 @@
 use Rattle.std.proofs.Common.{◌≡◌, ℕ, ◌+◌, ◌%◌, ◌^◌, slice_index, arith, ap, ◌∙◌}
 use Rattle.twox_core.specs.Steps.{avalanche, sum_below}
 use Rattle.twox_core.specs.Long.{pair_fold, merge_accumulators}
-use Rattle.twox_core.proofs.xxhash3.large.final_merge.Goals as goal
+use Rattle.twox_core.proofs.xxhash3.large.ending.final_merge.Goals as goal
 
 -- Lemma: adding two folds and then two more is adding four folds.
 in_two_steps : (init a b c d front all : ℕ) → front ≡ (init + a + b) % 2 ^ 64 → all ≡ (front + c + d) % 2 ^ 64 → all ≡ (init + (0 + a + b + c + d)) % 2 ^ 64
