@@ -11,8 +11,6 @@ refused function and has a line for each, so edits of different functions share 
 line of its own function. What such a check can't judge is tried separately, as `rt must-fail` does, and only that
 reports "not refused" or "bad edit". CONTRIBUTING.md explains why this is sound.
 
-If it ends with "a library that was built can't be used", nothing was judged: use the form with `rt ci`, as CI does.
-
 A refusal is remembered by a checksum of everything that it depends on: the edit, the body with its proof answers, the
 statements of its crate and those below, the prover, and this program. This machine remembers its own, and the
 repository, in mutants/refused.txt, those of a run with --write; each run tries a random tenth of the latter again.
