@@ -161,7 +161,7 @@ fn tell_twice<E: Sink>(among: &[u8], names: &[&[u8]], err: &mut E) -> bool
 }
 
 fn tell_name<'a, E: Sink>(among: &'a [u8], name: &'a [u8], err: &mut E)
-    ensures { TellsOn E.Sink (twice_text among.now name.now) err.old err.new }
+    ensures { TellsOn E.Sink (one_line (twice_text among.now name.now)) err.old err.new }
 {
     let parts: [&[u8]; 4] = [among, b": duplicate name '", name, b"'."];
     tell_line(&parts, err);
