@@ -2,8 +2,9 @@
 use Rattle.std.proofs.Common.{◌≡◌, ◌≢◌, ◌+◌, ℕ, Bool, true, false, List, [], ◌∷◌, ◌++◌, refl, sym, ap, ◌∙◌, subst, append-nil, arith, codes, decimal, drop, length, if◌then◌else◌}
 use Rattle.xxhsum_program.specs.Prelude.{Found, SourceRules, StoreRules, concat, files_of}
 use Rattle.std.proofs.lemmas.List.{append_assoc, append_cancel_right, length_push, same_from_push}
-use Rattle.xxhsum_program.proofs.Prelude.{Different, EscapeIsUndone, Ignored, Improper, IsFound, IsValueOf, OkMeansEqual, PlainNamesStay, Printed, Proper, Reported, Same, Says, TooLong, Unread, found_text, improper_text, is_silent, printed_of, reason_text, same_Some}
+use Rattle.xxhsum_program.proofs.Prelude.{Different, EscapeIsUndone, Ignored, Improper, IsFound, IsValueOf, OkMeansEqual, PlainNamesStay, Printed, Proper, Reported, Same, Says, TooLong, Unread, printed_of, reason_text, same_Some}
 use Rattle.xxhsum_line.specs.Escapes.{escaped, mark_of, needs_escape, one_line, unescaped}
+use Rattle.xxhsum_program.specs.Said.{found_text, improper_text, is_silent}
 
 -- ---- the text of a line, which is unique
 

@@ -43,11 +43,10 @@ pub use Rattle.xxhsum_program.specs.ListLines.{FailsAfter, IsLastLine, end_piece
 pub use Rattle.xxhsum_program.specs.Order.{Emits, EmitsAll, EmitsOrNone, EmitsTo, Event, Printed, Reported, StreamRules, effect_of, printed_of, rules_of}
 pub use Rattle.xxhsum_program.specs.Outcomes.{Comes, HasNoValue, IsValueOf, are_digested, has_no_file, is_digested, reason_text}
 pub use Rattle.xxhsum_program.specs.Prelude.{AllByRecursion, EachHas, Lacks, NoneEmpty, OutOfMemory, Outcome, Pieces, Refused, SinkRules, SourceRules, Stop, TellsLines, TellsOn, Took, Watched, WriteFailed, concat, files_of}
-pub use Rattle.xxhsum_program.specs.PrintedIsGood.{FilesStay, IsName, PrintedIsGood, entries_of, plain_style}
 pub use Rattle.xxhsum_program.specs.Progress.{cleared, count_after, empty_line, left_text, line_text, progress_line, rate_of, shown_text}
 pub use Rattle.xxhsum_program.specs.Report.{is_good, is_unverified, passes}
 pub use Rattle.xxhsum_program.specs.Run.{style_of}
-pub use Rattle.xxhsum_program.specs.Said.{finding_events, found_text, improper_text, is_silent, numbered}
+pub use Rattle.xxhsum_program.specs.Said.{finding_events, numbered}
 pub use Rattle.xxhsum_program.specs.Streams.{streams_of}
 pub use Rattle.xxhsum_program.specs.Watched.{source_of, watched_reading}
 pub use Rattle.xxhsum_program.specs.declared.entry.Found.TheVariants.{Different, Same, Unread}

@@ -59,7 +59,7 @@ pub use Rattle.xxhsum_tree.specs.Finds.{Finds}
 pub use Rattle.xxhsum_tree.specs.Names.{AreNamesIn, ListNames, ListNone, end_of}
 pub use Rattle.xxhsum_tree.specs.Prelude.{Kind, Options, OutOfMemory, SinkRules, SourceRules, Stop, files_of, input_of}
 pub use Rattle.xxhsum_tree.specs.Report.{PrintsReport, are_same, counts_text, report_text, shown_lines, shown_text}
-pub use Rattle.xxhsum_tree.specs.Rows.{AreRows, Come, Gone, IsRow, Met, Row, first_of, is_read, told_in, told_of}
+pub use Rattle.xxhsum_tree.specs.Rows.{AreRows, Come, Gone, IsRow, Met, Row, told_in}
 pub use Rattle.xxhsum_tree.specs.Said.{HaveSaid, ListSays, ListSaysNothing}
 pub use Rattle.xxhsum_tree.specs.Texts.{Breaks, GivesText, HasNoText, HasText, unopened_text, unread_text}
 pub use Rattle.xxhsum_tree.specs.Walk.{Closed, IsIn, IsSeen, Leaf, Lost, Opened, Passed, Seen, Tree, Visits, WalksAll, are_open, below, closed_in, closed_text, files_in, given, place_of, tree_of, waiting_in, with_slash}

@@ -216,18 +216,11 @@ fn lose<E: Sink>(name: &[u8], refusal: Refusal, are_all: &mut bool, err: &mut E)
     ensures tells { TellsLines E.Sink (closed_text name.now refusal) err.old err.new }
     ensures lost { are_all.new ≡ false }
 {
-    tell_closed(name, refusal, err);
-    *are_all = false;
-}
-
-// Reports why a name can't be looked up, or a folder can't be read.
-fn tell_closed<'a, E: Sink>(name: &'a [u8], refusal: Refusal, err: &mut E)
-    ensures { TellsLines E.Sink (closed_text name.now refusal) err.old err.new }
-{
     let outcome = Outcome::Unread {
         reason: Reason::Unopened { refusal },
     };
     tell_outcome(name, &outcome, err);
+    *are_all = false;
 }
 
 /// Lemma: a walk finds exactly the files that the given names lead to through names in folders, if each folder could be

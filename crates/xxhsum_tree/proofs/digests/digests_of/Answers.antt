@@ -1,6 +1,7 @@
 use Rattle.std.proofs.Common.{rules, ◌∷◌, ◌++◌, ◌&&◌, [], ap, append-nil, append_assoc, drop, length, refl, subst, sym, take, ◌-◌, ◌∙◌}
-use Rattle.xxhsum_tree.proofs.Prelude.{AreRows, TellsLines, files_of, first_of, is_read, items_of, lines-more, list_all-push, missing_in, missing_one, new_in, new_one, settled_in, settled_one, take_rest, tells-nothing, texts_of, told_in, told_of}
+use Rattle.xxhsum_tree.proofs.Prelude.{TellsLines, files_of, items_of, lines-more, list_all-push, missing_in, missing_one, new_in, new_one, settled_in, settled_one, take_rest, tells-nothing, texts_of}
 use Rattle.xxhsum_audit.specs.Side.{by_path, lines_of, names_of, path_side}
+use Rattle.xxhsum_tree.specs.Rows.{AreRows, first_of, is_read, told_in, told_of}
 use Rattle.xxhsum_tree.proofs.RowFacts.{fails-rows, first-push, flat-push, rows-more}
 use Rattle.xxhsum_tree.proofs.digests.digests_of.Goals as goal
 
