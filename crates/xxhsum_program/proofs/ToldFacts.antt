@@ -1,5 +1,5 @@
 -- Lemmas on messages that are followed by more messages.
-use Rattle.std.proofs.Common.{◌≡◌, ◌↔◌, ℕ, Bool, true, false, List, [], ◌∷◌, ◌++◌, flat_map, refl, sym, ap, subst, append-nil, append_assoc, is_err, Ok, Err, IfErr, Result}
+use Rattle.std.proofs.Common.{◌≡◌, ◌↔◌, ℕ, Bool, true, false, List, [], ◌++◌, flat_map, refl, sym, ap, subst, append-nil, append_assoc, is_err, Ok, Err, IfErr, Result}
 use Rattle.std.proofs.lemmas.List.Concat.{flat_map-append}
 use Rattle.xxhsum_program.proofs.Prelude.{DigestError, Refused-more, SinkRules, TellsLines, TellsOn, Told, Writes, Writes-join, one_line}
 use Rattle.xxh_io.specs.declared.error.DigestError.TheVariants.{ReadFailed, WriteFailed, TooLong}
@@ -31,13 +31,6 @@ tells-nothing telling old = λ initial before told.
 pub tells-more : {E : Type 0} (telling : SinkRules E) (a b : List ℕ) (old mid new : E) → TellsOn telling a old mid → TellsOn telling b mid new → TellsOn telling (a ++ b) old new
 tells-more telling a b old mid new first second = λ initial before told.
     subst (λ bytes. Told telling bytes initial new) (append_assoc before a b) (second initial (before ++ a) (first initial before told))
-
--- Lemma: one message is one line.
-pub tells-one : {E : Type 0} (telling : SinkRules E) (text : List ℕ) (old new : E) → TellsOn telling (one_line text) old new → TellsLines telling (text ∷ []) old new
-tells-one telling text old new = subst (λ bytes. TellsOn telling bytes old new) (sym (append-nil (one_line text)))
-
-pub told-one : {E : Type 0} (telling : SinkRules E) (text : List ℕ) (old new : E) → TellsLines telling (text ∷ []) old new → TellsOn telling (one_line text) old new
-told-one telling text old new = subst (λ bytes. TellsOn telling bytes old new) (append-nil (one_line text))
 
 pub lines-more : {E : Type 0} (telling : SinkRules E) (a b : List (List ℕ)) (old mid new : E) → TellsLines telling a old mid → TellsLines telling b mid new → TellsLines telling (a ++ b) old new
 lines-more telling a b old mid new first second =
