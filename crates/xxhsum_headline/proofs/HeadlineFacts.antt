@@ -45,11 +45,14 @@ each-name-once files rules kind style names old new all (outcomes, done, rest, p
 
 -- ---- lines
 
+one-message : ToldIsOneLine → (text : List ℕ) (events : List Event) → events ≡ Reported text ∷ [] → (event : Event) × (events ≡ event ∷ []) × IsLine event
+one-message told text events is = (Reported text, is, told text)
+
 pub line-or-message : PrintedIsOneLine → ToldIsOneLine → (kind : Kind) (shape : Shape) (name : List ℕ) (outcome : Outcome) → IsLineOrMessage kind shape name outcome
 line-or-message printed told kind shape name (Digested value) =
     (Printed (line_of kind shape value name), refl, (text_of kind shape value name, refl, printed kind shape value name))
-line-or-message printed told kind shape name IsDirectory = (Reported _, refl, told _)
-line-or-message printed told kind shape name (Unread reason) = (Reported _, refl, told _)
+line-or-message printed told kind shape name IsDirectory = one-message told _ _ refl
+line-or-message printed told kind shape name (Unread reason) = one-message told _ _ refl
 
 line-if : (test : Bool) (event : Event) → IsLine event → AllByRecursion IsLine (if test then event ∷ [] else [])
 line-if true event is = (is, tt)
