@@ -14,10 +14,10 @@ one-told : {E : Type 0} (telling : SinkRules E) (bytes : List ℕ) (old new : E)
 one-told telling bytes old new = subst (λ b. TellsOn telling b old new) (append-nil bytes)
 
 -- Lemma: a name without a value has its message, after the output.
-pub emits-message : {W E : Type 0} (rules : StreamRules W E) (kind : Kind) (style : Style) (name : List ℕ) (outcome : Outcome) (old new : Streams W E) → is_digested outcome ≡ false → Took rules.writing [] old.out new.out × IsWritten rules.held rules.has_lost new.out × TellsLines rules.telling (name_messages name outcome) old.err new.err → EmitsAll rules (name_events kind style name outcome) old new
-emits-message rules kind style name (Digested value) old new none emits = cc
-emits-message rules kind style name IsDirectory old new none (took, written, tells) = (new, (took, written, one-told rules.telling _ old.err new.err tells), (refl, refl))
-emits-message rules kind style name (Unread reason) old new none (took, written, tells) = (new, (took, written, one-told rules.telling _ old.err new.err tells), (refl, refl))
+pub emits_message : {W E : Type 0} (rules : StreamRules W E) (kind : Kind) (style : Style) (name : List ℕ) (outcome : Outcome) (old new : Streams W E) → is_digested outcome ≡ false → Took rules.writing [] old.out new.out × IsWritten rules.held rules.has_lost new.out × TellsLines rules.telling (name_messages name outcome) old.err new.err → EmitsAll rules (name_events kind style name outcome) old new
+emits_message rules kind style name (Digested value) old new none emits = cc
+emits_message rules kind style name IsDirectory old new none (took, written, tells) = (new, (took, written, one-told rules.telling _ old.err new.err tells), (refl, refl))
+emits_message rules kind style name (Unread reason) old new none (took, written, tells) = (new, (took, written, one-told rules.telling _ old.err new.err tells), (refl, refl))
 
 -- Lemma: a run stops at a name whose line can't be written.
 pub names-stop : {W E : Type 0} (rules : StreamRules W E) (comes : List ℕ → Outcome → Type 0) (kind : Kind) (style : Style) (all names after : List (List ℕ)) (outcomes : List Outcome) (name : List ℕ) (outcome : Outcome) (old mid new : Streams W E) (stop : Stop)

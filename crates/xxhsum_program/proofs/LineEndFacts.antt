@@ -6,17 +6,17 @@ use Rattle.xxhsum_program.specs.Said.{break_events, count_text, no_line_text, pr
 use Rattle.xxhsum_program.proofs.OrderFacts.{emits-join, emits-line}
 
 -- Lemma: a line is refused if its first part is refused.
-pub line-more : {W T : Type 0} (writing : SinkRules W) (a b : List ℕ) (old new : W) (result : Result T Stop) (stop : Stop) → result ≡ Err stop → stop ≡ WriteFailed → PrintsLine {T = T} writing a old new (Err stop) → PrintsLine writing (a ++ b) old new result
-line-more writing a b old new (Ok x) stop is only prints = cc
-line-more writing a b old new (Err WriteFailed) WriteFailed is only prints = Refused-more writing a b old new prints
-line-more writing a b old new (Err OutOfMemory) WriteFailed is only prints = cc
-line-more writing a b old new (Err e) OutOfMemory is only prints = cc
+pub line_more : {W T : Type 0} (writing : SinkRules W) (a b : List ℕ) (old new : W) (result : Result T Stop) (stop : Stop) → result ≡ Err stop → stop ≡ WriteFailed → PrintsLine {T = T} writing a old new (Err stop) → PrintsLine writing (a ++ b) old new result
+line_more writing a b old new (Ok x) stop is only prints = cc
+line_more writing a b old new (Err WriteFailed) WriteFailed is only prints = Refused-more writing a b old new prints
+line_more writing a b old new (Err OutOfMemory) WriteFailed is only prints = cc
+line_more writing a b old new (Err e) OutOfMemory is only prints = cc
 
 -- Lemma: a line has the result of its second part if its first part was taken.
-pub line-join : {W T : Type 0} (writing : SinkRules W) (a b : List ℕ) (old mid new : W) (result : Result T Stop) → Took writing a old mid → IfErr result (λ stop. stop ≡ WriteFailed) → PrintsLine writing b mid new result → PrintsLine writing (a ++ b) old new result
-line-join writing a b old mid new (Ok x) took only prints = Took-join writing a b old mid new took prints
-line-join writing a b old mid new (Err WriteFailed) took only prints = Refused-join writing a b old mid new took prints
-line-join writing a b old mid new (Err OutOfMemory) took only prints = cc
+pub line_join : {W T : Type 0} (writing : SinkRules W) (a b : List ℕ) (old mid new : W) (result : Result T Stop) → Took writing a old mid → IfErr result (λ stop. stop ≡ WriteFailed) → PrintsLine writing b mid new result → PrintsLine writing (a ++ b) old new result
+line_join writing a b old mid new (Ok x) took only prints = Took-join writing a b old mid new took prints
+line_join writing a b old mid new (Err WriteFailed) took only prints = Refused-join writing a b old mid new took prints
+line_join writing a b old mid new (Err OutOfMemory) took only prints = cc
 
 -- ---- the end of a list
 
@@ -61,5 +61,5 @@ summary-printed rules options list report old out result some prints only =
     ap (λ (all : List Event). all ++ Printed (summary_text options list report) ∷ []) (only-if report.proper (Reported (no_line_text list) ∷ []) some) in
     subst (λ all. EmitsTo rules all old (streams_of out old.err) result) (sym events) (emits-line rules (summary_text options list report) old out result prints only)
 
-pub unverified-is : (options : Options) (list : List ℕ) (report : Report) → is_unverified options.ignores_missing report ≡ true → unverified_text options list report ≡ unverified_line list
-unverified-is options list report is = rw is refl
+pub unverified_is : (options : Options) (list : List ℕ) (report : Report) → is_unverified options.ignores_missing report ≡ true → unverified_text options list report ≡ unverified_line list
+unverified_is options list report is = rw is refl

@@ -72,11 +72,11 @@ found-same list number said name Different is =
 found-same list number said name (Unread reason) is =
     absurd (not-both 46 75 _ _ (λ no. absurd (omega (arith, no))) (unread-ends list number said (reason_text reason)) (ok-ends name) is)
 
-pub ok-means-equal : {S F : Type 0} (opening : StoreRules S F) (reading : SourceRules F) → EscapeIsUndone → PlainNamesStay → OkMeansEqual opening reading
-ok-means-equal opening reading undone stay store options list number line Ignored name finds is = absurd (some-line (name ++ codes ": OK") is)
-ok-means-equal opening reading undone stay store options list number line Improper name finds is = absurd (not-reported options.warns (improper_text list number) (name ++ codes ": OK") is)
-ok-means-equal opening reading undone stay store options list number line TooLong name finds is = absurd (some-line (name ++ codes ": OK") is)
-ok-means-equal opening reading undone stay store options list number line (Proper said found) name (short, kind, value, says, of_file) is =
+pub ok_means_equal : {S F : Type 0} (opening : StoreRules S F) (reading : SourceRules F) → EscapeIsUndone → PlainNamesStay → OkMeansEqual opening reading
+ok_means_equal opening reading undone stay store options list number line Ignored name finds is = absurd (some-line (name ++ codes ": OK") is)
+ok_means_equal opening reading undone stay store options list number line Improper name finds is = absurd (not-reported options.warns (improper_text list number) (name ++ codes ": OK") is)
+ok_means_equal opening reading undone stay store options list number line TooLong name finds is = absurd (some-line (name ++ codes ": OK") is)
+ok_means_equal opening reading undone stay store options list number line (Proper said found) name (short, kind, value, says, of_file) is =
     let same = found-same list number said name found (spoken undone stay (is_silent options found) (found_text list number said found) (name ++ codes ": OK") is) in
     let equal : IsValueOf (files_of opening reading store) kind said value = subst (λ f. IsFound (files_of opening reading store) kind value said f) same.0 of_file in (
       kind,

@@ -369,6 +369,7 @@ impl<S: Store, T: Ticks> ListCheck<'_, S, T> {
     }
 
     // Prints the summary of a list.
+    #[tactic(auto, using(crate::proofs::LineEndFacts::line_join, crate::proofs::LineEndFacts::line_more))]
     fn say_summary<W: Output>(
         &self,
         report: &Report,
@@ -387,6 +388,7 @@ impl<S: Store, T: Ticks> ListCheck<'_, S, T> {
     }
 
     // Prints `unverified` if `--ignore-missing` is given and no file matches.
+    #[tactic(auto, using(crate::proofs::LineEndFacts::unverified_is))]
     fn say_unverified<W: Output>(
         &self,
         report: &Report,

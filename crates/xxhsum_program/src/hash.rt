@@ -91,6 +91,7 @@ pub fn hash_input<R: Source, T: Ticks, W: Output, E: Sink>(
 }
 
 // Writes the digest line of a name that has a value, and reports why another name has none.
+#[tactic(auto, using(crate::proofs::HashFacts::emits_message))]
 fn write_outcome<W: Output, E: Sink>(
     alloc: Global,
     options: Options,
