@@ -5,7 +5,7 @@ use Rattle.xxhsum_program.specs.declared.outcome.Outcome.{Outcome}
 use Rattle.xxhsum_program.specs.declared.outcome.Outcome.TheVariants.{Digested, IsDirectory, Unread}
 use Rattle.xxhsum_program.specs.declared.stop.Stop.{Stop}
 use Rattle.xxhsum_program.specs.declared.stop.Stop.TheVariants.{OutOfMemory, WriteFailed}
-use Rattle.xxhsum_headline.specs.Headline.{IsLine, IsLineOrMessage, PrintsBeginning}
+use Rattle.xxhsum_headline.specs.Headline.{IsLine, IsLineAtMost, IsLineOrMessage, PrintsBeginning}
 use Rattle.xxhsum_line.specs.Laws.{PrintedIsOneLine, ToldIsOneLine}
 use Rattle.xxhsum_line.specs.Printed.{line_of, text_of}
 use Rattle.xxhsum_program.specs.CheckList.{EndsAs, SaysList}
@@ -17,6 +17,7 @@ use Rattle.xxhsum_program.specs.ListEnd.{ListEnd}
 use Rattle.xxhsum_program.specs.Order.{EmitsAll, EmitsTo, EmitsUnlessFailed, Event, Printed, Reported, StreamRules, effect_of, printed_of, reported_of}
 use Rattle.xxhsum_program.specs.declared.streams.Streams.{Streams}
 use Rattle.xxhsum_program.specs.Outcomes.{Comes, are_digested}
+use Rattle.xxhsum_program.specs.PrintedIsGood.{plain_style}
 use Rattle.xxhsum_program.specs.Run.{status_of}
 use Rattle.xxhsum_program.specs.Said.{finding_events, found_text, improper_text, is_silent, list_events, too_long_text}
 use Rattle.xxhsum_program.proofs.OrderFacts.{emits-prints, emits-refuses, emits-reports}
@@ -45,28 +46,28 @@ each-name-once files rules kind style names old new all (outcomes, done, rest, p
 
 -- ---- lines
 
-one-message : ToldIsOneLine → (text : List ℕ) (events : List Event) → events ≡ Reported text ∷ [] → (event : Event) × (events ≡ event ∷ []) × IsLine event
+one-message : ToldIsOneLine → (text : List ℕ) (events : List Event) → events ≡ Reported text ∷ [] → IsLineOrMessage events
 one-message told text events is = (Reported text, is, told text)
 
-pub line-or-message : PrintedIsOneLine → ToldIsOneLine → (kind : Kind) (shape : Shape) (name : List ℕ) (outcome : Outcome) → IsLineOrMessage kind shape name outcome
-line-or-message printed told kind shape name (Digested value) =
+pub line_or_message : PrintedIsOneLine → ToldIsOneLine → (kind : Kind) (shape : Shape) (name : List ℕ) (outcome : Outcome) → IsLineOrMessage (name_events kind (plain_style shape) name outcome)
+line_or_message printed told kind shape name (Digested value) =
     (Printed (line_of kind shape value name), refl, (text_of kind shape value name, refl, printed kind shape value name))
-line-or-message printed told kind shape name IsDirectory = one-message told _ _ refl
-line-or-message printed told kind shape name (Unread reason) = one-message told _ _ refl
+line_or_message printed told kind shape name IsDirectory = one-message told _ _ refl
+line_or_message printed told kind shape name (Unread reason) = one-message told _ _ refl
 
-line-if : (test : Bool) (event : Event) → IsLine event → AllByRecursion IsLine (if test then event ∷ [] else [])
-line-if true event is = (is, tt)
-line-if false event is = tt
+line-if : (test : Bool) (event : Event) → IsLine event → IsLineAtMost (if test then event ∷ [] else [])
+line-if true event is = inr (event, refl, is)
+line-if false event is = inl refl
 
-line-unless : (test : Bool) (event : Event) → IsLine event → AllByRecursion IsLine (if test then [] else event ∷ [])
-line-unless true event is = tt
-line-unless false event is = (is, tt)
+line-unless : (test : Bool) (event : Event) → IsLine event → IsLineAtMost (if test then [] else event ∷ [])
+line-unless true event is = inl refl
+line-unless false event is = inr (event, refl, is)
 
-pub findings-are-lines : ToldIsOneLine → (options : Options) (list : List ℕ) (number : ℕ) (finding : Finding) → AllByRecursion IsLine (finding_events options list number finding)
-findings-are-lines told options list number Ignored = tt
-findings-are-lines told options list number Improper = line-if options.warns (Reported (improper_text list number)) (told (improper_text list number))
-findings-are-lines told options list number TooLong = (told (too_long_text list number), tt)
-findings-are-lines told options list number (Proper name found) =
+pub findings_are_lines : ToldIsOneLine → (options : Options) (list : List ℕ) (number : ℕ) (finding : Finding) → IsLineAtMost (finding_events options list number finding)
+findings_are_lines told options list number Ignored = inl refl
+findings_are_lines told options list number Improper = line-if options.warns (Reported (improper_text list number)) (told (improper_text list number))
+findings_are_lines told options list number TooLong = inr (Reported (too_long_text list number), refl, told (too_long_text list number))
+findings_are_lines told options list number (Proper name found) =
     let text = found_text list number name found in line-unless (is_silent options found) (Printed (one_line text)) (told text)
 
 -- ---- runs that stop

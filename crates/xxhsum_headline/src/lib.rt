@@ -14,7 +14,7 @@ ghost use Rattle.xxhsum_audit.specs.Audit.{IsAudit};
 ghost use Rattle.xxhsum_audit.specs.Item.{HasSameDigest, IsAmong, Item};
 ghost use Rattle.xxhsum_audit.specs.Laws.{IsKept, IsRight};
 ghost use Rattle.xxhsum_audit.specs.Found.{Copied, Found, Missing, New, Same, line_in, name_in};
-ghost use Rattle.xxhsum_headline.specs.Headline.{IsLine, IsLineOrMessage, PrintsBeginning};
+ghost use Rattle.xxhsum_headline.specs.Headline.{IsLineAtMost, IsLineOrMessage, PrintsBeginning};
 ghost use Rattle.xxhsum_line.specs.Entry.{Says};
 ghost use Rattle.xxhsum_line.specs.Escapes.{one_line};
 ghost use Rattle.xxhsum_line.specs.Laws.{IsOneLine};
@@ -25,7 +25,7 @@ ghost use Rattle.xxhsum_program.specs.HashNames.{SaysNames, name_events};
 ghost use Rattle.xxhsum_program.specs.Lines.{lines_of};
 ghost use Rattle.xxhsum_program.specs.ListEnd.{ListEnd};
 ghost use Rattle.xxhsum_program.specs.Outcomes.{Comes, IsValueOf, are_digested};
-ghost use Rattle.xxhsum_program.specs.PrintedIsGood.{PrintedIsGood};
+ghost use Rattle.xxhsum_program.specs.PrintedIsGood.{PrintedIsGood, plain_style};
 ghost use Rattle.xxhsum_program.specs.Files.{files_of, input_of};
 ghost use Rattle.xxhsum_program.specs.Order.{EmitsAll, EmitsTo, Event, effect_of, printed_of, reported_of, rules_of};
 ghost use Rattle.xxhsum_program.specs.Streams.{err_of};
@@ -42,6 +42,7 @@ use xxhsum_program::{good_lists, printed_lists};
 
 /// The exit status is 0 if and only if a run reached its end and everything is well. It is never 0 after a failed write
 /// or out of memory.
+#[tactic(auto, using(crate::proofs::HeadlineFacts::status))]
 pub fn status()
     ensures { (done : Result Bool Stop) → (status_of done ≡ 0) ↔ (done ≡ Ok true) }
 {}
@@ -80,13 +81,14 @@ pub fn each_stream<W: Sink, E: Sink>()
 
 /// Whatever bytes names have, each message and each printed result is one line, so no name can forge one, for example
 /// one that reports another file as `OK`. The outcome of a name is one line and no message, or one message and no line.
-/// A line of a list has at most one line or message. Each message (`Reported`, `Finds`, `OnlyTells`, `Reports`), each
-/// line of an audit, and the line that no file was verified are `one_line` of a text.
+/// A line of a list has the same, or neither. Each message (`Reported`, `Finds`, `OnlyTells`, `Reports`), each line of
+/// an audit, and the line that no file was verified are `one_line` of a text.
+#[tactic(auto, using(crate::proofs::HeadlineFacts::line_or_message, crate::proofs::HeadlineFacts::findings_are_lines))]
 pub fn one_line_a_name()
     ensures names { (kind : Kind) (shape : Shape) (name : List ℕ) (outcome : Outcome)
-        → IsLineOrMessage kind shape name outcome }
+        → IsLineOrMessage (name_events kind (plain_style shape) name outcome) }
     ensures findings { (options : Options) (list : List ℕ) (number : ℕ) (finding : Finding)
-        → AllByRecursion IsLine (finding_events options list number finding) }
+        → IsLineAtMost (finding_events options list number finding) }
     ensures lines { (text : List ℕ) → IsOneLine (one_line text) }
 {
     laws_of_lines();
