@@ -482,13 +482,12 @@ fn say_unread<'a, W: Output>(
 }
 
 /// Reports what is wrong with line `number` of `list`.
-pub fn tell_of_line<'a, E: Sink>(list: &'a [u8], number: u64, what: &'a [u8], err: &mut E)
+pub fn tell_of_line<E: Sink>(list: &[u8], number: u64, what: &[u8], err: &mut E)
     ensures { TellsOn E.Sink (one_line (told_of_line list.now number what.now)) err.old err.new }
 {
     let mut digits = Buffer::new();
     let digits = digits.format(number).as_bytes();
-    let parts: [&[u8]; 6] = [list, b":", digits, b": Error: ", what, b"."];
-    tell_line(&parts, err);
+    tell_line(&[list, b":", digits, b": Error: ", what, b"."], err);
 }
 
 // Maximum length of a line with a count, in bytes.
