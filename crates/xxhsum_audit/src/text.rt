@@ -12,7 +12,7 @@ use xxhsum_line::escapes::put_line;
 /// Returns the result of a line, of a name or of both, as a line with its newline, which is the only one in it. Names
 /// are as in lists. Returns `AllocError` if out of memory.
 pub fn verdict_line(alloc: Global, verdict: Verdict<'_>) -> Result<Vec<u8>, AllocError>
-    ensures { IfOk result (λ line. line.items ≡ text_of (found_of verdict.entry)) }
+    ensures { IfOk result (λ line. line.items ≡ one_line (text_of (found_of verdict.entry))) }
 {
     match verdict {
         Verdict::Same { name, .. } => line_of(alloc, name.name, b": same", b""),

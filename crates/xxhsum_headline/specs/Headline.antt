@@ -1,15 +1,21 @@
 -- Definitions of the main theorem.
-use Rattle.std.specs.Prelude.{◌≡◌, ◌⊎◌, ℕ, List, [], ◌++◌}
-use Rattle.xxhsum_program.specs.Prelude.{Kind, Shape, SinkRules, Took}
-use Rattle.xxhsum_program.specs.declared.outcome.Outcome.{Outcome}
+use Rattle.std.specs.Prelude.{◌≡◌, ◌⊎◌, ℕ, List, [], ◌∷◌, ◌++◌}
+use Rattle.xxhsum_program.specs.Prelude.{SinkRules, Took, one_line}
 use Rattle.xxhsum_line.specs.Laws.{IsOneLine}
-use Rattle.xxhsum_program.specs.Lines.{printed_line, told_line}
+use Rattle.xxhsum_program.specs.Order.{Event, Printed, Reported}
+
+-- the event writes one line
+abbrev pub IsLine : Event → Type 0
+IsLine (Printed bytes) = IsOneLine bytes
+IsLine (Reported text) = IsOneLine (one_line text)
 
 -- one line on standard output and no message, or one message on standard error and no line
-abbrev pub IsLineOrMessage : Kind → Shape → List ℕ → Outcome → Type 0
-IsLineOrMessage kind shape name outcome =
-    (IsOneLine (printed_line kind shape name outcome) × (told_line name outcome ≡ []))
-    ⊎ ((printed_line kind shape name outcome ≡ []) × IsOneLine (told_line name outcome))
+abbrev pub IsLineOrMessage : List Event → Type 0
+IsLineOrMessage events = (event : Event) × (events ≡ event ∷ []) × IsLine event
+
+-- the same, or nothing
+abbrev pub IsLineAtMost : List Event → Type 0
+IsLineAtMost events = (events ≡ []) ⊎ IsLineOrMessage events
 
 -- a beginning of the lines was printed, and then a write may have failed
 abbrev pub PrintsBeginning : {W : Type 0} → SinkRules W → List ℕ → W → W → Type 0

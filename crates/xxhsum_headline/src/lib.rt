@@ -14,21 +14,23 @@ ghost use Rattle.xxhsum_audit.specs.Audit.{IsAudit};
 ghost use Rattle.xxhsum_audit.specs.Item.{HasSameDigest, IsAmong, Item};
 ghost use Rattle.xxhsum_audit.specs.Laws.{IsKept, IsRight};
 ghost use Rattle.xxhsum_audit.specs.Found.{Copied, Found, Missing, New, Same, line_in, name_in};
-ghost use Rattle.xxhsum_headline.specs.Headline.{IsLineOrMessage, PrintsBeginning};
+ghost use Rattle.xxhsum_headline.specs.Headline.{IsLineAtMost, IsLineOrMessage, PrintsBeginning};
 ghost use Rattle.xxhsum_line.specs.Entry.{Says};
+ghost use Rattle.xxhsum_line.specs.Escapes.{one_line};
+ghost use Rattle.xxhsum_line.specs.Laws.{IsOneLine};
 ghost use Rattle.xxhsum_program.specs.CheckList.{EndsAs, SaysList};
 ghost use Rattle.xxhsum_program.specs.Findings.{Finding, IsFinding};
 ghost use Rattle.xxhsum_program.specs.GoodList.{IsWell};
-ghost use Rattle.xxhsum_program.specs.HashNames.{SaysNames};
-ghost use Rattle.xxhsum_program.specs.Lines.{lines_of, told_line, written_line};
+ghost use Rattle.xxhsum_program.specs.HashNames.{SaysNames, name_events};
+ghost use Rattle.xxhsum_program.specs.Lines.{lines_of};
 ghost use Rattle.xxhsum_program.specs.ListEnd.{ListEnd};
 ghost use Rattle.xxhsum_program.specs.Outcomes.{Comes, IsValueOf, are_digested};
-ghost use Rattle.xxhsum_program.specs.PrintedIsGood.{PrintedIsGood};
+ghost use Rattle.xxhsum_program.specs.PrintedIsGood.{PrintedIsGood, plain_style};
 ghost use Rattle.xxhsum_program.specs.Files.{files_of, input_of};
 ghost use Rattle.xxhsum_program.specs.Order.{EmitsAll, EmitsTo, Event, effect_of, printed_of, reported_of, rules_of};
 ghost use Rattle.xxhsum_program.specs.Streams.{err_of};
 ghost use Rattle.xxhsum_program.specs.Run.{status_of};
-ghost use Rattle.xxhsum_program.specs.Said.{list_events, named_text, printed_finding};
+ghost use Rattle.xxhsum_program.specs.Said.{finding_events, list_events};
 
 use xxh_io::ends::{Sink, Source};
 use xxhsum_audit::laws::laws_of_audits;
@@ -40,6 +42,7 @@ use xxhsum_program::{good_lists, printed_lists};
 
 /// The exit status is 0 if and only if a run reached its end and everything is well. It is never 0 after a failed write
 /// or out of memory.
+#[tactic(auto, using(crate::proofs::HeadlineFacts::status))]
 pub fn status()
     ensures { (done : Result Bool Stop) → (status_of done ≡ 0) ↔ (done ≡ Ok true) }
 {}
@@ -56,8 +59,9 @@ pub fn each_name_once<S: Store, W: Sink, E: Sink>()
         (effect_of (rules_of W.Sink held has_lost E.Sink) old new (Ok all)) kind style names
         → (outcomes : List Outcome)
         × EachHas (Comes (files_of S.Store S.File.Source store) kind) names outcomes
-        × Took W.Sink (lines_of (written_line kind style) names outcomes) old.out new.out
-        × TellsOn E.Sink (lines_of told_line names outcomes) (err_of old) (err_of new)
+        × (let events = lines_of (name_events kind style) names outcomes in
+        Took W.Sink (printed_of events) old.out new.out
+        × TellsOn E.Sink (reported_of events) (err_of old) (err_of new))
         × (all ≡ are_digested outcomes) }
 {}
 
@@ -75,10 +79,17 @@ pub fn each_stream<W: Sink, E: Sink>()
         × TellsOn E.Sink (reported_of events) (err_of old) (err_of new) }
 {}
 
-/// Whatever bytes a name has, its outcome is one line and no message, or one message and no line.
+/// Whatever bytes names have, each message and each printed result is one line, so no name can forge one, for example
+/// one that reports another file as `OK`. The outcome of a name is one line and no message, or one message and no line.
+/// A line of a list has the same, or neither. Each message (`Reported`, `Finds`, `OnlyTells`, `Reports`), each line of
+/// an audit, and the line that no file was verified are `one_line` of a text.
+#[tactic(auto, using(crate::proofs::HeadlineFacts::line_or_message, crate::proofs::HeadlineFacts::findings_are_lines))]
 pub fn one_line_a_name()
-    ensures { (kind : Kind) (shape : Shape) (name : List ℕ) (outcome : Outcome)
-        → IsLineOrMessage kind shape name outcome }
+    ensures names { (kind : Kind) (shape : Shape) (name : List ℕ) (outcome : Outcome)
+        → IsLineOrMessage (name_events kind (plain_style shape) name outcome) }
+    ensures findings { (options : Options) (list : List ℕ) (number : ℕ) (finding : Finding)
+        → IsLineAtMost (finding_events options list number finding) }
+    ensures lines { (text : List ℕ) → IsOneLine (one_line text) }
 {
     laws_of_lines();
 }
@@ -91,7 +102,7 @@ pub fn stops_early<S: Store, R: Source, W: Sink, E: Sink>()
         (effect_of (rules_of W.Sink held has_lost E.Sink) old new (Err stop)) kind style names
         → (done rest : List (List ℕ)) × (outcomes : List Outcome) × (names ≡ done ++ rest)
         × EachHas (Comes (files_of S.Store S.File.Source store) kind) done outcomes
-        × PrintsBeginning W.Sink (lines_of (written_line kind style) done outcomes)
+        × PrintsBeginning W.Sink (printed_of (lines_of (name_events kind style) done outcomes))
         old.out new.out }
     ensures list { (held : W → List ℕ) (has_lost : W → Bool) (store : S) (options : Options)
         → (name : List ℕ) (source : R) (old new : Streams W E) (stop : Stop)
@@ -110,7 +121,7 @@ pub fn ok_means_equal<S: Store>()
     ensures { (store : S) (options : Options) (list : List ℕ) (number : ℕ) (line : List ℕ)
         → (finding : Finding) (name : List ℕ)
         → IsFinding (files_of S.Store S.File.Source store) options.is_little_endian line finding
-        → printed_finding options list number finding ≡ named_text name (codes ": OK")
+        → printed_of (finding_events options list number finding) ≡ one_line (name ++ codes ": OK")
         → (kind : Kind) × (value : ℕ) × Says options.is_little_endian line kind value name
         × IsValueOf (files_of S.Store S.File.Source store) kind name value }
 {

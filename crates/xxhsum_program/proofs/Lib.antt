@@ -14,5 +14,4 @@ mod ProgressFacts
 mod SaidFacts
 mod StopFacts
 pub mod ToldFacts
-pub mod ToldLineFacts
 pub mod WatchedFacts

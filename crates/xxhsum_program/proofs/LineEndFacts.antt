@@ -1,22 +1,22 @@
 -- A line that is written in two parts, of which either may be refused.
 use Rattle.std.proofs.Common.{◌≡◌, ◌≢◌, ℕ, ◌<◌, List, [], ◌∷◌, ◌++◌, Bool, true, false, Ok, Err, IfErr, codes, nat_eq, ◌||◌, refl, sym, subst, if◌then◌else◌, arith, append-nil, ap, ◌∙◌, Result}
-use Rattle.xxhsum_program.specs.Prelude.{Options, OutOfMemory, Report, SinkRules, Stop, Took, WriteFailed, concat, one_line}
+use Rattle.xxhsum_program.specs.Prelude.{Options, OutOfMemory, Report, SinkRules, Stop, Took, WriteFailed, concat}
 use Rattle.xxhsum_program.proofs.Prelude.{Emits, EmitsTo, Event, FailedRead, Printed, PrintsLine, Refused-join, Refused-more, Reported, StreamRules, Streams, Took-join, is_unverified, streams_of}
-use Rattle.xxhsum_program.specs.Said.{break_events, count_text, printed_summary, summary_events, summary_text, told_break, told_of_line, told_summary, unverified_line, unverified_text}
+use Rattle.xxhsum_program.specs.Said.{break_events, count_text, no_line_text, printed_summary, summary_events, summary_text, told_of_line, unverified_line, unverified_text}
 use Rattle.xxhsum_program.proofs.OrderFacts.{emits-join, emits-line}
 
 -- Lemma: a line is refused if its first part is refused.
-pub line-more : {W T : Type 0} (writing : SinkRules W) (a b : List ℕ) (old new : W) (result : Result T Stop) (stop : Stop) → result ≡ Err stop → stop ≡ WriteFailed → PrintsLine {T = T} writing a old new (Err stop) → PrintsLine writing (a ++ b) old new result
-line-more writing a b old new (Ok x) stop is only prints = cc
-line-more writing a b old new (Err WriteFailed) WriteFailed is only prints = Refused-more writing a b old new prints
-line-more writing a b old new (Err OutOfMemory) WriteFailed is only prints = cc
-line-more writing a b old new (Err e) OutOfMemory is only prints = cc
+pub line_more : {W T : Type 0} (writing : SinkRules W) (a b : List ℕ) (old new : W) (result : Result T Stop) (stop : Stop) → result ≡ Err stop → stop ≡ WriteFailed → PrintsLine {T = T} writing a old new (Err stop) → PrintsLine writing (a ++ b) old new result
+line_more writing a b old new (Ok x) stop is only prints = cc
+line_more writing a b old new (Err WriteFailed) WriteFailed is only prints = Refused-more writing a b old new prints
+line_more writing a b old new (Err OutOfMemory) WriteFailed is only prints = cc
+line_more writing a b old new (Err e) OutOfMemory is only prints = cc
 
 -- Lemma: a line has the result of its second part if its first part was taken.
-pub line-join : {W T : Type 0} (writing : SinkRules W) (a b : List ℕ) (old mid new : W) (result : Result T Stop) → Took writing a old mid → IfErr result (λ stop. stop ≡ WriteFailed) → PrintsLine writing b mid new result → PrintsLine writing (a ++ b) old new result
-line-join writing a b old mid new (Ok x) took only prints = Took-join writing a b old mid new took prints
-line-join writing a b old mid new (Err WriteFailed) took only prints = Refused-join writing a b old mid new took prints
-line-join writing a b old mid new (Err OutOfMemory) took only prints = cc
+pub line_join : {W T : Type 0} (writing : SinkRules W) (a b : List ℕ) (old mid new : W) (result : Result T Stop) → Took writing a old mid → IfErr result (λ stop. stop ≡ WriteFailed) → PrintsLine writing b mid new result → PrintsLine writing (a ++ b) old new result
+line_join writing a b old mid new (Ok x) took only prints = Took-join writing a b old mid new took prints
+line_join writing a b old mid new (Err WriteFailed) took only prints = Refused-join writing a b old mid new took prints
+line_join writing a b old mid new (Err OutOfMemory) took only prints = cc
 
 -- ---- the end of a list
 
@@ -33,28 +33,21 @@ summary-is options report some speaks =
     let different = count_text report.different (codes " computed checksum did NOT match\n") (codes " computed checksums did NOT match\n") in
     one-of report.proper options.is_status_only (concat (improper ∷ unread ∷ different ∷ [])) some speaks ∙ ap (λ bytes. improper ++ (unread ++ bytes)) (append-nil different)
 
-pub none-is : (list : List ℕ) (report : Report) → report.proper ≡ 0 → told_summary list report ≡ one_line (concat (list ∷ codes ": no properly formatted xxHash checksum lines found" ∷ []))
-none-is list report none = rw none refl
-
 pub no-break : (list : List ℕ) (number : ℕ) (report : Report) → report.proper ≡ 0 → break_events list number report FailedRead ≡ []
 no-break list number report none = rw none refl
 
-not-zero : (n : ℕ) → 0 < n → n ≢ 0
-not-zero n some = λ is. omega (arith, some, is)
-
 pub break-is : (list : List ℕ) (number : ℕ) (report : Report) → 0 < report.proper → break_events list number report FailedRead ≡ Reported (told_of_line list number (codes "A failure occurred reading the list")) ∷ []
 break-is list number report some =
-    let proper = not-zero report.proper some in
-    else-of report.proper (Reported (told_break list number report FailedRead) ∷ []) proper ∙ ap (λ (text : List ℕ). Reported text ∷ []) (else-of report.proper (told_of_line list number (codes "A failure occurred reading the list")) proper)
+    else-of report.proper (Reported (told_of_line list number (codes "A failure occurred reading the list")) ∷ []) (λ is. omega (arith, some, is))
 
 -- Lemma: a list without a well-formed line is reported, and then its summary is printed.
 pub summary-reported : {W E T : Type 0} (rules : StreamRules W E) (options : Options) (list : List ℕ) (report : Report) (old met : Streams W E) (out : W) (result : Result T Stop)
-    → report.proper ≡ 0 → Emits rules (Reported (told_summary list report)) old met → PrintsLine rules.writing (summary_text options list report) met.out out result → IfErr result (λ stop. stop ≡ WriteFailed)
+    → report.proper ≡ 0 → Emits rules (Reported (no_line_text list)) old met → PrintsLine rules.writing (summary_text options list report) met.out out result → IfErr result (λ stop. stop ≡ WriteFailed)
     → EmitsTo rules (summary_events options list report) old (streams_of out met.err) result
 summary-reported rules options list report old met out result none emits prints only =
-    let events : summary_events options list report ≡ Reported (told_summary list report) ∷ Printed (summary_text options list report) ∷ [] = rw none refl in
+    let events : summary_events options list report ≡ Reported (no_line_text list) ∷ Printed (summary_text options list report) ∷ [] = rw none refl in
     subst (λ all. EmitsTo rules all old (streams_of out met.err) result) (sym events)
-    (emits-join rules (Reported (told_summary list report) ∷ []) (Printed (summary_text options list report) ∷ []) old met (streams_of out met.err) result (met, emits, (refl, refl)) (emits-line rules (summary_text options list report) met out result prints only))
+    (emits-join rules (Reported (no_line_text list) ∷ []) (Printed (summary_text options list report) ∷ []) old met (streams_of out met.err) result (met, emits, (refl, refl)) (emits-line rules (summary_text options list report) met out result prints only))
 
 only-if : {T : Type 0} (count : ℕ) (items : List T) → count ≢ 0 → (if nat_eq count 0 then items else []) ≡ []
 only-if count items some = grind arith
@@ -65,8 +58,8 @@ pub summary-printed : {W E T : Type 0} (rules : StreamRules W E) (options : Opti
     → EmitsTo rules (summary_events options list report) old (streams_of out old.err) result
 summary-printed rules options list report old out result some prints only =
     let events : summary_events options list report ≡ Printed (summary_text options list report) ∷ [] =
-    ap (λ (all : List Event). all ++ Printed (summary_text options list report) ∷ []) (only-if report.proper (Reported (told_summary list report) ∷ []) some) in
+    ap (λ (all : List Event). all ++ Printed (summary_text options list report) ∷ []) (only-if report.proper (Reported (no_line_text list) ∷ []) some) in
     subst (λ all. EmitsTo rules all old (streams_of out old.err) result) (sym events) (emits-line rules (summary_text options list report) old out result prints only)
 
-pub unverified-is : (options : Options) (list : List ℕ) (report : Report) → is_unverified options.ignores_missing report ≡ true → unverified_text options list report ≡ unverified_line list
-unverified-is options list report is = rw is refl
+pub unverified_is : (options : Options) (list : List ℕ) (report : Report) → is_unverified options.ignores_missing report ≡ true → unverified_text options list report ≡ unverified_line list
+unverified_is options list report is = rw is refl

@@ -22,10 +22,10 @@ rest-of xs start end n within =
     ap (λ k. drop n (take k (drop start xs))) whole ∙ drop-take n (end - (start + n)) (drop start xs) ∙ ap (take (end - (start + n))) (drop-drop n start xs)
 
 -- Lemma: the first newline of the buffered bytes ends the next line.
-pub found-line-feed : {R X : Type 0} (lines : Lines R X) (found : Option ℕ) → lines.end ≤ length lines.buf → IsFirstByte (is_byte 10) (waiting lines) found → IsBeforeLineFeed found lines
-found-line-feed lines None inside first =
+pub found_line_feed : {R X : Type 0} (lines : Lines R X) (found : Option ℕ) → lines.end ≤ length lines.buf → IsFirstByte (is_byte 10) (waiting lines) found → IsBeforeLineFeed found lines
+found_line_feed lines None inside first =
     lacks_by_place 10 (waiting lines) (λ k lt e. first k (omega arith) lt (ap (λ x. is_byte 10 x) e))
-found-line-feed lines (Some len) inside first =
+found_line_feed lines (Some len) inside first =
     let w = waiting lines in
     let size : length (waiting lines) ≡ lines.end - lines.start = length-between lines.buf lines.start lines.end inside in
     let below : len < length (waiting lines) = first.0.high in

@@ -1,9 +1,10 @@
 -- Proves that a line "NAME: OK" is printed only for a file with the line's value.
-use Rattle.std.proofs.Common.{◌≡◌, ◌≢◌, ◌+◌, ℕ, Bool, true, false, List, [], ◌∷◌, ◌++◌, refl, sym, ap, ◌∙◌, subst, arith, codes, decimal, drop, length, if◌then◌else◌}
+use Rattle.std.proofs.Common.{◌≡◌, ◌≢◌, ◌+◌, ℕ, Bool, true, false, List, [], ◌∷◌, ◌++◌, refl, sym, ap, ◌∙◌, subst, append-nil, arith, codes, decimal, drop, length, if◌then◌else◌}
 use Rattle.xxhsum_program.specs.Prelude.{Found, SourceRules, StoreRules, concat, files_of}
 use Rattle.std.proofs.lemmas.List.{append_assoc, append_cancel_right, length_push, same_from_push}
-use Rattle.xxhsum_program.proofs.Prelude.{Different, EscapeIsUndone, Ignored, Improper, IsFound, IsValueOf, OkMeansEqual, PlainNamesStay, Proper, Same, Says, TooLong, Unread, found_text, is_silent, named_text, reason_text, same_Some}
+use Rattle.xxhsum_program.proofs.Prelude.{Different, EscapeIsUndone, Ignored, Improper, IsFound, IsValueOf, OkMeansEqual, PlainNamesStay, Printed, Proper, Reported, Same, Says, TooLong, Unread, printed_of, reason_text, same_Some}
 use Rattle.xxhsum_line.specs.Escapes.{escaped, mark_of, needs_escape, one_line, unescaped}
+use Rattle.xxhsum_program.specs.Said.{found_text, improper_text, is_silent}
 
 -- ---- the text of a line, which is unique
 
@@ -41,10 +42,10 @@ not-both : (c d : ℕ) (a b : List ℕ) → c ≢ d → Ends c a → Ends d b �
 not-both c d a b differ (front, of_a) (other, of_b) is =
     differ (same_from_push front other c d (sym of_a ∙ is ∙ of_b)).1
 
-ok-ends : (name : List ℕ) → Ends 75 (concat (name ∷ codes ": OK" ∷ []))
+ok-ends : (name : List ℕ) → Ends 75 (name ++ codes ": OK")
 ok-ends name = behind name (codes ": OK") 75 (codes ": O", refl)
 
-failed-ends : (name : List ℕ) → Ends 68 (concat (name ∷ codes ": FAILED" ∷ []))
+failed-ends : (name : List ℕ) → Ends 68 (name ++ codes ": FAILED")
 failed-ends name = behind name (codes ": FAILED") 68 (codes ": FAILE", refl)
 
 unread-ends : (list : List ℕ) (number : ℕ) (name why : List ℕ)
@@ -56,28 +57,27 @@ unread-ends list number name why =
 
 -- ---- a line of a list
 
-spoken : (silent : Bool) (text shown : List ℕ) → (if silent then [] else shown) ≡ one_line text → shown ≡ one_line text
-spoken true text shown is = absurd (some-line text is)
-spoken false text shown is = is
+not-reported : (test : Bool) (said text : List ℕ) → printed_of (if test then Reported said ∷ [] else []) ≡ one_line text → ⊥
+not-reported true said text is = some-line text is
+not-reported false said text is = some-line text is
 
-found-same : EscapeIsUndone → PlainNamesStay → (quiet : Bool) (list : List ℕ) (number : ℕ) (said name : List ℕ) (found : Found)
-    → found_text quiet list number said found ≡ named_text name (codes ": OK") → (found ≡ Same) × (said ≡ name)
-found-same undone stay quiet list number said name Same is =
-    let whole = spoken quiet (concat (name ∷ codes ": OK" ∷ [])) (named_text said (codes ": OK")) is in
-    let texts = texts-same undone stay (concat (said ∷ codes ": OK" ∷ [])) (concat (name ∷ codes ": OK" ∷ [])) whole in
-    (refl, append_cancel_right said name (codes ": OK") texts)
-found-same undone stay quiet list number said name Different is =
-    absurd (not-both 68 75 _ _ (λ no. absurd (omega (arith, no))) (failed-ends said) (ok-ends name) (texts-same undone stay _ _ is))
-found-same undone stay quiet list number said name (Unread reason) is =
-    absurd (not-both 46 75 _ _ (λ no. absurd (omega (arith, no))) (unread-ends list number said (reason_text reason)) (ok-ends name) (texts-same undone stay _ _ is))
+spoken : EscapeIsUndone → PlainNamesStay → (silent : Bool) (shown text : List ℕ) → printed_of (if silent then [] else Printed (one_line shown) ∷ []) ≡ one_line text → shown ≡ text
+spoken undone stay true shown text is = absurd (some-line text is)
+spoken undone stay false shown text is = texts-same undone stay shown text (sym (append-nil (one_line shown)) ∙ is)
 
-pub ok-means-equal : {S F : Type 0} (opening : StoreRules S F) (reading : SourceRules F) → EscapeIsUndone → PlainNamesStay → OkMeansEqual opening reading
-ok-means-equal opening reading undone stay store options list number line Ignored name finds is = absurd (some-line (concat (name ∷ codes ": OK" ∷ [])) is)
-ok-means-equal opening reading undone stay store options list number line Improper name finds is = absurd (some-line (concat (name ∷ codes ": OK" ∷ [])) is)
-ok-means-equal opening reading undone stay store options list number line TooLong name finds is = absurd (some-line (concat (name ∷ codes ": OK" ∷ [])) is)
-ok-means-equal opening reading undone stay store options list number line (Proper said found) name (short, kind, value, says, of_file) is =
-    let shown = spoken (is_silent options found) (concat (name ∷ codes ": OK" ∷ [])) (found_text options.is_quiet list number said found) is in
-    let same = found-same undone stay options.is_quiet list number said name found shown in
+found-same : (list : List ℕ) (number : ℕ) (said name : List ℕ) (found : Found) → found_text list number said found ≡ name ++ codes ": OK" → (found ≡ Same) × (said ≡ name)
+found-same list number said name Same is = (refl, append_cancel_right said name (codes ": OK") is)
+found-same list number said name Different is =
+    absurd (not-both 68 75 _ _ (λ no. absurd (omega (arith, no))) (failed-ends said) (ok-ends name) is)
+found-same list number said name (Unread reason) is =
+    absurd (not-both 46 75 _ _ (λ no. absurd (omega (arith, no))) (unread-ends list number said (reason_text reason)) (ok-ends name) is)
+
+pub ok_means_equal : {S F : Type 0} (opening : StoreRules S F) (reading : SourceRules F) → EscapeIsUndone → PlainNamesStay → OkMeansEqual opening reading
+ok_means_equal opening reading undone stay store options list number line Ignored name finds is = absurd (some-line (name ++ codes ": OK") is)
+ok_means_equal opening reading undone stay store options list number line Improper name finds is = absurd (not-reported options.warns (improper_text list number) (name ++ codes ": OK") is)
+ok_means_equal opening reading undone stay store options list number line TooLong name finds is = absurd (some-line (name ++ codes ": OK") is)
+ok_means_equal opening reading undone stay store options list number line (Proper said found) name (short, kind, value, says, of_file) is =
+    let same = found-same list number said name found (spoken undone stay (is_silent options found) (found_text list number said found) (name ++ codes ": OK") is) in
     let equal : IsValueOf (files_of opening reading store) kind said value = subst (λ f. IsFound (files_of opening reading store) kind value said f) same.0 of_file in (
       kind,
       value,

@@ -1,12 +1,12 @@
 -- Lemmas on events of both streams.
 use Rattle.std.proofs.Common.{◌≡◌, ℕ, List, [], ◌∷◌, ◌++◌, refl, sym, ap, ◌∙◌, subst, append-nil, append_assoc, Ok, Err, IfErr, Result}
-use Rattle.xxhsum_program.proofs.Prelude.{OutOfMemory, PrintsLine, Refused, Refused-join, Stop, Streams, TellsOn, Took, Took-join, WriteFailed, streams_of}
+use Rattle.xxhsum_program.proofs.Prelude.{OutOfMemory, PrintsLine, Refused, Refused-join, Stop, Streams, TellsOn, Took, Took-join, WriteFailed, one_line, streams_of}
 use Rattle.xxhsum_program.specs.Order.{Emits, EmitsAll, EmitsOrNone, EmitsTo, Event, Printed, Reported, StreamRules, printed_of, reported_of}
 use Rattle.xxhsum_program.proofs.ToldFacts.{tells-more, tells-nothing}
 
 emits-from : {W E : Type 0} (rules : StreamRules W E) (event : Event) (old mid new : Streams W E) → mid.out ≡ old.out → mid.err ≡ old.err → Emits rules event mid new → Emits rules event old new
 emits-from rules (Printed bytes) old mid new out err emits = rw (sym out, sym err) emits
-emits-from rules (Reported bytes) old mid new out err emits = rw (sym out, sym err) emits
+emits-from rules (Reported text) old mid new out err emits = rw (sym out, sym err) emits
 
 -- ---- events after others
 
@@ -51,7 +51,7 @@ pub emits-prints : {W E : Type 0} (rules : StreamRules W E) (events : List Event
 emits-prints rules [] old new same = ([], same.0, refl)
 emits-prints rules (Printed bytes ∷ events) old new (mid, emits, rest) =
     Took-join rules.writing bytes (printed_of events) old.out mid.out new.out emits.0 (emits-prints rules events mid new rest)
-emits-prints rules (Reported bytes ∷ events) old new (mid, emits, rest) =
+emits-prints rules (Reported text ∷ events) old new (mid, emits, rest) =
     Took-join rules.writing [] (printed_of events) old.out mid.out new.out emits.0 (emits-prints rules events mid new rest)
 
 pub emits-reports : {W E : Type 0} (rules : StreamRules W E) (events : List Event) (old new : Streams W E) → EmitsAll rules events old new → TellsOn rules.telling (reported_of events) old.err new.err
@@ -59,19 +59,19 @@ emits-reports rules [] old new same =
     subst (λ err. TellsOn rules.telling [] old.err err) (sym same.1) (tells-nothing rules.telling old.err)
 emits-reports rules (Printed bytes ∷ events) old new (mid, emits, rest) =
     tells-more rules.telling [] (reported_of events) old.err mid.err new.err emits.1 (emits-reports rules events mid new rest)
-emits-reports rules (Reported bytes ∷ events) old new (mid, emits, rest) =
-    tells-more rules.telling bytes (reported_of events) old.err mid.err new.err emits.2 (emits-reports rules events mid new rest)
+emits-reports rules (Reported text ∷ events) old new (mid, emits, rest) =
+    tells-more rules.telling (one_line text) (reported_of events) old.err mid.err new.err emits.2 (emits-reports rules events mid new rest)
 
 printed-append : (a : List Event) (line : List ℕ) → printed_of (a ++ Printed line ∷ []) ≡ printed_of a ++ line
 printed-append [] line = append-nil line
 printed-append (Printed bytes ∷ a) line =
     ap (λ (rest : List ℕ). bytes ++ rest) (printed-append a line) ∙ sym (append_assoc bytes (printed_of a) line)
-printed-append (Reported bytes ∷ a) line = printed-append a line
+printed-append (Reported text ∷ a) line = printed-append a line
 
 reported-append : (a : List Event) (line : List ℕ) → reported_of (a ++ Printed line ∷ []) ≡ reported_of a
 reported-append [] line = refl
 reported-append (Printed bytes ∷ a) line = reported-append a line
-reported-append (Reported bytes ∷ a) line = ap (λ (rest : List ℕ). bytes ++ rest) (reported-append a line)
+reported-append (Reported text ∷ a) line = ap (λ (rest : List ℕ). one_line text ++ rest) (reported-append a line)
 
 -- Lemma: if a write failed, a prefix of the printed bytes is written, and all messages are.
 pub emits-refuses : {W E : Type 0} (T : Type 0) (rules : StreamRules W E) (events : List Event) (old new : Streams W E) → EmitsTo {T = T} rules events old new (Err WriteFailed) → Refused rules.writing (printed_of events) old.out new.out × TellsOn rules.telling (reported_of events) old.err new.err

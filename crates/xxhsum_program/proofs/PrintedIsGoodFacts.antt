@@ -1,15 +1,16 @@
 -- Proves that a hashing run prints a good list while the files stay unchanged.
 use Rattle.std.proofs.Common.{◌≡◌, ℕ, ◌+◌, ◌<◌, Bool, true, false, List, [], ◌∷◌, ◌++◌, length, refl, sym, ap, subst, ◌∙◌, arith, ◌^◌, nat_eq, nat_lt}
-use Rattle.xxhsum_program.proofs.Prelude.{Comes, Different, FilesStay, IsName, PrintedIsGood, Same, digits_of, entries_of, is_good, is_unverified, line_of, lines_of, nat_tests, passes, printed_line, report_at, value-lt}
+use Rattle.xxhsum_program.proofs.Prelude.{Comes, Different, Same, digits_of, is_good, is_unverified, line_of, lines_of, name_events, nat_tests, passes, printed_of, report_at, value-lt}
 use Rattle.xxhsum_program.specs.Prelude.{AllByRecursion, Digested, EachHas, Files, Found, IsDirectory, Kind, Options, Outcome, Report, Shape, SourceRules, StoreRules, Unread, concat, files_of}
 use Rattle.xxhsum_program.specs.Findings.{Finding, Proper, add_up, no_findings, one_more}
+use Rattle.xxhsum_program.specs.PrintedIsGood.{FilesStay, IsName, PrintedIsGood, entries_of, plain_style}
 use Rattle.xxhsum_program.specs.PrintedList.{AreListed, AreFindingsOf, Holds, Listed, printed_list}
 use Rattle.xxhsum_program.specs.declared.entry.Found.TheVariants as Is
 use Rattle.xxhsum_program.proofs.PrintedListFacts.{checks_printed, short_names_fit}
 
 -- Lemma: the printed lines are the list of the entries.
 printed_text : (kind : Kind) (shape : Shape) (names : List (List ℕ)) (outcomes : List Outcome)
-    → lines_of (printed_line kind shape) names outcomes ≡ printed_list (entries_of kind shape names outcomes)
+    → printed_of (lines_of (name_events kind (plain_style shape)) names outcomes) ≡ printed_list (entries_of kind shape names outcomes)
 printed_text kind shape [] outcomes = refl
 printed_text kind shape (name ∷ names) [] = refl
 printed_text kind shape (name ∷ names) (Digested value ∷ outcomes) = ap (λ t. line_of kind shape value name ++ t) (printed_text kind shape names outcomes)

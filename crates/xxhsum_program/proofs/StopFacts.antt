@@ -1,9 +1,9 @@
 -- Lemmas on the check of a list, at the lines where it stops and at its end.
-use Rattle.std.proofs.Common.{◌≡◌, ℕ, ◌+◌, Bool, true, false, List, [], ◌∷◌, ◌++◌, length, Option, Some, None, Ok, Err, refl, sym, subst, inl, Result}
-use Rattle.xxhsum_program.specs.Prelude.{EachHas, Found, Options, OutOfMemory, Report, SourceRules, Stop, WriteFailed}
+use Rattle.std.proofs.Common.{◌≡◌, ℕ, ◌+◌, Bool, false, List, [], ◌∷◌, ◌++◌, length, Option, Some, None, Ok, Err, refl, sym, subst, inl, Result}
+use Rattle.xxhsum_program.specs.Prelude.{EachHas, Found, Options, OutOfMemory, Report, SourceRules, Stop, WriteFailed, one_line}
 use Rattle.xxhsum_program.proofs.Prelude.{EmitsAll, EmitsTo, Finding, Lines, ListEnd, PrintsLine, Proper, StreamRules, Streams, count_proper, passes, streams_of}
 use Rattle.xxhsum_program.specs.CheckList.{AnswersList, AnswersOutcome, Checked, ChecksLine, FindsLines, ReportsLines, line_check}
-use Rattle.xxhsum_program.specs.Said.{break_events, finding_events, found_text, is_silent, lines_events, list_events, numbered, printed_finding, summary_events}
+use Rattle.xxhsum_program.specs.Said.{break_events, finding_events, found_text, is_silent, lines_events, list_events, numbered, summary_events}
 use Rattle.xxhsum_program.proofs.CheckFacts.{Stands, some-read}
 use Rattle.xxhsum_program.proofs.EachFacts.{EachHas-push}
 use Rattle.xxhsum_program.proofs.OrderFacts.{emits-append, emits-join, emits-line, emits-stop}
@@ -24,19 +24,14 @@ ListChecked is_finding reading rules options list source old new result =
 
 -- ---- a line
 
-pub silent-prints : (options : Options) (list : List ℕ) (number : ℕ) (name : List ℕ) (found : Found) → is_silent options found ≡ true → printed_finding options list number (Proper name found) ≡ []
-silent-prints options list number name found silent = rw silent refl
-
 -- Lemma: a file's result is printed, unless the run stops.
 pub line-said : {W E : Type 0} (is_finding : Finding → Type 0) (rules : StreamRules W E) (options : Options) (list : List ℕ) (number : ℕ) (name shown : List ℕ) (found : Found) (r_old r_new : Report) (old : Streams W E) (out : W) (result : Result (Unit {0}) Stop)
-    → is_silent options found ≡ false → shown ≡ name → is_finding (Proper name found) → r_new ≡ count_proper options.ignores_missing r_old found → PrintsLine rules.writing (found_text options.is_quiet list number shown found) old.out out result
+    → is_silent options found ≡ false → shown ≡ name → is_finding (Proper name found) → r_new ≡ count_proper options.ignores_missing r_old found → PrintsLine rules.writing (one_line (found_text list number shown found)) old.out out result
     → ChecksLine is_finding (line_check options list number r_old r_new) rules old (streams_of out old.err) result
 line-said is_finding rules options list number name shown found r_old r_new old out (Ok x) speaks same is counted prints =
-    let text : found_text options.is_quiet list number shown found ≡ printed_finding options list number (Proper name found) = rw (speaks, same) refl in
-    (Proper name found, is, counted, emits-line {T = Unit {0}} rules (printed_finding options list number (Proper name found)) old out (Ok tt) (subst (λ bytes. PrintsLine {T = Unit {0}} rules.writing bytes old.out out (Ok tt)) text prints) tt)
+    (Proper name found, is, counted, rw speaks (emits-line {T = Unit {0}} rules _ old out (Ok tt) (rw same at prints) tt))
 line-said is_finding rules options list number name shown found r_old r_new old out (Err WriteFailed) speaks same is counted prints =
-    let text : found_text options.is_quiet list number shown found ≡ printed_finding options list number (Proper name found) = rw (speaks, same) refl in
-    (Proper name found, is, emits-line {T = Unit {0}} rules (printed_finding options list number (Proper name found)) old out (Err WriteFailed) (subst (λ bytes. PrintsLine {T = Unit {0}} rules.writing bytes old.out out (Err WriteFailed)) text prints) refl)
+    (Proper name found, is, rw speaks (emits-line {T = Unit {0}} rules _ old out (Err WriteFailed) (rw same at prints) refl))
 line-said is_finding rules options list number name shown found r_old r_new old out (Err OutOfMemory) speaks same is counted prints = (prints, refl)
 
 -- ---- a line at which the check stops

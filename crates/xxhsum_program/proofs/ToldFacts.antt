@@ -1,6 +1,7 @@
 -- Lemmas on messages that are followed by more messages.
-use Rattle.std.proofs.Common.{◌≡◌, ◌↔◌, ℕ, Bool, true, false, List, [], ◌++◌, refl, sym, ap, subst, append-nil, append_assoc, is_err, Ok, Err, IfErr, Result}
-use Rattle.xxhsum_program.proofs.Prelude.{DigestError, Refused-more, SinkRules, TellsOn, Told, Writes, Writes-join}
+use Rattle.std.proofs.Common.{◌≡◌, ◌↔◌, ℕ, Bool, true, false, List, [], ◌++◌, flat_map, refl, sym, ap, subst, append-nil, append_assoc, is_err, Ok, Err, IfErr, Result}
+use Rattle.std.proofs.lemmas.List.Concat.{flat_map-append}
+use Rattle.xxhsum_program.proofs.Prelude.{DigestError, Refused-more, SinkRules, TellsLines, TellsOn, Told, Writes, Writes-join, one_line}
 use Rattle.xxh_io.specs.declared.error.DigestError.TheVariants.{ReadFailed, WriteFailed, TooLong}
 
 -- Lemma: `a ++ b` is reported if `a` is reported and the sink has failed.
@@ -30,3 +31,7 @@ tells-nothing telling old = λ initial before told.
 pub tells-more : {E : Type 0} (telling : SinkRules E) (a b : List ℕ) (old mid new : E) → TellsOn telling a old mid → TellsOn telling b mid new → TellsOn telling (a ++ b) old new
 tells-more telling a b old mid new first second = λ initial before told.
     subst (λ bytes. Told telling bytes initial new) (append_assoc before a b) (second initial (before ++ a) (first initial before told))
+
+pub lines-more : {E : Type 0} (telling : SinkRules E) (a b : List (List ℕ)) (old mid new : E) → TellsLines telling a old mid → TellsLines telling b mid new → TellsLines telling (a ++ b) old new
+lines-more telling a b old mid new first second =
+    subst (λ bytes. TellsOn telling bytes old new) (sym (flat_map-append one_line a b)) (tells-more telling (flat_map one_line a) (flat_map one_line b) old mid new first second)

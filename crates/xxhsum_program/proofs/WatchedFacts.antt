@@ -13,5 +13,5 @@ inner-on reading most pieces old new (Err WriteFailed) (count, read) = (count, i
 inner-on reading most pieces old new (Err ReadFailed) (count, (met, read, failed)) = (count, (source_of met, inner-pieces reading old met pieces read, failed))
 inner-on reading most pieces old new (Err TooLong) (count, read) = (count, inner-pieces reading old new pieces read)
 
-pub inner-reads : {R X T : Type 0} (reading : SourceRules R) (most : ℕ) (pieces : List (List ℕ)) (old new : Watched R X) (read : Result T DigestError) → ReadsTo (watched_reading reading) most pieces old new read → ReadsTo reading most pieces (source_of old) (source_of new) read
-inner-reads reading most pieces old new read (some, on, long) = (some, inner-on reading most pieces old new read on, long)
+pub inner_reads : {R X T : Type 0} (reading : SourceRules R) (most : ℕ) (pieces : List (List ℕ)) (old new : Watched R X) (read : Result T DigestError) → ReadsTo (watched_reading reading) most pieces old new read → ReadsTo reading most pieces (source_of old) (source_of new) read
+inner_reads reading most pieces old new read (some, on, long) = (some, inner-on reading most pieces old new read on, long)

@@ -1,12 +1,12 @@
 -- The check of a list: one finding for each of its lines, in their order.
 use Rattle.std.specs.Prelude.{◌≡◌, ◌⊎◌, ℕ, ◌-◌, ◌^◌, Bool, true, false, List, [], ◌∷◌, ◌++◌, Option, Some, None, length, Result, Ok, Err}
 use Rattle.std.specs.List.{list_all}
-use Rattle.xxhsum_program.specs.Prelude.{AllByRecursion, EachHas, Lacks, NoneEmpty, Options, OutOfMemory, Pieces, Refusal, Report, Files, Input, SourceRules, Stop, WriteFailed, concat}
+use Rattle.xxhsum_program.specs.Prelude.{AllByRecursion, EachHas, Files, Input, Lacks, NoneEmpty, Options, OutOfMemory, Pieces, Refusal, Report, SourceRules, Stop, WriteFailed, concat}
 use Rattle.xxhsum_program.specs.Findings.{Finding, IsFinding, count_one}
 use Rattle.xxhsum_program.specs.Lines.{lines_of}
 use Rattle.xxhsum_program.specs.ListEnd.{ListEnd, Whole, TooMany, Endless, FailedRead, report_at}
 use Rattle.xxhsum_program.specs.ListLines.{FailsAfter, IsEndless, IsLastLine, end_piece}
-use Rattle.xxhsum_program.specs.Order.{EmitsAll, EmitsTo, EmitsUnlessFailed, Effect, Event, Reported, StreamRules}
+use Rattle.xxhsum_program.specs.Order.{Effect, EmitsAll, EmitsTo, EmitsUnlessFailed, Event, Reported, StreamRules}
 use Rattle.xxhsum_program.specs.declared.streams.Streams.{Streams}
 use Rattle.xxhsum_program.specs.Report.{passes}
 use Rattle.xxhsum_program.specs.Said.{finding_events, list_events, told_refusal}

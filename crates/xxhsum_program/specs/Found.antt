@@ -1,8 +1,8 @@
 -- The state of a line's file, compared with the line.
-use Rattle.std.specs.Prelude.{◌≢◌, ℕ, Bool, false, ◌&&◌, List}
+use Rattle.std.specs.Prelude.{◌≢◌, ℕ, List}
 use Rattle.xxhsum_program.specs.Prelude.{Files, Found, Kind}
 use Rattle.xxhsum_program.specs.declared.entry.Found.TheVariants.{Same, Different, Unread}
-use Rattle.xxhsum_program.specs.Outcomes.{HasNoValue, IsValueOf, has_no_file}
+use Rattle.xxhsum_program.specs.Outcomes.{HasNoValue, IsValueOf}
 
 -- The file of this name has this value by this algorithm, another value, or none.
 abbrev pub IsFound : {S F : Type 0} → Files S F → Kind → ℕ → List ℕ → Found → Type 0
@@ -12,13 +12,3 @@ IsFound files kind value name Different =
     (other : ℕ) × IsValueOf files kind name other × (other ≢ value)
 IsFound files kind value name (Unread reason) =
     HasNoValue files name reason
-
--- True if there is no such file.
-abbrev pub is_gone : Found → Bool
-is_gone Same = false
-is_gone Different = false
-is_gone (Unread reason) = has_no_file reason
-
--- True if the file is missing, and missing files are ignored.
-abbrev pub is_passed_over : Bool → Found → Bool
-is_passed_over ignores found = ignores && is_gone found

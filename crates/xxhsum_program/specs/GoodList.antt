@@ -1,13 +1,14 @@
 -- Laws of good lists, and of lines that are printed as OK.
-use Rattle.std.specs.Prelude.{◌≡◌, ◌⊎◌, ℕ, Bool, true, List, Option, codes}
-use Rattle.xxhsum_program.specs.Prelude.{AllByRecursion, Files, Kind, Options, Refusal, SourceRules, StoreRules, files_of}
+use Rattle.std.specs.Prelude.{◌≡◌, ◌⊎◌, ◌++◌, ℕ, Bool, true, List, Option, codes}
+use Rattle.xxhsum_program.specs.Prelude.{AllByRecursion, Files, Kind, Options, Refusal, SourceRules, StoreRules, files_of, one_line}
 use Rattle.xxhsum_files.specs.Refusal.{is_missing}
 use Rattle.xxhsum_line.specs.Entry.{Says, SaysNothing, is_comment}
 use Rattle.xxhsum_program.specs.CheckList.{FindsLines, MeetsLines, is_good_list}
 use Rattle.xxhsum_program.specs.Findings.{Finding, IsFinding}
 use Rattle.xxhsum_program.specs.ListEnd.{ListEnd}
+use Rattle.xxhsum_program.specs.Order.{printed_of}
 use Rattle.xxhsum_program.specs.Outcomes.{IsValueOf}
-use Rattle.xxhsum_program.specs.Said.{named_text, printed_finding}
+use Rattle.xxhsum_program.specs.Said.{finding_events}
 
 -- There is no file of this name, and missing files are ignored.
 abbrev pub IsPassedOver : {S F : Type 0} → Files S F → Bool → List ℕ → Type 0
@@ -36,6 +37,6 @@ abbrev pub OkMeansEqual : {S F : Type 0} → StoreRules S F → SourceRules F �
 OkMeansEqual {S} opening reading =
     (store : S) (options : Options) (list : List ℕ) (number : ℕ) (line : List ℕ) (finding : Finding) (name : List ℕ)
     → IsFinding (files_of opening reading store) options.is_little_endian line finding
-    → printed_finding options list number finding ≡ named_text name (codes ": OK")
+    → printed_of (finding_events options list number finding) ≡ one_line (name ++ codes ": OK")
     → (kind : Kind) × (value : ℕ) × Says options.is_little_endian line kind value name
     × IsValueOf (files_of opening reading store) kind name value

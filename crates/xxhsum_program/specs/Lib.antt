@@ -25,5 +25,4 @@ pub mod Screen
 pub mod Streams
 pub mod Task
 pub mod Told
-pub mod ToldLines
 pub mod Watched

@@ -1,6 +1,6 @@
 -- The bytes written to standard output and standard error, in one order.
 use Rattle.std.specs.Prelude.{◌≡◌, ◌⊎◌, ℕ, Bool, true, List, [], ◌∷◌, ◌++◌, Result, Ok, Err}
-use Rattle.xxhsum_program.specs.Prelude.{OutOfMemory, Refused, SinkRules, Stop, Streams, TellsOn, Took, WriteFailed}
+use Rattle.xxhsum_program.specs.Prelude.{OutOfMemory, Refused, SinkRules, Stop, Streams, TellsOn, Took, WriteFailed, one_line}
 use Rattle.xxhsum_program.specs.Finish.{IsWritten}
 use Rattle.xxhsum_program.specs.Streams.{err_of}
 
@@ -14,7 +14,7 @@ pub record StreamRules (W E : Type 0) : Type 1 where
 abbrev pub rules_of : {W E : Type 0} → SinkRules W → (W → List ℕ) → (W → Bool) → SinkRules E → StreamRules W E
 rules_of writing held has_lost telling = record { writing = writing; held = held; has_lost = has_lost; telling = telling }
 
--- Bytes are printed on standard output, or reported on standard error.
+-- Bytes are printed on standard output, or a text is reported as one line on standard error.
 pub data Event : Type 0 where
   Printed : List ℕ → Event
   Reported : List ℕ → Event
@@ -23,9 +23,9 @@ pub data Event : Type 0 where
 abbrev pub Emits : {W E : Type 0} → StreamRules W E → Event → Streams W E → Streams W E → Type 0
 Emits rules (Printed bytes) old new =
     Took rules.writing bytes old.out new.out × TellsOn rules.telling [] (err_of old) (err_of new)
-Emits rules (Reported bytes) old new =
+Emits rules (Reported text) old new =
     Took rules.writing [] old.out new.out × IsWritten rules.held rules.has_lost new.out
-    × TellsOn rules.telling bytes (err_of old) (err_of new)
+    × TellsOn rules.telling (one_line text) (err_of old) (err_of new)
 
 -- The bytes that the output holds are written, or were lost, and nothing is printed or reported.
 abbrev pub Releases : {W E : Type 0} → StreamRules W E → Streams W E → Streams W E → Type 0
@@ -77,10 +77,10 @@ EmitsUnlessFailed effect events =
 abbrev pub printed_of : List Event → List ℕ
 printed_of [] = []
 printed_of (Printed bytes ∷ events) = bytes ++ printed_of events
-printed_of (Reported bytes ∷ events) = printed_of events
+printed_of (Reported text ∷ events) = printed_of events
 
 -- The bytes that the events report.
 abbrev pub reported_of : List Event → List ℕ
 reported_of [] = []
 reported_of (Printed bytes ∷ events) = reported_of events
-reported_of (Reported bytes ∷ events) = bytes ++ reported_of events
+reported_of (Reported text ∷ events) = one_line text ++ reported_of events

@@ -12,7 +12,7 @@ pub use Rattle.xxhsum_line.specs.declared.printed.Shape.{Shape}
 pub use Rattle.xxhsum_line.specs.declared.printed.Style.{Style}
 pub use Rattle.xxhsum_program.specs.EachHas.{EachHas}
 pub use Rattle.xxhsum_program.specs.Files.{Files, Input, files_of, input_of}
-pub use Rattle.xxhsum_program.specs.Told.{TellsOn}
+pub use Rattle.xxhsum_program.specs.Told.{TellsLines, TellsOn}
 pub use Rattle.xxhsum_program.specs.declared.check.Report.{Report}
 pub use Rattle.xxhsum_program.specs.declared.entry.Found.{Found}
 pub use Rattle.xxhsum_program.specs.declared.outcome.Outcome.{Outcome}

@@ -1,12 +1,18 @@
 -- The output of a hashing run, and its check with the same files.
-use Rattle.std.specs.Prelude.{◌≡◌, ℕ, ◌-◌, ◌<◌, ◌≤◌, ◌^◌, true, List, Some, [], ◌∷◌, length}
-use Rattle.xxhsum_program.specs.Prelude.{AllByRecursion, Digested, EachHas, Files, IsDirectory, Kind, Lacks, Options, Outcome, Reason, Shape, SourceRules, StoreRules, Unread, files_of}
+use Rattle.std.specs.Prelude.{◌≡◌, ℕ, ◌-◌, ◌<◌, ◌≤◌, ◌^◌, false, true, List, Some, [], ◌∷◌, length}
+use Rattle.xxhsum_program.specs.Prelude.{AllByRecursion, Digested, EachHas, Files, IsDirectory, Kind, Lacks, Options, Outcome, Reason, Shape, SourceRules, StoreRules, Style, Unread, files_of}
 use Rattle.xxhsum_program.specs.CheckList.{FindsLines, is_good_list}
 use Rattle.xxhsum_program.specs.Findings.{Finding, IsFinding}
-use Rattle.xxhsum_program.specs.Lines.{lines_of, printed_line}
+use Rattle.xxhsum_program.specs.HashNames.{name_events}
+use Rattle.xxhsum_program.specs.Lines.{lines_of}
 use Rattle.xxhsum_program.specs.ListEnd.{ListEnd}
+use Rattle.xxhsum_program.specs.Order.{printed_of}
 use Rattle.xxhsum_program.specs.Outcomes.{Comes, HasNoValue, IsValueOf}
 use Rattle.xxhsum_program.specs.PrintedList.{Holds, Listed}
+
+-- Lines of this form, which end with a newline.
+abbrev pub plain_style : Shape → Style
+plain_style shape = record { shape = shape; ends_in_nul = false }
 
 -- The entries of the printed lines: the names with a value.
 abbrev pub entries_of : Kind → Shape → List (List ℕ) → List Outcome → List Listed
@@ -39,7 +45,7 @@ PrintedIsGood {S} {F} {R} opening reading list_reading =
     → AllByRecursion IsName names
     → 0 < length (entries_of kind shape names outcomes)
     → length (entries_of kind shape names outcomes) < 2 ^ 64 - 2
-    → Holds list_reading source (lines_of (printed_line kind shape) names outcomes)
+    → Holds list_reading source (printed_of (lines_of (name_events kind (plain_style shape)) names outcomes))
     → FindsLines (IsFinding (files_of opening reading store) shape.is_little) list_reading source
     findings (Some end)
     → is_good_list options findings (Some end) ≡ true

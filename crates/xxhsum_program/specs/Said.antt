@@ -1,14 +1,13 @@
--- The lines and messages of the check of a list, by the options and the findings. Each is one line, whatever bytes the
--- names have. Lines of a list are numbered from 1.
-use Rattle.std.specs.Prelude.{ℕ, ◌+◌, Bool, List, [], ◌∷◌, ◌++◌, Option, Some, None, ◌||◌, codes, decimal, length, nat_eq, if◌then◌else◌}
+-- The events of the check of a list, by the options and the findings. Each result and message is one line, whatever bytes
+-- the names have. Lines of a list are numbered from 1.
+use Rattle.std.specs.Prelude.{ℕ, ◌+◌, Bool, List, [], ◌∷◌, ◌++◌, Option, Some, None, ◌&&◌, ◌||◌, codes, decimal, length, nat_eq, if◌then◌else◌}
 use Rattle.xxhsum_program.specs.Prelude.{Found, Options, Refusal, Report, concat, one_line}
 use Rattle.xxhsum_files.specs.Refusal.{refusal_text}
 use Rattle.xxhsum_program.specs.declared.entry.Found.TheVariants.{Same, Different, Unread}
 use Rattle.xxhsum_program.specs.Findings.{Finding, Ignored, Improper, Proper, TooLong, report_of}
 use Rattle.xxhsum_program.specs.ListEnd.{ListEnd, Whole, TooMany, Endless, FailedRead, report_at}
-use Rattle.xxhsum_program.specs.Found.{is_passed_over}
 use Rattle.xxhsum_program.specs.Order.{Event, Printed, Reported}
-use Rattle.xxhsum_program.specs.Outcomes.{reason_text}
+use Rattle.xxhsum_program.specs.Outcomes.{has_no_file, reason_text}
 use Rattle.xxhsum_program.specs.Report.{is_unverified}
 
 -- ---- a line
@@ -16,55 +15,42 @@ use Rattle.xxhsum_program.specs.Report.{is_unverified}
 -- The message about an error in the line of this number.
 abbrev pub told_of_line : List ℕ → ℕ → List ℕ → List ℕ
 told_of_line list number what =
-    one_line (concat (list ∷ codes ":" ∷ decimal number ∷ codes ": Error: " ∷ what ∷ codes "." ∷ []))
-
--- A name and a word after it, as one line.
-abbrev pub named_text : List ℕ → List ℕ → List ℕ
-named_text name word = one_line (concat (name ∷ word ∷ []))
-
--- The result of a line whose file could not be read, with the reason.
-abbrev pub unread_text : List ℕ → ℕ → List ℕ → List ℕ → List ℕ
-unread_text list number name why =
-    one_line (concat (list ∷ codes ":" ∷ decimal number ∷ codes ": Could not open or read '" ∷ name ∷ codes "': " ∷ why
-    ∷ codes "." ∷ []))
-
--- The result of a line: "OK" if and only if the file has the line's value.
-abbrev pub found_text : Bool → List ℕ → ℕ → List ℕ → Found → List ℕ
-found_text is_quiet list number name Same = if is_quiet then [] else named_text name (codes ": OK")
-found_text is_quiet list number name Different = named_text name (codes ": FAILED")
-found_text is_quiet list number name (Unread reason) = unread_text list number name (reason_text reason)
-
--- True if nothing is printed about a file: with `--status`, and for missing files that are ignored.
-abbrev pub is_silent : Options → Found → Bool
-is_silent options found = options.is_status_only || is_passed_over options.ignores_missing found
-
--- The bytes printed for a line.
-abbrev pub printed_finding : Options → List ℕ → ℕ → Finding → List ℕ
-printed_finding options list number Ignored = []
-printed_finding options list number Improper = []
-printed_finding options list number TooLong = []
-printed_finding options list number (Proper name found) =
-    if is_silent options found then [] else found_text options.is_quiet list number name found
+    concat (list ∷ codes ":" ∷ decimal number ∷ codes ": Error: " ∷ what ∷ codes "." ∷ [])
 
 abbrev pub too_long_text : List ℕ → ℕ → List ℕ
 too_long_text list number = told_of_line list number (codes "Line too long")
 
--- The message about a line. A line that is too long is reported with all options.
-abbrev pub told_finding : Options → List ℕ → ℕ → Finding → List ℕ
-told_finding options list number Ignored = []
-told_finding options list number Improper =
-    if options.warns then told_of_line list number (codes "Improperly formatted checksum line") else []
-told_finding options list number TooLong = too_long_text list number
-told_finding options list number (Proper name found) = []
+abbrev pub improper_text : List ℕ → ℕ → List ℕ
+improper_text list number = told_of_line list number (codes "Improperly formatted checksum line")
 
--- The events of a line: its result is printed, or an error in it is reported.
+-- The result of a line whose file could not be read, with the reason.
+abbrev pub unread_text : List ℕ → ℕ → List ℕ → List ℕ → List ℕ
+unread_text list number name why =
+    concat (list ∷ codes ":" ∷ decimal number ∷ codes ": Could not open or read '" ∷ name ∷ codes "': " ∷ why
+    ∷ codes "." ∷ [])
+
+-- The result of a line: "OK" if and only if the file has the line's value.
+abbrev pub found_text : List ℕ → ℕ → List ℕ → Found → List ℕ
+found_text list number name Same = name ++ codes ": OK"
+found_text list number name Different = name ++ codes ": FAILED"
+found_text list number name (Unread reason) = unread_text list number name (reason_text reason)
+
+-- True if nothing is printed about a file: with `--status`, for a match with `--quiet`, and for a missing file if
+-- missing files are ignored.
+abbrev pub is_silent : Options → Found → Bool
+is_silent options Same = options.is_status_only || options.is_quiet
+is_silent options Different = options.is_status_only
+is_silent options (Unread reason) = options.is_status_only || (options.ignores_missing && has_no_file reason)
+
+-- The events of a line: its result is printed, or an error in it is reported. A line that is too long is reported with
+-- all options.
 abbrev pub finding_events : Options → List ℕ → ℕ → Finding → List Event
 finding_events options list number Ignored = []
 finding_events options list number Improper =
-    if options.warns then Reported (told_finding options list number Improper) ∷ [] else []
-finding_events options list number TooLong = Reported (told_finding options list number TooLong) ∷ []
+    if options.warns then Reported (improper_text list number) ∷ [] else []
+finding_events options list number TooLong = Reported (too_long_text list number) ∷ []
 finding_events options list number (Proper name found) =
-    Printed (printed_finding options list number (Proper name found)) ∷ []
+    if is_silent options found then [] else Printed (one_line (found_text list number name found)) ∷ []
 
 -- The lists of all lines, joined; the first line has this number.
 abbrev pub numbered : {T : Type 0} → (ℕ → Finding → List T) → ℕ → List Finding → List T
@@ -90,7 +76,7 @@ printed_summary options report =
 
 -- The line that reports that no file of the list was verified.
 abbrev pub unverified_line : List ℕ → List ℕ
-unverified_line list = one_line (concat (list ∷ codes ": no file was verified" ∷ []))
+unverified_line list = one_line (list ++ codes ": no file was verified")
 
 -- That line, if missing files are ignored and no file matches; with all other options.
 abbrev pub unverified_text : Options → List ℕ → Report → List ℕ
@@ -102,34 +88,26 @@ abbrev pub summary_text : Options → List ℕ → Report → List ℕ
 summary_text options list report = printed_summary options report ++ unverified_text options list report
 
 -- The message about a list without a well-formed line.
-abbrev pub told_summary : List ℕ → Report → List ℕ
-told_summary list report =
-    if nat_eq report.proper 0
-    then one_line (concat (list ∷ codes ": no properly formatted xxHash checksum lines found" ∷ []))
-    else []
-
--- The message about a list that breaks off at the line of this number. If a read failed and no line was well-formed,
--- only the summary reports it.
-abbrev pub told_break : List ℕ → ℕ → Report → ListEnd → List ℕ
-told_break list number report Whole = []
-told_break list number report TooMany = []
-told_break list number report Endless = too_long_text list number
-told_break list number report FailedRead =
-    if nat_eq report.proper 0 then [] else told_of_line list number (codes "A failure occurred reading the list")
+abbrev pub no_line_text : List ℕ → List ℕ
+no_line_text list = list ++ codes ": no properly formatted xxHash checksum lines found"
 
 -- ---- the events of a list, as far as its check has come: to the end of its lines, or to the summary after them
 
+-- The list breaks off at the line of this number. If a read failed and no line was well-formed, only the summary
+-- reports it.
 abbrev pub break_events : List ℕ → ℕ → Report → ListEnd → List Event
 break_events list number report Whole = []
 break_events list number report TooMany = []
-break_events list number report Endless = Reported (told_break list number report Endless) ∷ []
+break_events list number report Endless = Reported (too_long_text list number) ∷ []
 break_events list number report FailedRead =
-    if nat_eq report.proper 0 then [] else Reported (told_break list number report FailedRead) ∷ []
+    if nat_eq report.proper 0
+    then []
+    else Reported (told_of_line list number (codes "A failure occurred reading the list")) ∷ []
 
 -- A list without a well-formed line is reported; then the summary is printed.
 abbrev pub summary_events : Options → List ℕ → Report → List Event
 summary_events options list report =
-    (if nat_eq report.proper 0 then Reported (told_summary list report) ∷ [] else [])
+    (if nat_eq report.proper 0 then Reported (no_line_text list) ∷ [] else [])
     ++ Printed (summary_text options list report) ∷ []
 
 abbrev pub stop_events : Options → List ℕ → List Finding → Option ListEnd → List Event
@@ -153,4 +131,4 @@ list_events options list findings end = lines_events options list findings end +
 -- The message about a list that can't be opened.
 abbrev pub told_refusal : List ℕ → Refusal → List ℕ
 told_refusal list refusal =
-    one_line (concat (codes "Error: Could not open '" ∷ list ∷ codes "': " ∷ refusal_text refusal ∷ []))
+    concat (codes "Error: Could not open '" ∷ list ∷ codes "': " ∷ refusal_text refusal ∷ [])

@@ -1,7 +1,7 @@
 //! Checks lists of checksum lines against the files that they name.
 
 ghost use Rattle.std.specs.Prelude.{◌≡◌, ◌<◌, ◌≤◌, [], true, List, ℕ, Option, false, length, map, nat_eq, IfErr, IfOk, if◌then◌else◌};
-ghost use Rattle.xxhsum_program.specs.Prelude.{TellsOn};
+ghost use Rattle.xxhsum_program.specs.Prelude.{TellsOn, one_line};
 ghost use Rattle.xxhsum_program.specs.CheckList.{AnswersList, AnswersOutcome, ChecksLine, FindsLines, IsListOutcome, ListOutcome, ReportsLines, SaysList, SaysLists, line_check, outcome_events};
 ghost use Rattle.xxhsum_program.specs.Files.{files_of, input_of};
 ghost use Rattle.xxhsum_program.specs.Findings.{Finding, Improper, IsFinding, TooLong, count_one, count_proper, no_findings, with_broken_end};
@@ -307,12 +307,11 @@ impl<S: Store, T: Ticks> ListCheck<'_, S, T> {
     ) -> Result<(), Stop>
         requires { W.has_failed out.old ≡ false }
         ensures prints { PrintsLine W.Sink
-            (found_text self.now.options.is_quiet self.now.name.now number name.now found.now)
+            (one_line (found_text self.now.name.now number name.now found.now))
             out.old out.new result }
         ensures works { IfOk result (λ _. W.has_failed out.new ≡ false) }
     {
         match found {
-            Found::Same if self.options.is_quiet => Ok(()),
             Found::Same => say_line(self.alloc, &[name, b": OK"], out),
             Found::Different => say_line(self.alloc, &[name, b": FAILED"], out),
             Found::Unread(reason) => {
@@ -370,6 +369,7 @@ impl<S: Store, T: Ticks> ListCheck<'_, S, T> {
     }
 
     // Prints the summary of a list.
+    #[tactic(auto, using(crate::proofs::LineEndFacts::line_join, crate::proofs::LineEndFacts::line_more))]
     fn say_summary<W: Output>(
         &self,
         report: &Report,
@@ -388,6 +388,7 @@ impl<S: Store, T: Ticks> ListCheck<'_, S, T> {
     }
 
     // Prints `unverified` if `--ignore-missing` is given and no file matches.
+    #[tactic(auto, using(crate::proofs::LineEndFacts::unverified_is))]
     fn say_unverified<W: Output>(
         &self,
         report: &Report,
@@ -443,7 +444,12 @@ impl<S: Store, T: Ticks> ListCheck<'_, S, T> {
 fn is_silent(options: Options, found: &Found) -> bool
     ensures { result ≡ is_silent options found.now }
 {
-    options.is_status_only || (options.ignores_missing && found.is_missing())
+    match found {
+        _ if options.is_status_only => true,
+        Found::Same => options.is_quiet,
+        Found::Different => false,
+        Found::Unread(reason) => options.ignores_missing && reason.is_missing(),
+    }
 }
 
 // Prints why the file of line `number` of `list` could not be read.
@@ -456,7 +462,7 @@ fn say_unread<'a, W: Output>(
     out: &mut W,
 ) -> Result<(), Stop>
     requires { W.has_failed out.old ≡ false }
-    ensures prints { PrintsLine W.Sink (unread_text list.now number name.now why.now)
+    ensures prints { PrintsLine W.Sink (one_line (unread_text list.now number name.now why.now))
         out.old out.new result }
     ensures works { IfOk result (λ _. W.has_failed out.new ≡ false) }
 {
@@ -476,13 +482,12 @@ fn say_unread<'a, W: Output>(
 }
 
 /// Reports what is wrong with line `number` of `list`.
-pub fn tell_of_line<'a, E: Sink>(list: &'a [u8], number: u64, what: &'a [u8], err: &mut E)
-    ensures { TellsOn E.Sink (told_of_line list.now number what.now) err.old err.new }
+pub fn tell_of_line<E: Sink>(list: &[u8], number: u64, what: &[u8], err: &mut E)
+    ensures { TellsOn E.Sink (one_line (told_of_line list.now number what.now)) err.old err.new }
 {
     let mut digits = Buffer::new();
     let digits = digits.format(number).as_bytes();
-    let parts: [&[u8]; 6] = [list, b":", digits, b": Error: ", what, b"."];
-    tell_line(&parts, err);
+    tell_line(&[list, b":", digits, b": Error: ", what, b"."], err);
 }
 
 // Maximum length of a line with a count, in bytes.

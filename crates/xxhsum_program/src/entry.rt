@@ -1,8 +1,8 @@
 //! Compares one line of a list with the file that it names.
 
-ghost use Rattle.std.specs.Prelude.{◌≡◌, ◌<◌, length};
+ghost use Rattle.std.specs.Prelude.{◌<◌, length};
 ghost use Rattle.xxhsum_program.specs.Files.{files_of};
-ghost use Rattle.xxhsum_program.specs.Found.{IsFound, is_gone};
+ghost use Rattle.xxhsum_program.specs.Found.{IsFound};
 
 use crate::outcome::{Reason, value_named};
 use crate::screen::Ticks;
@@ -19,18 +19,6 @@ pub(crate) enum Found {
     Different,
     /// The file could not be opened or read to its end.
     Unread(Reason),
-}
-
-impl Found {
-    // True if there is no such file.
-    pub(crate) fn is_missing(&self) -> bool
-        ensures { result ≡ is_gone self.now }
-    {
-        match self {
-            Found::Same | Found::Different => false,
-            Found::Unread(reason) => reason.is_missing(),
-        }
-    }
 }
 
 // Hashes the file that the line names, and compares the value. Each read is offered the whole of `buf`.

@@ -14,6 +14,7 @@ pub fn good_means_equal<S: Store, R: Source>()
 {}
 
 /// Lemma: "OK" is printed only for a file whose bytes have the line's value, whatever bytes the names have.
+#[tactic(auto, using(crate::proofs::OkFacts::ok_means_equal))]
 pub fn ok_means_equal<S: Store>()
     ensures { OkMeansEqual S.Store S.File.Source }
 {

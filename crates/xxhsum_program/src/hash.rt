@@ -4,10 +4,10 @@ ghost use Rattle.std.specs.Prelude.{◌≡◌, false, map, IfOk};
 ghost use Rattle.xxhsum_line.specs.Printed.{styled_line};
 ghost use Rattle.xxhsum_program.specs.Files.{files_of, input_of};
 ghost use Rattle.xxhsum_program.specs.HashNames.{SaysInput, SaysNames, name_events};
-ghost use Rattle.xxhsum_program.specs.Lines.{PrintsLine, told_line};
+ghost use Rattle.xxhsum_program.specs.Lines.{PrintsLine, name_messages};
 ghost use Rattle.xxhsum_program.specs.Order.{EmitsOrNone, effect_of, rules_of};
 ghost use Rattle.xxhsum_program.specs.Run.{style_of};
-ghost use Rattle.xxhsum_program.specs.Told.{TellsOn};
+ghost use Rattle.xxhsum_program.specs.Told.{TellsLines};
 ghost use Rattle.xxhsum_program.specs.Watched.{source_of};
 
 use crate::job::Job;
@@ -91,6 +91,7 @@ pub fn hash_input<R: Source, T: Ticks, W: Output, E: Sink>(
 }
 
 // Writes the digest line of a name that has a value, and reports why another name has none.
+#[tactic(auto, using(crate::proofs::HashFacts::emits_message))]
 fn write_outcome<W: Output, E: Sink>(
     alloc: Global,
     options: Options,
@@ -148,7 +149,7 @@ fn style_of(options: Options) -> Style
 
 /// Reports why a name has no value. Writes nothing for a name that has one.
 pub fn tell_outcome<'a, E: Sink>(name: &'a [u8], outcome: &'a Outcome, err: &mut E)
-    ensures { TellsOn E.Sink (told_line name.now outcome.now) err.old err.new }
+    ensures { TellsLines E.Sink (name_messages name.now outcome.now) err.old err.new }
 {
     match outcome {
         Outcome::Digested { .. } => {}

@@ -18,6 +18,5 @@ pub mod screen;
 pub mod stop;
 pub mod streams;
 pub mod tell;
-pub mod told_lines;
 mod usage;
 pub mod watched;

@@ -88,6 +88,7 @@ impl<R: Source + Drop, T: Ticks> Lines<R, T> {
     }
 
     // Returns the number of buffered bytes before the first line feed.
+    #[tactic(auto, using(crate::proofs::LineFacts::found_line_feed))]
     fn before_line_feed(&self) -> Option<usize>
         ensures { IsBeforeLineFeed result self.now }
     {

@@ -2,7 +2,6 @@
 
 ghost use Rattle.std.specs.Prelude.{◌≡◌, false};
 ghost use Rattle.std.specs.Borrow.{sem};
-ghost use Rattle.xxhsum_program.specs.Prelude.{one_line};
 ghost use Rattle.xxhsum_program.specs.Finish.{IsWritten};
 ghost use Rattle.xxhsum_program.specs.Joined.{joined};
 
@@ -60,7 +59,7 @@ impl<W: Output, E: Sink> Streams<W, E> {
     pub fn report(&mut self, parts: &[&[u8]])
         requires { W.has_failed self.old.out ≡ false }
         ensures reports { Emits (rules_of W.Sink W.held W.has_lost E.Sink)
-            (Reported (one_line (joined parts.now))) self.old self.new }
+            (Reported (joined parts.now)) self.old self.new }
         ensures works { W.has_failed self.new.out ≡ false }
     {
         self.release();

@@ -46,6 +46,7 @@ impl<R: Source, T: Ticks> Watched<R, T> {
     /// # Errors
     ///
     /// [`DigestError::ReadFailed`] if a read fails, and [`DigestError::TooLong`] if 2^64 - 1 reads don't reach the end.
+    #[tactic(auto, using(crate::proofs::WatchedFacts::inner_reads))]
     pub(crate) fn value(&mut self, kind: Kind, buf: &mut [u8]) -> Result<u128, DigestError>
         requires reader { R.has_failed (source_of self.old) ≡ false }
         requires room { 0 < length buf.old }

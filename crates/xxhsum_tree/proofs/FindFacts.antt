@@ -1,6 +1,6 @@
 -- Lemmas on the result of a search: an item, or the reported reason why there is none.
 use Rattle.xxhsum_tree.proofs.Prelude.{◌≡◌, Err, Finds, List, None, Ok, Option, Result, Some, subst, ℕ}
-use Rattle.xxhsum_tree.specs.Prelude.{SinkRules, Stop, TellsOn}
+use Rattle.xxhsum_tree.specs.Prelude.{SinkRules, Stop, TellsOn, one_line}
 
 -- Lemma: a search has the properties that its property of items and its property of reasons imply.
 pub finds-as : {T E : Type 0} (telling : SinkRules E) (is_found other : T → Type 0) (is_why other_why : List ℕ → Type 0) (old new : E) → ((x : T) → is_found x → other x) → ((text : List ℕ) → is_why text → other_why text)
@@ -15,6 +15,6 @@ found-is {T} telling is_found is_why old new found x is finds =
     subst (λ (o : Option T). Finds (Ok o) telling is_found is_why old new) is finds
 
 -- Lemma: a search that returns no item reports the reason.
-pub lost-is : {T E : Type 0} (telling : SinkRules E) (is_found : T → Type 0) (is_why : List ℕ → Type 0) (old new : E) (found : Option T) → found ≡ None → Finds (Ok found) telling is_found is_why old new → (text : List ℕ) × is_why text × TellsOn telling text old new
+pub lost-is : {T E : Type 0} (telling : SinkRules E) (is_found : T → Type 0) (is_why : List ℕ → Type 0) (old new : E) (found : Option T) → found ≡ None → Finds (Ok found) telling is_found is_why old new → (text : List ℕ) × is_why text × TellsOn telling (one_line text) old new
 lost-is {T} telling is_found is_why old new found is finds =
     subst (λ (o : Option T). Finds (Ok o) telling is_found is_why old new) is finds

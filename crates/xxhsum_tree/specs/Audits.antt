@@ -15,13 +15,13 @@ use Rattle.xxhsum_tree.specs.Said.{ListSays, ListSaysNothing}
 
 -- The message that another name of the list leads to the same path as this one.
 abbrev pub twice_text : List ℕ → List ℕ → List ℕ
-twice_text among name = one_line (concat (among ∷ codes ": duplicate name '" ∷ name ∷ codes "'." ∷ []))
+twice_text among name = concat (among ∷ codes ": duplicate name '" ∷ name ∷ codes "'." ∷ [])
 
 -- A name that leads to the same path as another is reported, if there is one.
 abbrev pub TellsTwice : {E : Type 0} → SinkRules E → List ℕ → Option (List ℕ) → E → E → Bool → Type 0
 TellsTwice telling among None old new result = (result ≡ false) × (new ≡ old)
 TellsTwice telling among (Some name) old new result =
-    (result ≡ true) × TellsOn telling (twice_text among name) old new
+    (result ≡ true) × TellsOn telling (one_line (twice_text among name)) old new
 
 -- The result is true if all are the same, and each name that was given has a digest.
 abbrev pub AnswersAudit : List Row → List Found → Result Bool Stop → Type 0

@@ -8,7 +8,7 @@ use Rattle.xxhsum_audit.specs.declared.side.Side.{Side}
 use Rattle.xxhsum_audit.specs.Audit.{missing_in, new_in, settled_in}
 use Rattle.xxhsum_audit.specs.Found.{Found, founds_of}
 use Rattle.xxhsum_audit.specs.Item.{Item, Says, item_of, items_of}
-use Rattle.xxhsum_program.specs.Lines.{told_line}
+use Rattle.xxhsum_program.specs.Lines.{name_messages}
 use Rattle.xxhsum_program.specs.Outcomes.{Comes, is_digested}
 use Rattle.xxhsum_tree.specs.Messages.{Messages, Reports}
 use Rattle.xxhsum_tree.specs.Rows.{AreRows, Row, TellsRows, are_read, first_in, first_of, is_read, told_in, told_of}
@@ -19,7 +19,7 @@ DigestsName files messages kind name (Some found) =
     (value : ℕ) × (item_of found ≡ Says name kind value) × Comes files kind name (Digested value) × Reports messages []
 DigestsName files messages kind name None =
     (outcome : Outcome) × (is_digested outcome ≡ false) × Comes files kind name outcome
-    × Reports messages (told_line name outcome)
+    × Reports messages (name_messages name outcome)
 
 -- The results were appended to the known ones.
 abbrev pub Grows : Compared → Compared → List Found → Bool → Type 0

@@ -1,20 +1,19 @@
 -- A value is found, or reported missing.
 use Rattle.std.specs.Prelude.{◌≡◌, ◌⊎◌, ℕ, false, List, Option, Some, None, Result, Ok, Err}
 use Rattle.xxhsum_program.specs.Streams.{err_of}
-use Rattle.xxhsum_tree.specs.Messages.{Reports, effect_messages}
-use Rattle.xxhsum_tree.specs.Prelude.{Effect, OutOfMemory, SinkRules, Stop, TellsOn}
+use Rattle.xxhsum_tree.specs.Prelude.{Effect, OutOfMemory, SinkRules, Stop, TellsOn, one_line}
 
--- It is found; or a message reports why it isn't; or memory ran out, and nothing is reported.
+-- It is found; or one line reports why it isn't; or memory ran out, and nothing is reported.
 abbrev pub Finds : {T E : Type 0} → Result (Option T) Stop → SinkRules E → (T → Type 0) → (List ℕ → Type 0) → E → E → Type 0
 Finds (Ok (Some found)) telling is_found is_why old new = is_found found × (new ≡ old)
-Finds (Ok None) telling is_found is_why old new = (text : List ℕ) × is_why text × TellsOn telling text old new
+Finds (Ok None) telling is_found is_why old new = (text : List ℕ) × is_why text × TellsOn telling (one_line text) old new
 Finds (Err stop) telling is_found is_why old new = (stop ≡ OutOfMemory) × (new ≡ old)
 
--- A text is reported, nothing is printed, and the run fails.
+-- A text is reported as one line, nothing is printed, and the run fails.
 abbrev pub OnlyTells : {W E : Type 0} → Effect W E → List ℕ → Type 0
 OnlyTells effect text =
     (effect.result ≡ Ok false) × (effect.new.out ≡ effect.old.out)
-    × Reports (effect_messages effect) text
+    × TellsOn effect.rules.telling (one_line text) (err_of effect.old) (err_of effect.new)
 
 -- Out of memory: nothing is printed or reported.
 abbrev pub HasNoRoom : {W E : Type 0} → Effect W E → Type 0

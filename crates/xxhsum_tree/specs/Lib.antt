@@ -10,6 +10,5 @@ pub mod Rows
 pub mod Run
 pub mod Said
 pub mod Texts
-pub mod ToldLines
 pub mod Walk
 pub mod WalkLaws

@@ -1,6 +1,6 @@
 -- The printed text of an audit.
 use Rattle.std.specs.Prelude.{◌≡◌, ℕ, Bool, true, ◌&&◌, List, [], ◌∷◌, ◌++◌, codes, decimal, if◌then◌else◌, count_by, flat_map, Result, Ok, Err}
-use Rattle.xxhsum_tree.specs.Prelude.{Options, OutOfMemory, Refused, SinkRules, Stop, Took, WriteFailed}
+use Rattle.xxhsum_tree.specs.Prelude.{Options, OutOfMemory, Refused, SinkRules, Stop, Took, WriteFailed, one_line}
 use Rattle.xxhsum_audit.specs.declared.verdict.Class.{Class}
 use Rattle.xxhsum_audit.specs.declared.verdict.Class.TheVariants as Of
 use Rattle.xxhsum_audit.specs.Found.{Found, is_of_class}
@@ -8,7 +8,7 @@ use Rattle.xxhsum_audit.specs.Text.{text_of}
 
 -- The line of a result. An unchanged file has none if `is_quiet`.
 abbrev pub shown_text : Bool → Found → List ℕ
-shown_text is_quiet found = if is_quiet && is_of_class Of.Same found then [] else text_of found
+shown_text is_quiet found = if is_quiet && is_of_class Of.Same found then [] else one_line (text_of found)
 
 abbrev pub shown_lines : Bool → List Found → List ℕ
 shown_lines is_quiet found = flat_map (shown_text is_quiet) found

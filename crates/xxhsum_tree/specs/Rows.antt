@@ -6,7 +6,7 @@ use Rattle.xxhsum_audit.specs.declared.side.Side.{Side}
 use Rattle.xxhsum_audit.specs.declared.side.Side.TheVariants.{Line, Name, Both}
 use Rattle.xxhsum_audit.specs.Found.{Found, Missing, New, met}
 use Rattle.xxhsum_audit.specs.Item.{Item, Says, kind_of}
-use Rattle.xxhsum_program.specs.Lines.{told_line}
+use Rattle.xxhsum_program.specs.Lines.{name_messages}
 use Rattle.xxhsum_tree.specs.Messages.{Messages, Reports}
 use Rattle.xxhsum_program.specs.Outcomes.{Comes, is_digested}
 
@@ -61,11 +61,11 @@ first_of kind (Gone line) = Missing line ∷ []
 first_of kind (Met line name outcome) = map (met line) (digest_of (kind_of line) name outcome)
 first_of kind (Come name outcome) = map New (digest_of kind name outcome)
 
--- The message about the name of a row, if it has no digest.
-abbrev pub told_of : Row → List ℕ
+-- The messages about the name of a row: one if it was given and has no digest.
+abbrev pub told_of : Row → List (List ℕ)
 told_of (Gone line) = []
-told_of (Met line name outcome) = told_line name outcome
-told_of (Come name outcome) = told_line name outcome
+told_of (Met line name outcome) = name_messages name outcome
+told_of (Come name outcome) = name_messages name outcome
 
 -- True if the name of a row has a digest, or was not given.
 abbrev pub is_read : Row → Bool
@@ -82,7 +82,7 @@ seen_in kind rows = flat_map (seen_of kind) rows
 abbrev pub first_in : Kind → List Row → List Found
 first_in kind rows = flat_map (first_of kind) rows
 
-abbrev pub told_in : List Row → List ℕ
+abbrev pub told_in : List Row → List (List ℕ)
 told_in rows = flat_map told_of rows
 
 abbrev pub are_read : List Row → Bool

@@ -48,7 +48,7 @@ AuditsBelow {E = E} tree files effect options list names =
 
 -- An audit: the first word is the list, and the words after it are the names, or lists of names.
 abbrev pub AuditsWords : {S F R W E : Type 0} → Tree → Files S F → Input R → Effect W E → Options → List (List ℕ) → Type 0
-AuditsWords tree files input effect options [] = OnlyTells effect (codes "Error: --audit needs a list.\n")
+AuditsWords tree files input effect options [] = OnlyTells effect (codes "Error: --audit needs a list.")
 AuditsWords tree files input effect options (list ∷ names) =
     MatchBool options.walks (AuditsBelow tree files effect options list names)
     (MatchBool (are_listed options.names_from)

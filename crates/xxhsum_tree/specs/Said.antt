@@ -1,5 +1,5 @@
 -- The meaning of the lines of an audited list.
-use Rattle.std.specs.Prelude.{◌≡◌, ◌⊎◌, ℕ, ◌+◌, ◌≤◌, Bool, List, [], ◌∷◌, ◌++◌, codes, length}
+use Rattle.std.specs.Prelude.{◌≡◌, ◌⊎◌, ℕ, ◌+◌, ◌≤◌, Bool, List, [], ◌∷◌, ◌++◌, length}
 use Rattle.xxhsum_tree.specs.Prelude.{AllByRecursion, Files, Refusal, SourceRules}
 use Rattle.xxhsum_audit.specs.Item.{Item}
 use Rattle.xxhsum_audit.specs.List.{SayAll}
@@ -7,11 +7,8 @@ use Rattle.xxhsum_line.specs.Entry.{SaysNothing}
 use Rattle.xxhsum_program.specs.CheckList.{EndsAs, EndsWell, ReadsSome}
 use Rattle.xxhsum_program.specs.ListEnd.{Endless, FailedRead}
 use Rattle.xxhsum_program.specs.ListLines.{IsTooLong, longest_line}
-use Rattle.xxhsum_program.specs.Said.{told_of_line, too_long_text}
+use Rattle.xxhsum_program.specs.Said.{improper_text, too_long_text}
 use Rattle.xxhsum_tree.specs.Texts.{unopened_text, unread_text}
-
-abbrev pub improper_text : List ℕ → ℕ → List ℕ
-improper_text list number = told_of_line list number (codes "Improperly formatted checksum line")
 
 -- None of the lines is too long, and their items are these.
 abbrev pub HaveSaid : Bool → List (List ℕ) → List Item → Type 0

@@ -1,6 +1,6 @@
 -- The texts of lists: of files, or of the input.
 use Rattle.std.specs.Prelude.{◌≡◌, ◌⊎◌, ℕ, Bool, true, false, List, [], ◌∷◌, ◌++◌, codes}
-use Rattle.xxhsum_tree.specs.Prelude.{EachHas, Files, Input, Refusal, SourceRules, concat, one_line}
+use Rattle.xxhsum_tree.specs.Prelude.{EachHas, Files, Input, Refusal, SourceRules, concat}
 use Rattle.xxhsum_audit.specs.Read.{BreaksOff, GivesAll}
 use Rattle.xxhsum_files.specs.Refusal.{refusal_text}
 use Rattle.xxhsum_program.specs.Run.{input_name}
@@ -15,11 +15,11 @@ Breaks {R} reading source = (end : R) × BreaksOff reading source end
 
 abbrev pub unopened_text : List ℕ → Refusal → List ℕ
 unopened_text name why =
-    one_line (concat (codes "Error: Could not open '" ∷ name ∷ codes "': " ∷ refusal_text why ∷ codes "." ∷ []))
+    concat (codes "Error: Could not open '" ∷ name ∷ codes "': " ∷ refusal_text why ∷ codes "." ∷ [])
 
 abbrev pub unread_text : List ℕ → List ℕ
 unread_text name =
-    one_line (concat (codes "Error: Could not read '" ∷ name ∷ codes "': a failure occurred reading the list." ∷ []))
+    concat (codes "Error: Could not read '" ∷ name ∷ codes "': a failure occurred reading the list." ∷ [])
 
 -- The name leads to a file of this text.
 abbrev pub GivesText : {S F : Type 0} → Files S F → List ℕ → List ℕ → Type 0

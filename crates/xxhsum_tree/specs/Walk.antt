@@ -6,7 +6,7 @@ use Rattle.std.specs.Ordering.{nat_cmp}
 use Rattle.xxhsum_tree.specs.Prelude.{FolderRules, OutOfMemory, Refusal, Stop, StoreRules, Unread}
 use Rattle.xxhsum_files.specs.declared.folders.PathKind.{PathKind}
 use Rattle.xxhsum_files.specs.declared.folders.PathKind.TheVariants.{File, Folder, Other, Unknown}
-use Rattle.xxhsum_program.specs.Lines.{told_line}
+use Rattle.xxhsum_program.specs.Lines.{name_messages}
 use Rattle.xxhsum_program.specs.declared.outcome.Reason.TheVariants.{Unopened}
 use Rattle.xxhsum_tree.specs.Messages.{Messages, Reports}
 use Rattle.xxhsum_tree.specs.declared.walk.Waiting.{Waiting}
@@ -111,17 +111,17 @@ abbrev pub files_in : List Seen → List (List ℕ)
 files_in trace = flat_map file_of trace
 
 -- The message about a directory that can't be read, or about a name that can't be looked up.
-abbrev pub closed_text : List ℕ → Refusal → List ℕ
-closed_text name why = told_line name (Unread (Unopened why))
+abbrev pub closed_text : List ℕ → Refusal → List (List ℕ)
+closed_text name why = name_messages name (Unread (Unopened why))
 
-abbrev pub closed_of : Seen → List ℕ
+abbrev pub closed_of : Seen → List (List ℕ)
 closed_of (Leaf name) = []
 closed_of (Passed name) = []
 closed_of (Opened name names) = []
 closed_of (Closed name why) = closed_text name why
 closed_of (Lost name why) = closed_text name why
 
-abbrev pub closed_in : List Seen → List ℕ
+abbrev pub closed_in : List Seen → List (List ℕ)
 closed_in trace = flat_map closed_of trace
 
 -- True unless a directory could not be read, or a name could not be looked up.

@@ -7,9 +7,8 @@ ghost use Rattle.xxhsum_audit.specs.Order.{IsOrder, Rises, clash_in, compare_lin
 ghost use Rattle.xxhsum_program.specs.Files.{files_of};
 ghost use Rattle.xxhsum_program.specs.Finish.{IsWritten};
 ghost use Rattle.xxhsum_program.specs.Order.{effect_of, rules_of};
-ghost use Rattle.xxhsum_program.specs.Told.{TellsOn};
 ghost use Rattle.xxhsum_tree.specs.AuditLaws.{AuditMeansEqual};
-ghost use Rattle.xxhsum_tree.specs.Audits.{Audits, AuditsItems, AuditsList, AuditsSides, TellsTwice, twice_text};
+ghost use Rattle.xxhsum_tree.specs.Audits.{Audits, AuditsItems, AuditsList, AuditsSides, TellsTwice};
 ghost use Rattle.xxhsum_tree.specs.Rows.{kind_of_new};
 
 use crate::digests::digests_of;
@@ -153,18 +152,11 @@ fn tell_twice<E: Sink>(among: &[u8], names: &[&[u8]], err: &mut E) -> bool
 {
     match clash_in(names) {
         Some(name) => {
-            tell_name(among, name, err);
+            tell_line(&[among, b": duplicate name '", name, b"'."], err);
             true
         }
         None => false,
     }
-}
-
-fn tell_name<'a, E: Sink>(among: &'a [u8], name: &'a [u8], err: &mut E)
-    ensures { TellsOn E.Sink (twice_text among.now name.now) err.old err.new }
-{
-    let parts: [&[u8]; 4] = [among, b": duplicate name '", name, b"'."];
-    tell_line(&parts, err);
 }
 
 // Hashes the names, merged with the lines, both in order, and prints the verdicts.

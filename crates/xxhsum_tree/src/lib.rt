@@ -9,5 +9,4 @@ mod report;
 pub mod run;
 mod said;
 pub mod texts;
-pub mod told_lines;
 pub mod walk;

@@ -2,7 +2,7 @@
 
 ghost use Rattle.std.specs.Prelude.{◌≡◌, ◌∷◌, ◌++◌, [], false, List, ℕ, IfOk, map};
 ghost use Rattle.xxhsum_program.specs.Files.{files_of, input_of};
-ghost use Rattle.xxhsum_tree.specs.Prelude.{EachHas, TellsOn};
+ghost use Rattle.xxhsum_tree.specs.Prelude.{EachHas, TellsOn, one_line};
 ghost use Rattle.xxhsum_program.specs.Run.{input_name};
 ghost use Rattle.xxhsum_program.specs.Task.{has_none};
 ghost use Rattle.xxhsum_program.specs.Watched.{source_of};
@@ -48,7 +48,7 @@ pub fn text_named<S: Store, T: Ticks, E: Sink>(
 
 // Reports that the list of this name can't be opened.
 pub(crate) fn tell_unopened<'a, E: Sink>(name: &'a [u8], refusal: &'a Refusal, err: &mut E)
-    ensures { TellsOn E.Sink (unopened_text name.now refusal.now) err.old err.new }
+    ensures { TellsOn E.Sink (one_line (unopened_text name.now refusal.now)) err.old err.new }
 {
     let parts: [&[u8]; 5] = [
         b"Error: Could not open '",
@@ -62,7 +62,7 @@ pub(crate) fn tell_unopened<'a, E: Sink>(name: &'a [u8], refusal: &'a Refusal, e
 
 // Reports that a read of the list of this name failed.
 pub(crate) fn tell_unread<'a, E: Sink>(name: &'a [u8], err: &mut E)
-    ensures { TellsOn E.Sink (unread_text name.now) err.old err.new }
+    ensures { TellsOn E.Sink (one_line (unread_text name.now)) err.old err.new }
 {
     let parts: [&[u8]; 3] = [
         b"Error: Could not read '",

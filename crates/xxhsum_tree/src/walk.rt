@@ -1,7 +1,7 @@
 //! Finds the files below folders.
 
 ghost use Rattle.std.specs.Prelude.{◌≡◌, ◌++◌, ◌∷◌, [], false, IfOk, MatchResult, map};
-ghost use Rattle.xxhsum_program.specs.Told.{TellsOn};
+ghost use Rattle.xxhsum_program.specs.Told.{TellsLines};
 ghost use Rattle.xxhsum_tree.specs.Messages.{messages_of};
 ghost use Rattle.xxhsum_tree.specs.WalkLaws.{FindsEachFile, FindsNoOther, FindsOnce};
 ghost use Rattle.xxhsum_tree.specs.Walk.{HasKind, IsInOrder, IsSeen, SeesFolder, SeesOne, WalksAll, WalksSome, below, closed_text, place_of, state_of, tree_of, waiting_in, with_slash};
@@ -213,21 +213,14 @@ fn in_order(names: Vec<Vec<u8>>) -> Vec<Vec<u8>>
 
 // Reports a folder that can't be read, or a name that can't be looked up. The walk is then incomplete.
 fn lose<E: Sink>(name: &[u8], refusal: Refusal, are_all: &mut bool, err: &mut E)
-    ensures tells { TellsOn E.Sink (closed_text name.now refusal) err.old err.new }
+    ensures tells { TellsLines E.Sink (closed_text name.now refusal) err.old err.new }
     ensures lost { are_all.new ≡ false }
-{
-    tell_closed(name, refusal, err);
-    *are_all = false;
-}
-
-// Reports why a name can't be looked up, or a folder can't be read.
-fn tell_closed<'a, E: Sink>(name: &'a [u8], refusal: Refusal, err: &mut E)
-    ensures { TellsOn E.Sink (closed_text name.now refusal) err.old err.new }
 {
     let outcome = Outcome::Unread {
         reason: Reason::Unopened { refusal },
     };
     tell_outcome(name, &outcome, err);
+    *are_all = false;
 }
 
 /// Lemma: a walk finds exactly the files that the given names lead to through names in folders, if each folder could be

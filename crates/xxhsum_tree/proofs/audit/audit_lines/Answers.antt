@@ -1,5 +1,5 @@
 use Rattle.std.proofs.Common.{◌≡◌, ℕ, Bool, true, false, List, Option, Some, None, codes, refl, inl, sym, ap, subst, ◌∙◌}
-use Rattle.xxhsum_tree.specs.Prelude.{SinkRules, TellsOn}
+use Rattle.xxhsum_tree.specs.Prelude.{SinkRules, TellsOn, one_line}
 use Rattle.xxhsum_tree.proofs.Prelude.{IsOrder, Item, Rises, TellsTwice, clash_in, compare_lines, compare_paths, items_of, map-id, name_of, names_of, rank_lines, rank_names, rises, texts_of, twice_text}
 use Rattle.xxhsum_tree.proofs.audit.audit_lines.Goals as goal
 
@@ -10,7 +10,7 @@ none-twice telling among None old new answer told is = (refl, told.1)
 none-twice telling among (Some name) old new answer told is = let yes = told.0 in let no : ⊥ = cc in absurd no
 
 some-twice : {E : Type 0} (telling : SinkRules E) (among : List ℕ) (clash : Option (List ℕ)) (old new : E) (answer : Bool) → TellsTwice telling among clash old new answer → answer ≡ true
-    → (name : List ℕ) × (clash ≡ Some name) × TellsOn telling (twice_text among name) old new
+    → (name : List ℕ) × (clash ≡ Some name) × TellsOn telling (one_line (twice_text among name)) old new
 some-twice telling among None old new answer told is = let never = told.0 in let no : ⊥ = cc in absurd no
 some-twice telling among (Some name) old new answer told is = (name, refl, told.1)
 
@@ -41,7 +41,7 @@ returns-then-tell_twice g c =
     let asked = texts_of c.in_ok-asked.asked.items in
     let told = subst (λ names. TellsTwice g.E.Sink c.args.list.now (clash_in names) c.messages-err.result.now c.tell_twice.new.err c.tell_twice.result) (ap texts_of c.deref-2.ensures.value ∙ c.in_ok-listed.ensures ∙ ap (λ l. names_of (items_of l)) c.deref.ensures.value) c.tell_twice.ensures in
     let twice = some-twice g.E.Sink c.args.list.now (clash_in (names_of lines)) c.messages-err.result.now c.tell_twice.new.err c.tell_twice.result told c.if-tell_twice.true in
-    inl (lines, asked, c.in_ok-lines.ensures, c.in_ok-asked.ensures, rw twice.1 (refl, refl, subst (λ e. TellsOn g.E.Sink (twice_text c.args.list.now twice.0) e c.tell_twice.new.err) c.messages-err.ensures.value twice.2))
+    inl (lines, asked, c.in_ok-lines.ensures, c.in_ok-asked.ensures, rw twice.1 (refl, refl, subst (λ e. TellsOn g.E.Sink (one_line (twice_text c.args.list.now twice.0)) e c.tell_twice.new.err) c.messages-err.ensures.value twice.2))
 
 pub returns-then-tell_twice-2 : goal.returns-then-tell_twice-2
 returns-then-tell_twice-2 g c =
@@ -51,7 +51,7 @@ returns-then-tell_twice-2 g c =
     let none = none-twice g.E.Sink c.args.list.now (clash_in (names_of lines)) c.messages-err.result.now c.tell_twice.new.err c.tell_twice.result told c.if-tell_twice.false in
     let more = subst (λ names. TellsTwice g.E.Sink (codes "Error") (clash_in (texts_of names)) c.tell_twice.new.err c.tell_twice-2.new.err c.tell_twice-2.result) c.deref-3.ensures.value c.tell_twice-2.ensures in
     let twice = some-twice g.E.Sink (codes "Error") (clash_in asked) c.tell_twice.new.err c.tell_twice-2.new.err c.tell_twice-2.result more c.if-tell_twice-2.true in
-    inl (lines, asked, c.in_ok-lines.ensures, c.in_ok-asked.ensures, rw (none.0, twice.1) (refl, refl, subst (λ e. TellsOn g.E.Sink (twice_text (codes "Error") twice.0) e c.tell_twice-2.new.err) (none.1 ∙ c.messages-err.ensures.value) twice.2))
+    inl (lines, asked, c.in_ok-lines.ensures, c.in_ok-asked.ensures, rw (none.0, twice.1) (refl, refl, subst (λ e. TellsOn g.E.Sink (one_line (twice_text (codes "Error") twice.0)) e c.tell_twice-2.new.err) (none.1 ∙ c.messages-err.ensures.value) twice.2))
 
 pub returns : goal.returns
 returns g c =

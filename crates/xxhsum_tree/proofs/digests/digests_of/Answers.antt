@@ -1,6 +1,7 @@
 use Rattle.std.proofs.Common.{rules, ◌∷◌, ◌++◌, ◌&&◌, [], ap, append-nil, append_assoc, drop, length, refl, subst, sym, take, ◌-◌, ◌∙◌}
-use Rattle.xxhsum_tree.proofs.Prelude.{AreRows, TellsOn, files_of, first_of, is_read, items_of, list_all-push, missing_in, missing_one, new_in, new_one, settled_in, settled_one, take_rest, tells-more, tells-nothing, texts_of, told_of}
+use Rattle.xxhsum_tree.proofs.Prelude.{TellsLines, files_of, items_of, lines-more, list_all-push, missing_in, missing_one, new_in, new_one, settled_in, settled_one, take_rest, tells-nothing, texts_of}
 use Rattle.xxhsum_audit.specs.Side.{by_path, lines_of, names_of, path_side}
+use Rattle.xxhsum_tree.specs.Rows.{AreRows, first_of, is_read, told_in, told_of}
 use Rattle.xxhsum_tree.proofs.RowFacts.{fails-rows, first-push, flat-push, rows-more}
 use Rattle.xxhsum_tree.proofs.digests.digests_of.Goals as goal
 
@@ -42,8 +43,8 @@ loop-side-preserved g c =
         come = grows.2 ∙ ap (λ f. f ++ new_in (first_of kind row)) so_far.holds.come ∙ sym (first-push new_one kind rows row);
         all = grows.3 ∙ ap (λ all. all && is_read row) so_far.holds.all ∙ sym (list_all-push is_read rows row);
       };
-      tells = subst (λ text. TellsOn g.E.Sink text c.args.err.now c.add_side.new.err) (sym (flat-push told_of rows row))
-          (tells-more g.E.Sink _ _ _ _ _ so_far.tells added.3);
+      tells = subst (λ texts. TellsLines g.E.Sink texts c.args.err.now c.add_side.new.err) (sym (flat-push told_of rows row))
+          (lines-more g.E.Sink (told_in rows) (told_of row) _ _ _ so_far.tells added.3);
     }
 
 pub returns : goal.returns
@@ -57,4 +58,4 @@ returns-in_err-add_side g c =
     let so_far = c.loop-side.invariant in
     let left = by_path (items_of c.loop-side.lines_left.now) (texts_of c.loop-side.names_left.now) in
     fails-rows _ _ c.from_residual.result c.from_residual.ensures.0
-    (so_far.rows, (so_far.done, left, so_far.parts, so_far.are, rw append-nil at (tells-more g.E.Sink _ _ _ _ _ so_far.tells c.in_err-add_side.ensures)))
+    (so_far.rows, (so_far.done, left, so_far.parts, so_far.are, rw append-nil at (lines-more g.E.Sink (told_in so_far.rows) [] _ _ _ so_far.tells c.in_err-add_side.ensures)))

@@ -1,5 +1,5 @@
 use Rattle.xxhsum_tree.proofs.Prelude.{[], ◌++◌, ◌+◌, ◌∙◌, ◌∷◌, EachHas-push, GivesText, HasNoText, ap, drop, map, map-append, map-more, map-split, subst, sym, take}
-use Rattle.xxhsum_tree.specs.Prelude.{EachHas, TellsOn, files_of}
+use Rattle.xxhsum_tree.specs.Prelude.{EachHas, TellsOn, files_of, one_line}
 use Rattle.xxhsum_tree.proofs.FindFacts.{found-is, lost-is}
 use Rattle.xxhsum_tree.proofs.texts.texts_of_files.Goals as goal
 
@@ -33,4 +33,4 @@ returns-in_default g c =
     let split = map-split (λ name. name.items) names k c.name-item.result c.loop-name-test.true c.name-item.is in
     let lost = lost-is g.E.Sink (λ text. GivesText (files_of g.S.Store g.S.File.Source store) c.deref.result.now text.items) (HasNoText (files_of g.S.Store g.S.File.Source store) c.deref.result.now) c.loop-name.err c.text_named.new.err c.in_ok-text.field-0 c.in_default.is c.in_ok-text.ensures in
     let why = subst (λ name. HasNoText (files_of g.S.Store g.S.File.Source store) name lost.0) c.deref.ensures.value lost.1 in
-    (lost.0, (before, behind, texts, c.name-item.result.items, split, so_far.each, why), subst (λ e. TellsOn g.E.Sink lost.0 e c.text_named.new.err) so_far.silent lost.2)
+    (lost.0, (before, behind, texts, c.name-item.result.items, split, so_far.each, why), subst (λ e. TellsOn g.E.Sink (one_line lost.0) e c.text_named.new.err) so_far.silent lost.2)

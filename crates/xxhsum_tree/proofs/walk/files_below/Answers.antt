@@ -1,6 +1,6 @@
 use Rattle.xxhsum_tree.specs.Messages.{messages_of}
-use Rattle.xxhsum_tree.proofs.Prelude.{[], ◌&&◌, ◌++◌, ◌∙◌, ◌∷◌, ◌≡◌, MatchResult, ap, append-nil, is-err, list_all-push, map, map-append, option_to_list, refl, reverse, subst, sym, tells-more, tells-nothing, true}
-use Rattle.xxhsum_tree.specs.Prelude.{OutOfMemory, TellsOn}
+use Rattle.xxhsum_tree.proofs.Prelude.{[], ◌&&◌, ◌++◌, ◌∙◌, ◌∷◌, ◌≡◌, MatchResult, ap, append-nil, is-err, lines-more, list_all-push, map, map-append, option_to_list, refl, reverse, subst, sym, tells-nothing, true}
+use Rattle.xxhsum_tree.specs.Prelude.{OutOfMemory, TellsLines}
 use Rattle.xxhsum_tree.proofs.RowFacts.{flat-push}
 use Rattle.xxhsum_tree.proofs.VisitFacts.{reverse-push, visits-more}
 use Rattle.xxhsum_tree.specs.Walk.{Visits, WalksAll, WalksSome, below, closed_in, closed_of, file_of, given, is_open, place_of, tree_of, waiting_in}
@@ -31,7 +31,7 @@ returns-in_err-see g c =
     let is = is-err c.from_residual-in_err-see.result stop c.from_residual-in_err-see.ensures.1 in
     subst (λ r. MatchResult r (λ walked. WalksAll (tree_of g.S.Store g.S.Folders c.args.store.now) (messages_of g.E.Sink c.args.err.now c.see.new.err) names (map (λ file. file.items) walked.files.items) walked.are_all)
     (WalksSome (tree_of g.S.Store g.S.Folders c.args.store.now) (messages_of g.E.Sink c.args.err.now c.see.new.err) names))
-    (sym is) (so_far.trace, waiting_in c.loop.waiting.items, c.in_err-see.ensures.0, so_far.visits, subst (λ e. TellsOn g.E.Sink (closed_in so_far.trace) c.args.err.now e) (sym c.in_err-see.ensures.1) so_far.tells)
+    (sym is) (so_far.trace, waiting_in c.loop.waiting.items, c.in_err-see.ensures.0, so_far.visits, subst (λ e. TellsLines g.E.Sink (closed_in so_far.trace) c.args.err.now e) (sym c.in_err-see.ensures.1) so_far.tells)
 
 pub loop-preserved : goal.loop-preserved
 loop-preserved g c =
@@ -50,5 +50,5 @@ loop-preserved g c =
       visits = subst (λ w. Visits (tree_of g.S.Store g.S.Folders c.args.store.now) (map given names) (so_far.trace ++ seen ∷ []) w) (sym sees.2) visits;
       files = sees.3 ∙ ap (λ files. files ++ file_of seen) so_far.files ∙ sym (flat-push file_of so_far.trace seen);
       all = sees.4 ∙ ap (λ all. all && is_open seen) so_far.all ∙ sym (list_all-push is_open so_far.trace seen);
-      tells = subst (λ text. TellsOn g.E.Sink text c.args.err.now c.see.new.err) (sym (flat-push closed_of so_far.trace seen)) (tells-more g.E.Sink _ _ _ _ _ so_far.tells sees.5);
+      tells = subst (λ texts. TellsLines g.E.Sink texts c.args.err.now c.see.new.err) (sym (flat-push closed_of so_far.trace seen)) (lines-more g.E.Sink (closed_in so_far.trace) (closed_of seen) _ _ _ so_far.tells sees.5);
     }

@@ -1,4 +1,4 @@
-use Rattle.xxhsum_tree.proofs.Prelude.{◌++◌, ◌∙◌, Closed, ClosesFor, Opened, TellsOn, and-false, and-true, ap, append-nil, below, closed_text, false, map, refl, subst, sym, tells-nothing, waiting_in, with_slash}
+use Rattle.xxhsum_tree.proofs.Prelude.{◌++◌, ◌∙◌, Closed, ClosesFor, Opened, TellsLines, and-false, and-true, ap, append-nil, below, closed_text, false, map, refl, subst, sym, tells-nothing, waiting_in, with_slash}
 use Rattle.xxhsum_tree.proofs.walk.open_folder.Goals as goal
 
 pub returns-in-Ok : goal.returns-in-Ok
@@ -18,5 +18,5 @@ returns g c =
     let name = c.args.name.now in
     let closes = subst (λ folder. ClosesFor g.S.Folders.closes c.args.store.now folder c.in-Err-Refused.field-0) (c.deref.ensures.value ∙ c.in_ok-folder.ensures) c.in-Err-Refused.ensures in
     let why = subst (λ error. ClosesFor g.S.Folders.closes c.args.store.now (with_slash name) error) c.in-Err-Refused.field-0-is closes in
-    let told = subst (λ refusal. TellsOn g.E.Sink (closed_text name refusal) c.args.err.now c.lose.new.err) c.in-Err-Refused.refusal-is c.lose.ensures.tells in
+    let told = subst (λ refusal. TellsLines g.E.Sink (closed_text name refusal) c.args.err.now c.lose.new.err) c.in-Err-Refused.refusal-is c.lose.ensures.tells in
     (Closed name c.in-Err-Refused.refusal, (refl, why), refl, sym (append-nil _), c.lose.ensures.lost ∙ and-false _, told)

@@ -1,6 +1,6 @@
 use Rattle.xxhsum_tree.specs.Walk.{state_of}
 use Rattle.xxhsum_tree.specs.Messages.{messages_of}
-use Rattle.xxhsum_tree.proofs.Prelude.{◌∙◌, IsIn, IsSeen, Leaf, Lost, Passed, TellsOn, Tree, and-false, and-true, append-nil, closed_text, place_of, refl, subst, sym, tells-nothing, tree_of}
+use Rattle.xxhsum_tree.proofs.Prelude.{◌∙◌, IsIn, IsSeen, Leaf, Lost, Passed, TellsLines, Tree, and-false, and-true, append-nil, closed_text, place_of, refl, subst, sym, tells-nothing, tree_of}
 use Rattle.xxhsum_tree.proofs.VisitFacts.{folder-seen, sees-as}
 use Rattle.xxhsum_tree.proofs.walk.see.Goals as goal
 
@@ -26,5 +26,5 @@ returns-in-Other g c =
 pub returns-in-Unknown : goal.returns-in-Unknown
 returns-in-Unknown g c =
     let is_lost = rw (c.deref.ensures.value, c.in-Unknown.is) at c.kind_at.ensures in
-    let told = subst (λ name. TellsOn g.E.Sink (closed_text name c.in-Unknown.refusal) c.args.err.now c.lose.new.err) c.deref-in-Unknown.ensures.value c.lose.ensures.tells in
+    let told = subst (λ name. TellsLines g.E.Sink (closed_text name c.in-Unknown.refusal) c.args.err.now c.lose.new.err) c.deref-in-Unknown.ensures.value c.lose.ensures.tells in
     (Lost c.args.place.name.items c.in-Unknown.refusal, (refl, is_lost), refl, sym (append-nil _), c.lose.ensures.lost ∙ and-false _, told)

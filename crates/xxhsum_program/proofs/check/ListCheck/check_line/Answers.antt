@@ -1,6 +1,5 @@
-use Rattle.xxhsum_program.proofs.Prelude.{[], ◌∙◌, Ignored, Improper, IsFinding, IsGiven, Means, Proper, TooLong, files_of, refl, rules_of, subst, sym}
-use Rattle.xxhsum_program.proofs.StopFacts.{line-said, silent-prints}
-use Rattle.xxhsum_program.proofs.ToldFacts.{tells-nothing}
+use Rattle.xxhsum_program.proofs.Prelude.{◌∙◌, Ignored, Improper, IsFinding, IsGiven, Means, Proper, TooLong, files_of, refl, rules_of, subst, sym}
+use Rattle.xxhsum_program.proofs.StopFacts.{line-said}
 use Rattle.xxhsum_program.proofs.check.ListCheck.check_line.Goals as goal
 
 pub returns-in_default-clause-checks : goal.returns-in_default-clause-checks
@@ -24,7 +23,7 @@ returns-then-is_silent-clause-checks g c = λ text given.
     let is = subst (IsGiven text) c.in-Some.is given in
     let means = subst (Means c.args.self.now.options.is_little_endian text) c.in-Entry.is (rw is.1 at c.in_ok-entry.ensures.meaning) in
     let entry = c.in-Entry.entry in
-    (Proper entry.name.items c.compare-found.result, (is.0, entry.kind, entry.value, means, c.compare-found.ensures), c.count.ensures, (c.args.streams.now, (([], refl, sym (silent-prints c.args.self.now.options c.args.self.now.name.now c.args.line.number entry.name.items c.compare-found.result (sym c.is_silent.ensures ∙ c.if-is_silent.true))), tells-nothing g.E.Sink c.args.streams.now.err), (refl, refl)))
+    (Proper entry.name.items c.compare-found.result, (is.0, entry.kind, entry.value, means, c.compare-found.ensures), c.count.ensures, rw (sym c.is_silent.ensures ∙ c.if-is_silent.true) (refl, refl))
 
 pub returns-clause-checks : goal.returns-clause-checks
 returns-clause-checks g c = λ text given.

@@ -1,5 +1,5 @@
 use Rattle.xxhsum_program.specs.Order.{rules_of}
-use Rattle.xxhsum_program.proofs.LineEndFacts.{none-is, summary-printed, summary-reported}
+use Rattle.xxhsum_program.proofs.LineEndFacts.{summary-printed, summary-reported}
 use Rattle.xxhsum_program.proofs.check.ListCheck.sum_up.Goals as goal
 use Rattle.xxhsum_program.proofs.check.ListCheck.sum_up.Goals.{then-report-eq0, else-report-eq0}
 
@@ -12,8 +12,7 @@ returns-clause-emits g c =
     let old = c.args.streams.now in
     elim c.if-report-eq0.branch [
       | then-report-eq0 w ↦
-          let none = none-is list report w.if-report-eq0.true in
-          rw w.streams-is (summary-reported rules options list report old w.report.new.self c.say_summary.new.out c.say_summary.result w.if-report-eq0.true (rw none w.report.ensures.reports) (rw w.streams-is at c.say_summary.ensures.prints) c.say_summary.ensures.only)
+          rw w.streams-is (summary-reported rules options list report old w.report.new.self c.say_summary.new.out c.say_summary.result w.if-report-eq0.true w.report.ensures.reports (rw w.streams-is at c.say_summary.ensures.prints) c.say_summary.ensures.only)
       | else-report-eq0 w ↦
           rw w.streams-is (summary-printed rules options list report old c.say_summary.new.out c.say_summary.result w.if-report-eq0.false (rw w.streams-is at c.say_summary.ensures.prints) c.say_summary.ensures.only)
     ]
