@@ -84,7 +84,7 @@ def parts(top, anew):
     after = [Part(top, "the assembly text beside what is proved", 48, "assembly/check.py", "--of-ci"),
              Part(top, "the modules for browsers beside what is proved", 2, "web/build", "--of-ci"),
              Part(top, "the check of wrong bodies, on planted ones", 23, "checks/wrong-bodies", "--self-test", "twox_words",
-                  "xxhsum_words"),
+                  "xxhsum_options"),
              Part(top, "both programs, as cargo builds them", 1170, "rust/programs/check", "--of-ci")]
     yield Part(top, "the program `xxh`", 196, "checks/program", "--of-ci").follow()
     xxhsum = "crates/xxhsum/out/xxhsum"

@@ -1,6 +1,6 @@
 """Counts what a reader must trust of the main theorem: the lines of this repository's definitions of the hashes, of
-the clauses of crates/headline, and of those that it names, and the definitions of the toolchain's library that these
-cite, each of which counts as one. The same for `xxhsum`: the clauses of crates/xxhsum_headline, and each definition
+the clauses of crates/theorems, and of those that it names, and the definitions of the toolchain's library that these
+cite, each of which counts as one. The same for `xxhsum`: the clauses of crates/xxhsum_theorems, and each definition
 that they cite, with everything that those cite in turn; and for the contract of its `run` in the same way. Blank
 lines, comments and imports don't count. It prints the sentences that README.md and docs/XXHSUM.md have."""
 import glob
@@ -28,8 +28,8 @@ BESIDE = {
     'twox_core/src/xxhash3/large.rt': [r'pub trait Finalize\b'],
 }
 # The program, by its main theorem, and by the contract of its run.
-PROGRAM_HEADLINE = 'xxhsum_headline/src/lib.rt'
-PROGRAM = ('xxhsum_tree/src/run.rt', r'pub fn run\b')
+PROGRAM_HEADLINE = 'xxhsum_theorems/src/lib.rt'
+PROGRAM = ('xxhsum_app/src/run.rt', r'pub fn run\b')
 DEFINITION = re.compile(r'(?:(?:abbrev|unfoldable) pub|pub data|record pub) (\S+)')
 IMPORT = re.compile(r'(?:ghost |pub )?use (Rattle\.\S+?)\.\{(.*)\}')
 CITED = re.compile(r'(?:ghost )?use (Rattle\.std|mir)\S*\.\{(.*)\}')

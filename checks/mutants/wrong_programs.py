@@ -12,11 +12,11 @@ class Wrong(NamedTuple):
     row: str
 
 
-SYSTEM, CHECK = 'xxhsum_files/src/system.rt', 'xxhsum_program/src/check.rt'
+SYSTEM, CHECK = 'xxhsum_fs/src/system.rt', 'xxhsum_program/src/check.rt'
 EVER = 'for _ in 0..u64::MAX {'
 BELOW, DEEP = 'files below a folder', 'a list, both streams one pipe'
 TREE = 'a tree of many names'
-RUN, SHOWN = 'xxhsum_tree/src/run.rt', 'ProgressDisplay::new(screen, terminals, options)'
+RUN, SHOWN = 'xxhsum_app/src/run.rt', 'ProgressDisplay::new(screen, terminals, options)'
 NONE = 'b": no properly formatted xxHash checksum lines found"'
 REPORTS_NONE = f'streams.report(&[\n                self.name,\n                {NONE},\n            ]);'
 
@@ -51,7 +51,7 @@ WRONG = {
         'xxhsum/src/main.rt', 'FromRead::new(Uninterrupted::new(rt.stdin()))', 'FromRead::new(rt.stdin())', 'failing', 'a long input'),
     'names_of has no memory past 8 reads': Wrong(SYSTEM, EVER, 'for _ in 0..8 {', 'many', TREE),
     'files_below has no memory past 100,000 names': Wrong(
-        'xxhsum_tree/src/walk.rt', EVER, 'for _ in 0..100_000 {', 'many', TREE),
+        'xxhsum_app/src/walk.rt', EVER, 'for _ in 0..100_000 {', 'many', TREE),
     'same_in has no memory past 65,536 files': Wrong(
         'xxhsum_audit/src/moves.rt', '            kept.push(name)?;',
         '            if kept.len() >= 65536 { return Err(AllocError); }\n            kept.push(name)?;', 'many',
@@ -80,10 +80,10 @@ WRONG = {
         'xxhsum_program/src/watched.rt', '        let started = time_of(&self.screen, self.is_on);\n        Watched::new(',
         '        let started = 0;\n        Watched::new(', 'terminals', 'progress of input'),
     'run_arguments shows no progress of an audit': Wrong(
-        RUN, SHOWN, 'ProgressDisplay::new(screen, terminals, xxhsum_words::options::Options { is_quiet: options.audits, ..options })',
+        RUN, SHOWN, 'ProgressDisplay::new(screen, terminals, xxhsum_options::options::Options { is_quiet: options.audits, ..options })',
         'terminals', 'progress of an audit'),
     'run_arguments shows no progress below folders': Wrong(
-        RUN, SHOWN, 'ProgressDisplay::new(screen, terminals, xxhsum_words::options::Options { is_quiet: options.walks, ..options })',
+        RUN, SHOWN, 'ProgressDisplay::new(screen, terminals, xxhsum_options::options::Options { is_quiet: options.walks, ..options })',
         'terminals', 'progress below a folder'),
     'size is modulo 2^40': Wrong(
         SYSTEM, 'Some(found.len())', 'Some(found.len() % 1_099_511_627_776)', 'terminals',

@@ -8,8 +8,8 @@ import re
 from dataclasses import dataclass
 
 CRATES = ('twox_words', 'twox_plain', 'twox_core', 'twox_hash')
-OF_PROGRAMS = ('xxh_io', 'xxh_program', 'xxh', 'xxhsum_line', 'xxhsum_words', 'xxhsum_audit', 'xxhsum_files', 'xxhsum_output',
-               'xxhsum_program', 'xxhsum_tree', 'xxhsum')
+OF_PROGRAMS = ('xxh_io', 'xxh_program', 'xxh', 'xxhsum_line', 'xxhsum_options', 'xxhsum_audit', 'xxhsum_fs', 'xxhsum_output',
+               'xxhsum_program', 'xxhsum_app', 'xxhsum')
 SAVED = ('saved_text', 'xxhash32/saved', 'xxhash64/saved')
 BRACKETS = {'(': ')', '[': ']', '{': '}'}
 LITERAL = re.compile(r"""[bc]?r(?P<fence>\#*)".*?"(?P=fence) | [bc]?"(?:[^"\\]|\\.)*" | b?'(?:[^'\\\n]|\\x..|\\u\{\w+\}|\\.)'
@@ -153,14 +153,14 @@ OF_RATTLE = {'std::alloc': 'crate::rattle', **{f'std::{name}': f'crate::rattle::
 IN_PROGRAMS = [(rows_of(old), rows_of(new), files) for old, new, files in (
     *((old, new, '*') for old, new in OF_RATTLE.items()),
     *((f'{name}::', f'crate::rattle::{name}::', '*') for name in PORTS),
-    ('use std::{fmt, io};', 'use crate::rattle::io; use std::fmt;', 'xxhsum_files/words'),
+    ('use std::{fmt, io};', 'use crate::rattle::io; use std::fmt;', 'xxhsum_fs/words'),
     ('b" 0.1.0 of twox_hash, with the messages of xxhsum 0.8.1 and the options and lines of 0.8.3"',
      'b" 0.1.0 of twox_hash, compiled by rustc from proved source, with the messages of xxhsum 0.8.1 and the options and lines of 0.8.3"',
      'xxhsum_program/usage'),
-    ('write!(words, "{error}")', 'write!(words, "{}", io::Shown(&error))', 'xxhsum_files/words'),
+    ('write!(words, "{error}")', 'write!(words, "{}", io::Shown(&error))', 'xxhsum_fs/words'),
     ('vec![in alloc; 0u8; room]', 'Vec::filled(alloc, 0u8, room)', 'xxhsum_program/arguments'),
     ('fn fmt<W: fmt::Write>(&self, f: &mut fmt::Formatter<W>)', "fn fmt(&self, f: &mut fmt::Formatter<'_>)", '*'),
-    ('= str::from_utf8', '= std::str::from_utf8', 'xxhsum_files/system'),
+    ('= str::from_utf8', '= std::str::from_utf8', 'xxhsum_fs/system'),
     ('fn main(rt: HostRuntime)', 'pub fn main(rt: HostRuntime)', 'xxh'),
     ('fn main(rt: HostRuntime)', 'pub fn main(rt: HostRuntime)', 'xxhsum'),
 )]

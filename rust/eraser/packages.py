@@ -7,8 +7,8 @@ from program_edits import PROGRAM_EDITS
 
 RUST = os.path.dirname(os.path.dirname(os.path.abspath(__file__)))
 LIBRARY = ('twox_words', 'twox_plain', 'twox_core', 'twox_hash')
-PROGRAMS = ('xxh_io', 'xxh_program', 'xxh', 'xxhsum_line', 'xxhsum_words', 'xxhsum_audit', 'xxhsum_files', 'xxhsum_output',
-            'xxhsum_program', 'xxhsum_tree', 'xxhsum')
+PROGRAMS = ('xxh_io', 'xxh_program', 'xxh', 'xxhsum_line', 'xxhsum_options', 'xxhsum_audit', 'xxhsum_fs', 'xxhsum_output',
+            'xxhsum_program', 'xxhsum_app', 'xxhsum')
 # For JSON, for which the library uses serde. The programs have them in modules of the library's names.
 SAVED = frozenset({'twox_plain/src/saved_text.rt', *(f'twox_plain/src/xxhash{bits}/saved.rt' for bits in (32, 64))})
 # Written for neither.

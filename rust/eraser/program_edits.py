@@ -23,7 +23,7 @@ PROGRAM_EDITS = (
          "fn fmt(&self, f: &mut fmt::Formatter<'_>)", 3, FORMATTER),
     Edit('texts', '= str::from_utf8', '= std::str::from_utf8', 5, STD),
     Edit('texts of errors', 'write!(words, "{error}")', 'write!(words, "{}", io::Shown(&error))', 1,
-         "the text of an error of Rust's library takes memory, and stops the process if there is none", files='xxhsum_files/src/words.rt'),
+         "the text of an error of Rust's library takes memory, and stops the process if there is none", files='xxhsum_fs/src/words.rt'),
     Edit('the line of --version', f'b"{RELEASE}, with {ORIGINALS}"', f'b"{RELEASE}, {MADE_BY}, with {ORIGINALS}"', 1,
          'it says who made the program', files='xxhsum_program/src/usage.rt'),
     Edit('main', 'fn main(rt: HostRuntime)', 'pub fn main(rt: HostRuntime)', 2, MAIN),

@@ -1,6 +1,6 @@
 //! A stream of each kind, with its value after an input in chunks.
 
-use headline::Stream;
+use theorems::Stream;
 use std::alloc::Global;
 use std::boxed::BoxedSlice;
 use twox_hash::xxhash3::{FixedBuffer, SecretBuffer};

@@ -2,7 +2,7 @@
 
 use crate::kernels;
 use crate::rows::{Kind, Recipe, Row, next_number};
-use headline::Stream;
+use theorems::Stream;
 use std::alloc::{AllocError, Global};
 use std::boxed::BoxedSlice;
 use twox_hash::{XxHash3_64, XxHash3_128, XxHash32, XxHash64};

@@ -5,15 +5,15 @@ use std::io::IsTerminal;
 use std::process::ExitCode;
 use xxh_io::from_read::FromRead;
 use xxh_io::from_write::FromWrite;
-use xxhsum_files::system::SystemFiles;
-use xxhsum_files::uninterrupted::Uninterrupted;
+use xxhsum_fs::system::SystemFiles;
+use xxhsum_fs::uninterrupted::Uninterrupted;
 use xxhsum_output::visible::Visible;
 use xxhsum_output::whole_lines::WholeLines;
 use xxhsum_program::arguments::ProcessArguments;
 use xxhsum_program::process::{Console, Terminals};
 use xxhsum_program::screen::Screen;
 use xxhsum_program::streams::Streams;
-use xxhsum_tree::run::run;
+use xxhsum_app::run::run;
 
 // Passes the process's arguments, files and streams to the program.
 fn main(rt: HostRuntime) -> ExitCode {

@@ -52,4 +52,4 @@ pub use Rattle.xxhsum_program.specs.Watched.{source_of, watched_reading}
 pub use Rattle.xxhsum_program.specs.declared.entry.Found.TheVariants.{Different, Same, Unread}
 pub use Rattle.xxhsum_program.specs.declared.lines.Lines.{Lines}
 pub use Rattle.xxhsum_program.specs.declared.streams.Streams.{Streams}
-pub use Rattle.xxhsum_words.specs.Table.{letter_text, row_text}
+pub use Rattle.xxhsum_options.specs.Table.{letter_text, row_text}

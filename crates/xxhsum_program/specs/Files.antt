@@ -1,6 +1,6 @@
 -- What a run reads: a store of files, and standard input or another source.
 use Rattle.xxh_io.specs.Rules.{SourceRules}
-use Rattle.xxhsum_files.specs.Rules.{StoreRules}
+use Rattle.xxhsum_fs.specs.Rules.{StoreRules}
 
 -- A store at one state, with its rules and those of its files.
 pub record Files (S F : Type 0) : Type 1 where

@@ -7,7 +7,7 @@ use Rattle.xxh_io.specs.declared.error.DigestError.TheVariants.{ReadFailed, Writ
 use Rattle.xxh_io.specs.Digest.{ReadsTo}
 use Rattle.xxh_program.specs.Kind.{value_of}
 use Rattle.xxh_program.specs.States.{most_reads}
-use Rattle.xxhsum_files.specs.Refusal.{is_missing, refusal_text}
+use Rattle.xxhsum_fs.specs.Refusal.{is_missing, refusal_text}
 use Rattle.xxhsum_program.specs.declared.outcome.Reason.TheVariants as Why
 
 -- The name leads to a file that was read to its end, and the value is the digest of the bytes read, with the seed 0.

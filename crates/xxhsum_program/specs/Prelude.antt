@@ -4,8 +4,8 @@ pub use Rattle.xxh_io.specs.Digest.{Refused, Took}
 pub use Rattle.xxh_io.specs.Pieces.{NoneEmpty, Pieces}
 pub use Rattle.xxh_io.specs.Rules.{SinkRules, SourceRules}
 pub use Rattle.xxh_io.specs.declared.kind.Kind.{Kind}
-pub use Rattle.xxhsum_files.specs.Rules.{FolderRules, StoreRules}
-pub use Rattle.xxhsum_files.specs.declared.refusal.Refusal.{Refusal}
+pub use Rattle.xxhsum_fs.specs.Rules.{FolderRules, StoreRules}
+pub use Rattle.xxhsum_fs.specs.declared.refusal.Refusal.{Refusal}
 pub use Rattle.xxhsum_line.specs.Escapes.{one_line}
 pub use Rattle.xxhsum_line.specs.Parts.{Lacks}
 pub use Rattle.xxhsum_line.specs.declared.printed.Shape.{Shape}
@@ -23,4 +23,4 @@ pub use Rattle.xxhsum_program.specs.declared.stop.Stop.TheVariants.{OutOfMemory,
 pub use Rattle.xxhsum_program.specs.declared.streams.Streams.{Streams}
 pub use Rattle.xxhsum_program.specs.declared.watched.Watched.{Watched}
 pub use Rattle.xxhsum_program.specs.declared.watched.ProgressDisplay.{ProgressDisplay}
-pub use Rattle.xxhsum_words.specs.declared.options.Options.{Options}
+pub use Rattle.xxhsum_options.specs.declared.options.Options.{Options}

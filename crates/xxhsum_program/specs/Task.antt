@@ -4,12 +4,12 @@ use Rattle.xxhsum_program.specs.Prelude.{Options, concat, one_line}
 use Rattle.xxhsum_program.specs.declared.process.Terminals.{Terminals}
 use Rattle.xxhsum_program.specs.declared.usage.TheConstants.{ABOUT, BEFORE, BEHIND, NO_BENCHMARK, TITLE}
 use Rattle.xxhsum_program.specs.Arguments.{IsLastPart}
-use Rattle.xxhsum_words.specs.Name.{kind_of_program}
-use Rattle.xxhsum_words.specs.Options.{are_listed, asked_of}
-use Rattle.xxhsum_words.specs.Table.{rows_text}
-use Rattle.xxhsum_words.specs.declared.table.TheConstants.{ROWS}
-use Rattle.xxhsum_words.specs.declared.options.Asked.{Asked}
-use Rattle.xxhsum_words.specs.declared.options.Asked.TheVariants.{Run, Benchmark, Version, Help, WrongOption, NulsInList, WalkBesideLists, WalkOfNothing, InputBesideNames, NumberTooLarge}
+use Rattle.xxhsum_options.specs.Name.{kind_of_program}
+use Rattle.xxhsum_options.specs.Options.{are_listed, asked_of}
+use Rattle.xxhsum_options.specs.Table.{rows_text}
+use Rattle.xxhsum_options.specs.declared.table.TheConstants.{ROWS}
+use Rattle.xxhsum_options.specs.declared.options.Asked.{Asked}
+use Rattle.xxhsum_options.specs.declared.options.Asked.TheVariants.{Run, Benchmark, Version, Help, WrongOption, NulsInList, WalkBesideLists, WalkOfNothing, InputBesideNames, NumberTooLarge}
 
 -- A text that is reported, with the program's result, or the options and the arguments of a run that reads files.
 pub data Task : Type 0 where

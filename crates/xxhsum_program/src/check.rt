@@ -27,10 +27,10 @@ use itoa::Buffer;
 use std::alloc::{AllocError, Global};
 use xxh_io::ends::{Sink, Source};
 use xxh_io::waiting::Waiting;
-use xxhsum_files::store::Store;
+use xxhsum_fs::store::Store;
 use xxhsum_line::entry::{Meaning, meaning_of};
 use xxhsum_output::output::Output;
-use xxhsum_words::options::Options;
+use xxhsum_options::options::Options;
 
 /// Counts of a list's lines, by result.
 #[derive(Clone, Copy, Debug, PartialEq, Eq)]

@@ -7,7 +7,7 @@ ghost use Rattle.xxhsum_program.specs.Found.{IsFound};
 use crate::outcome::{Reason, value_named};
 use crate::screen::Ticks;
 use crate::watched::ProgressDisplay;
-use xxhsum_files::store::Store;
+use xxhsum_fs::store::Store;
 use xxhsum_line::entry::Entry;
 
 /// The result of comparing a line with its file.

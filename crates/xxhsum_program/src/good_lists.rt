@@ -3,7 +3,7 @@
 ghost use Rattle.xxhsum_program.specs.GoodList.{GoodMeansEqual, OkMeansEqual};
 
 use xxh_io::ends::Source;
-use xxhsum_files::store::Store;
+use xxhsum_fs::store::Store;
 use xxhsum_line::laws::laws_of_lines;
 
 /// Lemma: the file of each well-formed line of a good list has the line's value, or is missing and the options ignore

@@ -20,10 +20,10 @@ use crate::tell::tell_line;
 use crate::watched::Watched;
 use std::alloc::Global;
 use xxh_io::ends::{Sink, Source};
-use xxhsum_files::store::Store;
+use xxhsum_fs::store::Store;
 use xxhsum_line::printed::{Shape, Style, styled_line};
 use xxhsum_output::output::Output;
-use xxhsum_words::options::Options;
+use xxhsum_options::options::Options;
 
 /// Writes the digest line of each named file, in order. Reports names that have none: directories, and files that can't
 /// be opened or read to their end. Returns whether all have one.

@@ -2,7 +2,7 @@
 
 use crate::watched::ProgressDisplay;
 use std::alloc::Global;
-use xxhsum_words::options::Options;
+use xxhsum_options::options::Options;
 
 /// The context of each task of a run: the allocator, the files, the options, and the display of progress.
 #[derive(Clone, Copy)]

@@ -9,8 +9,8 @@ use crate::screen::Ticks;
 use crate::watched::ProgressDisplay;
 use xxh_io::error::DigestError;
 use xxh_io::kind::Kind;
-use xxhsum_files::refusal::Refusal;
-use xxhsum_files::store::Store;
+use xxhsum_fs::refusal::Refusal;
+use xxhsum_fs::store::Store;
 
 /// Size of the buffer for each read of a file, in bytes.
 pub const OFFERED: usize = 131072;

@@ -7,7 +7,7 @@ ghost use Rattle.xxhsum_program.specs.PrintedList.{ChecksPrinted, FindsPrintedFi
 
 use xxh_io::ends::Source;
 use xxh_io::script_source::SliceSource;
-use xxhsum_files::store::Store;
+use xxhsum_fs::store::Store;
 
 /// Lemma: a printed list is accepted whole. The names of its entries contain no NUL, and each line has at most 32,767
 /// bytes, as the line of a name of at most 16,359 bytes does. However the reads split the list, its lines are those of

@@ -19,9 +19,9 @@ use crate::streams::Streams;
 use crate::tell::{tell, tell_line};
 use crate::usage::{ABOUT, BEFORE, BEHIND, NO_BENCHMARK, TITLE, tell_options};
 use xxh_io::ends::{Sink, Source};
-use xxhsum_files::store::Store;
+use xxhsum_fs::store::Store;
 use xxhsum_output::output::Output;
-use xxhsum_words::options::{Asked, Options};
+use xxhsum_options::options::{Asked, Options};
 
 // The name of standard input in lines.
 const INPUT: &[u8] = b"stdin";

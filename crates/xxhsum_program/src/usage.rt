@@ -2,11 +2,11 @@
 
 ghost use Rattle.std.specs.Prelude.{◌≡◌, [], ◌∷◌, map};
 ghost use Rattle.xxhsum_program.specs.Told.{TellsOn};
-ghost use Rattle.xxhsum_words.specs.Table.{letter_text, row_text, rows_text, seen};
+ghost use Rattle.xxhsum_options.specs.Table.{letter_text, row_text, rows_text, seen};
 
 use crate::tell::tell_parts;
 use xxh_io::ends::Sink;
-use xxhsum_words::table::{Does, NO_LETTER, ROWS};
+use xxhsum_options::table::{Does, NO_LETTER, ROWS};
 
 // The first line of help and version, after the program's name.
 pub(crate) const TITLE: &[u8] =

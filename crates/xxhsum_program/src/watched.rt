@@ -16,9 +16,9 @@ use xxh_io::ends::{Failed, Source};
 use xxh_io::error::DigestError;
 use xxh_io::kind::Kind;
 use xxh_program::program::value_of_source;
-use xxhsum_files::refusal::Refusal;
-use xxhsum_files::store::Store;
-use xxhsum_words::options::Options;
+use xxhsum_fs::refusal::Refusal;
+use xxhsum_fs::store::Store;
+use xxhsum_options::options::Options;
 
 // The maximum number of reads of a file.
 const MAX_READS: u64 = u64::MAX;

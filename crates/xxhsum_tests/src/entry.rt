@@ -1,7 +1,7 @@
 //! Names of scripts.
 
 use xxh_io::script_source::ScriptSource;
-use xxhsum_files::memory::MemoryEntry;
+use xxhsum_fs::memory::MemoryEntry;
 
 pub(crate) fn entry<'a>(
     name: &'a [u8],

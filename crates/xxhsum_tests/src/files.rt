@@ -4,10 +4,10 @@ use crate::entry::entry;
 use std::test::Fail;
 use xxh_io::ends::Source;
 use xxh_io::script_source::{ScriptSource, SliceSource};
-use xxhsum_files::memory::{MemoryEntry, MemoryFiles};
-use xxhsum_files::refusal::Refusal;
-use xxhsum_files::store::Store;
-use xxhsum_files::system::SystemFiles;
+use xxhsum_fs::memory::{MemoryEntry, MemoryFiles};
+use xxhsum_fs::refusal::Refusal;
+use xxhsum_fs::store::Store;
+use xxhsum_fs::system::SystemFiles;
 
 // Returns the result of the first read of an opened file, or a word if it isn't open.
 pub(crate) fn first_read<R: Source + Drop>(

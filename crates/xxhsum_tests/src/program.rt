@@ -5,7 +5,7 @@ use std::alloc::{AllocError, Global};
 use xxh_io::kind::Kind;
 use xxh_io::script_sink::ScriptSink;
 use xxh_io::script_source::ScriptSource;
-use xxhsum_files::memory::{MemoryEntry, MemoryFiles};
+use xxhsum_fs::memory::{MemoryEntry, MemoryFiles};
 use xxhsum_program::check::{check_list, check_lists};
 use xxhsum_program::hash::{hash_input, hash_names};
 use xxhsum_program::job::Job;
@@ -14,7 +14,7 @@ use xxhsum_program::screen::Screen;
 use xxhsum_program::stop::Stop;
 use xxhsum_program::streams::Streams;
 use xxhsum_program::watched::ProgressDisplay;
-use xxhsum_words::options::{Asked, Options, asked_by};
+use xxhsum_options::options::{Asked, Options, asked_by};
 
 const LIST: &[u8] =
     b"26c7827d889f6da3  a\ndeadbeefdeadbeef  b\nnonsense\n0123456789abcdef  gone\nXXH3 (b) = d30345fef8ac3570";

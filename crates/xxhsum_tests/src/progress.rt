@@ -8,7 +8,7 @@ use std::alloc::AllocError;
 use xxh_io::kind::Kind;
 use xxh_io::script_sink::ScriptSink;
 use xxh_io::script_source::ScriptSource;
-use xxhsum_files::memory::MemoryFiles;
+use xxhsum_fs::memory::MemoryFiles;
 use xxhsum_program::process::Terminals;
 use xxhsum_program::progress::Meter;
 use xxhsum_program::screen::Screen;

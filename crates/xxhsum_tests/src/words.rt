@@ -3,8 +3,8 @@
 use std::alloc::Global;
 use std::test::Fail;
 use xxh_io::kind::Kind;
-use xxhsum_words::name::default_kind;
-use xxhsum_words::options::{Asked, asked_by};
+use xxhsum_options::name::default_kind;
+use xxhsum_options::options::{Asked, asked_by};
 
 // Arguments, separated by a space, as they were passed to `xxhsum`, and how it parsed them.
 const TABLE: &[(&str, &str)] = &[

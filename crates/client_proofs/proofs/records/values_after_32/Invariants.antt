@@ -1,0 +1,5 @@
+use Rattle.twox_hash.specs.Record32.{AgreeInUse}
+use Rattle.client_proofs.proofs.records.values_after_32.Given as goal
+
+abbrev pub invariant-loop-piece : goal.invariant-loop-piece
+invariant-loop-piece l = AgreeInUse l.initial.a l.initial.b → AgreeInUse l.a l.b

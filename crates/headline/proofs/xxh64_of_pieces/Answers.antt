@@ -1,5 +1,0 @@
-use Rattle.std.proofs.Common.{[], Some, ap, sym}
-use Rattle.headline.proofs.xxh64_of_pieces.Goals as goal
-
-pub returns : goal.returns
-returns c = c.answers.ensures (Some c.args.seed) [] (ap Some (sym c.with_seed.ensures.seed), c.with_seed.ensures.empty)

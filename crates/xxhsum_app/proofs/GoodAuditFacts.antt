@@ -1,0 +1,168 @@
+-- Proves that if an audit is good, the lines and the files match each other.
+use Rattle.std.proofs.Common.{◌≡◌, ℕ, true, List, [], ◌∷◌, Option, Some, None, refl, sym, ap, subst, ◌∙◌, inl, inr, Ok}
+use Rattle.xxhsum_app.proofs.Prelude.{AuditMeansEqual, Both, Effect, IsFileOf, IsPermutation-sym, Line, Name, Side, among_permutation, are_same, both-true, by_path, by_turns, compare_to_name, effect_of, same_means_equal}
+use Rattle.xxhsum_app.specs.Prelude.{Digested, Files, IsDirectory, Kind, Options, Outcome, SourceRules, StoreRules, StreamRules, Streams, Unread, files_of}
+use Rattle.xxhsum_audit.specs.Found.{Changed, Copied, Found, Missing, Moved, New, Same}
+use Rattle.xxhsum_audit.specs.Item.{IsAmong, Item, Says, kind_of, name_of, path_of, value_of}
+use Rattle.xxhsum_program.specs.Outcomes.{Comes, IsValueOf, is_digested}
+use Rattle.xxhsum_app.specs.Audits.{AuditsItems, AuditsSides, OnlyTellsTwice}
+use Rattle.xxhsum_app.specs.Rows.{AreRows, Come, Gone, Met, Row, are_read, kept_in, seen_in}
+
+all-same : (f : List Found) → are_same f ≡ true → (one : Found) → IsAmong f one → (line name : Item) × (one ≡ Same line name)
+all-same [] e one h = absurd h
+all-same (Same l n ∷ f) e one (inl is) = (l, n, sym is)
+all-same (Same l n ∷ f) e one (inr h) = all-same f e one h
+all-same (Changed l n ∷ f) e one h = let no : ⊥ = cc in absurd no
+all-same (Moved l n ∷ f) e one h = let no : ⊥ = cc in absurd no
+all-same (Copied o n ∷ f) e one h = let no : ⊥ = cc in absurd no
+all-same (New n ∷ f) e one h = let no : ⊥ = cc in absurd no
+all-same (Missing l ∷ f) e one h = let no : ⊥ = cc in absurd no
+
+module _ {S F : Type 0} (files : Files S F) (kind : Kind) where
+  -- An item with the correct value of its file.
+  abbrev IsTrue : Item → Type 0
+  IsTrue item = IsValueOf files (kind_of item) (name_of item) (value_of item)
+
+  -- Rows with all lines and names and no others, each name with its value.
+  abbrev AllThere : List Item → List (List ℕ) → List Row → Type 0
+  AllThere ls ns rows =
+      ((l : Item) → IsAmong ls l → IsAmong (kept_in rows) l) × ((l : Item) → IsAmong (kept_in rows) l → IsAmong ls l)
+      × ((n : List ℕ) → IsAmong ns n → (s : Item) × IsAmong (seen_in kind rows) s × (name_of s ≡ n))
+      × ((s : Item) → IsAmong (seen_in kind rows) s → IsAmong ns (name_of s) × IsTrue s)
+
+  there-line : (l : Item) (ls : List Item) (ns : List (List ℕ)) (rows : List Row) → AllThere ls ns rows → AllThere (l ∷ ls) ns (Gone l ∷ rows)
+  there-line l ls ns rows ih = (
+    λ k h. elim h [ inl e ↦ inl e | inr b ↦ inr (ih.0 k b) ],
+    λ k h. elim h [ inl e ↦ inl e | inr b ↦ inr (ih.1 k b) ],
+    ih.2,
+    ih.3,
+  )
+
+  there-name : (n : List ℕ) (ls : List Item) (ns : List (List ℕ)) (rows : List Row) (outcome : Outcome) → is_digested outcome ≡ true
+      → Comes files kind n outcome → AllThere ls ns rows → AllThere ls (n ∷ ns) (Come n outcome ∷ rows)
+  there-name n ls ns rows (Digested v) is comes ih = (
+    ih.0,
+    ih.1,
+    λ m h. elim h [ inl e ↦ (Says n kind v, inl refl, e) | inr b ↦ let t = ih.2 m b in (t.0, inr t.1, t.2) ],
+    λ s h.
+        elim h [
+          | inl e ↦ subst (λ t. IsAmong (n ∷ ns) (name_of t) × IsTrue t) e (inl refl, comes.1)
+          | inr b ↦ let t = ih.3 s b in (inr t.0, t.1)
+        ],
+  )
+  there-name n ls ns rows IsDirectory is comes ih = let no : ⊥ = cc in absurd no
+  there-name n ls ns rows (Unread reason) is comes ih = let no : ⊥ = cc in absurd no
+
+  there-both : (l : Item) (n : List ℕ) (ls : List Item) (ns : List (List ℕ)) (rows : List Row) (outcome : Outcome) → is_digested outcome ≡ true
+      → Comes files (kind_of l) n outcome → AllThere ls ns rows → AllThere (l ∷ ls) (n ∷ ns) (Met l n outcome ∷ rows)
+  there-both l n ls ns rows (Digested v) is comes ih = (
+    λ k h. elim h [ inl e ↦ inl e | inr b ↦ inr (ih.0 k b) ],
+    λ k h. elim h [ inl e ↦ inl e | inr b ↦ inr (ih.1 k b) ],
+    λ m h. elim h [ inl e ↦ (Says n (kind_of l) v, inl refl, e) | inr b ↦ let t = ih.2 m b in (t.0, inr t.1, t.2) ],
+    λ s h.
+        elim h [
+          | inl e ↦ subst (λ t. IsAmong (n ∷ ns) (name_of t) × IsTrue t) e (inl refl, comes.1)
+          | inr b ↦ let t = ih.3 s b in (inr t.0, t.1)
+        ],
+  )
+  there-both l n ls ns rows IsDirectory is comes ih = let no : ⊥ = cc in absurd no
+  there-both l n ls ns rows (Unread reason) is comes ih = let no : ⊥ = cc in absurd no
+
+  abbrev AllRead : List Item → List (List ℕ) → List (Side Item (List ℕ)) → Type 0
+  AllRead ls ns sides = (rows : List Row) → AreRows files kind sides rows → are_read rows ≡ true → AllThere ls ns rows
+
+  read-line : (l : Item) (ls : List Item) (ns : List (List ℕ)) (s : List (Side Item (List ℕ))) → AllRead ls ns s → AllRead (l ∷ ls) ns (Line l ∷ s)
+  read-line l ls ns s ih rows are read =
+      let whole : Gone l ∷ are.1 ≡ rows = ap (λ r. r ∷ are.1) (sym are.3) ∙ sym are.2 in
+      let rest : are_read are.1 ≡ true = subst (λ r. are_read r ≡ true) (sym whole) read in
+      subst (λ r. AllThere (l ∷ ls) ns r) whole (there-line l ls ns are.1 (ih are.1 are.4 rest))
+
+  read-name : (n : List ℕ) (ls : List Item) (ns : List (List ℕ)) (s : List (Side Item (List ℕ))) → AllRead ls ns s → AllRead ls (n ∷ ns) (Name n ∷ s)
+  read-name n ls ns s ih rows are read =
+      let whole : Come n are.3.0 ∷ are.1 ≡ rows = ap (λ r. r ∷ are.1) (sym are.3.1) ∙ sym are.2 in
+      let both = both-true (is_digested are.3.0) (are_read are.1) (subst (λ r. are_read r ≡ true) (sym whole) read) in
+      subst (λ r. AllThere ls (n ∷ ns) r) whole (there-name n ls ns are.1 are.3.0 both.0 are.3.2 (ih are.1 are.4 both.1))
+
+  read-both : (l : Item) (n : List ℕ) (ls : List Item) (ns : List (List ℕ)) (s : List (Side Item (List ℕ))) → AllRead ls ns s
+      → AllRead (l ∷ ls) (n ∷ ns) (Both l n ∷ s)
+  read-both l n ls ns s ih rows are read =
+      let whole : Met l n are.3.0 ∷ are.1 ≡ rows = ap (λ r. r ∷ are.1) (sym are.3.1) ∙ sym are.2 in
+      let both = both-true (is_digested are.3.0) (are_read are.1) (subst (λ r. are_read r ≡ true) (sym whole) read) in
+      subst (λ r. AllThere (l ∷ ls) (n ∷ ns) r) whole (there-both l n ls ns are.1 are.3.0 both.0 are.3.2 (ih are.1 are.4 both.1))
+
+  pub all-there : (ls : List Item) (ns : List (List ℕ)) → AllRead ls ns (by_path ls ns)
+  all-there = by_turns compare_to_name AllRead (λ rows are read. subst (λ r. AllThere [] [] r) (sym are) (λ l h. h, λ l h. h, λ n h. absurd h, λ s h. absurd h))
+      (λ l ls s ih. read-line l ls [] s ih)
+      (λ n ns s ih. read-name n [] ns s ih)
+      (λ l n ls ns s e ih. read-line l ls (n ∷ ns) s ih)
+      (λ l n ls ns s e ih. read-both l n ls ns s ih)
+      (λ l n ls ns s e ih. read-name n (l ∷ ls) ns s ih)
+
+-- ---- the meaning of a good audit
+
+module _ {S F W E : Type 0} (files : Files S F) (rules : StreamRules W E) (options : Options) (list : List ℕ) (old new : Streams W E) where
+  abbrev good : Effect W E
+  good = effect_of rules old new (Ok true)
+
+  abbrev Agree : List Item → List (List ℕ) → Type 0
+  Agree lines names =
+      ((line : Item) → IsAmong lines line → (name : List ℕ) × IsAmong names name × IsFileOf files line name)
+      × ((name : List ℕ) → IsAmong names name → (line : Item) × IsAmong lines line × IsFileOf files line name)
+
+  file-of : (line s : Item) → (path_of line ≡ path_of s) → (kind_of line ≡ kind_of s) → (value_of line ≡ value_of s)
+      → IsValueOf files (kind_of s) (name_of s) (value_of s) → IsFileOf files line (name_of s)
+  file-of line s path kind value is = (
+    path,
+    subst (λ k. IsValueOf files k (name_of s) (value_of line)) (sym kind)
+        (subst (λ v. IsValueOf files (kind_of s) (name_of s) v) (sym value) is),
+  )
+
+  sides-agree : (lines : List Item) (asked : List (List ℕ)) → AuditsSides files good options lines asked
+      → Agree lines asked
+  sides-agree lines asked (inr fails) = let no = fails.3 in let none : ⊥ = cc in absurd none
+  sides-agree lines asked (inl (rows, found, are, told, audit, prints, answers)) =
+      let both = both-true (are_same found) (are_read rows) (sym answers) in
+      let there = all-there files _ lines asked rows are both.1 in
+      let equal = same_means_equal (kept_in rows) _ found audit (all-same found both.0) in (
+        λ line h.
+            let beside = equal.0 line (there.0 line h) in
+            let seen = there.3 beside.0 beside.1 in
+            (name_of beside.0, seen.0, file-of line beside.0 beside.2.0 beside.2.1.0 beside.2.1.1 seen.1),
+        λ name h.
+            let given = there.2 name h in
+            let beside = equal.1 given.0 given.1 in
+            let seen = there.3 given.0 given.1 in (
+              beside.0,
+              there.1 beside.0 beside.1,
+              subst (IsFileOf files beside.0) given.2 (file-of beside.0 given.0 beside.2.0 beside.2.1.0 beside.2.1.1 seen.1),
+            ),
+      )
+
+  unless-agree : (lines : List Item) (asked : List (List ℕ)) (first second : Option (List ℕ))
+      → OnlyTellsTwice good list first second (AuditsSides files good options lines asked) → Agree lines asked
+  unless-agree lines asked None None audits = sides-agree lines asked audits
+  unless-agree lines asked None (Some name) tells = let no = tells.0 in let none : ⊥ = cc in absurd none
+  unless-agree lines asked (Some name) second tells = let no = tells.0 in let none : ⊥ = cc in absurd none
+
+  items-agree : (said : List Item) (names : List (List ℕ)) → AuditsItems files good options list said names
+      → Agree said names
+  items-agree said names (inr fails) = let no = fails.0 in let none : ⊥ = cc in absurd none
+  items-agree said names (inl (lines, asked, order, order', audits)) =
+      let agree = unless-agree lines asked _ _ audits in (
+        λ line h.
+            let there = agree.0 line (among_permutation said lines line order.0 h) in
+            (there.0, among_permutation asked names there.0 (IsPermutation-sym names asked order'.0) there.1, there.2),
+        λ name h.
+            let there = agree.1 name (among_permutation names asked name order'.0 h) in
+            (there.0, among_permutation lines said there.0 (IsPermutation-sym said lines order.0) there.1, there.2),
+      )
+
+pub audit-means-equal : {S F W E : Type 0} (opening : StoreRules S F) (reading : SourceRules F) (rules : StreamRules W E)
+    → AuditMeansEqual opening reading rules
+audit-means-equal opening reading rules store options list names old new (start, begun, inl (said, says, audits)) =
+    let agree = items-agree (files_of opening reading store) rules options list start new said names audits in
+    (said, says, agree.0, agree.1)
+audit-means-equal opening reading rules store options list names old new (start, begun, inr (inl (text, why, tells))) =
+    let no = tells.0 in let none : ⊥ = cc in absurd none
+audit-means-equal opening reading rules store options list names old new (start, begun, inr (inr fails)) =
+    let no = fails.0 in let none : ⊥ = cc in absurd none

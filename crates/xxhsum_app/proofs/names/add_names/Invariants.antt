@@ -1,0 +1,6 @@
+use Rattle.std.proofs.Common.{◌≡◌, ◌++◌, map, take}
+use Rattle.xxhsum_app.proofs.names.add_names.Given as goal
+
+abbrev pub invariant-loop-part : goal.invariant-loop-part
+invariant-loop-part l =
+    map (λ name. name.items) l.names.items ≡ map (λ name. name.items) l.initial.names.items ++ map (λ part. part.now) (take l.part-index l.part-items)

@@ -1,0 +1,233 @@
+//! Finds the files below folders.
+
+ghost use Rattle.std.specs.Prelude.{◌≡◌, ◌++◌, ◌∷◌, [], false, IfOk, MatchResult, map};
+ghost use Rattle.xxhsum_program.specs.Told.{TellsLines};
+ghost use Rattle.xxhsum_app.specs.Messages.{messages_of};
+ghost use Rattle.xxhsum_app.specs.WalkLaws.{FindsEachFile, FindsNoOther, FindsOnce};
+ghost use Rattle.xxhsum_app.specs.Walk.{HasKind, IsInOrder, IsSeen, SeesFolder, SeesOne, WalksAll, WalksSome, below, closed_text, place_of, state_of, tree_of, waiting_in, with_slash};
+
+use std::alloc::{AllocError, Global};
+use xxh_io::ends::Sink;
+use xxhsum_fs::folders::{FolderError, Folders, PathKind};
+use xxhsum_fs::refusal::Refusal;
+use xxhsum_fs::store::Store;
+use xxhsum_program::hash::tell_outcome;
+use xxhsum_program::outcome::{Outcome, Reason};
+use xxhsum_program::stop::Stop;
+
+/// The result of a walk.
+#[derive(Drop)]
+pub struct Walked {
+    /// The names of the files, in order.
+    pub files: Vec<Vec<u8>>,
+    /// True if the names in each folder could be read and looked up.
+    pub are_all: bool,
+}
+
+// A name to visit: a given name, or a name in a folder.
+#[derive(Drop)]
+pub(crate) struct Waiting {
+    pub(crate) name: Vec<u8>,
+    pub(crate) is_given: bool,
+}
+
+/// Returns the files of these names, with each folder replaced by the files below it, in the order of the bytes of
+/// their names.
+///
+/// A given name that is a link is followed. Links in folders are skipped, and so is anything that is neither a file nor
+/// a folder. A folder that can't be read, and a name in a folder that can't be looked up, is reported.
+///
+/// # Errors
+///
+/// [`Stop::OutOfMemory`] if memory for the names runs out.
+pub fn files_below<S: Store + Folders, E: Sink>(
+    alloc: Global,
+    store: &S,
+    names: &[Vec<u8>],
+    err: &mut E,
+) -> Result<Walked, Stop>
+    ensures { let given = map (λ name. name.items) names.now in MatchResult result
+        (λ walked. WalksAll (tree_of S.Store S.Folders store.now)
+        (messages_of E.Sink err.old err.new) given (map (λ file. file.items) walked.files.items)
+        walked.are_all)
+        (WalksSome (tree_of S.Store S.Folders store.now) (messages_of E.Sink err.old err.new) given) }
+{
+    let mut walked = Walked {
+        files: Vec::new(alloc),
+        are_all: true,
+    };
+    let mut waiting = Vec::new(alloc);
+    put_names(alloc, b"", true, names, &mut waiting)?;
+    for _ in 0..u64::MAX {
+        let Some(place) = waiting.pop() else {
+            return Ok(walked);
+        };
+        see(alloc, store, place, &mut waiting, &mut walked, err)?;
+    }
+    Err(Stop::OutOfMemory)
+}
+
+// Pushes the names in a folder, so that the first of them is visited next.
+fn put_names(
+    alloc: Global,
+    folder: &[u8],
+    is_given: bool,
+    names: &[Vec<u8>],
+    waiting: &mut Vec<Waiting>,
+) -> Result<(), AllocError>
+    ensures { IfOk result (λ _. waiting_in waiting.new.items
+        ≡ map (below folder.now is_given) (map (λ name. name.items) names.now)
+        ++ waiting_in waiting.old.items) }
+{
+    for at in 0..names.len() {
+        put_name(
+            alloc,
+            folder,
+            is_given,
+            &names[names.len() - 1 - at],
+            waiting,
+        )?;
+    }
+    Ok(())
+}
+
+fn put_name(
+    alloc: Global,
+    folder: &[u8],
+    is_given: bool,
+    name: &[u8],
+    waiting: &mut Vec<Waiting>,
+) -> Result<(), AllocError>
+    ensures { IfOk result (λ _. map place_of waiting.new.items
+        ≡ map place_of waiting.old.items ++ below folder.now is_given name.now ∷ []) }
+{
+    let mut path = Vec::new(alloc);
+    path.extend_from_slice(folder)?;
+    path.extend_from_slice(name)?;
+    waiting.push(Waiting {
+        name: path,
+        is_given,
+    })?;
+    Ok(())
+}
+
+// Visits a name: adds a file, or pushes the names in a folder.
+fn see<S: Store + Folders, E: Sink>(
+    alloc: Global,
+    store: &S,
+    place: Waiting,
+    waiting: &mut Vec<Waiting>,
+    walked: &mut Walked,
+    err: &mut E,
+) -> Result<(), Stop>
+    ensures { SeesOne (IsSeen (tree_of S.Store S.Folders store.now) (place_of place))
+        (messages_of E.Sink err.old err.new) (state_of waiting.old.items walked.old)
+        (state_of waiting.new.items walked.new) result }
+{
+    let Waiting { name, is_given } = place;
+    match kind_at(store, &name, is_given) {
+        PathKind::File => {
+            add_file(name, &mut walked.files)?;
+            Ok(())
+        }
+        PathKind::Folder => open_folder(alloc, store, &name, waiting, walked, err),
+        PathKind::Other => Ok(()),
+        PathKind::Unknown(refusal) => {
+            lose(&name, refusal, &mut walked.are_all, err);
+            Ok(())
+        }
+    }
+}
+
+// Returns the kind of a name. A given link is followed.
+fn kind_at<S: Store + Folders>(store: &S, name: &[u8], is_given: bool) -> PathKind
+    ensures { HasKind (tree_of S.Store S.Folders store.now) name.now is_given result }
+{
+    if !is_given {
+        return store.kind_of(name);
+    }
+    if store.is_directory(name) {
+        PathKind::Folder
+    } else {
+        PathKind::File
+    }
+}
+
+fn add_file(name: Vec<u8>, files: &mut Vec<Vec<u8>>) -> Result<(), AllocError>
+    ensures { IfOk result (λ _. map (λ file. file.items) files.new.items
+        ≡ map (λ file. file.items) files.old.items ++ name.items ∷ []) }
+{
+    files.push(name)?;
+    Ok(())
+}
+
+// Pushes the names in a folder, in order. Reports a folder that can't be read.
+fn open_folder<S: Store + Folders, E: Sink>(
+    alloc: Global,
+    store: &S,
+    name: &[u8],
+    waiting: &mut Vec<Waiting>,
+    walked: &mut Walked,
+    err: &mut E,
+) -> Result<(), Stop>
+    ensures { SeesFolder (tree_of S.Store S.Folders store.now) name.now
+        (messages_of E.Sink err.old err.new) (state_of waiting.old.items walked.old)
+        (state_of waiting.new.items walked.new) result }
+{
+    let folder = with_slash(alloc, name)?;
+    match store.names_in(alloc, &folder) {
+        Ok(names) => {
+            let ordered = in_order(names);
+            put_names(alloc, &folder, false, &ordered, waiting)?;
+            Ok(())
+        }
+        Err(FolderError::OutOfMemory) => Err(Stop::OutOfMemory),
+        Err(FolderError::Refused(refusal)) => {
+            lose(name, refusal, &mut walked.are_all, err);
+            Ok(())
+        }
+    }
+}
+
+// Returns the name of a folder with a slash at its end.
+fn with_slash(alloc: Global, name: &[u8]) -> Result<Vec<u8>, AllocError>
+    ensures { IfOk result (λ folder. folder.items ≡ with_slash name.now) }
+{
+    let mut folder = Vec::new(alloc);
+    folder.extend_from_slice(name)?;
+    if !name.ends_with(b"/") {
+        folder.push(b'/')?;
+    }
+    Ok(folder)
+}
+
+// Returns the names in the order of their bytes.
+fn in_order(names: Vec<Vec<u8>>) -> Vec<Vec<u8>>
+    ensures { IsInOrder (map (λ name. name.items) names.items)
+        (map (λ name. name.items) result.items) }
+{
+    let mut names = names;
+    names.sort_unstable();
+    names
+}
+
+// Reports a folder that can't be read, or a name that can't be looked up. The walk is then incomplete.
+fn lose<E: Sink>(name: &[u8], refusal: Refusal, are_all: &mut bool, err: &mut E)
+    ensures tells { TellsLines E.Sink (closed_text name.now refusal) err.old err.new }
+    ensures lost { are_all.new ≡ false }
+{
+    let outcome = Outcome::Unread {
+        reason: Reason::Unopened { refusal },
+    };
+    tell_outcome(name, &outcome, err);
+    *are_all = false;
+}
+
+/// Lemma: a walk finds exactly the files that the given names lead to through names in folders, if each folder could be
+/// read and the store gives one result per name. Below one given name no path is found twice, if each name occurs once
+/// in its folder and has no slash. `hash_names` then has one outcome for each.
+pub fn laws_of_walks<S: Store + Folders>()
+    ensures each { (store : S) → FindsEachFile (tree_of S.Store S.Folders store) }
+    ensures no_other { (store : S) → FindsNoOther (tree_of S.Store S.Folders store) }
+    ensures once { (store : S) → FindsOnce (tree_of S.Store S.Folders store) }
+{}

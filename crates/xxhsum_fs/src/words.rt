@@ -1,0 +1,50 @@
+//! The system's message for an error.
+
+ghost use Rattle.std.specs.Prelude.{◌≡◌, ◌≤◌, pos, unwrap_or};
+ghost use Rattle.std.specs.IoError.{raw_os_error};
+ghost use Rattle.xxhsum_fs.specs.Refusal.{refusal_code};
+
+use crate::refusal::Refusal;
+use std::fmt::Write;
+use std::{fmt, io};
+
+// Capacity for the message, which is shorter.
+const ROOM: usize = 256;
+
+// What std appends to the system's message.
+const SUFFIX: &[u8] = b" (os error ";
+
+// A text in a buffer of fixed capacity. The rest is dropped.
+#[derive(Drop)]
+struct Words {
+    text: [u8; ROOM],
+    len: usize,
+    ghost within: { len ≤ 256 },
+}
+
+impl Write for Words {
+    fn write_str(&mut self, text: &str) -> fmt::Result {
+        let bytes = text.as_bytes();
+        let count = bytes.len().min(ROOM - self.len);
+        self.text[self.len..self.len + count].copy_from_slice(&bytes[..count]);
+        self.len += count;
+        Ok(())
+    }
+}
+
+// Returns the error with the system's error number and message; the number is 0 if the error is not the system's.
+pub(crate) fn words_of(error: io::Error) -> Refusal
+    ensures { refusal_code result ≡ unwrap_or (raw_os_error error) (pos 0) }
+{
+    let code = error.raw_os_error().unwrap_or(0);
+    let mut words = Words {
+        text: [0; ROOM],
+        len: 0,
+    };
+    let _ = write!(words, "{error}");
+    let text = &words.text[..words.len];
+    match memchr::memmem::find(text, SUFFIX) {
+        Some(len) => Refusal::new(code, &text[..len]),
+        None => Refusal::new(code, text),
+    }
+}

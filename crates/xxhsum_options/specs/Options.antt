@@ -1,0 +1,93 @@
+-- The meaning of the arguments.
+use Rattle.std.specs.Prelude.{ℕ, ◌+◌, Bool, List, [], ◌∷◌, drop, length, true, false, bytes_eq, nat_le, nat_lt, ◌&&◌, ◌||◌, codes, if◌then◌else◌}
+use Rattle.xxh_io.specs.declared.kind.Kind.{Kind}
+use Rattle.xxhsum_options.specs.declared.options.Asked.{Asked}
+use Rattle.xxhsum_options.specs.declared.options.Asked.TheVariants.{Run, WrongOption, NulsInList, InputBesideNames, WalkBesideLists, WalkOfNothing}
+use Rattle.xxhsum_options.specs.declared.options.NamesFrom.{NamesFrom}
+use Rattle.xxhsum_options.specs.declared.options.NamesFrom.TheVariants.{Words, Lines, Nuls}
+use Rattle.xxhsum_options.specs.declared.options.Options.{Options}
+use Rattle.xxhsum_options.specs.declared.options.Step.{Step}
+use Rattle.xxhsum_options.specs.declared.options.Step.TheVariants.{Takes, EndsBefore, EndsAfter, IsWrong, Settles}
+use Rattle.xxhsum_options.specs.Letters.{letters_step}
+use Rattle.xxhsum_options.specs.Number.{begins_with}
+use Rattle.xxhsum_options.specs.Table.{of_name}
+use Rattle.xxhsum_options.specs.declared.table.TheConstants.{ROWS}
+
+-- The options before the first argument.
+abbrev pub no_options : Kind → Options
+no_options kind = record {
+  kind = kind;
+  checks = false;
+  is_quiet = false;
+  is_status_only = false;
+  is_strict = false;
+  warns = false;
+  ignores_missing = false;
+  is_tagged = false;
+  is_little_endian = false;
+  ends_in_nul = false;
+  audits = false;
+  walks = false;
+  names_from = Words;
+  takes_terminal = false;
+}
+
+-- The effect of an argument on these options.
+abbrev pub word_step : Options → List ℕ → Step
+word_step options word =
+    if begins_with (codes "--") word then of_name ROWS options (drop 2 word)
+    else if bytes_eq word (codes "-") then Takes (record options { takes_terminal = true })
+    else if begins_with (codes "-") word then letters_step 0 options (drop 1 word)
+    else EndsBefore
+
+-- True if the names are read from lists of names.
+abbrev pub are_listed : NamesFrom → Bool
+are_listed Words = false
+are_listed Lines = true
+are_listed Nuls = true
+
+-- True if one of the names is `-`.
+abbrev pub have_input : List (List ℕ) → Bool
+have_input [] = false
+have_input (name ∷ names) = bytes_eq name (codes "-") || have_input names
+
+-- The number of checksum lists before the names: 1 for an audit, otherwise 0.
+abbrev pub lists_audited : Options → ℕ
+lists_audited options = if options.audits then 1 else 0
+
+-- The number of checksum lists before lists of names: 1 for an audit with lists of names, otherwise 0.
+abbrev pub lists_before : Options → ℕ
+lists_before options = if options.audits && are_listed options.names_from then 1 else 0
+
+-- True if `-` is one of the names, or was given before names. Standard input is not read if there are names.
+abbrev pub leaves_input : Options → List (List ℕ) → Bool
+leaves_input options names =
+    have_input names || (options.takes_terminal && nat_lt (lists_before options) (length names))
+
+-- The run with these options. Its names are the arguments from index `at` on. `-z` is refused with `-c` or `--audit`.
+-- `-r` is refused with `-c`, with lists of names, or without a name. `-` is refused with names.
+abbrev pub run_from : Options → ℕ → List (List ℕ) → Asked
+run_from options at names =
+    if options.ends_in_nul && (options.checks || options.audits) then NulsInList
+    else if options.walks && (options.checks || are_listed options.names_from) then WalkBesideLists
+    else if options.walks && nat_le (length names) (lists_audited options) then WalkOfNothing
+    else if leaves_input options names then InputBesideNames
+    else Run options at
+
+-- The result of an argument, and of the arguments after it. An argument that is not an option ends the options.
+abbrev pub after_word : Step → ℕ → Options → List ℕ → List (List ℕ) → (Options → Asked) → Asked
+after_word (Takes next) at options word words go_on = go_on next
+after_word EndsBefore at options word words go_on = run_from options at (word ∷ words)
+after_word EndsAfter at options word words go_on = run_from options (at + 1) words
+after_word IsWrong at options word words go_on = WrongOption at
+after_word (Settles asked) at options word words go_on = asked
+
+-- The meaning of these arguments. The first `at` arguments resulted in these options.
+abbrev pub asked_after : ℕ → Options → List (List ℕ) → Asked
+asked_after at options [] = run_from options at []
+asked_after at options (word ∷ words) =
+    after_word (word_step options word) at options word words (λ next. asked_after (at + 1) next words)
+
+-- The meaning of the arguments after the program's name.
+abbrev pub asked_of : Kind → List (List ℕ) → Asked
+asked_of kind words = asked_after 0 (no_options kind) words
