@@ -12,7 +12,7 @@ from tools import TOP, text_of
 
 SPECS = ['twox_words/specs/Word'] + ['twox_plain/specs/' + name for name in ('Units', 'Xxh32', 'Xxh64')]
 SPECS += ['twox_core/specs/' + name for name in ('Primes', 'Steps', 'Secret', 'Short', 'Middle', 'Long', 'Value')]
-SPECS += ['headline/specs/Headline']
+SPECS += ['theorems/specs/Values']
 # Of these files the main theorem cites a few definitions, with those that they cite there.
 PARTS = {
     'twox_core/specs/Ending': ('accumulators_after', 'stream_accumulators', 'stream_block', 'last_stripe'),
@@ -81,7 +81,7 @@ def counted_beside(name, heads):
 def counted():
     """The number of lines of this repository, and of definitions of the toolchain's library."""
     specs = [text_lines(spec + '.antt') for spec in SPECS]
-    headline = text_lines('headline/src/lib.rt')
+    headline = text_lines('theorems/src/lib.rt')
     lines = sum(bool(line) and not line.startswith(('use ', '--')) and not CITED.match(line)
                 for spec in specs for line in spec)
     lines += sum(lines_of(name, text_lines(spec + '.antt')) for spec, names in PARTS.items() for name in names)

@@ -146,7 +146,7 @@ def ratios_that_differ():
 
 def wrong_bodies_that_differ():
     """README has their number, so that a file of them can't be lost."""
-    files = glob.glob(os.path.join(TOP, 'crates', '*', 'wrong-bodies.edits'))
+    files = glob.glob(os.path.join(TOP, 'crates', '*', 'mutants.edits'))
     count = sum(len(re.findall(r'^== ', text_of(os.path.relpath(path, TOP)), re.M)) for path in files)
     if f'tries {count:,} mutants' not in text_of('README.md'):
         yield f'README.md does not have that there are {count:,} mutants'

@@ -6,7 +6,7 @@
     checks/wrong-bodies --unaimed [CRATE..]
     checks/wrong-bodies --hard [CRATE..]
 
-A mutant is an edit, a block of crates/CRATE/wrong-bodies.edits, described in CONTRIBUTING.md. A check continues after a
+A mutant is an edit, a block of crates/CRATE/mutants.edits, described in CONTRIBUTING.md. A check continues after a
 refused function and has a line for each, so edits of different functions share one check, and each is judged by the
 line of its own function. What such a check can't judge is tried separately, as `rt must-fail` does, and only that
 reports "not refused" or "bad edit". CONTRIBUTING.md explains why this is sound.

@@ -60,8 +60,8 @@ def parsed(text):
 
 
 def files_of(crate, room):
-    """The blocks of the crate's wrong-bodies.edits, each written to a folder as a file for `rt must-fail`."""
-    return sorted(written(f"{crate.folder}/wrong-bodies.edits", f"{room}/{crate.name}"), key=os.path.basename)
+    """The blocks of the crate's mutants.edits, each written to a folder as a file for `rt must-fail`."""
+    return sorted(written(f"{crate.folder}/mutants.edits", f"{room}/{crate.name}"), key=os.path.basename)
 
 
 def written(path, folder):

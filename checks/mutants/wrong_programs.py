@@ -16,7 +16,7 @@ SYSTEM, CHECK = 'xxhsum_fs/src/system.rt', 'xxhsum_program/src/check.rt'
 EVER = 'for _ in 0..u64::MAX {'
 BELOW, DEEP = 'files below a folder', 'a list, both streams one pipe'
 TREE = 'a tree of many names'
-RUN, SHOWN = 'xxhsum_app/src/run.rt', 'ProgressDisplay::new(screen, terminals, options)'
+RUN, SHOWN = 'xxhsum_app/src/run.rt', 'ProgressDisplay::new(terminal, interactive, options)'
 NONE = 'b": no properly formatted xxHash checksum lines found"'
 REPORTS_NONE = f'streams.report(&[\n                self.name,\n                {NONE},\n            ]);'
 
@@ -61,12 +61,12 @@ WRONG = {
     'all_arguments has no memory past 20,000': Wrong(
         'xxhsum_program/src/arguments.rt', 'for index in 0..usize::MAX {', 'for index in 0..20_000 {', 'many', 'many arguments'),
     'sum_up reports a list with no line before the output that waits': before_output(
-        REPORTS_NONE, f'tell_line(&[self.name, {NONE}]', 'pipes', 'output before messages about lists with no line'),
-    'tell_of_failure reports a list that breaks off before the output that waits': before_output(
-        'self.report_line(number, READ_FAILED, streams);', 'tell_of_line(self.name, number, READ_FAILED', 'failing', DEEP),
+        REPORTS_NONE, f'eprint_line(&[self.name, {NONE}]', 'pipes', 'output before messages about lists with no line'),
+    'report_failure reports a list that breaks off before the output that waits': before_output(
+        'self.report_line(number, READ_FAILED, streams);', 'eprint_line_error(self.name, number, READ_FAILED', 'failing', DEEP),
     'count_improper reports a line before the output that waits': before_output(
         'self.report_line(number, b"Improperly formatted checksum line", streams);',
-        'tell_of_line(self.name, number, b"Improperly formatted checksum line"', 'failing', DEEP),
+        'eprint_line_error(self.name, number, b"Improperly formatted checksum line"', 'failing', DEEP),
     'digest_line has no memory past 16,000 bytes': Wrong(
         'xxhsum_line/src/printed.rt', '    put_formed(&mut line, kind, shape, value, name, false)?;',
         '    if name.len() > 16000 { return Err(AllocError); }\n    put_formed(&mut line, kind, shape, value, name, false)?;',
@@ -75,15 +75,15 @@ WRONG = {
         'xxhsum/src/main.rt', 'errors: shows_errors,', 'errors: shows_errors && !shows_output,', 'terminals',
         'progress of a file, terminals: out, err'),
     'now counts microseconds': Wrong(
-        'xxhsum_program/src/screen.rt', 'time.as_millis()', 'time.as_micros()', 'terminals', 'progress of a file, terminals: err'),
+        'xxhsum_program/src/terminal.rt', 'time.as_millis()', 'time.as_micros()', 'terminals', 'progress of a file, terminals: err'),
     'watch begins at the time 0': Wrong(
-        'xxhsum_program/src/watched.rt', '        let started = time_of(&self.screen, self.is_on);\n        Watched::new(',
-        '        let started = 0;\n        Watched::new(', 'terminals', 'progress of input'),
+        'xxhsum_program/src/progress_reader.rt', '        let started = time_of(&self.terminal, self.is_on);\n        ProgressReader::new(',
+        '        let started = 0;\n        ProgressReader::new(', 'terminals', 'progress of input'),
     'run_arguments shows no progress of an audit': Wrong(
-        RUN, SHOWN, 'ProgressDisplay::new(screen, terminals, xxhsum_options::options::Options { is_quiet: options.audits, ..options })',
+        RUN, SHOWN, 'ProgressDisplay::new(terminal, interactive, xxhsum_options::options::Options { is_quiet: options.audits, ..options })',
         'terminals', 'progress of an audit'),
     'run_arguments shows no progress below folders': Wrong(
-        RUN, SHOWN, 'ProgressDisplay::new(screen, terminals, xxhsum_options::options::Options { is_quiet: options.walks, ..options })',
+        RUN, SHOWN, 'ProgressDisplay::new(terminal, interactive, xxhsum_options::options::Options { is_quiet: options.walks, ..options })',
         'terminals', 'progress below a folder'),
     'size is modulo 2^40': Wrong(
         SYSTEM, 'Some(found.len())', 'Some(found.len() % 1_099_511_627_776)', 'terminals',

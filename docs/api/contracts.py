@@ -6,7 +6,7 @@ import re
 from rattle import CRATES, LISTED, modules_of, trait_of, type_of
 
 # The crates whose functions state the guarantees beside those that others call.
-STATED = ('headline', 'xxhsum_theorems')
+STATED = ('theorems', 'xxhsum_theorems')
 CLAUSE = re.compile(r'\s*(requires|ensures)\b\s*(\w+)?')
 # A definition, by the word before or behind `pub`.
 DEFINED = re.compile(r'^(?:(?:abbrev|unfoldable|data|record) pub|pub (?:data|record)) ([^\s:]+)', re.M)

@@ -3,7 +3,7 @@
 ghost use Rattle.std.specs.Prelude.{◌≡◌, ◌↔◌, ◌++◌, ℕ, List, IsTrue, Ok, IfOk, MatchResult};
 ghost use Rattle.twox_hash.specs.Xxh64.{xxh64};
 ghost use Rattle.twox_hash.specs.Record32.{AgreeInUse as AgreeInUse32};
-ghost use Rattle.twox_hash.specs.Record64.{StandsFor, AgreeInUse, finish_value, after_write};
+ghost use Rattle.twox_hash.specs.Record64.{Represents, AgreeInUse, finish_value, after_write};
 
 use std::alloc::AllocError;
 use twox_hash::xxhash64::RestoreError;
@@ -46,7 +46,7 @@ pub fn values_after_64(a: &mut XxHash64, b: &mut XxHash64, pieces: &[&[u8]]) -> 
 /// change the original. No copy fails.
 pub fn without_and_with(hasher: &XxHash64, piece: &[u8]) -> Result<(u64, u64), AllocError>
     ensures { MatchResult result
-        (λ values. (m : List ℕ) → StandsFor hasher.now m
+        (λ values. (m : List ℕ) → Represents hasher.now m
         → (values.0 ≡ xxh64 hasher.now.seed m) × (values.1 ≡ xxh64 hasher.now.seed (m ++ piece.now)))
         (λ _. ⊥) }
 {
@@ -60,7 +60,7 @@ pub fn without_and_with(hasher: &XxHash64, piece: &[u8]) -> Result<(u64, u64), A
 /// The record of a hasher that represents any list is accepted, and continues as the hasher itself.
 pub fn save_and_go_on(hasher: &XxHash64, piece: &[u8]) -> Result<u64, RestoreError>
     ensures accepted { (m : List ℕ)
-        → StandsFor hasher.now m → result ≡ Ok (xxh64 hasher.now.seed (m ++ piece.now)) }
+        → Represents hasher.now m → result ≡ Ok (xxh64 hasher.now.seed (m ++ piece.now)) }
     ensures alike { IfOk result (λ value. value ≡ finish_value (after_write hasher.now piece.now)) }
 {
     let mut restored = XxHash64::from_state(hasher.to_state())?;

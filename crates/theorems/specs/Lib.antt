@@ -1,1 +1,1 @@
-pub mod Headline
+pub mod Values

@@ -24,8 +24,8 @@ ghost use Rattle.twox_hash.specs.SecretBytes.{secret_bytes};
 ghost use Rattle.twox_hash.specs.Ending.{stream_accumulators, stream_block, last_stripe};
 ghost use Rattle.twox_hash.specs.Record32 as Record32;
 ghost use Rattle.twox_hash.specs.Record64 as Record64;
-ghost use Rattle.twox_hash.specs.StandsFor.{StandsFor};
-ghost use Rattle.theorems.specs.Headline.{AreValuesOf, joined};
+ghost use Rattle.twox_hash.specs.Represents.{Represents};
+ghost use Rattle.theorems.specs.Values.{AreValuesOf, joined};
 
 use std::alloc::{AllocError, Allocator};
 use std::boxed::BoxedSlice;
@@ -41,7 +41,7 @@ use twox_hash::{XxHash3_64, XxHash3_128, XxHash32, XxHash64, xxhash3_64, xxhash3
 // ---- any hasher
 
 /// A hasher of any algorithm: the lists of bytes that it follows, and its value of a list.
-pub trait Stream {
+pub trait StreamingHasher {
     /// The type of the value.
     type Value: Copy + PartialEq;
 
@@ -52,131 +52,131 @@ pub trait Stream {
     ghost value: { Option ℕ → List ℕ → List ℕ → Self.Value };
 
     /// Hashes a chunk.
-    fn take(&mut self, piece: &[u8])
+    fn update(&mut self, piece: &[u8])
         ensures { (seed : Option ℕ) (s m : List ℕ) → follows self.old seed s m
             → follows self.new seed s (m ++ piece.now) };
 
     /// Returns the value of the chunks so far.
-    fn answer(&self) -> Self::Value
+    fn digest(&self) -> Self::Value
         ensures { (seed : Option ℕ) (s m : List ℕ) → follows self.now seed s m
             → result ≡ value seed s m };
 }
 
-impl Stream for XxHash32 {
+impl StreamingHasher for XxHash32 {
     type Value = u32;
 
-    ghost follows = { λ h seed _ m. (seed ≡ Some h.seed) × Record32.StandsFor h m };
+    ghost follows = { λ h seed _ m. (seed ≡ Some h.seed) × Record32.Represents h m };
 
     ghost value = { λ seed _ m. xxh32 (stream_seed seed) m };
 
-    fn take(&mut self, piece: &[u8]) {
+    fn update(&mut self, piece: &[u8]) {
         self.write(piece);
     }
 
-    fn answer(&self) -> u32 {
+    fn digest(&self) -> u32 {
         self.finish_32()
     }
 }
 
-impl Stream for XxHash64 {
+impl StreamingHasher for XxHash64 {
     type Value = u64;
 
-    ghost follows = { λ h seed _ m. (seed ≡ Some h.seed) × Record64.StandsFor h m };
+    ghost follows = { λ h seed _ m. (seed ≡ Some h.seed) × Record64.Represents h m };
 
     ghost value = { λ seed _ m. xxh64 (stream_seed seed) m };
 
-    fn take(&mut self, piece: &[u8]) {
+    fn update(&mut self, piece: &[u8]) {
         self.write(piece);
     }
 
-    fn answer(&self) -> u64 {
+    fn digest(&self) -> u64 {
         self.finish()
     }
 }
 
-impl<S: FixedBuffer> Stream for xxhash3_64::RawHasher<S> {
+impl<S: FixedBuffer> StreamingHasher for xxhash3_64::RawHasher<S> {
     type Value = u64;
 
-    ghost follows = { λ h seed s m. StandsFor S.bytes h seed s m };
+    ghost follows = { λ h seed s m. Represents S.bytes h seed s m };
 
     ghost value = { stream_64 };
 
-    fn take(&mut self, piece: &[u8]) {
+    fn update(&mut self, piece: &[u8]) {
         self.write(piece);
     }
 
-    fn answer(&self) -> u64 {
+    fn digest(&self) -> u64 {
         self.finish()
     }
 }
 
-impl<A: Allocator> Stream for XxHash3_64<A> {
+impl<A: Allocator> StreamingHasher for XxHash3_64<A> {
     type Value = u64;
 
-    ghost follows = { λ h seed s m. StandsFor boxed_slice_items h seed s m };
+    ghost follows = { λ h seed s m. Represents boxed_slice_items h seed s m };
 
     ghost value = { stream_64 };
 
-    fn take(&mut self, piece: &[u8]) {
+    fn update(&mut self, piece: &[u8]) {
         self.write(piece);
     }
 
-    fn answer(&self) -> u64 {
+    fn digest(&self) -> u64 {
         self.finish()
     }
 }
 
-impl<S: FixedBuffer> Stream for xxhash3_128::RawHasher<S> {
+impl<S: FixedBuffer> StreamingHasher for xxhash3_128::RawHasher<S> {
     type Value = u128;
 
-    ghost follows = { λ h seed s m. StandsFor S.bytes h seed s m };
+    ghost follows = { λ h seed s m. Represents S.bytes h seed s m };
 
     ghost value = { stream_128 };
 
-    fn take(&mut self, piece: &[u8]) {
+    fn update(&mut self, piece: &[u8]) {
         self.write(piece);
     }
 
-    fn answer(&self) -> u128 {
+    fn digest(&self) -> u128 {
         self.finish_128()
     }
 }
 
-impl<A: Allocator> Stream for XxHash3_128<A> {
+impl<A: Allocator> StreamingHasher for XxHash3_128<A> {
     type Value = u128;
 
-    ghost follows = { λ h seed s m. StandsFor boxed_slice_items h seed s m };
+    ghost follows = { λ h seed s m. Represents boxed_slice_items h seed s m };
 
     ghost value = { stream_128 };
 
-    fn take(&mut self, piece: &[u8]) {
+    fn update(&mut self, piece: &[u8]) {
         self.write(piece);
     }
 
-    fn answer(&self) -> u128 {
+    fn digest(&self) -> u128 {
         self.finish_128()
     }
 }
 
 // Hashes the chunks, one after another.
-fn take_all<H: Stream>(hasher: &mut H, pieces: &[&[u8]])
+fn update_all<H: StreamingHasher>(hasher: &mut H, pieces: &[&[u8]])
     ensures { (seed : Option ℕ) (s m : List ℕ) → H.follows hasher.old seed s m
         → H.follows hasher.new seed s (m ++ joined pieces.now) }
 {
     for piece in pieces {
-        hasher.take(piece);
+        hasher.update(piece);
     }
 }
 
 // Returns the values after some chunks, and after more.
-fn answers<H: Stream>(hasher: &mut H, first: &[&[u8]], rest: &[&[u8]]) -> (H::Value, H::Value)
+fn digests<H: StreamingHasher>(hasher: &mut H, first: &[&[u8]], rest: &[&[u8]]) -> (H::Value, H::Value)
     ensures { (seed : Option ℕ) (s : List ℕ) → H.follows hasher.old seed s []
         → AreValuesOf (H.value seed s) first.now rest.now result }
 {
-    take_all(hasher, first);
-    let then = hasher.answer();
-    take_all(hasher, rest);
-    (then, hasher.answer())
+    update_all(hasher, first);
+    let then = hasher.digest();
+    update_all(hasher, rest);
+    (then, hasher.digest())
 }
 
 // ---- XXH32 and XXH64
@@ -185,14 +185,14 @@ fn answers<H: Stream>(hasher: &mut H, first: &[&[u8]], rest: &[&[u8]]) -> (H::Va
 pub fn xxh32_of_pieces(seed: u32, first: &[&[u8]], rest: &[&[u8]]) -> (u32, u32)
     ensures { AreValuesOf (xxh32 seed) first.now rest.now result }
 {
-    answers(&mut XxHash32::with_seed(seed), first, rest)
+    digests(&mut XxHash32::with_seed(seed), first, rest)
 }
 
 /// XXH32 of chunks, with the seed 0.
 pub fn xxh32_default_of_pieces(first: &[&[u8]], rest: &[&[u8]]) -> (u32, u32)
     ensures { AreValuesOf (xxh32 0) first.now rest.now result }
 {
-    answers(&mut XxHash32::default(), first, rest)
+    digests(&mut XxHash32::default(), first, rest)
 }
 
 /// XXH32 of bytes at once.
@@ -206,14 +206,14 @@ pub fn xxh32_at_once(seed: u32, input: &[u8]) -> u32
 pub fn xxh64_of_pieces(seed: u64, first: &[&[u8]], rest: &[&[u8]]) -> (u64, u64)
     ensures { AreValuesOf (xxh64 seed) first.now rest.now result }
 {
-    answers(&mut XxHash64::with_seed(seed), first, rest)
+    digests(&mut XxHash64::with_seed(seed), first, rest)
 }
 
 /// XXH64 of chunks, with the seed 0.
 pub fn xxh64_default_of_pieces(first: &[&[u8]], rest: &[&[u8]]) -> (u64, u64)
     ensures { AreValuesOf (xxh64 0) first.now rest.now result }
 {
-    answers(&mut XxHash64::default(), first, rest)
+    digests(&mut XxHash64::default(), first, rest)
 }
 
 /// XXH64 of bytes at once.
@@ -234,7 +234,7 @@ pub fn xxh3_64_of_pieces<S: FixedBuffer + Drop>(
     ensures { let s = S.bytes secret.secret in
         AreValuesOf (stream_64 secret.seed s) first.now rest.now result }
 {
-    answers(&mut xxhash3_64::RawHasher::new(secret), first, rest)
+    digests(&mut xxhash3_64::RawHasher::new(secret), first, rest)
 }
 
 /// A stream with an allocated secret, with the seed 0 and the default secret.
@@ -246,7 +246,7 @@ pub fn xxh3_64_boxed_of_pieces<A: Allocator>(
     ensures { IfOk result (AreValuesOf (stream_64 (Some 0) default_secret) first.now rest.now) }
 {
     let mut hasher = XxHash3_64::new(alloc)?;
-    Ok(answers(&mut hasher, first, rest))
+    Ok(digests(&mut hasher, first, rest))
 }
 
 /// A 64-bit stream with an allocated secret, by `default`: the seed 0 and the default secret.
@@ -258,7 +258,7 @@ pub fn xxh3_64_default_of_pieces<A: Allocator>(
     ensures { IfOk result (AreValuesOf (stream_64 (Some 0) default_secret) first.now rest.now) }
 {
     let mut hasher = XxHash3_64::default(alloc)?;
-    Ok(answers(&mut hasher, first, rest))
+    Ok(digests(&mut hasher, first, rest))
 }
 
 /// A stream with an allocated secret, with a seed and the secret derived from it.
@@ -272,7 +272,7 @@ pub fn xxh3_64_seeded_of_pieces<A: Allocator>(
         IfOk result (AreValuesOf (stream_64 (Some seed) s) first.now rest.now) }
 {
     let mut hasher = XxHash3_64::with_seed(alloc, seed)?;
-    Ok(answers(&mut hasher, first, rest))
+    Ok(digests(&mut hasher, first, rest))
 }
 
 /// A stream with a seed and a boxed secret of the caller: accepted from 136 bytes on.
@@ -287,7 +287,7 @@ pub fn xxh3_64_seeded_and_keyed_of_pieces<A: Allocator>(
         IfSome result (AreValuesOf (stream_64 (Some seed) s) first.now rest.now) }
 {
     let mut hasher = XxHash3_64::with_seed_and_secret(seed, secret).ok()?;
-    Some(answers(&mut hasher, first, rest))
+    Some(digests(&mut hasher, first, rest))
 }
 
 /// A stream with only a boxed secret of the caller: accepted from 136 bytes on.
@@ -301,7 +301,7 @@ pub fn xxh3_64_keyed_of_pieces<A: Allocator>(
         IfSome result (AreValuesOf (xxh3_64 0 s) first.now rest.now) }
 {
     let mut hasher = XxHash3_64::with_secret(secret).ok()?;
-    Some(answers(&mut hasher, first, rest))
+    Some(digests(&mut hasher, first, rest))
 }
 
 /// All bytes at once, with the default secret and the seed 0.
@@ -358,7 +358,7 @@ pub fn xxh3_128_of_pieces<S: FixedBuffer + Drop>(
     ensures { let s = S.bytes secret.secret in
         AreValuesOf (stream_128 secret.seed s) first.now rest.now result }
 {
-    answers(&mut xxhash3_128::RawHasher::new(secret), first, rest)
+    digests(&mut xxhash3_128::RawHasher::new(secret), first, rest)
 }
 
 /// A stream with an allocated secret, with the seed 0 and the default secret.
@@ -370,7 +370,7 @@ pub fn xxh3_128_boxed_of_pieces<A: Allocator>(
     ensures { IfOk result (AreValuesOf (stream_128 (Some 0) default_secret) first.now rest.now) }
 {
     let mut hasher = XxHash3_128::new(alloc)?;
-    Ok(answers(&mut hasher, first, rest))
+    Ok(digests(&mut hasher, first, rest))
 }
 
 /// A 128-bit stream with an allocated secret, by `default`: the seed 0 and the default secret.
@@ -382,7 +382,7 @@ pub fn xxh3_128_default_of_pieces<A: Allocator>(
     ensures { IfOk result (AreValuesOf (stream_128 (Some 0) default_secret) first.now rest.now) }
 {
     let mut hasher = XxHash3_128::default(alloc)?;
-    Ok(answers(&mut hasher, first, rest))
+    Ok(digests(&mut hasher, first, rest))
 }
 
 /// A stream with an allocated secret, with a seed and the secret derived from it.
@@ -396,7 +396,7 @@ pub fn xxh3_128_seeded_of_pieces<A: Allocator>(
         IfOk result (AreValuesOf (stream_128 (Some seed) s) first.now rest.now) }
 {
     let mut hasher = XxHash3_128::with_seed(alloc, seed)?;
-    Ok(answers(&mut hasher, first, rest))
+    Ok(digests(&mut hasher, first, rest))
 }
 
 /// A stream with a seed and a boxed secret of the caller: accepted from 136 bytes on.
@@ -411,7 +411,7 @@ pub fn xxh3_128_seeded_and_keyed_of_pieces<A: Allocator>(
         IfSome result (AreValuesOf (stream_128 (Some seed) s) first.now rest.now) }
 {
     let mut hasher = XxHash3_128::with_seed_and_secret(seed, secret).ok()?;
-    Some(answers(&mut hasher, first, rest))
+    Some(digests(&mut hasher, first, rest))
 }
 
 /// A stream with only a boxed secret of the caller: accepted from 136 bytes on.
@@ -425,7 +425,7 @@ pub fn xxh3_128_keyed_of_pieces<A: Allocator>(
         IfSome result (AreValuesOf (xxh3_128 0 s) first.now rest.now) }
 {
     let mut hasher = XxHash3_128::with_secret(secret).ok()?;
-    Some(answers(&mut hasher, first, rest))
+    Some(digests(&mut hasher, first, rest))
 }
 
 /// All bytes at once, with the default secret and the seed 0.
@@ -507,8 +507,8 @@ fn write_all<S: FixedBuffer, V: Vector, W: Vector>(
     w: W,
     pieces: &[(bool, &[u8])],
 )
-    ensures { (seed : Option ℕ) (s m : List ℕ) → StandsFor S.bytes core.old seed s m
-        → StandsFor S.bytes core.new seed s (m ++ concat (map (λ piece. piece.1.now) pieces.now)) }
+    ensures { (seed : Option ℕ) (s m : List ℕ) → Represents S.bytes core.old seed s m
+        → Represents S.bytes core.new seed s (m ++ concat (map (λ piece. piece.1.now) pieces.now)) }
 {
     for piece in pieces {
         if piece.0 {

@@ -2,7 +2,7 @@
 use Rattle.std.specs.Prelude.{◌≡◌, ◌≤◌, ◌==◌, ℕ, Option, Some, None, List, take, if◌then◌else◌}
 use Rattle.twox_core.specs.CoreView.{CoreView}
 use Rattle.twox_core.specs.InRange.{IsInRange}
-use Rattle.twox_core.specs.StandsFor.{StandsFor}
+use Rattle.twox_core.specs.Represents.{Represents}
 use Rattle.twox_c.specs.declared.xxh3_state.Xxh3State.{Xxh3State}
 use Rattle.twox_c.specs.declared.xxh3_state.TheConstants.{MARK_3}
 
@@ -31,4 +31,4 @@ pub record IsUsable (c : Xxh3State) : Type 0 where
 -- it was reset with the secret s and this seed (or, without a seed, with only the secret), and has taken m since
 pub record WasGiven (c : Xxh3State) (seed : Option ℕ) (s m : List ℕ) : Type 0 where
   pub usable : IsUsable c
-  pub message : StandsFor (λ x. x) (stream_of c) seed s m
+  pub message : Represents (λ x. x) (stream_of c) seed s m

@@ -1,6 +1,6 @@
 -- A state of XXH32 that C holds.
 use Rattle.std.specs.Prelude.{◌≡◌, ◌<◌, ℕ, List}
-use Rattle.twox_plain.specs.Record32.{StandsFor}
+use Rattle.twox_plain.specs.Record32.{Represents}
 use Rattle.twox_plain.specs.StateInMemory32.{record_of, usage_of}
 use Rattle.twox_plain.specs.declared.xxhash32.SavedState.{SavedState}
 use Rattle.twox_c.specs.declared.xxh32.Xxh32State.{Xxh32State}
@@ -18,4 +18,4 @@ pub record IsUsable (c : Xxh32State) : Type 0 where
 pub record WasGiven (c : Xxh32State) (seed : ℕ) (m : List ℕ) : Type 0 where
   pub usable : IsUsable c
   pub same_seed : c.hasher.seed ≡ seed
-  pub message : StandsFor (record_of_state c) m
+  pub message : Represents (record_of_state c) m

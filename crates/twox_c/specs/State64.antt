@@ -1,6 +1,6 @@
 -- A state of XXH64 that C holds.
 use Rattle.std.specs.Prelude.{◌≡◌, ◌<◌, ℕ, List}
-use Rattle.twox_plain.specs.Record64.{StandsFor}
+use Rattle.twox_plain.specs.Record64.{Represents}
 use Rattle.twox_plain.specs.StateInMemory64.{record_of, usage_of}
 use Rattle.twox_plain.specs.declared.xxhash64.SavedState.{SavedState}
 use Rattle.twox_c.specs.declared.xxh64.Xxh64State.{Xxh64State}
@@ -18,4 +18,4 @@ pub record IsUsable (c : Xxh64State) : Type 0 where
 pub record WasGiven (c : Xxh64State) (seed : ℕ) (m : List ℕ) : Type 0 where
   pub usable : IsUsable c
   pub same_seed : c.hasher.seed ≡ seed
-  pub message : StandsFor (record_of_state c) m
+  pub message : Represents (record_of_state c) m

@@ -5,7 +5,7 @@ use Rattle.std.proofs.lemmas.List.{append-nil, append_assoc, drop-append-le, dro
 use Rattle.twox_core.specs.Ending.{accumulators_after, stream_accumulators, stream_block, last_stripe}
 use Rattle.twox_core.specs.AfterWrite.{after_taking, empty_state, stripes_in_place, after_rest, after_long_piece, state_after_write, core_after_write}
 use Rattle.twox_core.specs.Finish.{last_bytes, buffered_bytes, stripes_left, end_accumulators, end_block, state_finish, core_finish}
-use Rattle.twox_core.specs.StandsFor.{Holds, LeavesLast, Follows, StandsFor, IsCopy}
+use Rattle.twox_core.specs.Represents.{Holds, LeavesLast, Follows, Represents, IsCopy}
 use Rattle.twox_core.proofs.StripeFacts.{folded_more}
 use Rattle.twox_core.proofs.TakenFacts.{took_none, took_longer, took_more}
 
@@ -178,8 +178,8 @@ end_stripe_follows s m c held long = last_in (nat_lt c.buffer_usage 64) s m c.bu
 
 -- Lemma: a core with an empty state and any bytes in its buffer represents the empty list.
 pub stands_cleared : {S : Type 0} (bytes : S → List ℕ) (h : StreamKey S) (buffer : List ℕ)
-    → StandsFor bytes (record { key = h; state = record empty_state { buffer = buffer } }) h.seed (bytes h.secret) []
-unfolding StandsFor Follows
+    → Represents bytes (record { key = h; state = record empty_state { buffer = buffer } }) h.seed (bytes h.secret) []
+unfolding Represents Follows
 stands_cleared bytes h buffer = (
   refl,
   refl,
@@ -192,35 +192,35 @@ stands_cleared bytes h buffer = (
 )
 
 -- Lemma: a new core represents the empty list.
-pub stands_fresh : {S : Type 0} (bytes : S → List ℕ) (h : StreamKey S) → StandsFor bytes (record { key = h; state = empty_state }) h.seed (bytes h.secret) []
+pub stands_fresh : {S : Type 0} (bytes : S → List ℕ) (h : StreamKey S) → Represents bytes (record { key = h; state = empty_state }) h.seed (bytes h.secret) []
 stands_fresh bytes h = stands_cleared bytes h empty_state.buffer
 
 pub stands_written : {S : Type 0} (bytes : S → List ℕ) (h : CoreView S) (seed : Option ℕ) (s m d : List ℕ)
     → 0 < stripes_of (bytes h.key.secret) → length h.state.buffer ≡ 512 → h.state.buffer_usage ≤ 512
-    → StandsFor bytes h seed s m → StandsFor bytes (core_after_write bytes h d) seed s (m ++ d)
-unfolding StandsFor core_after_write
+    → Represents bytes h seed s m → Represents bytes (core_after_write bytes h d) seed s (m ++ d)
+unfolding Represents core_after_write
 stands_written bytes h seed s m d some size within held =
     (held.0, held.1, rw held.1 (written_follows s m d h.state (rw held.1 at some) size within held.2))
 
-pub stands_count : {S : Type 0} (bytes : S → List ℕ) (h : CoreView S) (seed : Option ℕ) (s m : List ℕ) → StandsFor bytes h seed s m → total_of h ≡ counted (length m)
-unfolding StandsFor
+pub stands_count : {S : Type 0} (bytes : S → List ℕ) (h : CoreView S) (seed : Option ℕ) (s m : List ℕ) → Represents bytes h seed s m → total_of h ≡ counted (length m)
+unfolding Represents
 stands_count bytes h seed s m held = follows_count s m h.state held.2
 
-pub stands_none : {S : Type 0} (bytes : S → List ℕ) (h : CoreView S) (seed : Option ℕ) (s : List ℕ) → StandsFor bytes h seed s [] → buffered_of h ≡ 0
-unfolding StandsFor Follows
+pub stands_none : {S : Type 0} (bytes : S → List ℕ) (h : CoreView S) (seed : Option ℕ) (s : List ℕ) → Represents bytes h seed s [] → buffered_of h ≡ 0
+unfolding Represents Follows
 stands_none bytes h seed s held = omega (arith, held.2.3.all)
 
-pub stands_some : {S : Type 0} (bytes : S → List ℕ) (h : CoreView S) (seed : Option ℕ) (s m : List ℕ) → StandsFor bytes h seed s m → 0 < length m → 0 < buffered_of h
-unfolding StandsFor Follows
+pub stands_some : {S : Type 0} (bytes : S → List ℕ) (h : CoreView S) (seed : Option ℕ) (s m : List ℕ) → Represents bytes h seed s m → 0 < length m → 0 < buffered_of h
+unfolding Represents Follows
 stands_some bytes h seed s m held some = some_left held.2.0 h.state.buffer_usage held.2.2.left (omega (arith, held.2.3.all))
 
-pub stands_all : {S : Type 0} (bytes : S → List ℕ) (h : CoreView S) (seed : Option ℕ) (s m : List ℕ) → StandsFor bytes h seed s m → length m < 2 ^ 64
+pub stands_all : {S : Type 0} (bytes : S → List ℕ) (h : CoreView S) (seed : Option ℕ) (s m : List ℕ) → Represents bytes h seed s m → length m < 2 ^ 64
     → 64 * done_of h + buffered_of h ≡ length m
-unfolding StandsFor Follows
+unfolding Represents Follows
 stands_all bytes h seed s m held low = omega (arith, held.2.3.all, held.2.3.taken.count)
 
-pub stands_secret : {S : Type 0} (bytes : S → List ℕ) (h : CoreView S) (seed : Option ℕ) (s m : List ℕ) → StandsFor bytes h seed s m → bytes h.key.secret ≡ s
-unfolding StandsFor
+pub stands_secret : {S : Type 0} (bytes : S → List ℕ) (h : CoreView S) (seed : Option ℕ) (s m : List ℕ) → Represents bytes h seed s m → bytes h.key.secret ≡ s
+unfolding Represents
 stands_secret bytes h seed s m held = held.1
 
 finished_in : {R : Type 0} (b : Bool) (small : List ℕ → ℕ → List ℕ → R) (large : List ℕ → List ℕ → List ℕ → List ℕ → ℕ → R) (seed : Option ℕ) (s : List ℕ) (c : CoreState)
@@ -230,8 +230,8 @@ unfolding state_finish
 finished_in b small large seed s c e = rw e refl
 
 pub stands_finished_short : {S R : Type 0} (small : List ℕ → ℕ → List ℕ → R) (large : List ℕ → List ℕ → List ℕ → List ℕ → ℕ → R) (bytes : S → List ℕ) (h : CoreView S) (seed : Option ℕ) (s m : List ℕ)
-    → StandsFor bytes h seed s m → length m ≤ 240 → core_finish small large bytes h ≡ small (short_secret seed s) (stream_seed seed) m
-unfolding StandsFor core_finish
+    → Represents bytes h seed s m → length m ≤ 240 → core_finish small large bytes h ≡ small (short_secret seed s) (stream_seed seed) m
+unfolding Represents core_finish
 stands_finished_short small large bytes h seed s m held short =
     let test : nat_le h.state.total_bytes 240 ≡ true = grind (arith, nat_tests, follows_count s m h.state held.2) in
     finished_in true small large h.key.seed (bytes h.key.secret) h.state test
@@ -239,8 +239,8 @@ stands_finished_short small large bytes h seed s m held short =
 
 pub stands_finished_long : {S R : Type 0} (small : List ℕ → ℕ → List ℕ → R) (large : List ℕ → List ℕ → List ℕ → List ℕ → ℕ → R) (bytes : S → List ℕ) (h : CoreView S) (seed : Option ℕ) (s m : List ℕ)
     → 0 < stripes_of (bytes h.key.secret) → length h.state.buffer ≡ 512 → h.state.buffer_usage ≤ 512
-    → StandsFor bytes h seed s m → 240 < length m → core_finish small large bytes h ≡ large (stream_accumulators s m) (stream_block m) (last_stripe m) s (counted (length m))
-unfolding StandsFor core_finish
+    → Represents bytes h seed s m → 240 < length m → core_finish small large bytes h ≡ large (stream_accumulators s m) (stream_block m) (last_stripe m) s (counted (length m))
+unfolding Represents core_finish
 stands_finished_long small large bytes h seed s m some size within held long =
     let test : nat_le h.state.total_bytes 240 ≡ false = grind (arith, nat_tests, follows_count s m h.state held.2) in
     finished_in false small large h.key.seed (bytes h.key.secret) h.state test
@@ -249,7 +249,7 @@ stands_finished_long small large bytes h seed s m some size within held long =
 -- Lemma: a core with the seed, the secret's bytes and the state of another is a copy of it.
 pub stands_copied : {S : Type 0} (bytes : S → List ℕ) (a b : CoreView S) → b.key.seed ≡ a.key.seed → bytes b.key.secret ≡ bytes a.key.secret → b.state ≡ a.state
     → IsCopy bytes a b
-unfolding StandsFor
+unfolding Represents
 stands_copied bytes a b seed secret state = record {
   seed = seed;
   secret = secret;

@@ -17,5 +17,5 @@ pub mod Ending
 pub mod CoreView
 pub mod AfterWrite
 pub mod Finish
-pub mod StandsFor
+pub mod Represents
 pub mod InRange

@@ -6,7 +6,7 @@ use Rattle.twox_core.specs.Value.{stream_64, stream_128}
 use Rattle.twox_core.specs.AfterWrite.{empty_state, state_after_write, core_after_write}
 use Rattle.twox_core.specs.Finish.{core_finish}
 use Rattle.twox_exports.specs.StateValue.{state_value_64, state_value_128}
-use Rattle.twox_core.specs.StandsFor.{Follows, StandsFor}
+use Rattle.twox_core.specs.Represents.{Follows, Represents}
 use Rattle.twox_core.specs.declared.xxhash3.streaming.core_state.CoreState.{CoreState}
 use Rattle.twox_core.proofs.StreamFacts.{stands_fresh, stands_written, stands_finished_short, stands_finished_long}
 use Rattle.twox_hash.proofs.StreamFacts.{value_64_stands, value_128_stands}
@@ -17,7 +17,7 @@ own bytes = bytes
 
 -- Lemma: an empty state follows the empty list.
 pub follows_fresh : (s : List ℕ) (c : CoreState) → c ≡ empty_state → Follows s c []
-unfolding StandsFor
+unfolding Represents
 follows_fresh s c fresh =
     let begun = stands_fresh own (record { seed = None; secret = s }) in
     rw fresh begun.2
@@ -45,14 +45,14 @@ follows_in_range s m c enough size held =
 abbrev view_of : CoreState → Option ℕ → List ℕ → CoreView (List ℕ)
 view_of c seed s = record { key = record { seed = seed; secret = s }; state = c }
 
-stands : (s m : List ℕ) (c : CoreState) (seed : Option ℕ) → Follows s c m → StandsFor own (view_of c seed s) seed s m
-unfolding StandsFor
+stands : (s m : List ℕ) (c : CoreState) (seed : Option ℕ) → Follows s c m → Represents own (view_of c seed s) seed s m
+unfolding Represents
 stands s m c seed held = (refl, refl, held)
 
 -- Lemma: a state that follows m follows m ++ d after a write of d.
 pub follows_written : (s m d : List ℕ) (c : CoreState) → 136 ≤ length s → length c.buffer ≡ 512 → Follows s c m
     → Follows s (state_after_write s c d) (m ++ d)
-unfolding StandsFor core_after_write
+unfolding Represents core_after_write
 follows_written s m d c enough size held =
     let within = (follows_in_range s m c enough size held).within in
     (stands_written own (view_of c None s) None s m d (omega arith) size within (stands s m c None held)).2

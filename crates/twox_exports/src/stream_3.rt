@@ -9,7 +9,7 @@ ghost use Rattle.twox_hash.specs.SecretBytes.{secret_bytes};
 ghost use Rattle.twox_hash.specs.Value.{stream_64, stream_128};
 ghost use Rattle.twox_core.specs.AfterWrite.{state_after_write};
 ghost use Rattle.twox_core.specs.Finish.{state_finish};
-ghost use Rattle.twox_core.specs.StandsFor.{Follows};
+ghost use Rattle.twox_core.specs.Represents.{Follows};
 ghost use Rattle.twox_exports.specs.Number.{number_of};
 ghost use Rattle.twox_exports.specs.StateValue.{state_value_64, state_value_128};
 ghost use Rattle.twox_core.specs.InRange.{IsInRange};

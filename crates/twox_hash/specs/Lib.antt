@@ -24,5 +24,5 @@ pub use Rattle.twox_core.specs.StreamKey
 pub use Rattle.twox_core.specs.CoreView
 pub use Rattle.twox_core.specs.AfterWrite
 pub use Rattle.twox_core.specs.Finish
-pub use Rattle.twox_core.specs.StandsFor
+pub use Rattle.twox_core.specs.Represents
 pub mod Streams

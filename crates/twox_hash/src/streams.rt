@@ -29,11 +29,11 @@ impl<F: Finalize, S: FixedBuffer> RawStream<F, S> {
     ghost use Rattle.std.specs.Prelude.{◌≡◌, ℕ, Option, List, []};
     ghost use Rattle.twox_core.specs.CoreView.{CoreView};
     ghost use Rattle.twox_core.specs.AfterWrite.{core_after_write};
-    ghost use Rattle.twox_core.specs.StandsFor.{StandsFor, TakesPiece};
+    ghost use Rattle.twox_core.specs.Represents.{Represents, TakesPiece};
 
     /// Creates a stream of no bytes, with the seed and the secret of the buffer.
     pub fn new(secret_buffer: SecretBuffer<S>) -> RawStream<F, S>
-        ensures { StandsFor S.bytes result secret_buffer.seed (S.bytes secret_buffer.secret) [] }
+        ensures { Represents S.bytes result secret_buffer.seed (S.bytes secret_buffer.secret) [] }
     {
         RawStream {
             core: RawHasherCore::new(secret_buffer),
@@ -53,7 +53,7 @@ impl<F: Finalize, S: FixedBuffer> RawStream<F, S> {
     /// Returns the secret that was passed in.
     pub fn into_secret(self) -> S
         ensures exact { result ≡ self.key.secret }
-        ensures message { (seed : Option ℕ) (s m : List ℕ) → StandsFor S.bytes self seed s m
+        ensures message { (seed : Option ℕ) (s m : List ℕ) → Represents S.bytes self seed s m
             → S.bytes result ≡ s }
     {
         let RawStream { core, finalizer: _ } = self;
@@ -70,7 +70,7 @@ impl<F: Finalize, S: FixedBuffer> RawStream<F, S> {
 }
 
 impl<F: Finalize, S: ClonedBuffer> Clone for RawStream<F, S> {
-    ghost use Rattle.twox_core.specs.StandsFor.{IsCopy};
+    ghost use Rattle.twox_core.specs.Represents.{IsCopy};
 
     ghost is_clone = { λ a b. IsCopy S.FixedBuffer.bytes a b };
 
@@ -108,7 +108,7 @@ impl<F: Finalize, A: Allocator> BoxedStream<F, A> {
     ghost use Rattle.twox_core.specs.Secret.{default_secret, derived_secret};
     ghost use Rattle.twox_core.specs.CoreView.{CoreView};
     ghost use Rattle.twox_core.specs.AfterWrite.{core_after_write};
-    ghost use Rattle.twox_core.specs.StandsFor.{StandsFor, TakesPiece};
+    ghost use Rattle.twox_core.specs.Represents.{Represents, TakesPiece};
 
     fn over(inner: AllocRawHasher<A>) -> BoxedStream<F, A>
         ensures { result ≡ inner }
@@ -125,7 +125,7 @@ impl<F: Finalize, A: Allocator> BoxedStream<F, A> {
     ///
     /// `AllocError` if out of memory.
     pub fn new(alloc: A) -> Result<BoxedStream<F, A>, AllocError>
-        ensures { IfOk result (λ h. StandsFor boxed_slice_items h (Some 0) default_secret []) }
+        ensures { IfOk result (λ h. Represents boxed_slice_items h (Some 0) default_secret []) }
     {
         Ok(BoxedStream::over(AllocRawHasher::allocate_default(alloc)?))
     }
@@ -136,7 +136,7 @@ impl<F: Finalize, A: Allocator> BoxedStream<F, A> {
     ///
     /// `AllocError` if out of memory.
     pub fn default(alloc: A) -> Result<BoxedStream<F, A>, AllocError>
-        ensures { IfOk result (λ h. StandsFor boxed_slice_items h (Some 0) default_secret []) }
+        ensures { IfOk result (λ h. Represents boxed_slice_items h (Some 0) default_secret []) }
     {
         BoxedStream::new(alloc)
     }
@@ -148,7 +148,7 @@ impl<F: Finalize, A: Allocator> BoxedStream<F, A> {
     /// `AllocError` if out of memory.
     pub fn with_seed(alloc: A, seed: u64) -> Result<BoxedStream<F, A>, AllocError>
         ensures { let s = derived_secret seed in
-            IfOk result (λ h. StandsFor boxed_slice_items h (Some seed) s []) }
+            IfOk result (λ h. Represents boxed_slice_items h (Some seed) s []) }
     {
         let inner = AllocRawHasher::allocate_with_seed(alloc, seed)?;
         Ok(BoxedStream::over(inner))
@@ -164,7 +164,7 @@ impl<F: Finalize, A: Allocator> BoxedStream<F, A> {
         secret: BoxedSlice<u8, A>,
     ) -> Result<BoxedStream<F, A>, SecretTooShortError<BoxedSlice<u8, A>>>
         ensures { let s = boxed_slice_items secret in
-            MatchResult result (λ h. (136 ≤ length s) × StandsFor boxed_slice_items h (Some seed) s [])
+            MatchResult result (λ h. (136 ≤ length s) × Represents boxed_slice_items h (Some seed) s [])
             (λ e. (length s < 136) × (e ≡ secret)) }
     {
         let inner = AllocRawHasher::allocate_with_seed_and_secret(seed, secret)?;
@@ -181,7 +181,7 @@ impl<F: Finalize, A: Allocator> BoxedStream<F, A> {
         secret: BoxedSlice<u8, A>,
     ) -> Result<BoxedStream<F, A>, SecretTooShortError<BoxedSlice<u8, A>>>
         ensures { let s = boxed_slice_items secret in
-            MatchResult result (λ h. (136 ≤ length s) × StandsFor boxed_slice_items h None s [])
+            MatchResult result (λ h. (136 ≤ length s) × Represents boxed_slice_items h None s [])
             (λ e. (length s < 136) × (e ≡ secret)) }
     {
         let inner = AllocRawHasher::allocate_with_secret(secret)?;
@@ -201,7 +201,7 @@ impl<F: Finalize, A: Allocator> BoxedStream<F, A> {
     pub fn into_secret(self) -> BoxedSlice<u8, A>
         ensures exact { result ≡ self.key.secret }
         ensures message { (seed : Option ℕ) (s m : List ℕ)
-            → StandsFor boxed_slice_items self seed s m
+            → Represents boxed_slice_items self seed s m
             → boxed_slice_items result ≡ s }
     {
         let BoxedStream {
@@ -222,7 +222,7 @@ impl<F: Finalize, A: Allocator> BoxedStream<F, A> {
 
 impl<F: Finalize, A: Allocator + Clone> Clone for BoxedStream<F, A> {
     ghost use Rattle.std.specs.Box.{boxed_slice_items};
-    ghost use Rattle.twox_core.specs.StandsFor.{IsCopy};
+    ghost use Rattle.twox_core.specs.Represents.{IsCopy};
 
     ghost is_clone = { λ a b. IsCopy boxed_slice_items a b };
 

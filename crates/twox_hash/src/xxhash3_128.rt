@@ -113,7 +113,7 @@ impl<A: Allocator> Hasher<A> {
     ghost use Rattle.std.specs.Prelude.{◌≡◌, ℕ, Option, List};
     ghost use Rattle.std.specs.Box.{boxed_slice_items};
     ghost use Rattle.twox_core.specs.Value.{stream_128};
-    ghost use Rattle.twox_core.specs.StandsFor.{StandsFor};
+    ghost use Rattle.twox_core.specs.Represents.{Represents};
     ghost use Rattle.twox_hash.specs.Streams.{value_128};
 
     /// Returns the hash of the bytes written so far. More can be written afterwards. Up to 240 bytes it uses the
@@ -123,7 +123,7 @@ impl<A: Allocator> Hasher<A> {
     #[tactic(auto, unfolding(crate::specs::Streams::value_128))]
     pub fn finish_128(&self) -> u128
         ensures message { (seed : Option ℕ) (s m : List ℕ)
-            → StandsFor boxed_slice_items self.now seed s m
+            → Represents boxed_slice_items self.now seed s m
             → result ≡ stream_128 seed s m }
         ensures exact { result ≡ value_128 boxed_slice_items self.now }
     {
@@ -134,7 +134,7 @@ impl<A: Allocator> Hasher<A> {
 impl<S: FixedBuffer> RawHasher<S> {
     ghost use Rattle.std.specs.Prelude.{◌≡◌, ℕ, Option, List};
     ghost use Rattle.twox_core.specs.Value.{stream_128};
-    ghost use Rattle.twox_core.specs.StandsFor.{StandsFor};
+    ghost use Rattle.twox_core.specs.Represents.{Represents};
     ghost use Rattle.twox_hash.specs.Streams.{value_128};
 
     /// Returns the hash of the bytes written so far. More can be written afterwards. Up to 240 bytes it uses the
@@ -143,7 +143,7 @@ impl<S: FixedBuffer> RawHasher<S> {
     #[inline]
     #[tactic(auto, unfolding(crate::specs::Streams::value_128))]
     pub fn finish_128(&self) -> u128
-        ensures message { (seed : Option ℕ) (s m : List ℕ) → StandsFor S.bytes self.now seed s m
+        ensures message { (seed : Option ℕ) (s m : List ℕ) → Represents S.bytes self.now seed s m
             → result ≡ stream_128 seed s m }
         ensures exact { result ≡ value_128 S.bytes self.now }
     {

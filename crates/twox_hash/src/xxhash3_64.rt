@@ -108,7 +108,7 @@ impl<A: Allocator> Hasher<A> {
     ghost use Rattle.std.specs.Prelude.{◌≡◌, ℕ, Option, List};
     ghost use Rattle.std.specs.Box.{boxed_slice_items};
     ghost use Rattle.twox_core.specs.Value.{stream_64};
-    ghost use Rattle.twox_core.specs.StandsFor.{StandsFor};
+    ghost use Rattle.twox_core.specs.Represents.{Represents};
     ghost use Rattle.twox_hash.specs.Streams.{value_64};
 
     /// Returns the hash of the bytes written so far. More can be written afterwards. Up to 240 bytes it uses the
@@ -118,7 +118,7 @@ impl<A: Allocator> Hasher<A> {
     #[tactic(auto, unfolding(crate::specs::Streams::value_64))]
     pub fn finish(&self) -> u64
         ensures message { (seed : Option ℕ) (s m : List ℕ)
-            → StandsFor boxed_slice_items self.now seed s m
+            → Represents boxed_slice_items self.now seed s m
             → result ≡ stream_64 seed s m }
         ensures exact { result ≡ value_64 boxed_slice_items self.now }
     {
@@ -129,7 +129,7 @@ impl<A: Allocator> Hasher<A> {
 impl<S: FixedBuffer> RawHasher<S> {
     ghost use Rattle.std.specs.Prelude.{◌≡◌, ℕ, Option, List};
     ghost use Rattle.twox_core.specs.Value.{stream_64};
-    ghost use Rattle.twox_core.specs.StandsFor.{StandsFor};
+    ghost use Rattle.twox_core.specs.Represents.{Represents};
     ghost use Rattle.twox_hash.specs.Streams.{value_64};
 
     /// Returns the hash of the bytes written so far. More can be written afterwards. Up to 240 bytes it uses the
@@ -138,7 +138,7 @@ impl<S: FixedBuffer> RawHasher<S> {
     #[inline]
     #[tactic(auto, unfolding(crate::specs::Streams::value_64))]
     pub fn finish(&self) -> u64
-        ensures message { (seed : Option ℕ) (s m : List ℕ) → StandsFor S.bytes self.now seed s m
+        ensures message { (seed : Option ℕ) (s m : List ℕ) → Represents S.bytes self.now seed s m
             → result ≡ stream_64 seed s m }
         ensures exact { result ≡ value_64 S.bytes self.now }
     {
@@ -150,7 +150,7 @@ impl<A: Allocator> hash::Hasher for Hasher<A> {
     ghost use Rattle.std.specs.Prelude.{◌≡◌, ℕ, Option, List};
     ghost use Rattle.std.specs.Box.{boxed_slice_items};
     ghost use Rattle.twox_core.specs.Value.{stream_64};
-    ghost use Rattle.twox_core.specs.StandsFor.{StandsFor, TakesPiece};
+    ghost use Rattle.twox_core.specs.Represents.{Represents, TakesPiece};
     ghost use Rattle.twox_core.specs.AfterWrite.{core_after_write};
     ghost use Rattle.twox_hash.specs.Streams.{value_64};
 
@@ -160,7 +160,7 @@ impl<A: Allocator> hash::Hasher for Hasher<A> {
 
     fn finish(&self) -> u64
         ensures message { (seed : Option ℕ) (s m : List ℕ)
-            → StandsFor boxed_slice_items self.now seed s m
+            → Represents boxed_slice_items self.now seed s m
             → result ≡ stream_64 seed s m }
         ensures exact { result ≡ value_64 boxed_slice_items self.now }
     {
@@ -178,7 +178,7 @@ impl<A: Allocator> hash::Hasher for Hasher<A> {
 impl<S: FixedBuffer> hash::Hasher for RawHasher<S> {
     ghost use Rattle.std.specs.Prelude.{◌≡◌, ℕ, Option, List};
     ghost use Rattle.twox_core.specs.Value.{stream_64};
-    ghost use Rattle.twox_core.specs.StandsFor.{StandsFor, TakesPiece};
+    ghost use Rattle.twox_core.specs.Represents.{Represents, TakesPiece};
     ghost use Rattle.twox_core.specs.AfterWrite.{core_after_write};
     ghost use Rattle.twox_hash.specs.Streams.{value_64};
 
@@ -187,7 +187,7 @@ impl<S: FixedBuffer> hash::Hasher for RawHasher<S> {
     ghost finish = { λ h. value_64 S.bytes h };
 
     fn finish(&self) -> u64
-        ensures message { (seed : Option ℕ) (s m : List ℕ) → StandsFor S.bytes self.now seed s m
+        ensures message { (seed : Option ℕ) (s m : List ℕ) → Represents S.bytes self.now seed s m
             → result ≡ stream_64 seed s m }
         ensures exact { result ≡ value_64 S.bytes self.now }
     {

@@ -3,19 +3,19 @@ use Rattle.std.proofs.Common.{◌≡◌, ℕ, ◌*◌, ◌/◌, ◌%◌, ◌<◌
 use Rattle.twox_plain.proofs.Prelude.{Core, SavedState, cases_lt, counted, nat_tests, w32, wrap_add}
 use Rattle.twox_plain.specs.Xxh32.{p5, convergence, start, after_tail, avalanche, xxh32}
 use Rattle.twox_plain.specs.Core32.{core_of_stripes, core_after_stripes}
-use Rattle.twox_plain.specs.Record32.{StandsFor, AgreeInUse, parts, initial_record, after_write, value_of, finish_value}
+use Rattle.twox_plain.specs.Record32.{Represents, AgreeInUse, parts, initial_record, after_write, value_of, finish_value}
 use Rattle.twox_plain.proofs.RecordFacts
 use Rattle.twox_plain.proofs.Core32Facts.{core_of_stripes_longer, core_of_stripes_one, core_of_stripes_more}
 use Rattle.twox_plain.proofs.Tail32.{after_tail-drop}
 
 -- Lemma: the initial record represents the empty list.
-pub initial_record_stands : (seed : ℕ) → StandsFor (initial_record seed) []
-unfolding StandsFor
+pub initial_record_stands : (seed : ℕ) → Represents (initial_record seed) []
+unfolding Represents
 initial_record_stands seed = (refl, record { whole = refl; left = refl; bytes = refl })
 
 -- Lemma: a record that represents m represents m ++ d after a write of d.
-pub after_write_stands : (s : SavedState) (m d : List ℕ) → length s.buffer ≡ 16 → StandsFor s m → StandsFor (after_write s d) (m ++ d)
-unfolding StandsFor after_write
+pub after_write_stands : (s : SavedState) (m d : List ℕ) → length s.buffer ≡ 16 → Represents s m → Represents (after_write s d) (m ++ d)
+unfolding Represents after_write
 after_write_stands s m d size stands =
     RecordFacts.after_write_stands 16 core_of_stripes core_after_stripes (lit< tt) core_of_stripes_longer core_of_stripes_one core_of_stripes_more (parts s) m d size stands
 
@@ -43,8 +43,8 @@ value_of_message seed m rest len core count at cut =
     let left : length rest ≡ length m % 16 = ap length cut ∙ omega (arith, length-drop (length m / 16 * 16) m) in
     rw (count, starts seed m core at, left, cut) (ap avalanche (after_tail-drop (length m / 16 * 16) m (start seed m) (length m % 16)))
 
-pub finish_value_of_message : (s : SavedState) (m : List ℕ) → StandsFor s m → finish_value s ≡ xxh32 s.seed m
-unfolding StandsFor
+pub finish_value_of_message : (s : SavedState) (m : List ℕ) → Represents s m → finish_value s ≡ xxh32 s.seed m
+unfolding Represents
 finish_value_of_message s m stands = value_of_message s.seed m _ s.total_len s.core stands.0 stands.1.whole stands.1.bytes
 
 -- Lemma: the value of a message shorter than a stripe comes only from its seed, length and tail.

@@ -3,7 +3,7 @@ use Rattle.twox_plain.proofs.Prelude.{[], ◌%◌, ◌*◌, ◌/◌, ◌<◌, �
 use Rattle.twox_plain.specs.Units.{after_units}
 use Rattle.twox_plain.specs.Xxh32.{p1, p2, round, accumulator}
 use Rattle.twox_plain.specs.Core32.{core_of_stripes, core_after_stripes}
-use Rattle.twox_plain.specs.Record32.{StandsFor, UsageFits, CoreFits, parts}
+use Rattle.twox_plain.specs.Record32.{Represents, UsageFits, CoreFits, parts}
 use Rattle.twox_plain.proofs.Core32Facts.{core_of, core_of_stripes_longer, core_of_stripes_one}
 use Rattle.twox_plain.proofs.Reachability.{IsReaching, writable_32, round_reaches, AreWords, stripe_between, IsBytes-stripe_between, length-stripe_between, four_reached}
 use Rattle.twox_plain.proofs.RecordFacts
@@ -33,8 +33,8 @@ IsCore-core_of_stripes seed m (suc k) p = record { v1 = below _; v2 = below _; v
 
 -- Lemma: a record that fits represents some list of bytes.
 pub fits_stands : (s : SavedState) → s.total_len < 2 ^ 64 → s.seed < 2 ^ 32 → IsCore s.core → IsBytes s.buffer → length s.buffer ≡ 16 → UsageFits s → CoreFits s
-    → (m : List ℕ) × IsBytes m × StandsFor s m
-unfolding StandsFor
+    → (m : List ℕ) × IsBytes m × Represents s m
+unfolding Represents
 fits_stands s small seed core bytes size usage initial =
     RecordFacts.fits_stands 16 core_of_stripes core_after_stripes (lit< tt) core_of_stripes_longer core_of_stripes_one (parts s) small bytes size usage initial (λ k.
     let a = core_of_stripes s.seed (replicate (k * 16) 0) k in
@@ -47,8 +47,8 @@ fits_stands s small seed core bytes size usage initial =
     })
 
 -- Lemma: a record that represents a list fits.
-pub stands_fits : (s : SavedState) (m : List ℕ) → StandsFor s m → UsageFits s × CoreFits s
-unfolding StandsFor
+pub stands_fits : (s : SavedState) (m : List ℕ) → Represents s m → UsageFits s × CoreFits s
+unfolding Represents
 stands_fits s m stands =
     let count = stands.0 in
     let left = stands.1.left in (

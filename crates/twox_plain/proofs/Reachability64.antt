@@ -3,7 +3,7 @@ use Rattle.twox_plain.proofs.Prelude.{[], ◌%◌, ◌*◌, ◌/◌, ◌<◌, �
 use Rattle.twox_plain.specs.Units.{after_units}
 use Rattle.twox_plain.specs.Xxh64.{p1, p2, round, accumulator}
 use Rattle.twox_plain.specs.Core64.{core_of_stripes, core_after_stripes}
-use Rattle.twox_plain.specs.Record64.{StandsFor, UsageFits, CoreFits, parts}
+use Rattle.twox_plain.specs.Record64.{Represents, UsageFits, CoreFits, parts}
 use Rattle.twox_plain.specs.declared.xxhash64.Core.{Core}
 use Rattle.twox_plain.specs.declared.xxhash64.SavedState.{SavedState}
 use Rattle.twox_plain.proofs.Core64Facts.{core_of, core_of_stripes_longer, core_of_stripes_one}
@@ -35,8 +35,8 @@ IsCore-core_of_stripes seed m (suc k) p = record { v1 = below _; v2 = below _; v
 
 -- Lemma: a record that fits represents some list of bytes.
 pub fits_stands : (s : SavedState) → s.total_len < 2 ^ 64 → s.seed < 2 ^ 64 → IsCore s.core → IsBytes s.buffer → length s.buffer ≡ 32 → UsageFits s → CoreFits s
-    → (m : List ℕ) × IsBytes m × StandsFor s m
-unfolding StandsFor
+    → (m : List ℕ) × IsBytes m × Represents s m
+unfolding Represents
 fits_stands s small seed core bytes size usage initial =
     RecordFacts.fits_stands 32 core_of_stripes core_after_stripes (lit< tt) core_of_stripes_longer core_of_stripes_one (parts s) small bytes size usage initial (λ k.
     let a = core_of_stripes s.seed (replicate (k * 32) 0) k in
@@ -49,8 +49,8 @@ fits_stands s small seed core bytes size usage initial =
     })
 
 -- Lemma: a record that represents a list fits.
-pub stands_fits : (s : SavedState) (m : List ℕ) → StandsFor s m → UsageFits s × CoreFits s
-unfolding StandsFor
+pub stands_fits : (s : SavedState) (m : List ℕ) → Represents s m → UsageFits s × CoreFits s
+unfolding Represents
 stands_fits s m stands =
     let count = stands.0 in
     let left = stands.1.left in (

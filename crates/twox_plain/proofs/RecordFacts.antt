@@ -1,6 +1,6 @@
 -- Lemmas on the list that a record represents, from call to call, for both plain hashes.
 use Rattle.twox_plain.proofs.Prelude.{◌*◌, ◌++◌, ◌+◌, ◌-◌, ◌<◌, ◌^◌, ◌≡◌, ◌≤◌, IsBytes, List, ap, drop, length, min, take, ℕ}
-use Rattle.twox_plain.specs.Record.{Record, StandsFor, after_write, UsageFits, CoreFits, AgreeInUse}
+use Rattle.twox_plain.specs.Record.{Record, Represents, after_write, UsageFits, CoreFits, AgreeInUse}
 use Rattle.twox_plain.proofs.BlockStateFacts.{counted_more, after_piece_follows, after_piece_agree}
 use Rattle.twox_plain.proofs.Reachability.{LastBlock, some_followed}
 
@@ -9,7 +9,7 @@ module _ {C : Type 0} (stripe : ℕ) (core_of : ℕ → List ℕ → ℕ → C) 
     (one : (seed : ℕ) (m d : List ℕ) (k : ℕ) → d ≡ take stripe (drop (k * stripe) m) → core_after (core_of seed m k) d 1 ≡ core_of seed m (k + 1)) where
   -- Lemma: a record that represents m represents m ++ d after a write of d.
   pub after_write_stands : (more : (seed : ℕ) (m d : List ℕ) (k n : ℕ) → d ≡ drop (k * stripe) m → core_after (core_of seed m k) d n ≡ core_of seed m (k + n))
-      (r : Record C) (m d : List ℕ) → length r.state.buffer ≡ stripe → StandsFor stripe core_of r m → StandsFor stripe core_of (after_write stripe core_after r d) (m ++ d)
+      (r : Record C) (m d : List ℕ) → length r.state.buffer ≡ stripe → Represents stripe core_of r m → Represents stripe core_of (after_write stripe core_after r d) (m ++ d)
   after_write_stands more r m d size stands = (
     counted_more r.total_len m d stands.0,
     after_piece_follows stripe (core_of r.seed) core_after some (longer r.seed) (one r.seed) (more r.seed) m d r.state stands.1 size,
@@ -18,7 +18,7 @@ module _ {C : Type 0} (stripe : ℕ) (core_of : ℕ → List ℕ → ℕ → C) 
   -- Lemma: a record that fits represents some list of bytes.
   pub fits_stands : (r : Record C) → r.total_len < 2 ^ 64 → IsBytes r.state.buffer → length r.state.buffer ≡ stripe → UsageFits stripe r → CoreFits stripe core_of r
       → ((k : ℕ) → LastBlock stripe (core_of r.seed) core_after some (longer r.seed) (one r.seed) r.state.accumulators k)
-      → (m : List ℕ) × IsBytes m × StandsFor stripe core_of r m
+      → (m : List ℕ) × IsBytes m × Represents stripe core_of r m
   fits_stands r small bytes size usage initial last =
       some_followed stripe (core_of r.seed) core_after some (longer r.seed) (one r.seed) r.total_len r.state usage.known usage.lost initial small bytes size last
 

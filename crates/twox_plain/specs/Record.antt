@@ -13,8 +13,8 @@ pub record Record (C : Type 0) : Type 0 where
   pub state : BlockState C
 
 -- the record represents m: it has counted m, and its accumulators and its buffer follow m under its seed
-abbrev pub StandsFor : {C : Type 0} → ℕ → (ℕ → List ℕ → ℕ → C) → Record C → List ℕ → Type 0
-StandsFor stripe core_of r m = (r.total_len ≡ counted (length m)) × Follows stripe (core_of r.seed) m r.state
+abbrev pub Represents : {C : Type 0} → ℕ → (ℕ → List ℕ → ℕ → C) → Record C → List ℕ → Type 0
+Represents stripe core_of r m = (r.total_len ≡ counted (length m)) × Follows stripe (core_of r.seed) m r.state
 
 -- the record of no bytes
 abbrev pub initial_record : {C : Type 0} → ℕ → (ℕ → List ℕ → ℕ → C) → ℕ → Record C

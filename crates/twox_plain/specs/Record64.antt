@@ -30,12 +30,12 @@ record_of_parts r = record {
 }
 
 -- the record represents m: it has counted m, and its accumulators and its buffer follow m under its seed
-unfoldable pub StandsFor : SavedState → List ℕ → Type 0
-StandsFor s m = Plain.StandsFor 32 core_of_stripes (parts s) m
+unfoldable pub Represents : SavedState → List ℕ → Type 0
+Represents s m = Plain.Represents 32 core_of_stripes (parts s) m
 
 -- the record represents some list of bytes
 abbrev pub IsReachable : SavedState → Type 0
-IsReachable s = (m : List ℕ) × IsBytes m × StandsFor s m
+IsReachable s = (m : List ℕ) × IsBytes m × Represents s m
 
 -- the record of no bytes
 abbrev pub initial_record : ℕ → SavedState

@@ -2,7 +2,7 @@
 //! cost more than they save. Exists only for speed; `twox_hash` doesn't re-export it.
 
 ghost use Rattle.std.specs.Prelude.{◌≡◌, ◌++◌, ℕ, List};
-ghost use Rattle.twox_plain.specs.Record32.{StandsFor, after_write};
+ghost use Rattle.twox_plain.specs.Record32.{Represents, after_write};
 ghost use Rattle.twox_plain.specs.Xxh32.{xxh32};
 
 use crate::xxhash32::Hasher;
@@ -17,7 +17,7 @@ pub fn oneshot(seed: u32, input: &[u8]) -> u32
 /// Hashes a chunk as `Hasher::write` does.
 pub fn write(hasher: &mut Hasher, input: &[u8])
     ensures message { (m : List ℕ)
-        → StandsFor hasher.old m → StandsFor hasher.new (m ++ input.now) }
+        → Represents hasher.old m → Represents hasher.new (m ++ input.now) }
     ensures seed { hasher.new.seed ≡ hasher.old.seed }
     ensures exact { hasher.new ≡ after_write hasher.old input.now }
 {

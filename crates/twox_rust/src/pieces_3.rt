@@ -3,7 +3,7 @@
 ghost use Rattle.std.specs.Prelude.{◌≡◌, ◌↔◌, ◌<◌, ◌≤◌, List, ℕ, ◌++◌, length};
 ghost use Rattle.twox_core.specs.AfterWrite.{state_after_write};
 ghost use Rattle.twox_core.specs.InRange.{IsInRange};
-ghost use Rattle.twox_core.specs.StandsFor.{Follows};
+ghost use Rattle.twox_core.specs.Represents.{Follows};
 
 use twox_exports::stream_3::write;
 use twox_exports::{DONE, NOT_A_STREAM, SECRET_TOO_SHORT};

@@ -1,7 +1,7 @@
 //! Chunks of streams of XXH32.
 
 ghost use Rattle.std.specs.Prelude.{◌≡◌, ◌↔◌, ◌<◌, ℕ, List, ◌++◌};
-ghost use Rattle.twox_plain.specs.Record32.{StandsFor, after_write};
+ghost use Rattle.twox_plain.specs.Record32.{Represents, after_write};
 ghost use Rattle.twox_plain.specs.StateInMemory32.{record_of, usage_of};
 
 use twox_exports::{DONE, NOT_A_STREAM};
@@ -17,8 +17,8 @@ const _: () = prove!(size_of::<StateInMemory>() == 48);
 pub extern "C" fn twox_rust_xxh32_write(stream: &mut StateInMemory, input: &[u8]) -> u32
     ensures done { result ≡ DONE ↔ (usage_of stream.old < 16) }
     ensures refused { result ≡ NOT_A_STREAM ↔ (¬ (usage_of stream.old < 16)) }
-    ensures message { (m : List ℕ) → result ≡ DONE → StandsFor (record_of stream.old) m
-        → StandsFor (record_of stream.new) (m ++ input.now) }
+    ensures message { (m : List ℕ) → result ≡ DONE → Represents (record_of stream.old) m
+        → Represents (record_of stream.new) (m ++ input.now) }
     ensures seed { stream.new.seed ≡ stream.old.seed }
     ensures exact { result ≡ DONE
         → record_of stream.new ≡ after_write (record_of stream.old) input.now }

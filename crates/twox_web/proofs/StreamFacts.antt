@@ -2,7 +2,7 @@
 use Rattle.std.proofs.Common.{◌≡◌, ℕ, List, refl, sym, ◌∙◌, arith}
 use Rattle.twox_core.specs.Long.{initial_accumulators}
 use Rattle.twox_core.specs.Stripes.{no_stripe}
-use Rattle.twox_core.specs.StandsFor.{Follows, Holds}
+use Rattle.twox_core.specs.Represents.{Follows, Holds}
 use Rattle.twox_core.specs.declared.xxhash3.streaming.core_state.CoreState.{CoreState}
 use Rattle.twox_core.proofs.TakenFacts.{took_none}
 use Rattle.twox_web.specs.Stream.{IsCounted}

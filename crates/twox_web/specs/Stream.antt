@@ -1,7 +1,7 @@
 -- Streams of XXH3 in the page's memory, whose secrets are stored separately.
 use Rattle.std.specs.Prelude.{◌≡◌, ◌+◌, ◌-◌, ◌*◌, ◌^◌, ◌==◌, min, if◌then◌else◌, ℕ, Option, Some, None, List}
 use Rattle.twox_core.specs.Stripes.{no_stripe}
-use Rattle.twox_core.specs.StandsFor.{Follows}
+use Rattle.twox_core.specs.Represents.{Follows}
 use Rattle.twox_core.specs.declared.xxhash3.streaming.core_state.CoreState.{CoreState}
 use Rattle.twox_core.specs.InRange.{IsInRange}
 use Rattle.twox_web.specs.declared.stream_3.Stream.{Stream}
@@ -11,7 +11,7 @@ abbrev pub seed_of : Stream → Option ℕ
 seed_of t = if t.seeds == 0 then None else Some t.seed
 
 -- the stream t over the secret s has this seed, and has hashed m
-pub record StandsFor (t : Stream) (s : List ℕ) (seed : Option ℕ) (m : List ℕ) : Type 0 where
+pub record Represents (t : Stream) (s : List ℕ) (seed : Option ℕ) (m : List ℕ) : Type 0 where
   pub same_seed : seed_of t ≡ seed
   pub taken : Follows s t.core m
 

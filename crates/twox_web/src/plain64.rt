@@ -2,7 +2,7 @@
 
 ghost use Rattle.std.specs.Prelude.{◌≡◌, ◌↔◌, ℕ, List, [], ◌++◌};
 ghost use Rattle.twox_hash.specs.Xxh64.{xxh64};
-ghost use Rattle.twox_hash.specs.Record64.{StandsFor, IsReachable, initial_record, after_write, finish_value};
+ghost use Rattle.twox_hash.specs.Record64.{Represents, IsReachable, initial_record, after_write, finish_value};
 
 use twox_exports::{DONE, NOT_A_STREAM};
 use twox_hash::XxHash64;
@@ -28,7 +28,7 @@ pub extern "C" fn twox_xxh64_stream_size() -> usize
 #[unsafe(no_mangle)]
 pub extern "C" fn twox_xxh64_start(stream: &mut SavedState, seed: u64)
     ensures record { stream.new ≡ initial_record seed }
-    ensures empty { StandsFor stream.new [] }
+    ensures empty { Represents stream.new [] }
     ensures seed { stream.new.seed ≡ seed }
 {
     *stream = XxHash64::with_seed(seed).to_state();
@@ -41,8 +41,8 @@ pub extern "C" fn twox_xxh64_start(stream: &mut SavedState, seed: u64)
 pub extern "C" fn twox_xxh64_update(stream: &mut SavedState, input: &[u8]) -> u32
     ensures done { result ≡ DONE ↔ IsReachable stream.old }
     ensures refused { result ≡ NOT_A_STREAM ↔ (¬ IsReachable stream.old) }
-    ensures message { (m : List ℕ) → StandsFor stream.old m
-        → (result ≡ DONE) × StandsFor stream.new (m ++ input.now) }
+    ensures message { (m : List ℕ) → Represents stream.old m
+        → (result ≡ DONE) × Represents stream.new (m ++ input.now) }
     ensures seed { stream.new.seed ≡ stream.old.seed }
     ensures exact { result ≡ DONE → stream.new ≡ after_write stream.old input.now }
     ensures kept { result ≡ NOT_A_STREAM → stream.new ≡ stream.old }
@@ -62,7 +62,7 @@ pub extern "C" fn twox_xxh64_update(stream: &mut SavedState, input: &[u8]) -> u3
 pub extern "C" fn twox_xxh64_digest(stream: &SavedState, value: &mut u64) -> u32
     ensures done { result ≡ DONE ↔ IsReachable stream.now }
     ensures refused { result ≡ NOT_A_STREAM ↔ (¬ IsReachable stream.now) }
-    ensures message { (m : List ℕ) → StandsFor stream.now m
+    ensures message { (m : List ℕ) → Represents stream.now m
         → (result ≡ DONE) × (value.new ≡ xxh64 stream.now.seed m) }
     ensures exact { result ≡ DONE → value.new ≡ finish_value stream.now }
     ensures kept { result ≡ NOT_A_STREAM → value.new ≡ value.old }

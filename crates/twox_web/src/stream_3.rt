@@ -9,7 +9,7 @@ ghost use Rattle.twox_hash.specs.Value.{stream_64, stream_128};
 ghost use Rattle.twox_core.specs.Stripes.{no_stripe};
 ghost use Rattle.twox_core.specs.AfterWrite.{state_after_write};
 ghost use Rattle.twox_exports.specs.Number.{number_of};
-ghost use Rattle.twox_web.specs.Stream.{seed_of, StandsFor, IsCounted, Fits};
+ghost use Rattle.twox_web.specs.Stream.{seed_of, Represents, IsCounted, Fits};
 
 use crate::PageKernel;
 use twox_exports::stream_3::{finish_64, finish_128, start as begin, write};
@@ -32,7 +32,7 @@ pub struct Stream {
 impl Stream {
     // Returns a stream of no bytes.
     fn starting_with(seed: Option<u64>) -> Stream
-        ensures { (s : List ℕ) → StandsFor result s seed [] }
+        ensures { (s : List ℕ) → Represents result s seed [] }
     {
         let core = begin();
         match seed {
@@ -116,7 +116,7 @@ pub extern "C" fn twox_xxh3_start_with_seed(
     seed: u64,
 )
     ensures secret { secret.new ≡ derived_secret seed }
-    ensures empty { StandsFor stream.new secret.new (Some seed) [] }
+    ensures empty { Represents stream.new secret.new (Some seed) [] }
 {
     *secret = derived_secret(seed);
     *stream = Stream::starting_with(Some(seed));
@@ -130,7 +130,7 @@ pub extern "C" fn twox_xxh3_start_with_seed(
 pub extern "C" fn twox_xxh3_start_with_secret(stream: &mut Stream, secret: &[u8]) -> u32
     ensures done { result ≡ DONE ↔ (136 ≤ length secret.now) }
     ensures refused { result ≡ SECRET_TOO_SHORT ↔ (length secret.now < 136) }
-    ensures empty { result ≡ DONE → StandsFor stream.new secret.now None [] }
+    ensures empty { result ≡ DONE → Represents stream.new secret.now None [] }
     ensures kept { result ≡ SECRET_TOO_SHORT → stream.new ≡ stream.old }
 {
     start(stream, secret, None)
@@ -148,7 +148,7 @@ pub extern "C" fn twox_xxh3_start_with_seed_and_secret(
 ) -> u32
     ensures done { result ≡ DONE ↔ (136 ≤ length secret.now) }
     ensures refused { result ≡ SECRET_TOO_SHORT ↔ (length secret.now < 136) }
-    ensures empty { result ≡ DONE → StandsFor stream.new secret.now (Some seed) [] }
+    ensures empty { result ≡ DONE → Represents stream.new secret.now (Some seed) [] }
     ensures kept { result ≡ SECRET_TOO_SHORT → stream.new ≡ stream.old }
 {
     start(stream, secret, Some(seed))
@@ -158,7 +158,7 @@ pub extern "C" fn twox_xxh3_start_with_seed_and_secret(
 fn start(stream: &mut Stream, secret: &[u8], seed: Option<u64>) -> u32
     ensures done { result ≡ DONE ↔ (136 ≤ length secret.now) }
     ensures refused { result ≡ SECRET_TOO_SHORT ↔ (length secret.now < 136) }
-    ensures empty { result ≡ DONE → StandsFor stream.new secret.now seed [] }
+    ensures empty { result ≡ DONE → Represents stream.new secret.now seed [] }
     ensures kept { result ≡ SECRET_TOO_SHORT → stream.new ≡ stream.old }
 {
     if Secret::new(secret).is_err() {
@@ -181,9 +181,9 @@ pub extern "C" fn twox_xxh3_update(stream: &mut Stream, secret: &[u8], input: &[
     ensures short { result ≡ SECRET_TOO_SHORT ↔ (length secret.now < 136) }
     ensures refused { result ≡ NOT_A_STREAM
         ↔ ((136 ≤ length secret.now) × (¬ Fits secret.now stream.old.core)) }
-    ensures message { (seed : Option ℕ) (m : List ℕ) → StandsFor stream.old secret.now seed m
+    ensures message { (seed : Option ℕ) (m : List ℕ) → Represents stream.old secret.now seed m
         → 136 ≤ length secret.now
-        → (result ≡ DONE) × StandsFor stream.new secret.now seed (m ++ input.now) }
+        → (result ≡ DONE) × Represents stream.new secret.now seed (m ++ input.now) }
     ensures exact { result ≡ DONE → stream.new
         ≡ record stream.old { core = state_after_write secret.now stream.old.core input.now } }
     ensures kept { (¬ (result ≡ DONE)) → stream.new ≡ stream.old }
@@ -207,7 +207,7 @@ pub extern "C" fn twox_xxh3_64_digest(stream: &Stream, secret: &[u8], value: &mu
     ensures short { result ≡ SECRET_TOO_SHORT ↔ (length secret.now < 136) }
     ensures refused { result ≡ NOT_A_STREAM
         ↔ ((136 ≤ length secret.now) × (¬ Fits secret.now stream.now.core)) }
-    ensures message { (seed : Option ℕ) (m : List ℕ) → StandsFor stream.now secret.now seed m
+    ensures message { (seed : Option ℕ) (m : List ℕ) → Represents stream.now secret.now seed m
         → 136 ≤ length secret.now
         → (result ≡ DONE) × (value.new ≡ stream_64 seed secret.now m) }
     ensures kept { (¬ (result ≡ DONE)) → value.new ≡ value.old }
@@ -231,7 +231,7 @@ pub extern "C" fn twox_xxh3_128_digest(stream: &Stream, secret: &[u8], value: &m
     ensures short { result ≡ SECRET_TOO_SHORT ↔ (length secret.now < 136) }
     ensures refused { result ≡ NOT_A_STREAM
         ↔ ((136 ≤ length secret.now) × (¬ Fits secret.now stream.now.core)) }
-    ensures message { (seed : Option ℕ) (m : List ℕ) → StandsFor stream.now secret.now seed m
+    ensures message { (seed : Option ℕ) (m : List ℕ) → Represents stream.now secret.now seed m
         → 136 ≤ length secret.now
         → (result ≡ DONE) × (number_of value.new ≡ stream_128 seed secret.now m) }
     ensures kept { (¬ (result ≡ DONE)) → value.new ≡ value.old }

@@ -1,8 +1,8 @@
 -- Lemmas on reads from a slice and writes to a sink that follows a script.
 use Rattle.std.proofs.Common.{◌≡◌, ℕ, inl, inr, ◌+◌, ◌<◌, ◌≤◌, List, [], ◌∷◌, ◌++◌, length, refl, sym, ap, ◌∙◌, append-nil, append_assoc, length-append, arith, Ok, Err, Result}
 use Rattle.std.specs.List.{concat}
-use Rattle.xxh_io.specs.declared.error.DigestError.{DigestError}
-use Rattle.xxh_io.specs.declared.error.DigestError.TheVariants.{ReadFailed, WriteFailed, TooLong}
+use Rattle.xxh_io.specs.declared.digest_error.DigestError.{DigestError}
+use Rattle.xxh_io.specs.declared.digest_error.DigestError.TheVariants.{ReadFailed, WriteFailed, TooLong}
 use Rattle.xxh_io.specs.declared.script_source.SliceSource.{SliceSource}
 use Rattle.xxh_io.specs.declared.script_sink.ScriptSink.{ScriptSink}
 use Rattle.xxh_io.specs.Pieces.{Pieces, NoneEmpty}

@@ -4,7 +4,7 @@ use Rattle.xxh_io.specs.declared.fault.Fault.{Fault}
 use Rattle.xxh_io.specs.declared.fault.Fault.TheVariants.{Usage, BadSeed, BadSize, BadState, OutOfMemory, Digest}
 use Rattle.xxh_io.specs.Process.{EndsAs}
 use Rattle.xxh_io.specs.Rules.{SinkRules}
-use Rattle.xxh_io.specs.Tells.{Tells, status_after}
+use Rattle.xxh_io.specs.Reports.{ReportsError, status_after}
 
 pub no-fault : (answer : Result (Unit {0}) Fault) → status_after answer ≡ 0 → answer ≡ Ok tt
 no-fault (Ok x) is = refl
@@ -15,9 +15,9 @@ no-fault (Err BadState) is = cc
 no-fault (Err OutOfMemory) is = cc
 no-fault (Err (Digest e)) is = cc
 
-pub told-nothing : {E : Type 0} (telling : SinkRules E) (answer : Result (Unit {0}) Fault) (old new : E) → answer ≡ Ok tt → Tells telling answer old new → new ≡ old
-told-nothing telling (Ok x) old new is told = told
-told-nothing telling (Err fault) old new is told = cc
+pub message-nothing : {E : Type 0} (reporting : SinkRules E) (answer : Result (Unit {0}) Fault) (old new : E) → answer ≡ Ok tt → ReportsError reporting answer old new → new ≡ old
+message-nothing reporting (Ok x) old new is message = message
+message-nothing reporting (Err fault) old new is message = cc
 
 pub ends-itself : (answer : Result (Unit {0}) Fault) → EndsAs answer answer
 ends-itself (Ok x) = tt

@@ -10,5 +10,5 @@ pub mod Pieces
 pub mod Process
 pub mod Rules
 pub mod Script
-pub mod Tells
+pub mod Reports
 pub mod Waiting

@@ -3,7 +3,7 @@ use Rattle.std.specs.Prelude.{◌≡◌, ◌≢◌, ℕ, List, drop, map, IfErr,
 use Rattle.std.specs.Borrow.{Bor}
 use Rattle.std.specs.declared.io.ErrorKind.{ErrorKind}
 use Rattle.std.specs.declared.io.ErrorKind.TheVariants.{InvalidData}
-use Rattle.xxh_io.specs.declared.error.DigestError.TheVariants.{WriteFailed}
+use Rattle.xxh_io.specs.declared.digest_error.DigestError.TheVariants.{WriteFailed}
 use Rattle.xxh_io.specs.declared.fault.Fault.{Fault}
 use Rattle.xxh_io.specs.declared.fault.Fault.TheVariants.{Usage, OutOfMemory, Digest}
 use Rattle.xxh_io.specs.declared.command.Command.{Command}

@@ -1,10 +1,10 @@
 //! Errors of a command: the line and the exit status of each, and how it is written to standard error.
 
 ghost use Rattle.std.specs.Prelude.{◌≡◌, false};
-ghost use Rattle.xxh_io.specs.Tells.{Tells, status_after};
+ghost use Rattle.xxh_io.specs.Reports.{ReportsError, status_after};
 
-use crate::ends::Sink;
-use crate::error::DigestError;
+use crate::streams::Sink;
+use crate::digest_error::DigestError;
 use crate::write::write_all;
 use std::alloc::AllocError;
 
@@ -81,7 +81,7 @@ impl From<AllocError> for Fault {
 /// Writes the error message, if there is an error, and returns the exit status.
 pub fn conclude<E: Sink>(done: Result<(), Fault>, err: &mut E) -> u8
     requires { E.has_failed err.old ≡ false }
-    ensures tells { Tells E.Sink done err.old err.new }
+    ensures reports { ReportsError E.Sink done err.old err.new }
     ensures status { result ≡ status_after done }
 {
     match done {

@@ -7,7 +7,7 @@ ghost use Rattle.xxh_io.specs.Pieces.{Pieces};
 ghost use Rattle.xxh_io.specs.FromRead.{ReadsPiece, has_read_failed, reader_of};
 ghost use Rattle.xxh_io.specs.declared.from_read.FromRead.{FromRead};
 
-use crate::ends::{Failed, Source};
+use crate::streams::{Failed, Source};
 use std::io::Read;
 
 /// A standard reader as a source. Every error of a read is a failure, including an interruption.

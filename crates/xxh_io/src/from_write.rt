@@ -7,7 +7,7 @@ ghost use Rattle.xxh_io.specs.Pieces.{Pieces};
 ghost use Rattle.xxh_io.specs.FromWrite.{has_write_failed, writer_of};
 ghost use Rattle.xxh_io.specs.declared.from_write.FromWrite.{FromWrite};
 
-use crate::ends::{Failed, Sink};
+use crate::streams::{Failed, Sink};
 use std::io::Write;
 
 /// A standard writer as a sink. Every error of a write is a failure, and so is a write that takes nothing.

@@ -5,8 +5,8 @@
 pub mod arguments;
 pub mod buffered;
 pub mod command;
-pub mod ends;
-pub mod error;
+pub mod streams;
+pub mod digest_error;
 pub mod fault;
 pub mod from_read;
 pub mod from_write;

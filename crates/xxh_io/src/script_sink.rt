@@ -2,7 +2,7 @@
 
 ghost use Rattle.std.specs.Prelude.{◌≡◌, ◌↔◌, ◌⊎◌, ◌<◌, ◌≤◌, ◌-◌, [], length, true, false, take, min, is_err, IfOk, OnErr};
 
-use crate::ends::{Failed, Sink};
+use crate::streams::{Failed, Sink};
 
 /// A sink for `N` bytes that takes a limited number of bytes per write, and fails at one write. Allocates nothing.
 ///

@@ -2,7 +2,7 @@
 
 ghost use Rattle.std.specs.Prelude.{◌≡◌, ◌<◌, ◌≤◌, ◌+◌, ◌==◌, [], length, false, take, is_err, IfOk, OnErr, drop, min, slice_index};
 
-use crate::ends::{Failed, Source};
+use crate::streams::{Failed, Source};
 
 /// A source that returns bytes in chunks of given sizes, and fails at one read. Allocates nothing.
 ///

@@ -4,8 +4,8 @@ ghost use Rattle.std.specs.Prelude.{◌≡◌, ◌↔◌, ◌≤◌, true, false
 ghost use Rattle.xxh_io.specs.Digest.{Writes};
 ghost use Rattle.xxh_io.specs.Hex.{hex_line};
 
-use crate::ends::{Failed, Sink};
-use crate::error::DigestError;
+use crate::streams::{Failed, Sink};
+use crate::digest_error::DigestError;
 use crate::hex::write_digits;
 
 // Maximum number of digits of a line.

@@ -3,8 +3,8 @@
 use std::io;
 use std::io::{ErrorKind, Read, Write};
 use std::test::Fail;
-use xxh_io::ends::{Sink, Source};
-use xxh_io::error::DigestError;
+use xxh_io::streams::{Sink, Source};
+use xxh_io::digest_error::DigestError;
 use xxh_io::from_read::FromRead;
 use xxh_io::from_write::FromWrite;
 use xxh_io::write::{write_all, write_line};

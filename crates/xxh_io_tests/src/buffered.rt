@@ -7,7 +7,7 @@ use std::io;
 use std::io::{ErrorKind, Read};
 use std::test::Fail;
 use xxh_io::buffered::Buffered;
-use xxh_io::ends::Source;
+use xxh_io::streams::Source;
 use xxh_io::from_read::FromRead;
 
 /// Returns up to three bytes a read, and fails once, at its second read.

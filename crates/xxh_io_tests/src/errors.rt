@@ -1,7 +1,7 @@
 //! The texts of errors.
 
 use std::alloc::{AllocError, Global};
-use xxh_io::error::DigestError;
+use xxh_io::digest_error::DigestError;
 
 fn says(alloc: Global, error: DigestError, text: &str) -> Result<bool, AllocError> {
     Ok(format!(in alloc; "{error}")?.as_str() == text)

@@ -1,6 +1,6 @@
 //! The source that follows a script.
 
-use xxh_io::ends::Source;
+use xxh_io::streams::Source;
 use xxh_io::script_source::ScriptSource;
 
 // The result of one read of six bytes, if the source has not failed.

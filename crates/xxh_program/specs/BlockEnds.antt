@@ -1,8 +1,8 @@
 -- The reads and writes of block digests.
 use Rattle.std.specs.Prelude.{ℕ, ◌≤◌, ◌⊎◌, List, length, Result, Ok, Err}
 use Rattle.std.specs.List.{concat}
-use Rattle.xxh_io.specs.declared.error.DigestError.{DigestError}
-use Rattle.xxh_io.specs.declared.error.DigestError.TheVariants.{ReadFailed, WriteFailed, TooLong}
+use Rattle.xxh_io.specs.declared.digest_error.DigestError.{DigestError}
+use Rattle.xxh_io.specs.declared.digest_error.DigestError.TheVariants.{ReadFailed, WriteFailed, TooLong}
 use Rattle.xxh_io.specs.Pieces.{Pieces}
 use Rattle.xxh_io.specs.Digest.{ReadsOn, Took, Refused}
 use Rattle.xxh_program.specs.Filter.{Filter}

@@ -9,7 +9,7 @@ pub use Rattle.xxh_io.specs.Pieces
 pub use Rattle.xxh_io.specs.Process
 pub use Rattle.xxh_io.specs.Rules
 pub use Rattle.xxh_io.specs.Script
-pub use Rattle.xxh_io.specs.Tells
+pub use Rattle.xxh_io.specs.Reports
 pub use Rattle.xxh_io.specs.Waiting
 pub mod BlockEnds
 pub mod BlockState

@@ -1,7 +1,7 @@
 -- The effect of the program, by the command of its arguments.
 use Rattle.std.specs.Prelude.{◌≡◌, ℕ, List, Result, Ok, Err}
 use Rattle.std.specs.List.{concat}
-use Rattle.xxh_io.specs.declared.error.DigestError.{DigestError}
+use Rattle.xxh_io.specs.declared.digest_error.DigestError.{DigestError}
 use Rattle.xxh_io.specs.declared.fault.Fault.{Fault}
 use Rattle.xxh_io.specs.declared.command.Command.{Command}
 use Rattle.xxh_io.specs.declared.command.Command.TheVariants.{Hash, Save32, Save64, Resume32, Resume64, Blocks}
@@ -12,7 +12,7 @@ use Rattle.xxh_program.specs.BlockEnds.{DigestsBlocks}
 use Rattle.xxh_io.specs.Hex.{hex_line}
 use Rattle.xxh_program.specs.Kind.{digits_of, value_of}
 use Rattle.xxh_program.specs.States.{most_reads, digest_answer, Saves32, Saves64, Resumes32, Resumes64}
-pub use Rattle.xxh_io.specs.Tells.{Tells, status_after}
+pub use Rattle.xxh_io.specs.Reports.{ReportsError, status_after}
 
 -- The lines of the input's blocks were printed, as by block digests.
 abbrev pub DigestsInput : {R W : Type 0} → Filter R W → ℕ → Result (Unit {0}) DigestError → Type 0

@@ -9,8 +9,8 @@ use Rattle.twox_hash.specs.Saved32
 use Rattle.twox_hash.specs.Saved64
 use Rattle.twox_plain.specs.declared.xxhash32.SavedState.{SavedState as State32}
 use Rattle.twox_plain.specs.declared.xxhash64.SavedState.{SavedState as State64}
-use Rattle.xxh_io.specs.declared.error.DigestError.{DigestError}
-use Rattle.xxh_io.specs.declared.error.DigestError.TheVariants.{ReadFailed, WriteFailed, TooLong}
+use Rattle.xxh_io.specs.declared.digest_error.DigestError.{DigestError}
+use Rattle.xxh_io.specs.declared.digest_error.DigestError.TheVariants.{ReadFailed, WriteFailed, TooLong}
 use Rattle.xxh_io.specs.declared.fault.Fault.{Fault}
 use Rattle.xxh_io.specs.declared.fault.Fault.TheVariants.{BadState, OutOfMemory, Digest}
 use Rattle.xxh_io.specs.Digest.{ReadsTo, Writes}
@@ -60,11 +60,11 @@ Saves {S} form filter seed answer =
 
 abbrev pub Saves32 : {R W : Type 0} → Filter R W → ℕ → Result (Unit {0}) Fault → Type 0
 Saves32 filter seed answer =
-    Saves (record { stands_for = Record32.StandsFor; seed_of = λ s. s.seed; text_of = Saved32.saved_text }) filter seed answer
+    Saves (record { stands_for = Record32.Represents; seed_of = λ s. s.seed; text_of = Saved32.saved_text }) filter seed answer
 
 abbrev pub Saves64 : {R W : Type 0} → Filter R W → ℕ → Result (Unit {0}) Fault → Type 0
 Saves64 filter seed answer =
-    Saves (record { stands_for = Record64.StandsFor; seed_of = λ s. s.seed; text_of = Saved64.saved_text }) filter seed answer
+    Saves (record { stands_for = Record64.Represents; seed_of = λ s. s.seed; text_of = Saved64.saved_text }) filter seed answer
 
 -- ---- resume
 
@@ -88,23 +88,23 @@ Restores64 text restored =
 
 -- A digest was continued from the record, for every list that the record represents. If its reads failed or were too
 -- many, nothing was written. If there is no record, nothing was read or written.
-abbrev pub GoesOn : {S R W : Type 0} → (S → List ℕ → Type 0) → (S → List ℕ → List ℕ) → Filter R W → Result S Fault
+abbrev pub AndThen : {S R W : Type 0} → (S → List ℕ → Type 0) → (S → List ℕ → List ℕ) → Filter R W → Result S Fault
     → Result (Unit {0}) Fault → Type 0
-GoesOn stands_for line_of filter (Ok state) answer =
+AndThen stands_for line_of filter (Ok state) answer =
     (digested : Result (Unit {0}) DigestError) × (answer ≡ digest_answer digested)
     × ((digested ≡ Err ReadFailed) ⊎ (digested ≡ Err TooLong) → filter.new ≡ filter.old)
     × ((pieces : List (List ℕ)) × ReadsTo filter.reading most_reads pieces filter.source filter.rest digested
     × ((m : List ℕ) → stands_for state m
     → Writes filter.writing (line_of state (m ++ concat pieces)) filter.old filter.new digested))
-GoesOn stands_for line_of filter (Err fault) answer =
+AndThen stands_for line_of filter (Err fault) answer =
     (answer ≡ Err fault) × (filter.rest ≡ filter.source) × (filter.new ≡ filter.old)
 
 abbrev pub Resumes32 : {R W : Type 0} → Filter R W → List ℕ → Result (Unit {0}) Fault → Type 0
 Resumes32 filter text answer =
     (restored : Result State32 Fault) × Restores32 text restored
-    × GoesOn Record32.StandsFor (λ s m. hex_line 8 (xxh32 s.seed m)) filter restored answer
+    × AndThen Record32.Represents (λ s m. hex_line 8 (xxh32 s.seed m)) filter restored answer
 
 abbrev pub Resumes64 : {R W : Type 0} → Filter R W → List ℕ → Result (Unit {0}) Fault → Type 0
 Resumes64 filter text answer =
     (restored : Result State64 Fault) × Restores64 text restored
-    × GoesOn Record64.StandsFor (λ s m. hex_line 16 (xxh64 s.seed m)) filter restored answer
+    × AndThen Record64.Represents (λ s m. hex_line 16 (xxh64 s.seed m)) filter restored answer

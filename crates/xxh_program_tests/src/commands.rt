@@ -88,19 +88,19 @@ fn words_that_are_refused(rt: HostRuntime) -> Result<(), AllocError> {
 }
 
 // If the second read fails, nothing is printed; with space for eight bytes, those are. Both print their error message.
-fn tells(
+fn reports(
     alloc: Global,
     line: &str,
     read_fails: u64,
     printed: usize,
-    told: &[u8],
+    message: &[u8],
 ) -> Result<bool, AllocError> {
     let words: Vec<&str> = line.split(' ').collect(alloc)?;
     let mut r = ScriptSource::new(SOME, &[4, 6], read_fails);
     let mut out = ScriptSink::<8>::new(1000, 0);
     let mut err = ScriptSink::<40>::new(7, 0);
     let status = run_by(alloc, &words, &mut r, &mut out, &mut err);
-    Ok(status == 1 && out.bytes().len() == printed && err.bytes() == told)
+    Ok(status == 1 && out.bytes().len() == printed && err.bytes() == message)
 }
 
 #[test]
@@ -109,11 +109,11 @@ fn ends_that_fail(rt: HostRuntime) -> Result<(), AllocError> {
         "hash 64", "save 32", "save 64", RESUME_32, RESUME_64, "blocks 5",
     ] {
         assert!(rt;
-            tells(rt.alloc(), line, 1, 0, b"xxh: read failed\n")?,
+            reports(rt.alloc(), line, 1, 0, b"xxh: read failed\n")?,
             "{line}"
         );
         assert!(rt;
-            tells(rt.alloc(), line, 0, 8, b"xxh: write failed\n")?,
+            reports(rt.alloc(), line, 0, 8, b"xxh: write failed\n")?,
             "{line}"
         );
     }

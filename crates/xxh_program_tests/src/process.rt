@@ -145,8 +145,8 @@ fn arguments_that_are_no_words(rt: HostRuntime) {
 fn is_told(alloc: Global) -> bool {
     let done = run_with(alloc, &[b"xxh", b"hash", b"64", b"1234"], true);
     let line = done.out.bytes.as_slice() == b"eab55659a496d78b\n".as_slice();
-    let told = done.err.bytes.as_slice() == b"xxh: write failed\n".as_slice();
-    done.status == 1 && line && told && done.out.flushes == 1 && done.unread == 0
+    let message = done.err.bytes.as_slice() == b"xxh: write failed\n".as_slice();
+    done.status == 1 && line && message && done.out.flushes == 1 && done.unread == 0
 }
 
 #[test]

@@ -10,8 +10,8 @@ use xxhsum_fs::uninterrupted::Uninterrupted;
 use xxhsum_output::visible::Visible;
 use xxhsum_output::whole_lines::WholeLines;
 use xxhsum_program::arguments::ProcessArguments;
-use xxhsum_program::process::{Console, Terminals};
-use xxhsum_program::screen::Screen;
+use xxhsum_program::process::{Console, Interactive};
+use xxhsum_program::terminal::Terminal;
 use xxhsum_program::streams::Streams;
 use xxhsum_app::run::run;
 
@@ -20,11 +20,11 @@ fn main(rt: HostRuntime) -> ExitCode {
     let (shows_output, shows_errors) = (rt.stdout().is_terminal(), rt.stderr().is_terminal());
     let console = Console {
         input: FromRead::new(Uninterrupted::new(rt.stdin())),
-        terminals: Terminals {
+        interactive: Interactive {
             input: rt.stdin().is_terminal(),
             errors: shows_errors,
         },
-        screen: Screen::new(rt.stderr(), &rt),
+        terminal: Terminal::new(rt.stderr(), &rt),
     };
     // On a terminal control characters are made visible, and each line is written at once.
     let output = Visible::new(FromWrite::new(rt.stdout()), shows_output);

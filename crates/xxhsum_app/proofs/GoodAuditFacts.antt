@@ -5,8 +5,8 @@ use Rattle.xxhsum_app.specs.Prelude.{Digested, Files, IsDirectory, Kind, Options
 use Rattle.xxhsum_audit.specs.Found.{Changed, Copied, Found, Missing, Moved, New, Same}
 use Rattle.xxhsum_audit.specs.Item.{IsAmong, Item, Says, kind_of, name_of, path_of, value_of}
 use Rattle.xxhsum_program.specs.Outcomes.{Comes, IsValueOf, is_digested}
-use Rattle.xxhsum_app.specs.Audits.{AuditsItems, AuditsSides, OnlyTellsTwice}
-use Rattle.xxhsum_app.specs.Rows.{AreRows, Come, Gone, Met, Row, are_read, kept_in, seen_in}
+use Rattle.xxhsum_app.specs.Audits.{AuditsItems, AuditsSides, OnlyReportsDuplicate}
+use Rattle.xxhsum_app.specs.Rows.{AreRows, Added, Removed, Met, Row, are_read, kept_in, seen_in}
 
 all-same : (f : List Found) → are_same f ≡ true → (one : Found) → IsAmong f one → (line name : Item) × (one ≡ Same line name)
 all-same [] e one h = absurd h
@@ -30,7 +30,7 @@ module _ {S F : Type 0} (files : Files S F) (kind : Kind) where
       × ((n : List ℕ) → IsAmong ns n → (s : Item) × IsAmong (seen_in kind rows) s × (name_of s ≡ n))
       × ((s : Item) → IsAmong (seen_in kind rows) s → IsAmong ns (name_of s) × IsTrue s)
 
-  there-line : (l : Item) (ls : List Item) (ns : List (List ℕ)) (rows : List Row) → AllThere ls ns rows → AllThere (l ∷ ls) ns (Gone l ∷ rows)
+  there-line : (l : Item) (ls : List Item) (ns : List (List ℕ)) (rows : List Row) → AllThere ls ns rows → AllThere (l ∷ ls) ns (Removed l ∷ rows)
   there-line l ls ns rows ih = (
     λ k h. elim h [ inl e ↦ inl e | inr b ↦ inr (ih.0 k b) ],
     λ k h. elim h [ inl e ↦ inl e | inr b ↦ inr (ih.1 k b) ],
@@ -39,7 +39,7 @@ module _ {S F : Type 0} (files : Files S F) (kind : Kind) where
   )
 
   there-name : (n : List ℕ) (ls : List Item) (ns : List (List ℕ)) (rows : List Row) (outcome : Outcome) → is_digested outcome ≡ true
-      → Comes files kind n outcome → AllThere ls ns rows → AllThere ls (n ∷ ns) (Come n outcome ∷ rows)
+      → Comes files kind n outcome → AllThere ls ns rows → AllThere ls (n ∷ ns) (Added n outcome ∷ rows)
   there-name n ls ns rows (Digested v) is comes ih = (
     ih.0,
     ih.1,
@@ -73,13 +73,13 @@ module _ {S F : Type 0} (files : Files S F) (kind : Kind) where
 
   read-line : (l : Item) (ls : List Item) (ns : List (List ℕ)) (s : List (Side Item (List ℕ))) → AllRead ls ns s → AllRead (l ∷ ls) ns (Line l ∷ s)
   read-line l ls ns s ih rows are read =
-      let whole : Gone l ∷ are.1 ≡ rows = ap (λ r. r ∷ are.1) (sym are.3) ∙ sym are.2 in
+      let whole : Removed l ∷ are.1 ≡ rows = ap (λ r. r ∷ are.1) (sym are.3) ∙ sym are.2 in
       let rest : are_read are.1 ≡ true = subst (λ r. are_read r ≡ true) (sym whole) read in
       subst (λ r. AllThere (l ∷ ls) ns r) whole (there-line l ls ns are.1 (ih are.1 are.4 rest))
 
   read-name : (n : List ℕ) (ls : List Item) (ns : List (List ℕ)) (s : List (Side Item (List ℕ))) → AllRead ls ns s → AllRead ls (n ∷ ns) (Name n ∷ s)
   read-name n ls ns s ih rows are read =
-      let whole : Come n are.3.0 ∷ are.1 ≡ rows = ap (λ r. r ∷ are.1) (sym are.3.1) ∙ sym are.2 in
+      let whole : Added n are.3.0 ∷ are.1 ≡ rows = ap (λ r. r ∷ are.1) (sym are.3.1) ∙ sym are.2 in
       let both = both-true (is_digested are.3.0) (are_read are.1) (subst (λ r. are_read r ≡ true) (sym whole) read) in
       subst (λ r. AllThere ls (n ∷ ns) r) whole (there-name n ls ns are.1 are.3.0 both.0 are.3.2 (ih are.1 are.4 both.1))
 
@@ -117,12 +117,12 @@ module _ {S F W E : Type 0} (files : Files S F) (rules : StreamRules W E) (optio
         (subst (λ v. IsValueOf files (kind_of s) (name_of s) v) (sym value) is),
   )
 
-  sides-agree : (lines : List Item) (asked : List (List ℕ)) → AuditsSides files good options lines asked
-      → Agree lines asked
-  sides-agree lines asked (inr fails) = let no = fails.3 in let none : ⊥ = cc in absurd none
-  sides-agree lines asked (inl (rows, found, are, told, audit, prints, answers)) =
+  sides-agree : (lines : List Item) (requested : List (List ℕ)) → AuditsSides files good options lines requested
+      → Agree lines requested
+  sides-agree lines requested (inr fails) = let no = fails.3 in let none : ⊥ = cc in absurd none
+  sides-agree lines requested (inl (rows, found, are, message, audit, prints, answers)) =
       let both = both-true (are_same found) (are_read rows) (sym answers) in
-      let there = all-there files _ lines asked rows are both.1 in
+      let there = all-there files _ lines requested rows are both.1 in
       let equal = same_means_equal (kept_in rows) _ found audit (all-same found both.0) in (
         λ line h.
             let beside = equal.0 line (there.0 line h) in
@@ -138,31 +138,31 @@ module _ {S F W E : Type 0} (files : Files S F) (rules : StreamRules W E) (optio
             ),
       )
 
-  unless-agree : (lines : List Item) (asked : List (List ℕ)) (first second : Option (List ℕ))
-      → OnlyTellsTwice good list first second (AuditsSides files good options lines asked) → Agree lines asked
-  unless-agree lines asked None None audits = sides-agree lines asked audits
-  unless-agree lines asked None (Some name) tells = let no = tells.0 in let none : ⊥ = cc in absurd none
-  unless-agree lines asked (Some name) second tells = let no = tells.0 in let none : ⊥ = cc in absurd none
+  unless-agree : (lines : List Item) (requested : List (List ℕ)) (first second : Option (List ℕ))
+      → OnlyReportsDuplicate good list first second (AuditsSides files good options lines requested) → Agree lines requested
+  unless-agree lines requested None None audits = sides-agree lines requested audits
+  unless-agree lines requested None (Some name) reports = let no = reports.0 in let none : ⊥ = cc in absurd none
+  unless-agree lines requested (Some name) second reports = let no = reports.0 in let none : ⊥ = cc in absurd none
 
-  items-agree : (said : List Item) (names : List (List ℕ)) → AuditsItems files good options list said names
-      → Agree said names
-  items-agree said names (inr fails) = let no = fails.0 in let none : ⊥ = cc in absurd none
-  items-agree said names (inl (lines, asked, order, order', audits)) =
-      let agree = unless-agree lines asked _ _ audits in (
+  items-agree : (entries : List Item) (names : List (List ℕ)) → AuditsItems files good options list entries names
+      → Agree entries names
+  items-agree entries names (inr fails) = let no = fails.0 in let none : ⊥ = cc in absurd none
+  items-agree entries names (inl (lines, requested, order, order', audits)) =
+      let agree = unless-agree lines requested _ _ audits in (
         λ line h.
-            let there = agree.0 line (among_permutation said lines line order.0 h) in
-            (there.0, among_permutation asked names there.0 (IsPermutation-sym names asked order'.0) there.1, there.2),
+            let there = agree.0 line (among_permutation entries lines line order.0 h) in
+            (there.0, among_permutation requested names there.0 (IsPermutation-sym names requested order'.0) there.1, there.2),
         λ name h.
-            let there = agree.1 name (among_permutation names asked name order'.0 h) in
-            (there.0, among_permutation lines said there.0 (IsPermutation-sym said lines order.0) there.1, there.2),
+            let there = agree.1 name (among_permutation names requested name order'.0 h) in
+            (there.0, among_permutation lines entries there.0 (IsPermutation-sym entries lines order.0) there.1, there.2),
       )
 
 pub audit-means-equal : {S F W E : Type 0} (opening : StoreRules S F) (reading : SourceRules F) (rules : StreamRules W E)
     → AuditMeansEqual opening reading rules
-audit-means-equal opening reading rules store options list names old new (start, begun, inl (said, says, audits)) =
-    let agree = items-agree (files_of opening reading store) rules options list start new said names audits in
-    (said, says, agree.0, agree.1)
-audit-means-equal opening reading rules store options list names old new (start, begun, inr (inl (text, why, tells))) =
-    let no = tells.0 in let none : ⊥ = cc in absurd none
+audit-means-equal opening reading rules store options list names old new (start, begun, inl (entries, says, audits)) =
+    let agree = items-agree (files_of opening reading store) rules options list start new entries names audits in
+    (entries, says, agree.0, agree.1)
+audit-means-equal opening reading rules store options list names old new (start, begun, inr (inl (text, why, reports))) =
+    let no = reports.0 in let none : ⊥ = cc in absurd none
 audit-means-equal opening reading rules store options list names old new (start, begun, inr (inr fails)) =
     let no = fails.0 in let none : ⊥ = cc in absurd none

@@ -2,9 +2,9 @@
 use Rattle.std.proofs.Common.{◌≡◌, ℕ, List, [], ◌∷◌, map, refl, sym, ap, subst, ◌∙◌, inl, inr, Less, Equal, Greater}
 use Rattle.xxhsum_app.proofs.Prelude.{Both, Found, IsAmong, IsPermutation-refl, Item, Line, Missing, Name, New, Rises, Says, Side, ahead, back, by_turns, compare_lines, compare_paths, kind_of, met, name_of, paths_total}
 use Rattle.xxhsum_app.specs.Prelude.{Digested, Files, IsDirectory, Kind, Outcome, Unread}
-use Rattle.xxhsum_audit.specs.Audit.{HasMoves, IsAudit, as_found, compared, missing_in, new_in, settled_in}
+use Rattle.xxhsum_audit.specs.Audit.{HasMoves, IsAudit, as_found, compared, missing_in, new_in, matched_in}
 use Rattle.xxhsum_audit.specs.Side.{against, beside, by_path, compare_to_name, in_turn}
-use Rattle.xxhsum_app.specs.Rows.{AreRows, Come, Gone, Met, Row, first_in, kept_in, seen_in}
+use Rattle.xxhsum_app.specs.Rows.{AreRows, Added, Removed, Met, Row, first_in, kept_in, seen_in}
 
 -- ---- the first element of a merge
 
@@ -40,10 +40,10 @@ joined-none : (kind : Kind) → Joined kind [] [] []
 unfolding beside
 joined-none kind = record { kept = λ k h. h; seen = λ s h. absurd h; kept_rise = tt; seen_rise = tt; is = refl }
 
--- Lemma: a line that is less than all names adds a `Gone` row.
-joined-gone : (kind : Kind) (l : Item) (ls : List Item) (ns : List (List ℕ)) (rows : List Row) → Rises compare_lines (l ∷ ls)
-    → ((n : List ℕ) → IsAmong ns n → compare_to_name l n ≡ Less) → Joined kind ls ns rows → Joined kind (l ∷ ls) ns (Gone l ∷ rows)
-joined-gone kind l ls ns rows up less ih = record {
+-- Lemma: a line that is less than all names adds a `Removed` row.
+joined-removed : (kind : Kind) (l : Item) (ls : List Item) (ns : List (List ℕ)) (rows : List Row) → Rises compare_lines (l ∷ ls)
+    → ((n : List ℕ) → IsAmong ns n → compare_to_name l n ≡ Less) → Joined kind ls ns rows → Joined kind (l ∷ ls) ns (Removed l ∷ rows)
+joined-removed kind l ls ns rows up less ih = record {
   kept = λ k h. elim h [ inl e ↦ inl e | inr there ↦ inr (ih.kept k there) ];
   seen = ih.seen;
   kept_rise = (λ k h. up.0 k (ih.kept k h), ih.kept_rise);
@@ -62,11 +62,11 @@ wider kind ls ls' ns ns' rows lines names ih = record {
   is = ih.is;
 }
 
--- Lemma: a name that is less than all lines adds a `Come` row.
-joined-come : (kind : Kind) (n : List ℕ) (ls : List Item) (ns : List (List ℕ)) (rows : List Row) (outcome : Outcome)
+-- Lemma: a name that is less than all lines adds a `Added` row.
+joined-added : (kind : Kind) (n : List ℕ) (ls : List Item) (ns : List (List ℕ)) (rows : List Row) (outcome : Outcome)
     → Rises compare_paths (n ∷ ns) → ((k : Item) → IsAmong ls k → compare_to_name k n ≡ Greater) → Joined kind ls ns rows
-    → Joined kind ls (n ∷ ns) (Come n outcome ∷ rows)
-joined-come kind n ls ns rows (Digested value) up greater ih =
+    → Joined kind ls (n ∷ ns) (Added n outcome ∷ rows)
+joined-added kind n ls ns rows (Digested value) up greater ih =
     let s = Says n kind value in
     record {
       kept = ih.kept;
@@ -75,10 +75,10 @@ joined-come kind n ls ns rows (Digested value) up greater ih =
       seen_rise = (λ t h. up.0 (name_of t) (ih.seen t h), ih.seen_rise);
       is = name-first s (kept_in rows) (seen_in kind rows) (λ k h. greater k (ih.kept k h)) ∙ ap (λ f. New s ∷ f) ih.is;
     }
-joined-come kind n ls ns rows IsDirectory up greater ih =
+joined-added kind n ls ns rows IsDirectory up greater ih =
     let wide = wider kind ls ls ns (n ∷ ns) rows (λ k h. h) (λ m h. inr h) ih in
     record { kept = wide.kept; seen = wide.seen; kept_rise = wide.kept_rise; seen_rise = wide.seen_rise; is = wide.is }
-joined-come kind n ls ns rows (Unread reason) up greater ih =
+joined-added kind n ls ns rows (Unread reason) up greater ih =
     let wide = wider kind ls ls ns (n ∷ ns) rows (λ k h. h) (λ m h. inr h) ih in
     record { kept = wide.kept; seen = wide.seen; kept_rise = wide.kept_rise; seen_rise = wide.seen_rise; is = wide.is }
 
@@ -122,18 +122,18 @@ module _ {S F : Type 0} (files : Files S F) (kind : Kind) where
       (rows : List Row) → AreRows files kind sides rows → Rises compare_lines ls → Rises compare_paths ns
       → Joined kind ls ns rows
 
-  gone : (l : Item) (ls : List Item) (ns : List (List ℕ)) (s : List (Side Item (List ℕ)))
+  removed : (l : Item) (ls : List Item) (ns : List (List ℕ)) (s : List (Side Item (List ℕ)))
       → (Rises compare_paths ns → (n : List ℕ) → IsAmong ns n → compare_to_name l n ≡ Less) → Joins ls ns s → Joins (l ∷ ls) ns (Line l ∷ s)
-  gone l ls ns s less ih rows are up up' =
-      let row : are.0 ≡ Gone l = are.3 in
+  removed l ls ns s less ih rows are up up' =
+      let row : are.0 ≡ Removed l = are.3 in
       subst (λ r. Joined kind (l ∷ ls) ns r) (ap (λ r. r ∷ are.1) (sym row) ∙ sym are.2)
-      (joined-gone kind l ls ns are.1 up (less up') (ih are.1 are.4 up.1 up'))
+      (joined-removed kind l ls ns are.1 up (less up') (ih are.1 are.4 up.1 up'))
 
-  come : (n : List ℕ) (ls : List Item) (ns : List (List ℕ)) (s : List (Side Item (List ℕ)))
+  added : (n : List ℕ) (ls : List Item) (ns : List (List ℕ)) (s : List (Side Item (List ℕ)))
       → (Rises compare_lines ls → (k : Item) → IsAmong ls k → compare_to_name k n ≡ Greater) → Joins ls ns s → Joins ls (n ∷ ns) (Name n ∷ s)
-  come n ls ns s greater ih rows are up up' =
+  added n ls ns s greater ih rows are up up' =
       subst (λ r. Joined kind ls (n ∷ ns) r) (ap (λ r. r ∷ are.1) (sym are.3.1) ∙ sym are.2)
-      (joined-come kind n ls ns are.1 are.3.0 up' (greater up) (ih are.1 are.4 up up'.1))
+      (joined-added kind n ls ns are.1 are.3.0 up' (greater up) (ih are.1 are.4 up up'.1))
 
   meet : (l : Item) (n : List ℕ) (ls : List Item) (ns : List (List ℕ)) (s : List (Side Item (List ℕ))) → compare_to_name l n ≡ Equal
       → Joins ls ns s → Joins (l ∷ ls) (n ∷ ns) (Both l n ∷ s)
@@ -143,15 +143,15 @@ module _ {S F : Type 0} (files : Files S F) (kind : Kind) where
 
   joins : (ls : List Item) (ns : List (List ℕ)) → Joins ls ns (by_path ls ns)
   joins = by_turns compare_to_name Joins (λ rows are up up'. subst (λ r. Joined kind [] [] r) (sym are) (joined-none kind))
-      (λ l ls s ih. gone l ls [] s (λ up n h. absurd h) ih)
-      (λ n ns s ih. come n [] ns s (λ up k h. absurd h) ih)
-      (λ l n ls ns s less ih. gone l ls (n ∷ ns) s (λ up m h. before-names l n ns less up m h) ih)
+      (λ l ls s ih. removed l ls [] s (λ up n h. absurd h) ih)
+      (λ n ns s ih. added n [] ns s (λ up k h. absurd h) ih)
+      (λ l n ls ns s less ih. removed l ls (n ∷ ns) s (λ up m h. before-names l n ns less up m h) ih)
       (λ l n ls ns s equal ih. meet l n ls ns s equal ih)
-      (λ l n ls ns s greater ih. come n (l ∷ ls) ns s (λ up k h. after-lines l n ls greater up k h) ih)
+      (λ l n ls ns s greater ih. added n (l ∷ ls) ns s (λ up k h. after-lines l n ls greater up k h) ih)
 
   pub is-audit : (lines : List Item) (names : List (List ℕ)) (rows : List Row) (found : List Found) → Rises compare_lines lines
       → Rises compare_paths names → AreRows files kind (by_path lines names) rows
-      → HasMoves (settled_in (first_in kind rows)) (missing_in (first_in kind rows)) (new_in (first_in kind rows)) found
+      → HasMoves (matched_in (first_in kind rows)) (missing_in (first_in kind rows)) (new_in (first_in kind rows)) found
       → IsAudit (kept_in rows) (seen_in kind rows) found
   is-audit lines names rows found up up' are moves =
       let all = joins lines names rows are up up' in
@@ -162,5 +162,5 @@ module _ {S F : Type 0} (files : Files S F) (kind : Kind) where
         names_same = IsPermutation-refl (seen_in kind rows);
         lines_rise = all.kept_rise;
         names_rise = all.seen_rise;
-        moves = subst (λ f. HasMoves (settled_in f) (missing_in f) (new_in f) found) (sym all.is) moves;
+        moves = subst (λ f. HasMoves (matched_in f) (missing_in f) (new_in f) found) (sym all.is) moves;
       }

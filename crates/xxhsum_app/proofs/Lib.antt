@@ -5,6 +5,6 @@ mod OnceFacts
 mod Prelude
 mod ReportFacts
 mod RowFacts
-mod SaidFacts
+mod ReadListFacts
 mod VisitFacts
-mod WatchedTextFacts
+mod ProgressTextFacts

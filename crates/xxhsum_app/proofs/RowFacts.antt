@@ -3,7 +3,7 @@ use Rattle.std.proofs.Common.{◌≡◌, ℕ, Bool, true, false, ◌&&◌, List,
 use Rattle.xxhsum_app.specs.Messages.{effect_messages}
 use Rattle.xxhsum_app.proofs.Prelude.{AllocError, Compared, DigestsRows, Effect, FileDigest, Grows, PrintsReport, Side, Verdict, and-false, and-true, are_same, by_path, flat_map-append, is_digested, map-append, met_is}
 use Rattle.xxhsum_app.specs.Prelude.{Digested, Files, IsDirectory, Kind, Options, Outcome, Unread}
-use Rattle.xxhsum_audit.specs.Audit.{HasMoves, IsAudit, missing_in, new_in, settled_in}
+use Rattle.xxhsum_audit.specs.Audit.{HasMoves, IsAudit, missing_in, new_in, matched_in}
 use Rattle.xxhsum_audit.specs.Found.{Found, Missing, New, found_of, founds_of, met}
 use Rattle.xxhsum_audit.specs.Item.{Item, item_of, items_of}
 use Rattle.xxhsum_audit.specs.Order.{Rises, compare_lines, compare_paths}
@@ -39,46 +39,46 @@ not-digested kind name IsDirectory is = refl
 not-digested kind name (Unread reason) is = refl
 
 -- Lemma: a line without a name adds a missing line.
-pub grows-gone : (old new : Compared) (line : FileDigest) → new.gone.items ≡ old.gone.items ++ line ∷ [] → new.settled ≡ old.settled → new.come ≡ old.come → new.are_all ≡ old.are_all
+pub grows-removed : (old new : Compared) (line : FileDigest) → new.removed.items ≡ old.removed.items ++ line ∷ [] → new.matched ≡ old.matched → new.added ≡ old.added → new.is_complete ≡ old.is_complete
     → Grows old new (Missing (item_of line) ∷ []) true
-grows-gone old new line more settled come all = (
-  ap (λ x. founds_of x.items) settled ∙ sym (append-nil (founds_of old.settled.items)),
-  ap items_of more ∙ map-append item_of old.gone.items (line ∷ []),
-  ap (λ x. items_of x.items) come ∙ sym (append-nil (items_of old.come.items)),
-  all ∙ sym (and-true old.are_all),
+grows-removed old new line more matched added all = (
+  ap (λ x. founds_of x.items) matched ∙ sym (append-nil (founds_of old.matched.items)),
+  ap items_of more ∙ map-append item_of old.removed.items (line ∷ []),
+  ap (λ x. items_of x.items) added ∙ sym (append-nil (items_of old.added.items)),
+  all ∙ sym (and-true old.is_complete),
 )
 
 -- Lemma: a name without a line adds a new name.
-pub grows-come : (old new : Compared) (one : FileDigest) (item : Item) → item_of one ≡ item → new.come.items ≡ old.come.items ++ one ∷ [] → new.settled ≡ old.settled → new.gone ≡ old.gone → new.are_all ≡ old.are_all
+pub grows-added : (old new : Compared) (one : FileDigest) (item : Item) → item_of one ≡ item → new.added.items ≡ old.added.items ++ one ∷ [] → new.matched ≡ old.matched → new.removed ≡ old.removed → new.is_complete ≡ old.is_complete
     → Grows old new (New item ∷ []) true
-grows-come old new one item is more settled gone all = (
-  ap (λ x. founds_of x.items) settled ∙ sym (append-nil (founds_of old.settled.items)),
-  ap (λ x. items_of x.items) gone ∙ sym (append-nil (items_of old.gone.items)),
-  ap items_of more ∙ map-append item_of old.come.items (one ∷ []) ∙ ap (λ x. items_of old.come.items ++ x ∷ []) is,
-  all ∙ sym (and-true old.are_all),
+grows-added old new one item is more matched removed all = (
+  ap (λ x. founds_of x.items) matched ∙ sym (append-nil (founds_of old.matched.items)),
+  ap (λ x. items_of x.items) removed ∙ sym (append-nil (items_of old.removed.items)),
+  ap items_of more ∙ map-append item_of old.added.items (one ∷ []) ∙ ap (λ x. items_of old.added.items ++ x ∷ []) is,
+  all ∙ sym (and-true old.is_complete),
 )
 
 -- Lemma: a line and its name add their verdict.
-pub grows-met : (old new : Compared) (verdict : Verdict) (line item : Item) → found_of verdict ≡ met line item → new.settled.items ≡ old.settled.items ++ verdict ∷ [] → new.gone ≡ old.gone → new.come ≡ old.come → new.are_all ≡ old.are_all
+pub grows-met : (old new : Compared) (verdict : Verdict) (line item : Item) → found_of verdict ≡ met line item → new.matched.items ≡ old.matched.items ++ verdict ∷ [] → new.removed ≡ old.removed → new.added ≡ old.added → new.is_complete ≡ old.is_complete
     → Grows old new (met line item ∷ []) true
-grows-met old new verdict line item is more gone come all = (
-  ap founds_of more ∙ map-append found_of old.settled.items (verdict ∷ []) ∙ ap (λ x. founds_of old.settled.items ++ x ∷ []) is
-      ∙ ap (λ x. founds_of old.settled.items ++ x) (sym (met_is (λ f. settled_in (f ∷ []) ≡ f ∷ []) line item (λ e. refl) (λ e. refl))),
-  ap (λ x. items_of x.items) gone ∙ sym (append-nil (items_of old.gone.items))
-      ∙ ap (λ x. items_of old.gone.items ++ x) (sym (met_is (λ f. missing_in (f ∷ []) ≡ []) line item (λ e. refl) (λ e. refl))),
-  ap (λ x. items_of x.items) come ∙ sym (append-nil (items_of old.come.items))
-      ∙ ap (λ x. items_of old.come.items ++ x) (sym (met_is (λ f. new_in (f ∷ []) ≡ []) line item (λ e. refl) (λ e. refl))),
-  all ∙ sym (and-true old.are_all),
+grows-met old new verdict line item is more removed added all = (
+  ap founds_of more ∙ map-append found_of old.matched.items (verdict ∷ []) ∙ ap (λ x. founds_of old.matched.items ++ x ∷ []) is
+      ∙ ap (λ x. founds_of old.matched.items ++ x) (sym (met_is (λ f. matched_in (f ∷ []) ≡ f ∷ []) line item (λ e. refl) (λ e. refl))),
+  ap (λ x. items_of x.items) removed ∙ sym (append-nil (items_of old.removed.items))
+      ∙ ap (λ x. items_of old.removed.items ++ x) (sym (met_is (λ f. missing_in (f ∷ []) ≡ []) line item (λ e. refl) (λ e. refl))),
+  ap (λ x. items_of x.items) added ∙ sym (append-nil (items_of old.added.items))
+      ∙ ap (λ x. items_of old.added.items ++ x) (sym (met_is (λ f. new_in (f ∷ []) ≡ []) line item (λ e. refl) (λ e. refl))),
+  all ∙ sym (and-true old.is_complete),
 )
 
 -- Lemma: a name without a digest adds no result, and its row is not read.
-pub grows-nothing : (old new : Compared) (found : List Found) (read : Bool) → found ≡ [] → read ≡ false → new.settled ≡ old.settled → new.gone ≡ old.gone → new.come ≡ old.come → new.are_all ≡ false → Grows old new found read
-grows-nothing old new found read none unread settled gone come all =
+pub grows-nothing : (old new : Compared) (found : List Found) (read : Bool) → found ≡ [] → read ≡ false → new.matched ≡ old.matched → new.removed ≡ old.removed → new.added ≡ old.added → new.is_complete ≡ false → Grows old new found read
+grows-nothing old new found read none unread matched removed added all =
     subst (λ f. Grows old new f read) (sym none) (subst (λ r. Grows old new [] r) (sym unread) (
-      ap (λ x. founds_of x.items) settled ∙ sym (append-nil (founds_of old.settled.items)),
-      ap (λ x. items_of x.items) gone ∙ sym (append-nil (items_of old.gone.items)),
-      ap (λ x. items_of x.items) come ∙ sym (append-nil (items_of old.come.items)),
-      all ∙ and-false old.are_all,
+      ap (λ x. founds_of x.items) matched ∙ sym (append-nil (founds_of old.matched.items)),
+      ap (λ x. items_of x.items) removed ∙ sym (append-nil (items_of old.removed.items)),
+      ap (λ x. items_of x.items) added ∙ sym (append-nil (items_of old.added.items)),
+      all ∙ and-false old.is_complete,
     ))
 
 -- ---- failed allocations
@@ -92,14 +92,14 @@ fails-rows is fails (Err e) err fact = fact
 pub says-audit : {S F W E : Type 0} (files : Files S F) (effect : Effect W E) (options : Options) (lines : List Item) (names : List (List ℕ)) (kind : Kind) (compared : Compared) (found : List Found)
     → Rises compare_lines lines → Rises compare_paths names → kind ≡ kind_of_new options.kind lines
     → DigestsRows files (effect_messages effect) kind (by_path lines names) compared
-    → HasMoves (founds_of compared.settled.items) (items_of compared.gone.items) (items_of compared.come.items) found
-    → PrintsReport effect.rules.writing options found effect.old.out effect.new.out effect.result → ((rows : List Row) → compared.are_all ≡ are_read rows → AnswersAudit rows found effect.result) → AuditsSides files effect options lines names
+    → HasMoves (founds_of compared.matched.items) (items_of compared.removed.items) (items_of compared.added.items) found
+    → PrintsReport effect.rules.writing options found effect.old.out effect.new.out effect.result → ((rows : List Row) → compared.is_complete ≡ are_read rows → AnswersAudit rows found effect.result) → AuditsSides files effect options lines names
 says-audit files effect options lines names kind compared found up up' kinds digests moves prints answers =
     let rows = digests.0 in
     let holds = digests.2 in
-    let moved = subst (λ s. HasMoves s (missing_in (first_in kind rows)) (new_in (first_in kind rows)) found) holds.settled
-    (subst (λ g. HasMoves (founds_of compared.settled.items) g (new_in (first_in kind rows)) found) holds.gone
-    (subst (λ c. HasMoves (founds_of compared.settled.items) (items_of compared.gone.items) c found) holds.come moves)) in
+    let moved = subst (λ s. HasMoves s (missing_in (first_in kind rows)) (new_in (first_in kind rows)) found) holds.matched
+    (subst (λ g. HasMoves (founds_of compared.matched.items) g (new_in (first_in kind rows)) found) holds.removed
+    (subst (λ c. HasMoves (founds_of compared.matched.items) (items_of compared.removed.items) c found) holds.added moves)) in
     let audit = is-audit files kind lines names rows found up up' digests.1 moved in
     inl (
       rows,

@@ -1,15 +1,15 @@
 -- The meaning of a good audit.
 use Rattle.std.specs.Prelude.{◌≡◌, ℕ, true, List, Ok}
 use Rattle.xxhsum_app.specs.Prelude.{Files, Options, SourceRules, StoreRules, StreamRules, Streams, effect_of, files_of}
-use Rattle.xxhsum_audit.specs.Item.{IsAmong, Item, bare, kind_of, path_of, value_of}
+use Rattle.xxhsum_audit.specs.Item.{IsAmong, Item, normalize_path, kind_of, path_of, value_of}
 use Rattle.xxhsum_program.specs.Outcomes.{IsValueOf}
 use Rattle.xxhsum_app.specs.Audits.{Audits}
-use Rattle.xxhsum_app.specs.Said.{ListSays}
+use Rattle.xxhsum_app.specs.ReadList.{ListSays}
 
 -- The name leads to the line's path, and reads of its file returned bytes with the line's value.
 abbrev pub IsFileOf : {S F : Type 0} → Files S F → Item → List ℕ → Type 0
 IsFileOf files line name =
-    (path_of line ≡ bare name) × IsValueOf files (kind_of line) name (value_of line)
+    (path_of line ≡ normalize_path name) × IsValueOf files (kind_of line) name (value_of line)
 
 -- Each line of the list has a file among the names, and each name is that of such a line.
 abbrev pub AuditMeansEqual : {S F W E : Type 0} → StoreRules S F → SourceRules F → StreamRules W E → Type 0

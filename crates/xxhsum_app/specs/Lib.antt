@@ -8,7 +8,7 @@ pub mod Prelude
 pub mod Report
 pub mod Rows
 pub mod Run
-pub mod Said
+pub mod ReadList
 pub mod Texts
 pub mod Walk
 pub mod WalkLaws

@@ -3,7 +3,7 @@ use Rattle.std.specs.Prelude.{◌≡◌, ℕ, List, ◌++◌}
 use Rattle.xxhsum_app.specs.Prelude.{Files, Input}
 use Rattle.xxhsum_audit.specs.List.{GiveAll}
 use Rattle.xxhsum_audit.specs.Parts.{ArePartsOf}
-use Rattle.xxhsum_program.specs.Task.{has_none}
+use Rattle.xxhsum_program.specs.Command.{has_none}
 use Rattle.xxhsum_app.specs.Texts.{GiveTexts, LackText}
 use Rattle.xxhsum_options.specs.declared.options.NamesFrom.{NamesFrom}
 use Rattle.xxhsum_options.specs.declared.options.NamesFrom.TheVariants.{Words, Lines, Nuls}
@@ -27,6 +27,6 @@ abbrev pub ListNames : {S F R : Type 0} → Files S F → Input R → ℕ → Li
 ListNames files input end lists names =
     (texts : List (List ℕ)) × GiveTexts files input lists texts (has_none lists) × AreNamesIn end texts names
 
--- One of the lists has no text, and `told` is the message about it. If there is no list, the input has none.
+-- One of the lists has no text, and `message` is the message about it. If there is no list, the input has none.
 abbrev pub ListNone : {S F R : Type 0} → Files S F → Input R → List (List ℕ) → List ℕ → Type 0
-ListNone files input lists told = LackText files input lists told (has_none lists)
+ListNone files input lists message = LackText files input lists message (has_none lists)

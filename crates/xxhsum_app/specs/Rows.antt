@@ -12,9 +12,9 @@ use Rattle.xxhsum_program.specs.Outcomes.{Comes, is_digested}
 
 -- A line whose name was not given, a line and its given name, or a name that no line has.
 pub data Row : Type 0 where
-  Gone : Item → Row
+  Removed : Item → Row
   Met : Item → List ℕ → Outcome → Row
-  Come : List ℕ → Outcome → Row
+  Added : List ℕ → Outcome → Row
 
 -- The algorithm of a name that no line has: the algorithm of the first line, or `without` if there is no line.
 abbrev pub kind_of_new : Kind → List Item → Kind
@@ -23,9 +23,9 @@ kind_of_new without (line ∷ lines) = kind_of line
 
 -- The side has this row. A name with a line is digested by the line's algorithm, another name by `kind`.
 abbrev pub IsRow : {S F : Type 0} → Files S F → Kind → Side Item (List ℕ) → Row → Type 0
-IsRow files kind (Line line) row = row ≡ Gone line
+IsRow files kind (Line line) row = row ≡ Removed line
 IsRow files kind (Name name) row =
-    (outcome : Outcome) × (row ≡ Come name outcome) × Comes files kind name outcome
+    (outcome : Outcome) × (row ≡ Added name outcome) × Comes files kind name outcome
 IsRow files kind (Both line name) row =
     (outcome : Outcome) × (row ≡ Met line name outcome) × Comes files (kind_of line) name outcome
 
@@ -46,32 +46,32 @@ digest_of kind name (Unread reason) = []
 
 -- The line of a row. None if its name was given and has no digest.
 abbrev pub kept_of : Row → List Item
-kept_of (Gone line) = line ∷ []
+kept_of (Removed line) = line ∷ []
 kept_of (Met line name outcome) = map (λ item. line) (digest_of (kind_of line) name outcome)
-kept_of (Come name outcome) = []
+kept_of (Added name outcome) = []
 
 abbrev pub seen_of : Kind → Row → List Item
-seen_of kind (Gone line) = []
+seen_of kind (Removed line) = []
 seen_of kind (Met line name outcome) = digest_of (kind_of line) name outcome
-seen_of kind (Come name outcome) = digest_of kind name outcome
+seen_of kind (Added name outcome) = digest_of kind name outcome
 
 -- The result of a row, by path.
 abbrev pub first_of : Kind → Row → List Found
-first_of kind (Gone line) = Missing line ∷ []
+first_of kind (Removed line) = Missing line ∷ []
 first_of kind (Met line name outcome) = map (met line) (digest_of (kind_of line) name outcome)
-first_of kind (Come name outcome) = map New (digest_of kind name outcome)
+first_of kind (Added name outcome) = map New (digest_of kind name outcome)
 
 -- The messages about the name of a row: one if it was given and has no digest.
-abbrev pub told_of : Row → List (List ℕ)
-told_of (Gone line) = []
-told_of (Met line name outcome) = name_messages name outcome
-told_of (Come name outcome) = name_messages name outcome
+abbrev pub row_messages : Row → List (List ℕ)
+row_messages (Removed line) = []
+row_messages (Met line name outcome) = name_messages name outcome
+row_messages (Added name outcome) = name_messages name outcome
 
 -- True if the name of a row has a digest, or was not given.
 abbrev pub is_read : Row → Bool
-is_read (Gone line) = true
+is_read (Removed line) = true
 is_read (Met line name outcome) = is_digested outcome
-is_read (Come name outcome) = is_digested outcome
+is_read (Added name outcome) = is_digested outcome
 
 abbrev pub kept_in : List Row → List Item
 kept_in rows = flat_map kept_of rows
@@ -82,14 +82,14 @@ seen_in kind rows = flat_map (seen_of kind) rows
 abbrev pub first_in : Kind → List Row → List Found
 first_in kind rows = flat_map (first_of kind) rows
 
-abbrev pub told_in : List Row → List (List ℕ)
-told_in rows = flat_map told_of rows
+abbrev pub messages_in : List Row → List (List ℕ)
+messages_in rows = flat_map row_messages rows
 
 abbrev pub are_read : List Row → Bool
 are_read rows = list_all is_read rows
 
 -- The first sides have these rows, and the messages of the rows were reported.
-abbrev pub TellsRows : {S F E : Type 0} → Files S F → Messages E → Kind → List (Side Item (List ℕ)) → List Row → Type 0
-TellsRows files messages kind sides rows =
+abbrev pub ReportsRows : {S F E : Type 0} → Files S F → Messages E → Kind → List (Side Item (List ℕ)) → List Row → Type 0
+ReportsRows files messages kind sides rows =
     (done rest : List (Side Item (List ℕ))) × (sides ≡ done ++ rest) × AreRows files kind done rows
-    × Reports messages (told_in rows)
+    × Reports messages (messages_in rows)

@@ -1,13 +1,13 @@
 -- A run of the program by its arguments, which may request a tree.
 use Rattle.std.specs.Prelude.{◌≡◌, ℕ, Bool, true, false, ◌&&◌, ◌⊎◌, List, [], ◌∷◌, Option, Some, None, codes, drop, MatchBool, Result, Ok, Err}
 use Rattle.xxhsum_app.specs.Prelude.{Effect, Files, Input, Options, Stop}
-use Rattle.xxhsum_program.specs.declared.process.Terminals.{Terminals}
+use Rattle.xxhsum_program.specs.declared.process.Interactive.{Interactive}
 use Rattle.xxhsum_program.specs.HashNames.{SaysNames}
 use Rattle.xxhsum_program.specs.Streams.{err_of, streams_of}
-use Rattle.xxhsum_program.specs.Run.{DoesTask, PerformsAs, PerformsOn, style_of}
-use Rattle.xxhsum_program.specs.Task.{IsProgram, task_of}
+use Rattle.xxhsum_program.specs.Run.{DoesCommand, PerformsAs, PerformsOn, style_of}
+use Rattle.xxhsum_program.specs.Command.{IsProgram, command_of}
 use Rattle.xxhsum_app.specs.Audits.{Audits}
-use Rattle.xxhsum_app.specs.Finds.{GoesOn, HasNoRoom, OnlyTells}
+use Rattle.xxhsum_app.specs.Finds.{AndThen, HasNoRoom, OnlyReports}
 use Rattle.xxhsum_app.specs.Messages.{effect_messages, messages_of}
 use Rattle.xxhsum_app.specs.Names.{ListNames, ListNone, end_of}
 use Rattle.xxhsum_app.specs.Walk.{Tree, WalksAll, WalksSome}
@@ -16,31 +16,31 @@ use Rattle.xxhsum_options.specs.Options.{are_listed}
 -- Without an audit, the names in lists are hashed, or checked as lists.
 abbrev pub WalksNames : {S F R W E : Type 0} → Files S F → Input R → Effect W E → Options → List (List ℕ) → Type 0
 WalksNames files input effect options lists =
-    GoesOn effect (ListNames files input (end_of options.names_from) lists) (ListNone files input lists)
+    AndThen effect (ListNames files input (end_of options.names_from) lists) (ListNone files input lists)
     (λ names. PerformsOn files effect options names)
 
 -- True if the names in each folder were read, and all went well with the files.
 abbrev pub all_well : Bool → Result Bool Stop → Result Bool Stop
-all_well are_all (Ok all) = Ok (are_all && all)
-all_well are_all (Err stop) = Err stop
+all_well is_complete (Ok all) = Ok (is_complete && all)
+all_well is_complete (Err stop) = Err stop
 
 -- Below folders, the files are hashed after all folders were read; or memory ran out before.
 abbrev pub WalksFolders : {S F W E : Type 0} → Tree → Files S F → Effect W E → Options → List (List ℕ) → Type 0
 WalksFolders {E = E} tree files effect options names =
-    ((found : List (List ℕ)) × (are_all : Bool) × (told : E) × (done : Result Bool Stop)
-    × WalksAll tree (messages_of effect.rules.telling (err_of effect.old) told) names found are_all
-    × SaysNames files (record effect { old = streams_of effect.old.out told; result = done }) options.kind
+    ((found : List (List ℕ)) × (is_complete : Bool) × (message : E) × (done : Result Bool Stop)
+    × WalksAll tree (messages_of effect.rules.reporting (err_of effect.old) message) names found is_complete
+    × SaysNames files (record effect { old = streams_of effect.old.out message; result = done }) options.kind
     (style_of options) found
-    × (effect.result ≡ all_well are_all done))
+    × (effect.result ≡ all_well is_complete done))
     ⊎ ((stop : Stop) × WalksSome tree (effect_messages effect) names stop × (effect.new.out ≡ effect.old.out)
     × (effect.result ≡ Err stop))
 
 -- An audit of the files below folders. If the names in a folder can't be read, there is no audit.
 abbrev pub AuditsBelow : {S F W E : Type 0} → Tree → Files S F → Effect W E → Options → List ℕ → List (List ℕ) → Type 0
 AuditsBelow {E = E} tree files effect options list names =
-    ((found : List (List ℕ)) × (told : E)
-    × WalksAll tree (messages_of effect.rules.telling (err_of effect.old) told) names found true
-    × Audits files (record effect { old = streams_of effect.old.out told }) options list found)
+    ((found : List (List ℕ)) × (message : E)
+    × WalksAll tree (messages_of effect.rules.reporting (err_of effect.old) message) names found true
+    × Audits files (record effect { old = streams_of effect.old.out message }) options list found)
     ⊎ (((found : List (List ℕ)) × WalksAll tree (effect_messages effect) names found false
     × (effect.new.out ≡ effect.old.out) × (effect.result ≡ Ok false))
     ⊎ ((stop : Stop) × WalksSome tree (effect_messages effect) names stop × (effect.new.out ≡ effect.old.out)
@@ -48,11 +48,11 @@ AuditsBelow {E = E} tree files effect options list names =
 
 -- An audit: the first word is the list, and the words after it are the names, or lists of names.
 abbrev pub AuditsWords : {S F R W E : Type 0} → Tree → Files S F → Input R → Effect W E → Options → List (List ℕ) → Type 0
-AuditsWords tree files input effect options [] = OnlyTells effect (codes "Error: --audit needs a list.")
+AuditsWords tree files input effect options [] = OnlyReports effect (codes "Error: --audit needs a list.")
 AuditsWords tree files input effect options (list ∷ names) =
     MatchBool options.walks (AuditsBelow tree files effect options list names)
     (MatchBool (are_listed options.names_from)
-    (GoesOn effect (ListNames files input (end_of options.names_from) names) (ListNone files input names)
+    (AndThen effect (ListNames files input (end_of options.names_from) names) (ListNone files input names)
     (λ listed. Audits files effect options list listed))
     (Audits files effect options list names))
 
@@ -65,9 +65,9 @@ PerformsWords tree files input effect options words =
     (PerformsAs files input effect options words)))
 
 -- The task of the arguments is done; or memory for the arguments ran out, and nothing is printed or reported.
-abbrev pub DoesArguments : {W E : Type 0} → (Options → List (List ℕ) → Type 0) → Effect W E → Terminals
+abbrev pub DoesArguments : {W E : Type 0} → (Options → List (List ℕ) → Type 0) → Effect W E → Interactive
     → Option (List (List ℕ)) → Type 0
-DoesArguments performs effect terminals None = HasNoRoom effect
-DoesArguments performs effect terminals (Some arguments) =
+DoesArguments performs effect interactive None = HasNoRoom effect
+DoesArguments performs effect interactive (Some arguments) =
     (program : List ℕ) × IsProgram arguments program
-    × DoesTask performs effect (task_of terminals program (drop 1 arguments))
+    × DoesCommand performs effect (command_of interactive program (drop 1 arguments))

@@ -26,24 +26,24 @@ abbrev pub GivesText : {S F : Type 0} → Files S F → List ℕ → List ℕ �
 GivesText {S} {F} files name text =
     (file : F) × files.opening.opens files.store name file × HasText files.reading file text
 
--- The name opens no file, or a read of its file fails. `told` is the message about it.
+-- The name opens no file, or a read of its file fails. `message` is the message about it.
 abbrev pub HasNoText : {S F : Type 0} → Files S F → List ℕ → List ℕ → Type 0
-HasNoText {S} {F} files name told =
-    ((why : Refusal) × files.opening.refuses files.store name why × (told ≡ unopened_text name why))
-    ⊎ ((file : F) × files.opening.opens files.store name file × Breaks files.reading file × (told ≡ unread_text name))
+HasNoText {S} {F} files name message =
+    ((why : Refusal) × files.opening.refuses files.store name why × (message ≡ unopened_text name why))
+    ⊎ ((file : F) × files.opening.opens files.store name file × Breaks files.reading file × (message ≡ unread_text name))
 
 -- Each name leads to a file of its text. If there is no name, the input has the only text.
 abbrev pub GiveTexts : {S F R : Type 0} → Files S F → Input R → List (List ℕ) → List (List ℕ) → Bool → Type 0
 GiveTexts files input names texts true = (text : List ℕ) × HasText input.reading input.source text × (texts ≡ text ∷ [])
 GiveTexts files input names texts false = EachHas (GivesText files) names texts
 
--- A name has no text, and the names before it have texts. `told` is the message about it.
+-- A name has no text, and the names before it have texts. `message` is the message about it.
 abbrev pub LacksOne : {S F : Type 0} → Files S F → List (List ℕ) → List ℕ → Type 0
-LacksOne files names told =
+LacksOne files names message =
     (before behind texts : List (List ℕ)) × (name : List ℕ) × (names ≡ before ++ name ∷ behind)
-    × EachHas (GivesText files) before texts × HasNoText files name told
+    × EachHas (GivesText files) before texts × HasNoText files name message
 
--- One of the names has no text, and `told` is the message about it. If there is no name, the input has none.
+-- One of the names has no text, and `message` is the message about it. If there is no name, the input has none.
 abbrev pub LackText : {S F R : Type 0} → Files S F → Input R → List (List ℕ) → List ℕ → Bool → Type 0
-LackText files input names told true = Breaks input.reading input.source × (told ≡ unread_text input_name)
-LackText files input names told false = LacksOne files names told
+LackText files input names message true = Breaks input.reading input.source × (message ≡ unread_text input_name)
+LackText files input names message false = LacksOne files names message

@@ -170,7 +170,7 @@ abbrev pub SeesOne : {E : Type 0} → (Seen → Type 0) → Messages E → WalkS
 SeesOne is_seen messages old new (Ok _) =
     (seen : Seen) × is_seen seen × (new.waiting ≡ below_of seen ++ old.waiting)
     × (map (λ file. file.items) new.walked.files.items ≡ map (λ file. file.items) old.walked.files.items ++ file_of seen)
-    × (new.walked.are_all ≡ (old.walked.are_all && is_open seen)) × Reports messages (closed_of seen)
+    × (new.walked.is_complete ≡ (old.walked.is_complete && is_open seen)) × Reports messages (closed_of seen)
 SeesOne is_seen messages old new (Err stop) = (stop ≡ OutOfMemory) × (messages.new ≡ messages.old)
 
 abbrev pub SeesFolder : {E : Type 0} → Tree → List ℕ → Messages E → WalkState → WalkState → Result (Unit {0}) Stop → Type 0

@@ -9,44 +9,44 @@ ghost use Rattle.xxhsum_app.specs.Messages.{messages_of};
 ghost use Rattle.xxhsum_app.specs.Rows.{IsRow};
 
 use std::alloc::AllocError;
-use xxh_io::ends::Sink;
+use xxh_io::streams::Sink;
 use xxh_io::kind::Kind;
 use xxhsum_audit::digest::FileDigest;
 use xxhsum_audit::moves::Compared;
 use xxhsum_audit::side::{Side, first_by_path};
 use xxhsum_audit::verdict::Verdict;
 use xxhsum_fs::store::Store;
-use xxhsum_program::hash::tell_outcome;
-use xxhsum_program::job::Job;
+use xxhsum_program::hash::eprint_outcome;
+use xxhsum_program::context::Context;
 use xxhsum_program::outcome::{OFFERED, Outcome, outcome_of};
-use xxhsum_program::screen::Ticks;
+use xxhsum_program::terminal::TimedSink;
 
 // Hashes names and merges them with lines, both in order. A name with a line is hashed by the line's algorithm, other
 // names by `kind`. A name without a digest is reported, and its line is left out.
-pub(crate) fn digests_of<'n, S: Store, T: Ticks, E: Sink>(
-    job: &Job<'_, S, T>,
+pub(crate) fn digests_of<'n, S: Store, T: TimedSink, E: Sink>(
+    context: &Context<'_, S, T>,
     kind: Kind,
     lines: &[FileDigest<'n>],
     names: &[&'n [u8]],
     err: &mut E,
 ) -> Result<Compared<'n>, AllocError>
     ensures { let sides = by_path (items_of lines.now) (texts_of names.now) in MatchResult result
-        (λ compared. DigestsRows (files_of S.Store S.File.Source job.now.store.now)
+        (λ compared. DigestsRows (files_of S.Store S.File.Source context.now.store.now)
         (messages_of E.Sink err.old err.new) kind sides compared)
-        (λ _. FailsRows (files_of S.Store S.File.Source job.now.store.now)
+        (λ _. FailsRows (files_of S.Store S.File.Source context.now.store.now)
         (messages_of E.Sink err.old err.new) kind sides) }
 {
     let mut compared = Compared {
-        settled: Vec::new(job.alloc),
-        gone: Vec::new(job.alloc),
-        come: Vec::new(job.alloc),
-        are_all: true,
+        matched: Vec::new(context.alloc),
+        removed: Vec::new(context.alloc),
+        added: Vec::new(context.alloc),
+        is_complete: true,
     };
     let mut buf = [0; OFFERED];
     let mut lines_left = lines;
     let mut names_left = names;
     while let Some(side) = first_by_path(lines_left, names_left) {
-        add_side(job, kind, side, &mut buf, &mut compared, err)?;
+        add_side(context, kind, side, &mut buf, &mut compared, err)?;
         lines_left = &lines_left[side.lines()..];
         names_left = &names_left[side.names()..];
     }
@@ -54,8 +54,8 @@ pub(crate) fn digests_of<'n, S: Store, T: Ticks, E: Sink>(
 }
 
 // Adds a row of the merge, with the digest of its name.
-fn add_side<'n, S: Store, T: Ticks, E: Sink>(
-    job: &Job<'_, S, T>,
+fn add_side<'n, S: Store, T: TimedSink, E: Sink>(
+    context: &Context<'_, S, T>,
     kind: Kind,
     side: Side<FileDigest<'n>, &'n [u8]>,
     buf: &mut [u8],
@@ -64,37 +64,37 @@ fn add_side<'n, S: Store, T: Ticks, E: Sink>(
 ) -> Result<(), AllocError>
     requires { 0 < length buf.old }
     ensures { AddsRow (messages_of E.Sink err.old err.new)
-        (IsRow (files_of S.Store S.File.Source job.now.store.now) kind (path_side side.entry))
+        (IsRow (files_of S.Store S.File.Source context.now.store.now) kind (path_side side.entry))
         kind compared.old compared.new result }
 {
     match side {
-        Side::Line(line) => compared.gone.push(line)?,
-        Side::Name(name) => match digest_name(job, kind, name, buf, err) {
-            Some(found) => compared.come.push(found)?,
-            None => compared.are_all = false,
+        Side::Line(line) => compared.removed.push(line)?,
+        Side::Name(name) => match digest_name(context, kind, name, buf, err) {
+            Some(found) => compared.added.push(found)?,
+            None => compared.is_complete = false,
         },
-        Side::Both(line, name) => match digest_name(job, line.kind, name, buf, err) {
-            Some(found) => compared.settled.push(Verdict::met(line, found))?,
-            None => compared.are_all = false,
+        Side::Both(line, name) => match digest_name(context, line.kind, name, buf, err) {
+            Some(found) => compared.matched.push(Verdict::met(line, found))?,
+            None => compared.is_complete = false,
         },
     }
     Ok(())
 }
 
 // Hashes the file of a name. Returns `None` if it has no digest, which is reported.
-fn digest_name<'n, S: Store, T: Ticks, E: Sink>(
-    job: &Job<'_, S, T>,
+fn digest_name<'n, S: Store, T: TimedSink, E: Sink>(
+    context: &Context<'_, S, T>,
     kind: Kind,
     name: &'n [u8],
     buf: &mut [u8],
     err: &mut E,
 ) -> Option<FileDigest<'n>>
     requires { 0 < length buf.old }
-    ensures { DigestsName (files_of S.Store S.File.Source job.now.store.now)
+    ensures { DigestsName (files_of S.Store S.File.Source context.now.store.now)
         (messages_of E.Sink err.old err.new) kind name.now result }
 {
-    let outcome = outcome_of(job, kind, name, buf);
-    tell_outcome(name, &outcome, err);
+    let outcome = outcome_of(context, kind, name, buf);
+    eprint_outcome(name, &outcome, err);
     match outcome {
         Outcome::Digested { value } => Some(FileDigest { name, kind, value }),
         Outcome::IsDirectory | Outcome::Unread { .. } => None,

@@ -7,6 +7,6 @@ mod digests;
 pub mod names;
 mod report;
 pub mod run;
-mod said;
+mod read_list;
 pub mod texts;
 pub mod walk;

@@ -7,11 +7,11 @@ ghost use Rattle.xxhsum_app.specs.Names.{AddsNames, AreNamesIn, ListNames, ListN
 
 use crate::texts::texts_named;
 use std::alloc::{AllocError, Global};
-use xxh_io::ends::{Sink, Source};
+use xxh_io::streams::{Sink, Source};
 use xxhsum_audit::parts::cut_at;
 use xxhsum_fs::store::Store;
-use xxhsum_program::job::Job;
-use xxhsum_program::screen::Ticks;
+use xxhsum_program::context::Context;
+use xxhsum_program::terminal::TimedSink;
 use xxhsum_program::stop::Stop;
 use xxhsum_options::options::NamesFrom;
 
@@ -21,22 +21,22 @@ use xxhsum_options::options::NamesFrom;
 /// # Errors
 ///
 /// [`Stop::OutOfMemory`] if memory runs out.
-pub fn names_listed<S: Store, T: Ticks, R: Source + Drop, E: Sink>(
-    job: &Job<'_, S, T>,
+pub fn names_listed<S: Store, T: TimedSink, R: Source + Drop, E: Sink>(
+    context: &Context<'_, S, T>,
     lists: &[Vec<u8>],
     input: R,
     err: &mut E,
 ) -> Result<Option<Vec<Vec<u8>>>, Stop>
     requires { R.has_failed input ≡ false }
     ensures { let given = map (λ list. list.items) lists.now in Finds result E.Sink
-        (λ names. ListNames (files_of S.Store S.File.Source job.now.store.now) (input_of R.Source input)
-        (end_of job.now.options.names_from) given (map (λ name. name.items) names.items))
-        (ListNone (files_of S.Store S.File.Source job.now.store.now) (input_of R.Source input) given) err.old err.new }
+        (λ names. ListNames (files_of S.Store S.File.Source context.now.store.now) (input_of R.Source input)
+        (end_of context.now.options.names_from) given (map (λ name. name.items) names.items))
+        (ListNone (files_of S.Store S.File.Source context.now.store.now) (input_of R.Source input) given) err.old err.new }
 {
-    let Some(texts) = texts_named(job, lists, input, err)? else {
+    let Some(texts) = texts_named(context, lists, input, err)? else {
         return Ok(None);
     };
-    let names = names_in(job.alloc, end_of(job.options.names_from), &texts)?;
+    let names = names_in(context.alloc, end_of(context.options.names_from), &texts)?;
     Ok(Some(names))
 }
 

@@ -7,10 +7,10 @@ ghost use Rattle.xxhsum_app.specs.Report.{PrintsReport, are_same, class_text, co
 
 use itoa::Buffer;
 use std::alloc::{AllocError, Global};
-use xxh_io::ends::Sink;
+use xxh_io::streams::Sink;
 use xxhsum_audit::text::verdict_line;
 use xxhsum_audit::verdict::{Class, Verdict, count_of};
-use xxhsum_program::say::print;
+use xxhsum_program::stdout::print;
 use xxhsum_program::stop::Stop;
 use xxhsum_options::options::Options;
 

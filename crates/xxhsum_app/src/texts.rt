@@ -2,23 +2,23 @@
 
 ghost use Rattle.std.specs.Prelude.{◌≡◌, ◌∷◌, ◌++◌, [], false, List, ℕ, IfOk, map};
 ghost use Rattle.xxhsum_program.specs.Files.{files_of, input_of};
-ghost use Rattle.xxhsum_app.specs.Prelude.{EachHas, TellsOn, one_line};
+ghost use Rattle.xxhsum_app.specs.Prelude.{EachHas, Eprints, one_line};
 ghost use Rattle.xxhsum_program.specs.Run.{input_name};
-ghost use Rattle.xxhsum_program.specs.Task.{has_none};
-ghost use Rattle.xxhsum_program.specs.Watched.{source_of};
+ghost use Rattle.xxhsum_program.specs.Command.{has_none};
+ghost use Rattle.xxhsum_program.specs.ProgressReader.{source_of};
 ghost use Rattle.xxhsum_app.specs.Finds.{Finds};
 ghost use Rattle.xxhsum_app.specs.Texts.{Breaks, GiveTexts, GivesText, HasNoText, HasText, LackText, LacksOne, unopened_text, unread_text};
 
 use std::alloc::{AllocError, Global};
-use xxh_io::ends::{Sink, Source};
+use xxh_io::streams::{Sink, Source};
 use xxhsum_audit::read::read_text;
 use xxhsum_fs::refusal::Refusal;
 use xxhsum_fs::store::Store;
-use xxhsum_program::job::Job;
-use xxhsum_program::screen::Ticks;
+use xxhsum_program::context::Context;
+use xxhsum_program::terminal::TimedSink;
 use xxhsum_program::stop::Stop;
-use xxhsum_program::tell::tell_line;
-use xxhsum_program::watched::{ProgressDisplay, Watched};
+use xxhsum_program::stderr::eprint_line;
+use xxhsum_program::progress_reader::{ProgressDisplay, ProgressReader};
 
 // The name of standard input.
 const INPUT: &[u8] = b"stdin";
@@ -28,27 +28,27 @@ const INPUT: &[u8] = b"stdin";
 /// # Errors
 ///
 /// [`Stop::OutOfMemory`] if memory runs out.
-pub fn text_named<S: Store, T: Ticks, E: Sink>(
-    job: &Job<'_, S, T>,
+pub fn text_named<S: Store, T: TimedSink, E: Sink>(
+    context: &Context<'_, S, T>,
     name: &[u8],
     err: &mut E,
 ) -> Result<Option<Vec<u8>>, Stop>
     ensures { Finds result E.Sink
-        (λ text. GivesText (files_of S.Store S.File.Source job.now.store.now) name.now text.items)
-        (HasNoText (files_of S.Store S.File.Source job.now.store.now) name.now) err.old err.new }
+        (λ text. GivesText (files_of S.Store S.File.Source context.now.store.now) name.now text.items)
+        (HasNoText (files_of S.Store S.File.Source context.now.store.now) name.now) err.old err.new }
 {
-    match job.progress.open(job.store, name) {
-        Ok(file) => text_of(job.alloc, name, file, err),
+    match context.progress.open(context.store, name) {
+        Ok(file) => text_of(context.alloc, name, file, err),
         Err(refusal) => {
-            tell_unopened(name, &refusal, err);
+            eprint_unopened(name, &refusal, err);
             Ok(None)
         }
     }
 }
 
 // Reports that the list of this name can't be opened.
-pub(crate) fn tell_unopened<'a, E: Sink>(name: &'a [u8], refusal: &'a Refusal, err: &mut E)
-    ensures { TellsOn E.Sink (one_line (unopened_text name.now refusal.now)) err.old err.new }
+pub(crate) fn eprint_unopened<'a, E: Sink>(name: &'a [u8], refusal: &'a Refusal, err: &mut E)
+    ensures { Eprints E.Sink (one_line (unopened_text name.now refusal.now)) err.old err.new }
 {
     let parts: [&[u8]; 5] = [
         b"Error: Could not open '",
@@ -57,19 +57,19 @@ pub(crate) fn tell_unopened<'a, E: Sink>(name: &'a [u8], refusal: &'a Refusal, e
         refusal.text(),
         b".",
     ];
-    tell_line(&parts, err);
+    eprint_line(&parts, err);
 }
 
 // Reports that a read of the list of this name failed.
-pub(crate) fn tell_unread<'a, E: Sink>(name: &'a [u8], err: &mut E)
-    ensures { TellsOn E.Sink (one_line (unread_text name.now)) err.old err.new }
+pub(crate) fn eprint_unread<'a, E: Sink>(name: &'a [u8], err: &mut E)
+    ensures { Eprints E.Sink (one_line (unread_text name.now)) err.old err.new }
 {
     let parts: [&[u8]; 3] = [
         b"Error: Could not read '",
         name,
         b"': a failure occurred reading the list.",
     ];
-    tell_line(&parts, err);
+    eprint_line(&parts, err);
 }
 
 /// Returns all bytes of a source that is reported by this name. Returns `None` if it can't be read, which is reported.
@@ -77,21 +77,21 @@ pub(crate) fn tell_unread<'a, E: Sink>(name: &'a [u8], err: &mut E)
 /// # Errors
 ///
 /// [`Stop::OutOfMemory`] if memory runs out.
-pub fn text_of<R: Source + Drop, T: Ticks, E: Sink>(
+pub fn text_of<R: Source + Drop, T: TimedSink, E: Sink>(
     alloc: Global,
     name: &[u8],
-    source: Watched<R, T>,
+    source: ProgressReader<R, T>,
     err: &mut E,
 ) -> Result<Option<Vec<u8>>, Stop>
     requires { R.has_failed (source_of source) ≡ false }
     ensures { Finds result E.Sink (λ text. HasText R.Source (source_of source) text.items)
-        (λ told. Breaks R.Source (source_of source) × (told ≡ unread_text name.now)) err.old err.new }
+        (λ message. Breaks R.Source (source_of source) × (message ≡ unread_text name.now)) err.old err.new }
 {
     let mut source = source;
     match read_text(alloc, &mut source)? {
         Some(text) => Ok(Some(text)),
         None => {
-            tell_unread(name, err);
+            eprint_unread(name, err);
             Ok(None)
         }
     }
@@ -103,23 +103,23 @@ pub fn text_of<R: Source + Drop, T: Ticks, E: Sink>(
 /// # Errors
 ///
 /// [`Stop::OutOfMemory`] if memory runs out.
-pub fn texts_named<S: Store, T: Ticks, R: Source + Drop, E: Sink>(
-    job: &Job<'_, S, T>,
+pub fn texts_named<S: Store, T: TimedSink, R: Source + Drop, E: Sink>(
+    context: &Context<'_, S, T>,
     names: &[Vec<u8>],
     input: R,
     err: &mut E,
 ) -> Result<Option<Vec<Vec<u8>>>, Stop>
     requires { R.has_failed input ≡ false }
     ensures { let given = map (λ name. name.items) names.now in Finds result E.Sink
-        (λ texts. GiveTexts (files_of S.Store S.File.Source job.now.store.now) (input_of R.Source input) given
+        (λ texts. GiveTexts (files_of S.Store S.File.Source context.now.store.now) (input_of R.Source input) given
         (map (λ text. text.items) texts.items) (has_none given))
-        (λ told. LackText (files_of S.Store S.File.Source job.now.store.now) (input_of R.Source input) given told
+        (λ message. LackText (files_of S.Store S.File.Source context.now.store.now) (input_of R.Source input) given message
         (has_none given)) err.old err.new }
 {
     if has_none(names) {
-        return text_of_input(job.alloc, job.progress, input, err);
+        return text_of_input(context.alloc, context.progress, input, err);
     }
-    texts_of_files(job, names, err)
+    texts_of_files(context, names, err)
 }
 
 fn has_none(names: &[Vec<u8>]) -> bool
@@ -129,7 +129,7 @@ fn has_none(names: &[Vec<u8>]) -> bool
 }
 
 // Returns the text of the input as the only text.
-fn text_of_input<R: Source + Drop, T: Ticks, E: Sink>(
+fn text_of_input<R: Source + Drop, T: TimedSink, E: Sink>(
     alloc: Global,
     progress: ProgressDisplay<T>,
     input: R,
@@ -139,7 +139,7 @@ fn text_of_input<R: Source + Drop, T: Ticks, E: Sink>(
     ensures { Finds result E.Sink
         (λ texts. (text : List ℕ) × HasText R.Source input text
         × (map (λ text. text.items) texts.items ≡ text ∷ []))
-        (λ told. Breaks R.Source input × (told ≡ unread_text input_name)) err.old err.new }
+        (λ message. Breaks R.Source input × (message ≡ unread_text input_name)) err.old err.new }
 {
     let Some(text) = text_of(alloc, INPUT, progress.watch(input), err)? else {
         return Ok(None);
@@ -150,19 +150,19 @@ fn text_of_input<R: Source + Drop, T: Ticks, E: Sink>(
 }
 
 // Returns the texts of these files.
-fn texts_of_files<S: Store, T: Ticks, E: Sink>(
-    job: &Job<'_, S, T>,
+fn texts_of_files<S: Store, T: TimedSink, E: Sink>(
+    context: &Context<'_, S, T>,
     names: &[Vec<u8>],
     err: &mut E,
 ) -> Result<Option<Vec<Vec<u8>>>, Stop>
     ensures { let given = map (λ name. name.items) names.now in Finds result E.Sink
-        (λ texts. EachHas (GivesText (files_of S.Store S.File.Source job.now.store.now)) given
+        (λ texts. EachHas (GivesText (files_of S.Store S.File.Source context.now.store.now)) given
         (map (λ text. text.items) texts.items))
-        (LacksOne (files_of S.Store S.File.Source job.now.store.now) given) err.old err.new }
+        (LacksOne (files_of S.Store S.File.Source context.now.store.now) given) err.old err.new }
 {
-    let mut texts = Vec::new(job.alloc);
+    let mut texts = Vec::new(context.alloc);
     for name in names {
-        let Some(text) = text_named(job, name, err)? else {
+        let Some(text) = text_named(context, name, err)? else {
             return Ok(None);
         };
         add_text(&mut texts, text)?;

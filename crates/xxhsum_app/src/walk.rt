@@ -1,17 +1,17 @@
 //! Finds the files below folders.
 
 ghost use Rattle.std.specs.Prelude.{◌≡◌, ◌++◌, ◌∷◌, [], false, IfOk, MatchResult, map};
-ghost use Rattle.xxhsum_program.specs.Told.{TellsLines};
+ghost use Rattle.xxhsum_program.specs.Eprints.{EprintsLines};
 ghost use Rattle.xxhsum_app.specs.Messages.{messages_of};
 ghost use Rattle.xxhsum_app.specs.WalkLaws.{FindsEachFile, FindsNoOther, FindsOnce};
 ghost use Rattle.xxhsum_app.specs.Walk.{HasKind, IsInOrder, IsSeen, SeesFolder, SeesOne, WalksAll, WalksSome, below, closed_text, place_of, state_of, tree_of, waiting_in, with_slash};
 
 use std::alloc::{AllocError, Global};
-use xxh_io::ends::Sink;
+use xxh_io::streams::Sink;
 use xxhsum_fs::folders::{FolderError, Folders, PathKind};
 use xxhsum_fs::refusal::Refusal;
 use xxhsum_fs::store::Store;
-use xxhsum_program::hash::tell_outcome;
+use xxhsum_program::hash::eprint_outcome;
 use xxhsum_program::outcome::{Outcome, Reason};
 use xxhsum_program::stop::Stop;
 
@@ -21,7 +21,7 @@ pub struct Walked {
     /// The names of the files, in order.
     pub files: Vec<Vec<u8>>,
     /// True if the names in each folder could be read and looked up.
-    pub are_all: bool,
+    pub is_complete: bool,
 }
 
 // A name to visit: a given name, or a name in a folder.
@@ -49,12 +49,12 @@ pub fn files_below<S: Store + Folders, E: Sink>(
     ensures { let given = map (λ name. name.items) names.now in MatchResult result
         (λ walked. WalksAll (tree_of S.Store S.Folders store.now)
         (messages_of E.Sink err.old err.new) given (map (λ file. file.items) walked.files.items)
-        walked.are_all)
+        walked.is_complete)
         (WalksSome (tree_of S.Store S.Folders store.now) (messages_of E.Sink err.old err.new) given) }
 {
     let mut walked = Walked {
         files: Vec::new(alloc),
-        are_all: true,
+        is_complete: true,
     };
     let mut waiting = Vec::new(alloc);
     put_names(alloc, b"", true, names, &mut waiting)?;
@@ -62,7 +62,7 @@ pub fn files_below<S: Store + Folders, E: Sink>(
         let Some(place) = waiting.pop() else {
             return Ok(walked);
         };
-        see(alloc, store, place, &mut waiting, &mut walked, err)?;
+        visit(alloc, store, place, &mut waiting, &mut walked, err)?;
     }
     Err(Stop::OutOfMemory)
 }
@@ -112,7 +112,7 @@ fn put_name(
 }
 
 // Visits a name: adds a file, or pushes the names in a folder.
-fn see<S: Store + Folders, E: Sink>(
+fn visit<S: Store + Folders, E: Sink>(
     alloc: Global,
     store: &S,
     place: Waiting,
@@ -133,7 +133,7 @@ fn see<S: Store + Folders, E: Sink>(
         PathKind::Folder => open_folder(alloc, store, &name, waiting, walked, err),
         PathKind::Other => Ok(()),
         PathKind::Unknown(refusal) => {
-            lose(&name, refusal, &mut walked.are_all, err);
+            mark_incomplete(&name, refusal, &mut walked.is_complete, err);
             Ok(())
         }
     }
@@ -183,7 +183,7 @@ fn open_folder<S: Store + Folders, E: Sink>(
         }
         Err(FolderError::OutOfMemory) => Err(Stop::OutOfMemory),
         Err(FolderError::Refused(refusal)) => {
-            lose(name, refusal, &mut walked.are_all, err);
+            mark_incomplete(name, refusal, &mut walked.is_complete, err);
             Ok(())
         }
     }
@@ -212,15 +212,15 @@ fn in_order(names: Vec<Vec<u8>>) -> Vec<Vec<u8>>
 }
 
 // Reports a folder that can't be read, or a name that can't be looked up. The walk is then incomplete.
-fn lose<E: Sink>(name: &[u8], refusal: Refusal, are_all: &mut bool, err: &mut E)
-    ensures tells { TellsLines E.Sink (closed_text name.now refusal) err.old err.new }
-    ensures lost { are_all.new ≡ false }
+fn mark_incomplete<E: Sink>(name: &[u8], refusal: Refusal, is_complete: &mut bool, err: &mut E)
+    ensures reports { EprintsLines E.Sink (closed_text name.now refusal) err.old err.new }
+    ensures lost { is_complete.new ≡ false }
 {
     let outcome = Outcome::Unread {
         reason: Reason::Unopened { refusal },
     };
-    tell_outcome(name, &outcome, err);
-    *are_all = false;
+    eprint_outcome(name, &outcome, err);
+    *is_complete = false;
 }
 
 /// Lemma: a walk finds exactly the files that the given names lead to through names in folders, if each folder could be

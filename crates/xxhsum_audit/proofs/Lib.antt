@@ -1,7 +1,7 @@
 pub mod Prelude
 pub mod OrderFacts
 pub mod AmongFacts
-pub mod BareFacts
+pub mod NormalizeFacts
 pub mod UniqueFacts
 pub mod SortFacts
 pub mod TurnFacts
@@ -10,7 +10,7 @@ pub mod SideFacts
 pub mod DigestFacts
 pub mod CopyFacts
 pub mod SearchFacts
-pub mod TwiceFacts
+pub mod DuplicateFacts
 pub mod AuditFacts
 pub mod EqualFacts
 pub mod CountFacts

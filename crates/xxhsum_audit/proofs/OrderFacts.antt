@@ -1,12 +1,12 @@
 -- Proves that the orders are total and that they distinguish the items that they compare.
 use Rattle.xxhsum_audit.proofs.Prelude.{◌≡◌, ℕ, true, false, List, nat_eq, refl, sym, ap, subst, ◌∙◌, if◌then◌else◌, Ordering, Less, Equal, Greater, nat_cmp_total, nat_list_cmp_total, on_total, then_total, tied_itself, alike_right}
-use Rattle.xxhsum_audit.proofs.Prelude.{exact_bytes, exact_unsigned, IsTotalOrder, slice_cmp, is_eq, is_lt, nat_cmp, ordering_reverse, ordering_then, HasSameDigest, Item, Says, bare, kind_of, name_of, path_of, value_of, compare_digests}
+use Rattle.xxhsum_audit.proofs.Prelude.{exact_bytes, exact_unsigned, IsTotalOrder, slice_cmp, is_eq, is_lt, nat_cmp, ordering_reverse, ordering_then, HasSameDigest, Item, Says, normalize_path, kind_of, name_of, path_of, value_of, compare_digests}
 use Rattle.xxhsum_audit.proofs.Prelude.{compare_lines, compare_paths, rank_digests, rank_lines, rank_names, rank_of}
 use Rattle.xxh_io.specs.declared.kind.Kind.{Kind}
 use Rattle.xxh_io.specs.declared.kind.Kind.TheVariants.{X32, X64, X3_64, X3_128}
 
 pub paths_total : IsTotalOrder compare_paths
-paths_total = on_total bare nat_list_cmp_total
+paths_total = on_total normalize_path nat_list_cmp_total
 
 pub names_total : IsTotalOrder rank_names
 names_total = then_total paths_total nat_list_cmp_total
@@ -43,8 +43,8 @@ at_rank X3_128 = refl
 rank_exact : (a b : Kind) → rank_of a ≡ rank_of b → a ≡ b
 rank_exact a b e = sym (at_rank a) ∙ ap kind_at e ∙ at_rank b
 
-pub paths_exact : (a b : List ℕ) → compare_paths a b ≡ Equal → bare a ≡ bare b
-paths_exact a b e = exact_bytes (bare a) (bare b) e
+pub paths_exact : (a b : List ℕ) → compare_paths a b ≡ Equal → normalize_path a ≡ normalize_path b
+paths_exact a b e = exact_bytes (normalize_path a) (normalize_path b) e
 
 pub lines_exact : (a b : Item) → compare_lines a b ≡ Equal → path_of a ≡ path_of b
 lines_exact a b e = paths_exact (name_of a) (name_of b) e
@@ -67,8 +67,8 @@ all_exact a b e =
     let names = then_equal (compare_lines a b) (slice_cmp nat_cmp (name_of a) (name_of b)) both.1 in
     items_same a b (exact_bytes (name_of a) (name_of b) names.1) (digests_exact a b both.0)
 
-pub paths_tied : (a b : List ℕ) → bare a ≡ bare b → compare_paths a b ≡ Equal
-paths_tied a b e = subst (λ x. slice_cmp nat_cmp (bare a) x ≡ Equal) e (tied_itself nat_list_cmp_total (bare a))
+pub paths_tied : (a b : List ℕ) → normalize_path a ≡ normalize_path b → compare_paths a b ≡ Equal
+paths_tied a b e = subst (λ x. slice_cmp nat_cmp (normalize_path a) x ≡ Equal) e (tied_itself nat_list_cmp_total (normalize_path a))
 
 pub digests_tied : (a b : Item) → HasSameDigest a b → compare_digests a b ≡ Equal
 digests_tied (Says n k v) (Says n' k' v') d =

@@ -1,5 +1,5 @@
 -- Proves that an unmatched element of a merge has no partner.
-use Rattle.xxhsum_audit.proofs.Prelude.{◌≡◌, ◌≢◌, List, [], ◌∷◌, ◌++◌, refl, sym, ap, subst, ◌∙◌, inl, inr, flat_map, Less, Equal, Greater, compared, missing_in, missing_one, new_in, new_one, settled_one, Changed, Copied, Found, Missing}
+use Rattle.xxhsum_audit.proofs.Prelude.{◌≡◌, ◌≢◌, List, [], ◌∷◌, ◌++◌, refl, sym, ap, subst, ◌∙◌, inl, inr, flat_map, Less, Equal, Greater, compared, missing_in, missing_one, new_in, new_one, matched_one, Changed, Copied, Found, Missing}
 use Rattle.xxhsum_audit.proofs.Prelude.{Moved, New, Same, line_in, lines_in, met, name_in, names_in, IsAmong, Item, LacksPath, name_of, path_of, Rises, compare_lines}
 use Rattle.xxhsum_audit.proofs.AmongFacts.{among_either, among_left, among_right}
 use Rattle.xxhsum_audit.proofs.FoundFacts.{Covers, by_founds, met_is, met_pair}
@@ -9,7 +9,7 @@ use Rattle.xxhsum_audit.proofs.OrderFacts.{back, lines_exact, lines_total, paths
 
 -- A side: the items of a result are settled, or all of them are unmatched.
 abbrev pub IsSide : (of alone : Found → List Item) → Type 0
-IsSide of alone = (x : Found) → (of x ≡ flat_map of (settled_one x) ++ alone x) × (flat_map alone (settled_one x) ≡ [])
+IsSide of alone = (x : Found) → (of x ≡ flat_map of (matched_one x) ++ alone x) × (flat_map alone (matched_one x) ≡ [])
 
 pub side_of_lines : IsSide line_in missing_one
 side_of_lines (Same l n) = (refl, refl)
@@ -34,7 +34,7 @@ alone_is of alone side [] i h = h
 alone_is of alone side (x ∷ f) i h =
     elim (among_either (alone x) (flat_map alone f) i h) [
       | inl a ↦
-          let here = among_right (flat_map of (settled_one x)) (alone x) i a in
+          let here = among_right (flat_map of (matched_one x)) (alone x) i a in
           among_left (of x) (flat_map of f) i (subst (λ l. IsAmong l i) (sym (side x).0) here)
       | inr b ↦ among_right (of x) (flat_map of f) i (alone_is of alone side f i b)
     ]

@@ -22,7 +22,7 @@ compared lines names = map (as_found met) (beside compare_lines lines names)
 
 -- The results of lines whose names are gone and of new names, merged by digest.
 abbrev pub moved : List Item → List Item → List Found
-moved gone come = map (as_found Moved) (beside compare_digests gone come)
+moved removed added = map (as_found Moved) (beside compare_digests removed added)
 
 -- ---- the classes
 
@@ -40,11 +40,11 @@ abbrev pub same_one : Found → List Item
 same_one (Same line name) = name ∷ []
 same_one found = []
 
-abbrev pub settled_one : Found → List Found
-settled_one (Copied first name) = []
-settled_one (New name) = []
-settled_one (Missing line) = []
-settled_one found = found ∷ []
+abbrev pub matched_one : Found → List Found
+matched_one (Copied first name) = []
+matched_one (New name) = []
+matched_one (Missing line) = []
+matched_one found = found ∷ []
 
 -- The missing lines, the new or copied names, the unchanged files, and all results except missing, new and copied.
 abbrev pub missing_in : List Found → List Item
@@ -56,8 +56,8 @@ new_in found = flat_map new_one found
 abbrev pub same_in : List Found → List Item
 same_in found = flat_map same_one found
 
-abbrev pub settled_in : List Found → List Found
-settled_in found = flat_map settled_one found
+abbrev pub matched_in : List Found → List Found
+matched_in found = flat_map matched_one found
 
 -- ---- copies
 
@@ -79,14 +79,14 @@ with_copy kept found = found
 
 -- The results `found` are the settled ones, followed by the results of the other lines and names, sorted by digest and
 -- merged. A name that is still new becomes a copy if an unchanged file has its digest.
-pub record HasMoves (settled : List Found) (gone come : List Item) (found : List Found) : Type 0 where
+pub record HasMoves (matched : List Found) (removed added : List Item) (found : List Found) : Type 0 where
   pub kept : List Item
-  pub gone_ordered : List Item
-  pub come_ordered : List Item
-  pub kept_in_order : IsOrder rank_digests (same_in settled) kept
-  pub gone_in_order : IsOrder rank_digests gone gone_ordered
-  pub come_in_order : IsOrder rank_digests come come_ordered
-  pub is : found ≡ settled ++ map (with_copy kept) (moved gone_ordered come_ordered)
+  pub removed_ordered : List Item
+  pub added_ordered : List Item
+  pub kept_in_order : IsOrder rank_digests (same_in matched) kept
+  pub removed_in_order : IsOrder rank_digests removed removed_ordered
+  pub added_in_order : IsOrder rank_digests added added_ordered
+  pub is : found ≡ matched ++ map (with_copy kept) (moved removed_ordered added_ordered)
 
 -- The lines and the names are sorted by path and merged. No two lines share a path, and no two names do.
 pub record IsAudit (lines names : List Item) (found : List Found) : Type 0 where
@@ -96,10 +96,10 @@ pub record IsAudit (lines names : List Item) (found : List Found) : Type 0 where
   pub names_same : IsPermutation names ordered_names
   pub lines_rise : Rises compare_lines ordered_lines
   pub names_rise : Rises compare_lines ordered_names
-  pub moves : HasMoves (settled_in (compared ordered_lines ordered_names))
+  pub moves : HasMoves (matched_in (compared ordered_lines ordered_names))
       (missing_in (compared ordered_lines ordered_names)) (new_in (compared ordered_lines ordered_names)) found
 
 -- Two of the items have this path.
-abbrev pub IsTwice : List Item → List ℕ → Type 0
-IsTwice items path =
+abbrev pub IsDuplicate : List Item → List ℕ → Type 0
+IsDuplicate items path =
     (a b : Item) × (rest : List Item) × IsPermutation items (a ∷ b ∷ rest) × (path_of a ≡ path) × (path_of b ≡ path)

@@ -4,7 +4,7 @@ use Rattle.std.specs.Ordering.{is_eq}
 use Rattle.xxhsum_audit.specs.declared.verdict.Class.{Class}
 use Rattle.xxhsum_audit.specs.declared.verdict.Class.TheVariants as Of
 use Rattle.xxhsum_audit.specs.declared.verdict.Verdict.{Verdict}
-use Rattle.xxhsum_audit.specs.declared.verdict.Verdict.TheVariants as Told
+use Rattle.xxhsum_audit.specs.declared.verdict.Verdict.TheVariants as TakesOrFails
 use Rattle.xxhsum_audit.specs.Item.{Item, item_of}
 use Rattle.xxhsum_audit.specs.Order.{compare_digests}
 
@@ -18,12 +18,12 @@ pub data Found : Type 0 where
   Missing : Item → Found
 
 abbrev pub found_of : Verdict → Found
-found_of (Told.Same line name) = Same (item_of line) (item_of name)
-found_of (Told.Changed line name) = Changed (item_of line) (item_of name)
-found_of (Told.Moved line name) = Moved (item_of line) (item_of name)
-found_of (Told.Copied first name) = Copied (item_of first) (item_of name)
-found_of (Told.New name) = New (item_of name)
-found_of (Told.Missing line) = Missing (item_of line)
+found_of (TakesOrFails.Same line name) = Same (item_of line) (item_of name)
+found_of (TakesOrFails.Changed line name) = Changed (item_of line) (item_of name)
+found_of (TakesOrFails.Moved line name) = Moved (item_of line) (item_of name)
+found_of (TakesOrFails.Copied first name) = Copied (item_of first) (item_of name)
+found_of (TakesOrFails.New name) = New (item_of name)
+found_of (TakesOrFails.Missing line) = Missing (item_of line)
 
 abbrev pub founds_of : List Verdict → List Found
 founds_of verdicts = map found_of verdicts

@@ -36,13 +36,13 @@ abbrev pub is_dotted : List ℕ → Bool
 is_dotted name = pointwise nat_eq (take 2 name) (codes "./")
 
 -- The name without each `./` at its beginning.
-unfoldable pub bare : List ℕ → List ℕ
-bare [] = []
-bare (c ∷ []) = c ∷ []
-bare (c ∷ d ∷ name) = if is_dotted (c ∷ d ∷ name) then bare name else c ∷ d ∷ name
+unfoldable pub normalize_path : List ℕ → List ℕ
+normalize_path [] = []
+normalize_path (c ∷ []) = c ∷ []
+normalize_path (c ∷ d ∷ name) = if is_dotted (c ∷ d ∷ name) then normalize_path name else c ∷ d ∷ name
 
 abbrev pub path_of : Item → List ℕ
-path_of item = bare (name_of item)
+path_of item = normalize_path (name_of item)
 
 -- ---- items of a list
 

@@ -2,7 +2,7 @@
 use Rattle.std.specs.Prelude.{ℕ, ◌≡◌, ◌+◌, false, List, length, count_by, IsPermutation}
 use Rattle.std.specs.Ordering.{is_lt}
 use Rattle.xxhsum_audit.specs.declared.verdict.Class.TheVariants as Of
-use Rattle.xxhsum_audit.specs.Audit.{IsAudit, IsTwice}
+use Rattle.xxhsum_audit.specs.Audit.{IsAudit, IsDuplicate}
 use Rattle.xxhsum_audit.specs.Found.{Changed, Copied, Found, Missing, Moved, New, Same, is_of_class, lines_in, names_in}
 use Rattle.xxhsum_audit.specs.Item.{HasSameDigest, IsAmong, Item, LacksPath, path_of}
 use Rattle.xxhsum_audit.specs.Order.{rank_lines}
@@ -17,10 +17,10 @@ TellsEachNameOnce =
     (lines names : List Item) (found : List Found) → IsAudit lines names found → IsPermutation names (names_in found)
 
 -- No two lines of an audit share a path, and no two names do.
-abbrev pub HasNoneTwice : Type 0
-HasNoneTwice =
+abbrev pub HasNoDuplicate : Type 0
+HasNoDuplicate =
     (lines names : List Item) (found : List Found) (path : List ℕ) → IsAudit lines names found
-    → (IsTwice lines path → ⊥) × (IsTwice names path → ⊥)
+    → (IsDuplicate lines path → ⊥) × (IsDuplicate names path → ⊥)
 
 -- The line and the name have the same path and the same digest.
 abbrev pub IsKept : Item → Item → Type 0

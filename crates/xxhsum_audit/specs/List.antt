@@ -6,8 +6,8 @@ use Rattle.xxhsum_line.specs.declared.entry.Entry.{Entry}
 use Rattle.xxhsum_audit.specs.Item.{Item, Says, kind_of, name_of, value_of}
 
 -- The item of an entry.
-abbrev pub said_by : Entry → Item
-said_by entry = Says entry.name.items entry.kind entry.value
+abbrev pub entry_item : Entry → Item
+entry_item entry = Says entry.name.items entry.kind entry.value
 
 -- The items of one line: none for a comment, one for an entry.
 abbrev pub SaysOne : Bool → List ℕ → List Item → Type 0

@@ -6,7 +6,7 @@ use Rattle.std.specs.declared.cmp.Ordering.TheVariants.{Less}
 use Rattle.std.specs.Ordering.{nat_cmp, ordering_then, is_eq, is_lt}
 use Rattle.xxh_io.specs.declared.kind.Kind.{Kind}
 use Rattle.xxh_io.specs.declared.kind.Kind.TheVariants.{X32, X64, X3_64, X3_128}
-use Rattle.xxhsum_audit.specs.Item.{IsAmong, Item, bare, kind_of, name_of, value_of}
+use Rattle.xxhsum_audit.specs.Item.{IsAmong, Item, normalize_path, kind_of, name_of, value_of}
 
 -- The position of an algorithm among the algorithms.
 abbrev pub rank_of : Kind → ℕ
@@ -17,7 +17,7 @@ rank_of X3_128 = 3
 
 -- The order of names by path.
 abbrev pub compare_paths : List ℕ → List ℕ → Ordering
-compare_paths a b = slice_cmp nat_cmp (bare a) (bare b)
+compare_paths a b = slice_cmp nat_cmp (normalize_path a) (normalize_path b)
 
 -- The order of names by path, and of names with the same path by all their bytes.
 abbrev pub rank_names : List ℕ → List ℕ → Ordering
@@ -60,6 +60,6 @@ shares_path name [] = false
 shares_path name (next ∷ names) = is_eq (compare_paths name next)
 
 -- The first name with the path of the name after it.
-abbrev pub clash_in : List (List ℕ) → Option (List ℕ)
-clash_in [] = None
-clash_in (name ∷ names) = if shares_path name names then Some name else clash_in names
+abbrev pub find_duplicate : List (List ℕ) → Option (List ℕ)
+find_duplicate [] = None
+find_duplicate (name ∷ names) = if shares_path name names then Some name else find_duplicate names

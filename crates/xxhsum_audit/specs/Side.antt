@@ -35,7 +35,7 @@ by_path lines names = beside compare_to_name lines names
 
 -- Lines whose names are gone and new names, merged by digest.
 abbrev pub by_digest : List Item → List Item → List (Side Item Item)
-by_digest gone come = beside compare_digests gone come
+by_digest removed added = beside compare_digests removed added
 
 -- The number of lines of a side, and the number of its names.
 abbrev pub lines_of : {L N : Type 0} → Side L N → ℕ
@@ -71,4 +71,4 @@ abbrev pub path_sides : List FileDigest → List (Bor (List ℕ)) → List (Side
 path_sides lines names = by_path (items_of lines) (texts_of names)
 
 abbrev pub digest_sides : List FileDigest → List FileDigest → List (Side Item Item)
-digest_sides gone come = by_digest (items_of gone) (items_of come)
+digest_sides removed added = by_digest (items_of removed) (items_of added)

@@ -1,6 +1,6 @@
 //! The laws of audits.
 
-ghost use Rattle.xxhsum_audit.specs.Laws.{CopiesTheFirst, CountsAddUp, HasNoneTwice, IsOneReport, LeavesNoCopy, LeavesNoMove, SameMeansEqual, TellsEachLineOnce, TellsEachNameOnce, TellsRight};
+ghost use Rattle.xxhsum_audit.specs.Laws.{CopiesTheFirst, CountsAddUp, HasNoDuplicate, IsOneReport, LeavesNoCopy, LeavesNoMove, SameMeansEqual, TellsEachLineOnce, TellsEachNameOnce, TellsRight};
 
 /// Lemma (no code), the laws of audits. An audit reports each line of the list once and each name once. No two lines
 /// have one path, and no two names do. Its classes are correct: same and changed are of a line and a name with one
@@ -13,7 +13,7 @@ ghost use Rattle.xxhsum_audit.specs.Laws.{CopiesTheFirst, CountsAddUp, HasNoneTw
 pub fn laws_of_audits()
     ensures lines { TellsEachLineOnce }
     ensures names { TellsEachNameOnce }
-    ensures none_twice { HasNoneTwice }
+    ensures no_duplicate { HasNoDuplicate }
     ensures right { TellsRight }
     ensures no_move { LeavesNoMove }
     ensures no_copy { LeavesNoCopy }

@@ -1,7 +1,7 @@
 //! The entries of a list.
 
 ghost use Rattle.std.specs.Prelude.{map, IfOk};
-ghost use Rattle.xxhsum_audit.specs.List.{TakesLine, said_by};
+ghost use Rattle.xxhsum_audit.specs.List.{TakesLine, entry_item};
 
 use std::alloc::{AllocError, Global};
 use xxhsum_line::entry::{Entry, Meaning, meaning_of};
@@ -14,8 +14,8 @@ pub fn take_line(
     is_little: bool,
     entries: &mut Vec<Entry>,
 ) -> Result<bool, AllocError>
-    ensures { IfOk result (TakesLine is_little line.now (map said_by entries.old.items)
-        (map said_by entries.new.items)) }
+    ensures { IfOk result (TakesLine is_little line.now (map entry_item entries.old.items)
+        (map entry_item entries.new.items)) }
 {
     match meaning_of(alloc, line, is_little)? {
         Meaning::Entry(entry) => {

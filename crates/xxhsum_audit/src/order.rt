@@ -1,8 +1,8 @@
 //! The orders of names and of digests by which lines and names are merged.
 
 ghost use Rattle.std.specs.Prelude.{◌≡◌, IfOk, MatchOption, None, Some};
-ghost use Rattle.xxhsum_audit.specs.Item.{bare, item_of, items_of, names_of, texts_of};
-ghost use Rattle.xxhsum_audit.specs.Order.{IsOrder, clash_in, compare_digests, compare_paths, rank_digests, rank_lines, rank_names, rank_of, shares_path};
+ghost use Rattle.xxhsum_audit.specs.Item.{normalize_path, item_of, items_of, names_of, texts_of};
+ghost use Rattle.xxhsum_audit.specs.Order.{IsOrder, find_duplicate, compare_digests, compare_paths, rank_digests, rank_lines, rank_names, rank_of, shares_path};
 
 use crate::digest::FileDigest;
 use std::alloc::{AllocError, Global};
@@ -22,9 +22,9 @@ fn rank_of(kind: Kind) -> u8
 }
 
 // Returns the name without each `./` at its beginning.
-#[tactic(auto, using(crate::proofs::BareFacts::bare_past, crate::proofs::BareFacts::bare_end))]
-fn bare(name: &[u8]) -> &[u8]
-    ensures { result.now ≡ bare name.now }
+#[tactic(auto, using(crate::proofs::NormalizeFacts::normalized_past, crate::proofs::NormalizeFacts::normalized_end))]
+fn normalize_path(name: &[u8]) -> &[u8]
+    ensures { result.now ≡ normalize_path name.now }
 {
     let mut rest = name;
     while let Some(behind) = rest.strip_prefix(b"./") {
@@ -37,7 +37,7 @@ fn bare(name: &[u8]) -> &[u8]
 pub fn compare_paths(a: &[u8], b: &[u8]) -> Ordering
     ensures { result ≡ compare_paths a.now b.now }
 {
-    bare(a).cmp(bare(b))
+    normalize_path(a).cmp(normalize_path(b))
 }
 
 // Compares two names for sorting: those with one path by all their bytes.
@@ -106,9 +106,9 @@ pub fn names_of<'n>(alloc: Global, digests: &[FileDigest<'n>]) -> Result<Vec<&'n
 }
 
 /// Returns the first name with the path of the next one, if there is one.
-pub fn clash_in<'n>(names: &[&'n [u8]]) -> Option<&'n [u8]>
-    ensures { MatchOption result (clash_in (texts_of names.now) ≡ None)
-        (λ name. clash_in (texts_of names.now) ≡ Some name.now) }
+pub fn find_duplicate<'n>(names: &[&'n [u8]]) -> Option<&'n [u8]>
+    ensures { MatchOption result (find_duplicate (texts_of names.now) ≡ None)
+        (λ name. find_duplicate (texts_of names.now) ≡ Some name.now) }
 {
     for at in 0..names.len() {
         if shares_path(names[at], &names[at + 1..]) {

@@ -4,7 +4,7 @@ ghost use Rattle.std.specs.Prelude.{◌≡◌, false, IfOk, MatchOption};
 ghost use Rattle.xxhsum_audit.specs.Read.{BreaksOff, GivesAll};
 
 use std::alloc::{AllocError, Global};
-use xxh_io::ends::Source;
+use xxh_io::streams::Source;
 
 // Size of the read buffer.
 const OFFERED: usize = 65536;

@@ -5,7 +5,7 @@ ghost use Rattle.xxhsum_fs.specs.Memory.{entries_of, entry_named, is_directory_n
 
 use crate::refusal::{MISSING, Refusal};
 use crate::store::Store;
-use xxh_io::ends::Source;
+use xxh_io::streams::Source;
 
 /// A name and its source.
 #[derive(Clone, Copy)]

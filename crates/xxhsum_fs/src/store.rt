@@ -4,7 +4,7 @@ ghost use Rattle.std.specs.Prelude.{◌≡◌, false, List, ℕ, Bool, Option, I
 ghost use Rattle.xxhsum_fs.specs.declared.refusal.Refusal.{Refusal};
 
 use crate::refusal::Refusal;
-use xxh_io::ends::Source;
+use xxh_io::streams::Source;
 
 /// Files by name. A name is bytes, as for the system, and needn't be UTF-8.
 pub trait Store {

@@ -1,9 +1,9 @@
 -- Proves that printed lines are accepted.
 use Rattle.xxhsum_line.proofs.Prelude.{◌≡◌, ◌≢◌, ℕ, ◌<◌, ◌+◌, ◌*◌, ◌^◌, Bool, true, false, List, [], ◌∷◌, ◌++◌, length, Some, inl, inr, refl, sym, ap, subst, ◌∙◌, arith, length-append, ◌≤◌, nat_lt, drop, ◌&&◌, if◌then◌else◌, and_parts}
 use Rattle.xxhsum_line.proofs.Prelude.{cond-false, ne_eqb, same_from_push, nat_tests, digits_of, Kind, X32, X64, X3_64, X3_128, value_shown, Says, SaysPlain, TextSays, is_comment, value_meant, body_of, escaped, is_escaped, mark_of}
-use Rattle.xxhsum_line.proofs.Prelude.{name_meant, needs_escape, unescaped, Lacks, up_to_nul, without_return, formed, full_tag, line_of, plain_text, prefix_of, shown, tagged_text, text_of, bare, has_prefix, is_little_tag, kind_of_count}
+use Rattle.xxhsum_line.proofs.Prelude.{name_meant, needs_escape, unescaped, Lacks, up_to_nul, without_return, formed, full_tag, line_of, plain_text, prefix_of, shown, tagged_text, text_of, without_prefix, has_prefix, is_little_tag, kind_of_count}
 use Rattle.xxhsum_line.proofs.Prelude.{kind_of_digits, kind_of_tag}
-use Rattle.xxhsum_line.specs.Laws.{PlainTextsStay, PrintedIsAccepted, PrintedIsNoComment, PrintedIsOneLine, ToldIsOneLine}
+use Rattle.xxhsum_line.specs.Laws.{PlainTextsStay, PrintedIsAccepted, PrintedIsNoComment, PrintedIsOneLine, MessageIsOneLine}
 use Rattle.xxhsum_line.specs.declared.printed.Shape.{Shape}
 use Rattle.xxhsum_line.proofs.EscapeFacts.{escape_is_undone, escaped_lacks_line_feed, escaped_length, escaped_lacks_nul, escaped_lacks_return, plain_names_stay}
 use Rattle.xxhsum_line.proofs.LackFacts.{lacks_both, up_to_nul_whole, without_return_whole}
@@ -88,8 +88,8 @@ printed_is_one_line kind shape value name =
     lacks_both 10 (mark_of name) (formed kind shape value (escaped name)) (marked_lacks 10 (needs_escape name) low)
     (lacks_formed 10 kind shape value (escaped name) low (escaped_lacks_line_feed name))
 
-pub told_is_one_line : ToldIsOneLine
-told_is_one_line text =
+pub message_is_one_line : MessageIsOneLine
+message_is_one_line text =
     let low : 10 < 32 = omega arith in
     (mark_of text ++ escaped text, refl, lacks_both 10 (mark_of text) (escaped text) (marked_lacks 10 (needs_escape text) low) (escaped_lacks_line_feed text))
 
@@ -164,13 +164,13 @@ shown_no_prefix kind is_little value =
     let under : 88 < 97 = omega arith in
     no_prefix (shown kind is_little value) (lacks_shown 88 kind is_little value (inr (over, under)))
 
-shown_bare : (kind : Kind) (is_little : Bool) (value : ℕ) → bare kind (shown kind is_little value) ≡ shown kind is_little value
-shown_bare X32 is_little value = refl
-shown_bare X64 is_little value = refl
-shown_bare X3_64 is_little value =
+shown_without_prefix : (kind : Kind) (is_little : Bool) (value : ℕ) → without_prefix kind (shown kind is_little value) ≡ shown kind is_little value
+shown_without_prefix X32 is_little value = refl
+shown_without_prefix X64 is_little value = refl
+shown_without_prefix X3_64 is_little value =
     let digits = shown X3_64 is_little value in
     cond-false (has_prefix digits) (drop 5 digits) digits (shown_no_prefix X3_64 is_little value)
-shown_bare X3_128 is_little value = refl
+shown_without_prefix X3_128 is_little value = refl
 
 -- Lemma: a plain text without a prefix has its entry if the number of digits determines the algorithm.
 counted_says : (kind : Kind) (is_little : Bool) (value : ℕ) (name : List ℕ) → kind_of_count (digits_of kind) ≡ Some kind
@@ -183,7 +183,7 @@ counted_says kind is_little value name is_plain fits =
     cond-false (has_prefix digits) (Some X3_64) (kind_of_count (length digits)) (shown_no_prefix kind is_little value)
     ∙ ap kind_of_count (length-shown kind is_little value) ∙ is_plain in
     let means : value_meant kind is_little digits ≡ Some value =
-    ap (value_shown kind is_little) (shown_bare kind is_little value) ∙ value_shown-shown kind is_little value fits in
+    ap (value_shown kind is_little) (shown_without_prefix kind is_little value) ∙ value_shown-shown kind is_little value fits in
     (digits, (32, refl, lacks_shown 32 kind is_little value (inl below), mark), counted, means)
 
 -- Lemma: a plain text with the prefix of XXH3 64-bit has its entry.
@@ -212,7 +212,7 @@ tagged_says kind is_little value name fits =
     let below : 32 < 48 = omega arith in
     let means : value_meant kind (is_little_tag tag) digits ≡ Some value =
     ap (λ b. value_meant kind b digits) (tag_says kind is_little).2
-    ∙ ap (value_shown kind is_little) (shown_bare kind is_little value) ∙ value_shown-shown kind is_little value fits in
+    ∙ ap (value_shown kind is_little) (shown_without_prefix kind is_little value) ∙ value_shown-shown kind is_little value fits in
     inr (
       tag,
       digits,

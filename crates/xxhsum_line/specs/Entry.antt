@@ -4,11 +4,11 @@ use Rattle.xxh_io.specs.declared.kind.Kind.{Kind}
 use Rattle.xxhsum_line.specs.Digits.{value_shown}
 use Rattle.xxhsum_line.specs.Escapes.{body_of, is_escaped, name_meant}
 use Rattle.xxhsum_line.specs.Parts.{IsPlain, IsTagged, up_to_nul, without_return}
-use Rattle.xxhsum_line.specs.Tags.{bare, kind_of_digits, kind_of_tag, is_little_tag}
+use Rattle.xxhsum_line.specs.Tags.{without_prefix, kind_of_digits, kind_of_tag, is_little_tag}
 
 -- The digest of digits of this algorithm, with or without their prefix.
 abbrev pub value_meant : Kind → Bool → List ℕ → Option ℕ
-value_meant kind is_little digits = value_shown kind is_little (bare kind digits)
+value_meant kind is_little digits = value_shown kind is_little (without_prefix kind digits)
 
 -- The text is a plain line. Its digits determine the algorithm, and the caller chooses their byte order.
 abbrev pub SaysPlain : Bool → List ℕ → Kind → ℕ → List ℕ → Type 0

@@ -24,8 +24,8 @@ abbrev pub IsOneLine : List ℕ → Type 0
 IsOneLine line = (text : List ℕ) × (line ≡ text ++ 10 ∷ []) × Lacks 10 text
 
 -- A text that is reported as one line is one line, whatever names it contains.
-abbrev pub ToldIsOneLine : Type 0
-ToldIsOneLine = (text : List ℕ) → IsOneLine (one_line text)
+abbrev pub MessageIsOneLine : Type 0
+MessageIsOneLine = (text : List ℕ) → IsOneLine (one_line text)
 
 -- A text that needs no escape is reported unchanged, with a newline at its end.
 abbrev pub PlainTextsStay : Type 0

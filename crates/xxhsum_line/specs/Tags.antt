@@ -30,11 +30,11 @@ abbrev pub kind_of_digits : List ℕ → Option Kind
 kind_of_digits digits = if has_prefix digits then Some X3_64 else kind_of_count (length digits)
 
 -- The digits, without the prefix of XXH3 64-bit.
-abbrev pub bare : Kind → List ℕ → List ℕ
-bare X3_64 digits = if has_prefix digits then drop 5 digits else digits
-bare X32 digits = digits
-bare X64 digits = digits
-bare X3_128 digits = digits
+abbrev pub without_prefix : Kind → List ℕ → List ℕ
+without_prefix X3_64 digits = if has_prefix digits then drop 5 digits else digits
+without_prefix X32 digits = digits
+without_prefix X64 digits = digits
+without_prefix X3_128 digits = digits
 
 -- The algorithm of a line with this tag: XXH64 if the tag is unknown.
 abbrev pub kind_of_tag : List ℕ → Kind

@@ -8,7 +8,7 @@ ghost use Rattle.xxhsum_line.specs.Meaning.{FitsKind, Means};
 use crate::digits::value_shown;
 use crate::escapes::{body_of, is_escaped, name_meant};
 use crate::parts::{Parts, parts_of, up_to_nul, without_return};
-use crate::tags::{bare, is_little_tag, kind_of_digits, kind_of_tag};
+use crate::tags::{without_prefix, is_little_tag, kind_of_digits, kind_of_tag};
 use std::alloc::{AllocError, Global};
 use xxh_io::kind::Kind;
 
@@ -100,5 +100,5 @@ fn value_meant(kind: Kind, digits: &[u8], is_little: bool) -> Option<u128>
     ensures value { result ≡ value_meant kind is_little digits.now }
     ensures in_range { IfSome result (λ value. value < 16 ^ digits_of kind) }
 {
-    value_shown(kind, bare(kind, digits), is_little)
+    value_shown(kind, without_prefix(kind, digits), is_little)
 }

@@ -3,7 +3,7 @@
 ghost use Rattle.std.specs.Prelude.{◌≡◌, ◌<◌, ◌^◌, true, IfOk};
 ghost use Rattle.xxh_io.specs.Kind.{digits_of};
 ghost use Rattle.xxhsum_line.specs.Entry.{Says};
-ghost use Rattle.xxhsum_line.specs.Laws.{EscapeIsUndone, NotBothForms, PlainNamesStay, PlainPartsAreOne, PlainTextsStay, PrintedIsAccepted, PrintedIsNoComment, PrintedIsOneLine, SaysOneThing, TaggedPartsAreOne, ToldIsOneLine};
+ghost use Rattle.xxhsum_line.specs.Laws.{EscapeIsUndone, NotBothForms, PlainNamesStay, PlainPartsAreOne, PlainTextsStay, PrintedIsAccepted, PrintedIsNoComment, PrintedIsOneLine, SaysOneThing, TaggedPartsAreOne, MessageIsOneLine};
 ghost use Rattle.xxhsum_line.specs.Parts.{Lacks};
 
 use crate::entry::{Entry, Meaning, meaning_of};
@@ -17,7 +17,7 @@ use xxh_io::kind::Kind;
 pub fn laws_of_lines()
     ensures printed_is_accepted { PrintedIsAccepted }
     ensures printed_is_one_line { PrintedIsOneLine }
-    ensures told_is_one_line { ToldIsOneLine }
+    ensures message_is_one_line { MessageIsOneLine }
     ensures plain_texts_stay { PlainTextsStay }
     ensures printed_is_no_comment { PrintedIsNoComment }
     ensures escape_is_undone { EscapeIsUndone }

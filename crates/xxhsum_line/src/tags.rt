@@ -1,7 +1,7 @@
 //! The tags of lines and their algorithms.
 
 ghost use Rattle.std.specs.Prelude.{◌≡◌};
-ghost use Rattle.xxhsum_line.specs.Tags.{bare, is_little_tag, kind_of_count, kind_of_digits, kind_of_tag, tag_of};
+ghost use Rattle.xxhsum_line.specs.Tags.{without_prefix, is_little_tag, kind_of_count, kind_of_digits, kind_of_tag, tag_of};
 
 use xxh_io::kind::Kind;
 
@@ -18,8 +18,8 @@ pub fn kind_of_digits(digits: &[u8]) -> Option<Kind>
 }
 
 /// Returns the digits without their prefix, which those of XXH3 64-bit may have.
-pub fn bare(kind: Kind, digits: &[u8]) -> &[u8]
-    ensures { result.now ≡ bare kind digits.now }
+pub fn without_prefix(kind: Kind, digits: &[u8]) -> &[u8]
+    ensures { result.now ≡ without_prefix kind digits.now }
 {
     match kind {
         Kind::X3_64 if digits.starts_with(b"XXH3_") => &digits[5..],

@@ -4,7 +4,7 @@ use Rattle.xxh_io.specs.declared.kind.Kind.{Kind}
 use Rattle.xxh_io.specs.declared.kind.Kind.TheVariants.{X32, X64, X3_64, X3_128}
 use Rattle.xxhsum_options.specs.declared.letters.Letter.{Letter}
 use Rattle.xxhsum_options.specs.declared.number.Number.{Number}
-use Rattle.xxhsum_options.specs.declared.options.Asked.TheVariants.{NumberTooLarge}
+use Rattle.xxhsum_options.specs.declared.options.ParsedArgs.TheVariants.{NumberTooLarge}
 use Rattle.xxhsum_options.specs.declared.options.Options.{Options}
 use Rattle.xxhsum_options.specs.declared.options.Step.{Step}
 use Rattle.xxhsum_options.specs.declared.options.Step.TheVariants.{EndsAfter, EndsBefore, IsWrong, Settles, Takes}
@@ -27,7 +27,7 @@ alone (Takes options) = Ok (record { options = options; taken = 0 })
 alone EndsBefore = Err EndsBefore
 alone EndsAfter = Err EndsAfter
 alone IsWrong = Err IsWrong
-alone (Settles asked) = Err (Settles asked)
+alone (Settles parsed) = Err (Settles parsed)
 
 -- The result of `H`: its number selects the algorithm.
 abbrev pub with_kind : Options → ℕ → Option Kind → Result Letter Step

@@ -1,8 +1,8 @@
 -- The meaning of the arguments.
 use Rattle.std.specs.Prelude.{ℕ, ◌+◌, Bool, List, [], ◌∷◌, drop, length, true, false, bytes_eq, nat_le, nat_lt, ◌&&◌, ◌||◌, codes, if◌then◌else◌}
 use Rattle.xxh_io.specs.declared.kind.Kind.{Kind}
-use Rattle.xxhsum_options.specs.declared.options.Asked.{Asked}
-use Rattle.xxhsum_options.specs.declared.options.Asked.TheVariants.{Run, WrongOption, NulsInList, InputBesideNames, WalkBesideLists, WalkOfNothing}
+use Rattle.xxhsum_options.specs.declared.options.ParsedArgs.{ParsedArgs}
+use Rattle.xxhsum_options.specs.declared.options.ParsedArgs.TheVariants.{Run, WrongOption, NulsInList, InputBesideNames, WalkBesideLists, WalkOfNothing}
 use Rattle.xxhsum_options.specs.declared.options.NamesFrom.{NamesFrom}
 use Rattle.xxhsum_options.specs.declared.options.NamesFrom.TheVariants.{Words, Lines, Nuls}
 use Rattle.xxhsum_options.specs.declared.options.Options.{Options}
@@ -66,7 +66,7 @@ leaves_input options names =
 
 -- The run with these options. Its names are the arguments from index `at` on. `-z` is refused with `-c` or `--audit`.
 -- `-r` is refused with `-c`, with lists of names, or without a name. `-` is refused with names.
-abbrev pub run_from : Options → ℕ → List (List ℕ) → Asked
+abbrev pub run_from : Options → ℕ → List (List ℕ) → ParsedArgs
 run_from options at names =
     if options.ends_in_nul && (options.checks || options.audits) then NulsInList
     else if options.walks && (options.checks || are_listed options.names_from) then WalkBesideLists
@@ -75,19 +75,19 @@ run_from options at names =
     else Run options at
 
 -- The result of an argument, and of the arguments after it. An argument that is not an option ends the options.
-abbrev pub after_word : Step → ℕ → Options → List ℕ → List (List ℕ) → (Options → Asked) → Asked
+abbrev pub after_word : Step → ℕ → Options → List ℕ → List (List ℕ) → (Options → ParsedArgs) → ParsedArgs
 after_word (Takes next) at options word words go_on = go_on next
 after_word EndsBefore at options word words go_on = run_from options at (word ∷ words)
 after_word EndsAfter at options word words go_on = run_from options (at + 1) words
 after_word IsWrong at options word words go_on = WrongOption at
-after_word (Settles asked) at options word words go_on = asked
+after_word (Settles parsed) at options word words go_on = parsed
 
 -- The meaning of these arguments. The first `at` arguments resulted in these options.
-abbrev pub asked_after : ℕ → Options → List (List ℕ) → Asked
-asked_after at options [] = run_from options at []
-asked_after at options (word ∷ words) =
-    after_word (word_step options word) at options word words (λ next. asked_after (at + 1) next words)
+abbrev pub parsed_after : ℕ → Options → List (List ℕ) → ParsedArgs
+parsed_after at options [] = run_from options at []
+parsed_after at options (word ∷ words) =
+    after_word (word_step options word) at options word words (λ next. parsed_after (at + 1) next words)
 
 -- The meaning of the arguments after the program's name.
-abbrev pub asked_of : Kind → List (List ℕ) → Asked
-asked_of kind words = asked_after 0 (no_options kind) words
+abbrev pub parsed_args : Kind → List (List ℕ) → ParsedArgs
+parsed_args kind words = parsed_after 0 (no_options kind) words

@@ -4,7 +4,7 @@ ghost use Rattle.std.specs.Prelude.{◌≡◌, ◌≤◌, length, IfOk};
 ghost use Rattle.xxhsum_options.specs.Letters.{alone, kind_step, letter_of, letters_step, numbered_kind, skipped_number};
 
 use crate::number::number_at;
-use crate::options::{Asked, Options, Step};
+use crate::options::{ParsedArgs, Options, Step};
 use crate::table::{NO_LETTER, letter_step};
 use xxh_io::kind::Kind;
 
@@ -62,7 +62,7 @@ fn kind_letter(after: &[u8], options: Options) -> Result<Letter, Step>
     ensures letter { result ≡ kind_step options after.now }
     ensures within { IfOk result (λ read. read.taken ≤ length after.now) }
 {
-    let number = number_at(after).ok_or(Step::Settles(Asked::NumberTooLarge))?;
+    let number = number_at(after).ok_or(Step::Settles(ParsedArgs::NumberTooLarge))?;
     let kind = numbered_kind(number.value).ok_or(Step::IsWrong)?;
     Ok(Letter {
         options: Options { kind, ..options },
@@ -75,7 +75,7 @@ fn skipped_letter(after: &[u8], options: Options) -> Result<Letter, Step>
     ensures letter { result ≡ skipped_number options after.now }
     ensures within { IfOk result (λ read. read.taken ≤ length after.now) }
 {
-    let number = number_at(after).ok_or(Step::Settles(Asked::NumberTooLarge))?;
+    let number = number_at(after).ok_or(Step::Settles(ParsedArgs::NumberTooLarge))?;
     Ok(Letter {
         options,
         taken: number.letters,

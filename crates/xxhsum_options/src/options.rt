@@ -1,7 +1,7 @@
 //! The arguments of the command line.
 
 ghost use Rattle.std.specs.Prelude.{◌≡◌, drop, map};
-ghost use Rattle.xxhsum_options.specs.Options.{asked_of, have_input, leaves_input, lists_audited, lists_before, run_from, word_step};
+ghost use Rattle.xxhsum_options.specs.Options.{parsed_args, have_input, leaves_input, lists_audited, lists_before, run_from, word_step};
 
 use crate::letters::letters;
 use crate::table::name_step;
@@ -67,7 +67,7 @@ pub struct Options {
 
 /// The meaning of the arguments.
 #[derive(Clone, Copy, Debug, PartialEq, Eq)]
-pub enum Asked {
+pub enum ParsedArgs {
     /// Digests of the named files, or a comparison. The names are the arguments from this index on.
     Run { options: Options, names_from: usize },
     /// A benchmark, by `-b` or `--bench-all`.
@@ -102,13 +102,13 @@ pub(crate) enum Step {
     /// It looks like an option, and is not one.
     IsWrong,
     /// It determines the result, whatever follows.
-    Settles(Asked),
+    Settles(ParsedArgs),
 }
 
 /// Parses the arguments after the program's name. The algorithm is this one if they select none.
 #[tactic(auto, using(crate::proofs::ListFacts::places))]
-pub fn asked_by(kind: Kind, words: &[Vec<u8>]) -> Asked
-    ensures { result ≡ asked_of kind (map (λ word. word.items) words.now) }
+pub fn parse_args(kind: Kind, words: &[Vec<u8>]) -> ParsedArgs
+    ensures { result ≡ parsed_args kind (map (λ word. word.items) words.now) }
 {
     let mut options = Options {
         kind,
@@ -131,8 +131,8 @@ pub fn asked_by(kind: Kind, words: &[Vec<u8>]) -> Asked
             Step::Takes(next) => options = next,
             Step::EndsBefore => return run_from(options, at, words),
             Step::EndsAfter => return run_from(options, at + 1, words),
-            Step::IsWrong => return Asked::WrongOption { at },
-            Step::Settles(asked) => return asked,
+            Step::IsWrong => return ParsedArgs::WrongOption { at },
+            Step::Settles(parsed) => return parsed,
         }
     }
     run_from(options, words.len(), words)
@@ -140,23 +140,23 @@ pub fn asked_by(kind: Kind, words: &[Vec<u8>]) -> Asked
 
 // Returns the run by these options, of the names from this index on. Refuses a NUL ending if no digests are printed, a
 // walk without a directory name, and standard input that would stay unread.
-fn run_from(options: Options, names_from: usize, words: &[Vec<u8>]) -> Asked
+fn run_from(options: Options, names_from: usize, words: &[Vec<u8>]) -> ParsedArgs
     ensures { result ≡ run_from options names_from
         (drop names_from (map (λ word. word.items) words.now)) }
 {
     if options.ends_in_nul && (options.checks || options.audits) {
-        return Asked::NulsInList;
+        return ParsedArgs::NulsInList;
     }
     if options.walks && (options.checks || options.names_from.are_listed()) {
-        return Asked::WalkBesideLists;
+        return ParsedArgs::WalkBesideLists;
     }
     if options.walks && words_behind(words, names_from).len() <= lists_audited(options) {
-        return Asked::WalkOfNothing;
+        return ParsedArgs::WalkOfNothing;
     }
     if leaves_input(options, words_behind(words, names_from)) {
-        return Asked::InputBesideNames;
+        return ParsedArgs::InputBesideNames;
     }
-    Asked::Run {
+    ParsedArgs::Run {
         options,
         names_from,
     }

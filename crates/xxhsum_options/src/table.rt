@@ -1,13 +1,13 @@
 //! The options, each in one row: its letter, its name, its effect, and its text in the help.
 
 ghost use Rattle.std.specs.Prelude.{◌≡◌, map};
-ghost use Rattle.xxhsum_options.specs.Table.{does_step, of_letter, of_name, seen};
+ghost use Rattle.xxhsum_options.specs.Table.{action_step, of_letter, of_name, seen};
 
-use crate::options::{Asked, NamesFrom, Options, Step};
+use crate::options::{ParsedArgs, NamesFrom, Options, Step};
 
 /// The effect of an option.
 #[derive(Clone, Copy, Debug, PartialEq, Eq)]
-pub enum Does {
+pub enum Action {
     /// The names are lists, which are checked.
     Checks,
     /// The first name is a checksum list, with which the other files are compared.
@@ -37,7 +37,7 @@ pub enum Does {
     /// The arguments after it are names.
     EndsOptions,
     /// It determines the result, whatever follows.
-    Asks(Asked),
+    Returns(ParsedArgs),
 }
 
 /// The letter of an option without one.
@@ -45,106 +45,106 @@ pub const NO_LETTER: u8 = b'-';
 
 /// All options except those whose letter takes a number: the letter after `-`, the name after `--`, its effect, and its
 /// text in the help, which is empty if the help has no line for it.
-pub const ROWS: [(u8, &str, Does, &str); 19] = [
+pub const ROWS: [(u8, &str, Action, &str); 19] = [
     (
         b'c',
         "check",
-        Does::Checks,
+        Action::Checks,
         "         read checksums from the FILEs and check them",
     ),
     (
         b'-',
         "audit",
-        Does::Audits,
+        Action::Audits,
         "             compare the FILEs with the first one, a checksum list",
     ),
     (
         b'r',
         "recursive",
-        Does::Walks,
+        Action::Walks,
         "     read the files below each directory, sorted by name;\n                      not with -c or lists of names",
     ),
     (
         b'-',
         "files-from",
-        Does::Lists(NamesFrom::Lines),
+        Action::Lists(NamesFrom::Lines),
         ", --filelist\n                      read the names of files from the FILEs, one name per line",
     ),
-    (b'-', "filelist", Does::Lists(NamesFrom::Lines), ""),
+    (b'-', "filelist", Action::Lists(NamesFrom::Lines), ""),
     (
         b'-',
         "files0-from",
-        Does::Lists(NamesFrom::Nuls),
+        Action::Lists(NamesFrom::Nuls),
         "       the same, with a NUL after each name",
     ),
     (
         b'-',
         "tag",
-        Does::Tags,
+        Action::Tags,
         "               print BSD-style checksum lines",
     ),
     (
         b'-',
         "little-endian",
-        Does::TurnsRound,
+        Action::TurnsRound,
         "     print digests with the least significant byte first",
     ),
     (
         b'z',
         "zero",
-        Does::EndsInNul,
+        Action::EndsInNul,
         "          end each line with NUL, and disable escaping; not with -c or --audit",
     ),
     (
         b'-',
         "binary",
-        Does::Nothing,
+        Action::Nothing,
         "            ignored: files are read as they are",
     ),
     (
         b'q',
         "quiet",
-        Does::Quiets,
+        Action::Quiets,
         "         no progress; with -c: don't print OK for each successfully verified file",
     ),
     (
         b'-',
         "status",
-        Does::Silences,
+        Action::Silences,
         "            no progress; with -c: don't print anything, the exit status shows success",
     ),
     (
         b'-',
         "ignore-missing",
-        Does::IgnoresMissing,
+        Action::IgnoresMissing,
         "    with -c: don't fail or report status for missing files",
     ),
     (
         b'-',
         "strict",
-        Does::IsStrict,
+        Action::IsStrict,
         "            with -c: exit non-zero for improperly formatted checksum lines",
     ),
     (
         b'w',
         "warn",
-        Does::Warns,
+        Action::Warns,
         "          with -c: warn about improperly formatted checksum lines",
     ),
     (
         b'h',
         "help",
-        Does::Asks(Asked::Help),
+        Action::Returns(ParsedArgs::Help),
         "          print this help",
     ),
     (
         b'V',
         "version",
-        Does::Asks(Asked::Version),
+        Action::Returns(ParsedArgs::Version),
         "       print the version",
     ),
-    (b'-', "", Does::EndsOptions, ""),
-    (b'b', "bench-all", Does::Asks(Asked::Benchmark), ""),
+    (b'-', "", Action::EndsOptions, ""),
+    (b'b', "bench-all", Action::Returns(ParsedArgs::Benchmark), ""),
 ];
 
 // Applies `--` and this name to these options.
@@ -155,13 +155,13 @@ pub(crate) fn name_step(name: &[u8], options: Options) -> Step
 }
 
 // Applies the first of these rows with this name.
-fn name_in(rows: &[(u8, &str, Does, &str)], name: &[u8], options: Options) -> Step
+fn name_in(rows: &[(u8, &str, Action, &str)], name: &[u8], options: Options) -> Step
     ensures { result ≡ of_name (map seen rows.now) options name.now }
 {
     match rows.split_first() {
         Some((row, rest)) => {
             if name == row.1.as_bytes() {
-                return does_step(row.2, options);
+                return action_step(row.2, options);
             }
             name_in(rest, name, options)
         }
@@ -177,13 +177,13 @@ pub(crate) fn letter_step(letter: u8, options: Options) -> Step
 }
 
 // Applies the first of these rows with this letter.
-fn letter_in(rows: &[(u8, &str, Does, &str)], letter: u8, options: Options) -> Step
+fn letter_in(rows: &[(u8, &str, Action, &str)], letter: u8, options: Options) -> Step
     ensures { result ≡ of_letter (map seen rows.now) options letter }
 {
     match rows.split_first() {
         Some((row, rest)) => {
             if letter == row.0 {
-                return does_step(row.2, options);
+                return action_step(row.2, options);
             }
             letter_in(rest, letter, options)
         }
@@ -192,25 +192,25 @@ fn letter_in(rows: &[(u8, &str, Does, &str)], letter: u8, options: Options) -> S
 }
 
 // Applies an option to these options.
-fn does_step(does: Does, mut options: Options) -> Step
-    ensures { result ≡ does_step does options }
+fn action_step(action: Action, mut options: Options) -> Step
+    ensures { result ≡ action_step action options }
 {
-    match does {
-        Does::Checks => options.checks = true,
-        Does::Audits => options.audits = true,
-        Does::Walks => options.walks = true,
-        Does::Lists(from) => options.names_from = from,
-        Does::Tags => options.is_tagged = true,
-        Does::TurnsRound => options.is_little_endian = true,
-        Does::EndsInNul => options.ends_in_nul = true,
-        Does::Nothing => {}
-        Does::Quiets => options.is_quiet = true,
-        Does::Silences => options.is_status_only = true,
-        Does::IgnoresMissing => options.ignores_missing = true,
-        Does::IsStrict => options.is_strict = true,
-        Does::Warns => options.warns = true,
-        Does::EndsOptions => return Step::EndsAfter,
-        Does::Asks(asked) => return Step::Settles(asked),
+    match action {
+        Action::Checks => options.checks = true,
+        Action::Audits => options.audits = true,
+        Action::Walks => options.walks = true,
+        Action::Lists(from) => options.names_from = from,
+        Action::Tags => options.is_tagged = true,
+        Action::TurnsRound => options.is_little_endian = true,
+        Action::EndsInNul => options.ends_in_nul = true,
+        Action::Nothing => {}
+        Action::Quiets => options.is_quiet = true,
+        Action::Silences => options.is_status_only = true,
+        Action::IgnoresMissing => options.ignores_missing = true,
+        Action::IsStrict => options.is_strict = true,
+        Action::Warns => options.warns = true,
+        Action::EndsOptions => return Step::EndsAfter,
+        Action::Returns(parsed) => return Step::Settles(parsed),
     }
     Step::Takes(options)
 }

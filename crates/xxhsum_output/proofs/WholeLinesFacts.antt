@@ -1,7 +1,7 @@
 -- Lemmas on buffered lines and on the bytes of them that the inner sink has taken.
 use Rattle.std.proofs.Common.{◌≡◌, ℕ, ◌<◌, false, List, [], ◌∷◌, ◌++◌, length, refl, sym, ap, subst, ◌∙◌, inl, inr, append-nil, append_assoc, Ok, Err, IfOk, OnErr, is_err, Result}
 use Rattle.std.specs.List.{concat}
-use Rattle.xxh_io.specs.declared.ends.Failed.{Failed}
+use Rattle.xxh_io.specs.declared.streams.Failed.{Failed}
 use Rattle.xxh_io.specs.Digest.{Refused, Took}
 use Rattle.xxh_io.specs.Waiting.{Gathers}
 use Rattle.xxh_io.specs.Pieces.{Pieces}

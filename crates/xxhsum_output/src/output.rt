@@ -4,7 +4,7 @@ ghost use Rattle.std.specs.Prelude.{◌≡◌, [], false, List, ℕ, Bool};
 ghost use Rattle.std.specs.List.{concat};
 ghost use Rattle.xxh_io.specs.Pieces.{Pieces};
 
-use xxh_io::ends::Sink;
+use xxh_io::streams::Sink;
 use xxh_io::script_sink::ScriptSink;
 
 /// A sink that may hold bytes for a while, to write many at once.

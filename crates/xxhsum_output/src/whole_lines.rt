@@ -4,7 +4,7 @@ ghost use Rattle.std.specs.Prelude.{◌≡◌, ◌≤◌, [], false, List, ℕ, 
 ghost use Rattle.xxh_io.specs.Digest.{Refused, Took};
 
 use crate::output::Output;
-use xxh_io::ends::{Failed, Sink};
+use xxh_io::streams::{Failed, Sink};
 use xxh_io::waiting::Waiting;
 
 /// Maximum number of buffered bytes.

@@ -65,9 +65,9 @@ ends-well reading source old new lines (done, read, inr so_far) next =
 
 pub breaks-endless : {R X : Type 0} (reading : SourceRules R) (source : R) (old new : Lines R X) (lines : List (List ℕ)) → Stands reading source old lines → ((from : R) (done : List ℕ) → HasRead reading from done old → IsNext reading from done new Variant.Endless) → (IsAtEnd old → Variant.Endless ≡ Variant.End) → EndsAs reading source lines Endless
 breaks-endless reading source old new lines (done, read, inl so_far) next ended =
-    let (gone, state, endless) = next source done read in
-    let rest = gone ++ waiting new in
-    let text : concat state.0 ≡ with_line_feeds lines ++ rest = state.3 ∙ append_assoc done gone (waiting new) ∙ ap (λ (d : List ℕ). d ++ rest) so_far.1 in
+    let (removed, state, endless) = next source done read in
+    let rest = removed ++ waiting new in
+    let text : concat state.0 ≡ with_line_feeds lines ++ rest = state.3 ∙ append_assoc done removed (waiting new) ∙ ap (λ (d : List ℕ). d ++ rest) so_far.1 in
     (new.has_ended, rest, (state.0, source_of new.source, state.1, state.2, inl (so_far.0, text)), endless)
 breaks-endless reading source old new lines (done, read, inr so_far) next ended =
     let never = ended so_far.0 in cc

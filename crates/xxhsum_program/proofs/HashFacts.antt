@@ -1,6 +1,6 @@
 -- Lemmas on a hashing run, at a name and where it stops.
 use Rattle.std.proofs.Common.{◌≡◌, ℕ, Bool, false, List, [], ◌∷◌, ◌++◌, refl, sym, ap, ◌∙◌, subst, append-nil, append_assoc, Ok, Err, Result, IsErrAnd}
-use Rattle.xxhsum_program.specs.Prelude.{Digested, EachHas, IsDirectory, Kind, OutOfMemory, Outcome, SinkRules, Stop, Style, TellsLines, TellsOn, Took, Unread, WriteFailed}
+use Rattle.xxhsum_program.specs.Prelude.{Digested, EachHas, IsDirectory, Kind, OutOfMemory, Outcome, SinkRules, Stop, Style, EprintsLines, Eprints, Took, Unread, WriteFailed}
 use Rattle.xxhsum_program.proofs.Prelude.{EmitsAll, EmitsOrNone, EmitsTo, EndsWith, IsWritten, PrintsLine, StreamRules, Streams, input_events, is_digested, lines_of, name_events, name_messages, streams_of, styled_line}
 use Rattle.xxhsum_program.proofs.OrderFacts.{emits-append, emits-join}
 use Rattle.xxhsum_program.proofs.EachFacts.{EachHas-push}
@@ -10,14 +10,14 @@ pub is-err : {T : Type 0} (result : Result T Stop) (stop : Stop) → IsErrAnd re
 is-err (Ok x) stop is = absurd is
 is-err (Err e) stop is = ap Err is
 
-one-told : {E : Type 0} (telling : SinkRules E) (bytes : List ℕ) (old new : E) → TellsOn telling (bytes ++ []) old new → TellsOn telling bytes old new
-one-told telling bytes old new = subst (λ b. TellsOn telling b old new) (append-nil bytes)
+one-message : {E : Type 0} (reporting : SinkRules E) (bytes : List ℕ) (old new : E) → Eprints reporting (bytes ++ []) old new → Eprints reporting bytes old new
+one-message reporting bytes old new = subst (λ b. Eprints reporting b old new) (append-nil bytes)
 
 -- Lemma: a name without a value has its message, after the output.
-pub emits_message : {W E : Type 0} (rules : StreamRules W E) (kind : Kind) (style : Style) (name : List ℕ) (outcome : Outcome) (old new : Streams W E) → is_digested outcome ≡ false → Took rules.writing [] old.out new.out × IsWritten rules.held rules.has_lost new.out × TellsLines rules.telling (name_messages name outcome) old.err new.err → EmitsAll rules (name_events kind style name outcome) old new
+pub emits_message : {W E : Type 0} (rules : StreamRules W E) (kind : Kind) (style : Style) (name : List ℕ) (outcome : Outcome) (old new : Streams W E) → is_digested outcome ≡ false → Took rules.writing [] old.out new.out × IsWritten rules.held rules.has_lost new.out × EprintsLines rules.reporting (name_messages name outcome) old.err new.err → EmitsAll rules (name_events kind style name outcome) old new
 emits_message rules kind style name (Digested value) old new none emits = cc
-emits_message rules kind style name IsDirectory old new none (took, written, tells) = (new, (took, written, one-told rules.telling _ old.err new.err tells), (refl, refl))
-emits_message rules kind style name (Unread reason) old new none (took, written, tells) = (new, (took, written, one-told rules.telling _ old.err new.err tells), (refl, refl))
+emits_message rules kind style name IsDirectory old new none (took, written, reports) = (new, (took, written, one-message rules.reporting _ old.err new.err reports), (refl, refl))
+emits_message rules kind style name (Unread reason) old new none (took, written, reports) = (new, (took, written, one-message rules.reporting _ old.err new.err reports), (refl, refl))
 
 -- Lemma: a run stops at a name whose line can't be written.
 pub names-stop : {W E : Type 0} (rules : StreamRules W E) (comes : List ℕ → Outcome → Type 0) (kind : Kind) (style : Style) (all names after : List (List ℕ)) (outcomes : List Outcome) (name : List ℕ) (outcome : Outcome) (old mid new : Streams W E) (stop : Stop)

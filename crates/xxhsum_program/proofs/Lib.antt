@@ -11,7 +11,7 @@ mod Prelude
 mod PrintedIsGoodFacts
 mod PrintedListFacts
 mod ProgressFacts
-mod SaidFacts
+mod ListMessageFacts
 mod StopFacts
-pub mod ToldFacts
-pub mod WatchedFacts
+pub mod EprintFacts
+pub mod ProgressReaderFacts

@@ -2,7 +2,7 @@
 use Rattle.std.proofs.Common.{◌≡◌, ◌≢◌, ℕ, ◌<◌, List, [], ◌∷◌, ◌++◌, Bool, true, false, Ok, Err, IfErr, codes, nat_eq, ◌||◌, refl, sym, subst, if◌then◌else◌, arith, append-nil, ap, ◌∙◌, Result}
 use Rattle.xxhsum_program.specs.Prelude.{Options, OutOfMemory, Report, SinkRules, Stop, Took, WriteFailed, concat}
 use Rattle.xxhsum_program.proofs.Prelude.{Emits, EmitsTo, Event, FailedRead, Printed, PrintsLine, Refused-join, Refused-more, Reported, StreamRules, Streams, Took-join, is_unverified, streams_of}
-use Rattle.xxhsum_program.specs.Said.{break_events, count_text, no_line_text, printed_summary, summary_events, summary_text, told_of_line, unverified_line, unverified_text}
+use Rattle.xxhsum_program.specs.ListMessages.{break_events, count_text, no_line_text, printed_summary, summary_events, summary_text, line_message, unverified_line, unverified_text}
 use Rattle.xxhsum_program.proofs.OrderFacts.{emits-join, emits-line}
 
 -- Lemma: a line is refused if its first part is refused.
@@ -36,9 +36,9 @@ summary-is options report some speaks =
 pub no-break : (list : List ℕ) (number : ℕ) (report : Report) → report.proper ≡ 0 → break_events list number report FailedRead ≡ []
 no-break list number report none = rw none refl
 
-pub break-is : (list : List ℕ) (number : ℕ) (report : Report) → 0 < report.proper → break_events list number report FailedRead ≡ Reported (told_of_line list number (codes "A failure occurred reading the list")) ∷ []
+pub break-is : (list : List ℕ) (number : ℕ) (report : Report) → 0 < report.proper → break_events list number report FailedRead ≡ Reported (line_message list number (codes "A failure occurred reading the list")) ∷ []
 break-is list number report some =
-    else-of report.proper (Reported (told_of_line list number (codes "A failure occurred reading the list")) ∷ []) (λ is. omega (arith, some, is))
+    else-of report.proper (Reported (line_message list number (codes "A failure occurred reading the list")) ∷ []) (λ is. omega (arith, some, is))
 
 -- Lemma: a list without a well-formed line is reported, and then its summary is printed.
 pub summary-reported : {W E T : Type 0} (rules : StreamRules W E) (options : Options) (list : List ℕ) (report : Report) (old met : Streams W E) (out : W) (result : Result T Stop)

@@ -141,9 +141,9 @@ not-at-end lines inside some at_end =
 -- An unfinished line after `done`, of over 32,767 dropped or buffered bytes. Each of `reads` returned some, or the end.
 abbrev pub IsInside : {R X : Type 0} → SourceRules R → R → List ℕ → ℕ → Lines R X → Type 0
 IsInside reading from done reads lines =
-    (gone : List ℕ) × HasRead reading from (done ++ gone) lines × Lacks 10 (gone ++ waiting lines)
-    × (longest_line < length (gone ++ waiting lines))
-    × (reads ≤ length (gone ++ waiting lines) + (if lines.has_ended then 1 else 0))
+    (removed : List ℕ) × HasRead reading from (done ++ removed) lines × Lacks 10 (removed ++ waiting lines)
+    × (longest_line < length (removed ++ waiting lines))
+    × (reads ≤ length (removed ++ waiting lines) + (if lines.has_ended then 1 else 0))
 
 pub inside-new : {R X : Type 0} (reading : SourceRules R) (from : R) (done : List ℕ) (lines : Lines R X) → lines.end ≤ length lines.buf → longest_line < lines.end - lines.start → Lacks 10 (waiting lines) → HasRead reading from done lines → IsInside reading from done 0 lines
 inside-new reading from done lines inside long lacks read =
@@ -153,41 +153,41 @@ inside-new reading from done lines inside long lacks read =
 -- A line after `done` that is too long and whose bytes were all dropped.
 abbrev pub IsEmptied : {R X : Type 0} → SourceRules R → R → List ℕ → ℕ → Lines R X → Type 0
 IsEmptied reading from done reads lines =
-    (gone : List ℕ) × HasRead reading from (done ++ gone) lines × Lacks 10 gone × (longest_line < length gone)
-    × (reads ≤ length gone + (if lines.has_ended then 1 else 0))
+    (removed : List ℕ) × HasRead reading from (done ++ removed) lines × Lacks 10 removed × (longest_line < length removed)
+    × (reads ≤ length removed + (if lines.has_ended then 1 else 0))
 
 pub none-waits : {R X : Type 0} (old new : Lines R X) → old.start ≤ old.end → old.end ≤ length old.buf → IsTaken 0 (old.end - old.start) true old new → waiting new ≡ []
 none-waits old new ordered inside taken =
     nil_from_length (waiting new) (ap length taken.3 ∙ length-between old.buf (old.start + (old.end - old.start)) old.end inside ∙ omega (arith, ordered))
 
 pub emptied : {R X : Type 0} (reading : SourceRules R) (from : R) (done : List ℕ) (reads : ℕ) (old new : Lines R X) → old.start ≤ old.end → old.end ≤ length old.buf → IsTaken 0 (old.end - old.start) true old new → IsInside reading from done reads old → IsEmptied reading from done reads new
-emptied reading from done reads old new ordered inside taken (gone, read, lacks, long, most) =
+emptied reading from done reads old new ordered inside taken (removed, read, lacks, long, most) =
     let none = none-waits old new ordered inside taken in
     let parts : waiting old ≡ waiting old ++ waiting new = sym (append-nil (waiting old)) ∙ ap (λ bytes. waiting old ++ bytes) (sym none) in
-    let all = subst (λ bytes. HasRead reading from bytes new) (append_assoc done gone (waiting old)) (moves-on reading from (done ++ gone) (waiting old) old new read taken.1 taken.2 parts) in
-    (gone ++ waiting old, all, lacks, long, rw taken.2 most)
+    let all = subst (λ bytes. HasRead reading from bytes new) (append_assoc done removed (waiting old)) (moves-on reading from (done ++ removed) (waiting old) old new read taken.1 taken.2 parts) in
+    (removed ++ waiting old, all, lacks, long, rw taken.2 most)
 
 -- Lemma: the line is complete if it is the last one.
 pub inside-ends : {R X : Type 0} (reading : SourceRules R) (from : R) (done : List ℕ) (reads : ℕ) (lines : Lines R X) → lines.is_long ≡ true → lines.has_ended ≡ true → waiting lines ≡ [] → IsEmptied reading from done reads lines → IsNext reading from done lines Variant.Line
-inside-ends reading from done reads lines is_long ended none (gone, read, lacks, long, most) =
-    let held : IsHeld gone lines = rw is_long long in
-    (gone, lacks, held, inr (omega (arith, long), read, (ended, none)))
+inside-ends reading from done reads lines is_long ended none (removed, read, lacks, long, most) =
+    let held : IsHeld removed lines = rw is_long long in
+    (removed, lacks, held, inr (omega (arith, long), read, (ended, none)))
 
 -- Lemma: the next result is an error if a read fails in the line.
 pub inside-fails : {R X : Type 0} (reading : SourceRules R) (from : R) (done : List ℕ) (reads : ℕ) (e : Failed) (old new : Lines R X) → IsEmptied reading from done reads old → ((from : R) (done : List ℕ) → HasRead reading from done old → ReadsBehind {T = Unit {0}} reading from done new (Err e)) → IsNext reading from done new Variant.Failed
-inside-fails reading from done reads e old new (gone, read, lacks, long, most) behind =
-    let failed = behind from (done ++ gone) read in
-    (gone ++ waiting new, subst (λ bytes. FailsAfter reading from bytes) (append_assoc done gone (waiting new)) failed.0, lacks_both 10 gone (waiting new) lacks failed.1)
+inside-fails reading from done reads e old new (removed, read, lacks, long, most) behind =
+    let failed = behind from (done ++ removed) read in
+    (removed ++ waiting new, subst (λ bytes. FailsAfter reading from bytes) (append_assoc done removed (waiting new)) failed.0, lacks_both 10 removed (waiting new) lacks failed.1)
 
 -- Lemma: the line is complete after a read that returns its newline.
 pub inside-found : {R X : Type 0} (reading : SourceRules R) (from : R) (done : List ℕ) (reads len : ℕ) (old mid new : Lines R X) → IsEmptied reading from done reads old → ((from : R) (done : List ℕ) → HasRead reading from done old → HasRead reading from done mid) → StopsAt (Some len) mid → IsTaken 0 (len + 1) true mid new → IsNext reading from done new Variant.Line
-inside-found reading from done reads len old mid new (gone, read, lacks, long, most) behind stops taken =
+inside-found reading from done reads len old mid new (removed, read, lacks, long, most) behind stops taken =
     let front = front_of mid len in
-    let line = gone ++ front in
-    let size : length (gone ++ front) ≡ length gone + length front = length-append gone front in
+    let line = removed ++ front in
+    let size : length (removed ++ front) ≡ length removed + length front = length-append removed front in
     let held : IsHeld line new = rw taken.4 (omega (arith, size, long)) in
-    let all = line-taken reading from (done ++ gone) mid new len 0 true stops taken (behind from (done ++ gone) read) in
-    (line, lacks_both 10 gone front lacks stops.1, held, inl (subst (λ bytes. HasRead reading from (bytes ++ 10 ∷ []) new) (append_assoc done gone front) all))
+    let all = line-taken reading from (done ++ removed) mid new len 0 true stops taken (behind from (done ++ removed) read) in
+    (line, lacks_both 10 removed front lacks stops.1, held, inl (subst (λ bytes. HasRead reading from (bytes ++ 10 ∷ []) new) (append_assoc done removed front) all))
 
 one-more : (ended : Bool) (count : ℕ) → (if ended then 0 else 1) + (65536 - count) < 65537 → 1 ≤ count + (if ended then 1 else 0)
 one-more true count less = omega arith
@@ -195,13 +195,13 @@ one-more false count less = omega (arith, less)
 
 -- Lemma: the line is not complete after a read that returns no newline.
 pub inside-goes-on : {R X : Type 0} (reading : SourceRules R) (from : R) (done : List ℕ) (reads : ℕ) (old new : Lines R X) → old.has_ended ≡ false → old.end - old.start ≡ 0 → new.end ≤ length new.buf → IsEmptied reading from done reads old → ((from : R) (done : List ℕ) → HasRead reading from done old → HasRead reading from done new) → most_reads_left new < most_reads_left old → Lacks 10 (waiting new) → IsInside reading from done (reads + 1) new
-inside-goes-on reading from done reads old new going none inside (gone, read, lacks, long, most) behind fewer lacks_new =
-    let so_far : reads ≤ length gone + 0 = rw going at most in
+inside-goes-on reading from done reads old new going none inside (removed, read, lacks, long, most) behind fewer lacks_new =
+    let so_far : reads ≤ length removed + 0 = rw going at most in
     let left : most_reads_left old ≡ 65537 = rw (going, none) refl in
     let size = waiting-count new inside in
     let more : 1 ≤ new.end - new.start + (if new.has_ended then 1 else 0) = one-more new.has_ended (new.end - new.start) (rw left at fewer) in
-    let parts : length (gone ++ waiting new) ≡ length gone + length (waiting new) = length-append gone (waiting new) in
-    (gone, behind from (done ++ gone) read, lacks_both 10 gone (waiting new) lacks lacks_new, omega (arith, parts, long), omega (arith, parts, size, so_far, more))
+    let parts : length (removed ++ waiting new) ≡ length removed + length (waiting new) = length-append removed (waiting new) in
+    (removed, behind from (done ++ removed) read, lacks_both 10 removed (waiting new) lacks lacks_new, omega (arith, parts, long), omega (arith, parts, size, so_far, more))
 
 one-less : (ended : Bool) (count : ℕ) → 2 ^ 64 - 1 ≤ count + (if ended then 1 else 0) → 2 ^ 64 - 2 ≤ count
 one-less true count most = omega (arith, most)
@@ -209,5 +209,5 @@ one-less false count most = omega (arith, most)
 
 -- Lemma: the line is endless after as many reads as can be counted.
 pub inside-endless : {R X : Type 0} (reading : SourceRules R) (from : R) (done : List ℕ) (reads : ℕ) (lines : Lines R X) → 2 ^ 64 - 1 ≤ reads → IsInside reading from done reads lines → IsNext reading from done lines Variant.Endless
-inside-endless reading from done reads lines many (gone, read, lacks, long, most) =
-    (gone, read, (lacks, one-less lines.has_ended (length (gone ++ waiting lines)) (omega (arith, many, most))))
+inside-endless reading from done reads lines many (removed, read, lacks, long, most) =
+    (removed, read, (lacks, one-less lines.has_ended (length (removed ++ waiting lines)) (omega (arith, many, most))))

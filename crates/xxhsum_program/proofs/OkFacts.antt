@@ -4,7 +4,7 @@ use Rattle.xxhsum_program.specs.Prelude.{Found, SourceRules, StoreRules, concat,
 use Rattle.std.proofs.lemmas.List.{append_assoc, append_cancel_right, length_push, same_from_push}
 use Rattle.xxhsum_program.proofs.Prelude.{Different, EscapeIsUndone, Ignored, Improper, IsFound, IsValueOf, OkMeansEqual, PlainNamesStay, Printed, Proper, Reported, Same, Says, TooLong, Unread, printed_of, reason_text, same_Some}
 use Rattle.xxhsum_line.specs.Escapes.{escaped, mark_of, needs_escape, one_line, unescaped}
-use Rattle.xxhsum_program.specs.Said.{found_text, improper_text, is_silent}
+use Rattle.xxhsum_program.specs.ListMessages.{found_text, improper_text, is_silent}
 
 -- ---- the text of a line, which is unique
 
@@ -57,28 +57,28 @@ unread-ends list number name why =
 
 -- ---- a line of a list
 
-not-reported : (test : Bool) (said text : List ℕ) → printed_of (if test then Reported said ∷ [] else []) ≡ one_line text → ⊥
-not-reported true said text is = some-line text is
-not-reported false said text is = some-line text is
+not-reported : (test : Bool) (entries text : List ℕ) → printed_of (if test then Reported entries ∷ [] else []) ≡ one_line text → ⊥
+not-reported true entries text is = some-line text is
+not-reported false entries text is = some-line text is
 
 spoken : EscapeIsUndone → PlainNamesStay → (silent : Bool) (shown text : List ℕ) → printed_of (if silent then [] else Printed (one_line shown) ∷ []) ≡ one_line text → shown ≡ text
 spoken undone stay true shown text is = absurd (some-line text is)
 spoken undone stay false shown text is = texts-same undone stay shown text (sym (append-nil (one_line shown)) ∙ is)
 
-found-same : (list : List ℕ) (number : ℕ) (said name : List ℕ) (found : Found) → found_text list number said found ≡ name ++ codes ": OK" → (found ≡ Same) × (said ≡ name)
-found-same list number said name Same is = (refl, append_cancel_right said name (codes ": OK") is)
-found-same list number said name Different is =
-    absurd (not-both 68 75 _ _ (λ no. absurd (omega (arith, no))) (failed-ends said) (ok-ends name) is)
-found-same list number said name (Unread reason) is =
-    absurd (not-both 46 75 _ _ (λ no. absurd (omega (arith, no))) (unread-ends list number said (reason_text reason)) (ok-ends name) is)
+found-same : (list : List ℕ) (number : ℕ) (entries name : List ℕ) (found : Found) → found_text list number entries found ≡ name ++ codes ": OK" → (found ≡ Same) × (entries ≡ name)
+found-same list number entries name Same is = (refl, append_cancel_right entries name (codes ": OK") is)
+found-same list number entries name Different is =
+    absurd (not-both 68 75 _ _ (λ no. absurd (omega (arith, no))) (failed-ends entries) (ok-ends name) is)
+found-same list number entries name (Unread reason) is =
+    absurd (not-both 46 75 _ _ (λ no. absurd (omega (arith, no))) (unread-ends list number entries (reason_text reason)) (ok-ends name) is)
 
 pub ok_means_equal : {S F : Type 0} (opening : StoreRules S F) (reading : SourceRules F) → EscapeIsUndone → PlainNamesStay → OkMeansEqual opening reading
 ok_means_equal opening reading undone stay store options list number line Ignored name finds is = absurd (some-line (name ++ codes ": OK") is)
 ok_means_equal opening reading undone stay store options list number line Improper name finds is = absurd (not-reported options.warns (improper_text list number) (name ++ codes ": OK") is)
 ok_means_equal opening reading undone stay store options list number line TooLong name finds is = absurd (some-line (name ++ codes ": OK") is)
-ok_means_equal opening reading undone stay store options list number line (Proper said found) name (short, kind, value, says, of_file) is =
-    let same = found-same list number said name found (spoken undone stay (is_silent options found) (found_text list number said found) (name ++ codes ": OK") is) in
-    let equal : IsValueOf (files_of opening reading store) kind said value = subst (λ f. IsFound (files_of opening reading store) kind value said f) same.0 of_file in (
+ok_means_equal opening reading undone stay store options list number line (Proper entries found) name (short, kind, value, says, of_file) is =
+    let same = found-same list number entries name found (spoken undone stay (is_silent options found) (found_text list number entries found) (name ++ codes ": OK") is) in
+    let equal : IsValueOf (files_of opening reading store) kind entries value = subst (λ f. IsFound (files_of opening reading store) kind value entries f) same.0 of_file in (
       kind,
       value,
       subst (λ n. Says options.is_little_endian line kind value n) same.1 says,

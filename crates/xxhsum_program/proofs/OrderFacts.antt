@@ -1,8 +1,8 @@
 -- Lemmas on events of both streams.
 use Rattle.std.proofs.Common.{◌≡◌, ℕ, List, [], ◌∷◌, ◌++◌, refl, sym, ap, ◌∙◌, subst, append-nil, append_assoc, Ok, Err, IfErr, Result}
-use Rattle.xxhsum_program.proofs.Prelude.{OutOfMemory, PrintsLine, Refused, Refused-join, Stop, Streams, TellsOn, Took, Took-join, WriteFailed, one_line, streams_of}
+use Rattle.xxhsum_program.proofs.Prelude.{OutOfMemory, PrintsLine, Refused, Refused-join, Stop, Streams, Eprints, Took, Took-join, WriteFailed, one_line, streams_of}
 use Rattle.xxhsum_program.specs.Order.{Emits, EmitsAll, EmitsOrNone, EmitsTo, Event, Printed, Reported, StreamRules, printed_of, reported_of}
-use Rattle.xxhsum_program.proofs.ToldFacts.{tells-more, tells-nothing}
+use Rattle.xxhsum_program.proofs.EprintFacts.{reports-more, reports-nothing}
 
 emits-from : {W E : Type 0} (rules : StreamRules W E) (event : Event) (old mid new : Streams W E) → mid.out ≡ old.out → mid.err ≡ old.err → Emits rules event mid new → Emits rules event old new
 emits-from rules (Printed bytes) old mid new out err emits = rw (sym out, sym err) emits
@@ -35,7 +35,7 @@ emits-stop S T rules events old new OutOfMemory emits =
 -- Lemma: a line that is printed is one event.
 pub emits-line : {W E T : Type 0} (rules : StreamRules W E) (line : List ℕ) (old : Streams W E) (out : W) (result : Result T Stop) → PrintsLine rules.writing line old.out out result → IfErr result (λ stop. stop ≡ WriteFailed) → EmitsTo rules (Printed line ∷ []) old (streams_of out old.err) result
 emits-line rules line old out (Ok x) prints only =
-    (streams_of out old.err, (prints, tells-nothing rules.telling old.err), (refl, refl))
+    (streams_of out old.err, (prints, reports-nothing rules.reporting old.err), (refl, refl))
 emits-line rules line old out (Err WriteFailed) prints only = ([], line, old, refl, (refl, refl), prints, refl)
 emits-line rules line old out (Err OutOfMemory) prints only = cc
 
@@ -54,13 +54,13 @@ emits-prints rules (Printed bytes ∷ events) old new (mid, emits, rest) =
 emits-prints rules (Reported text ∷ events) old new (mid, emits, rest) =
     Took-join rules.writing [] (printed_of events) old.out mid.out new.out emits.0 (emits-prints rules events mid new rest)
 
-pub emits-reports : {W E : Type 0} (rules : StreamRules W E) (events : List Event) (old new : Streams W E) → EmitsAll rules events old new → TellsOn rules.telling (reported_of events) old.err new.err
+pub emits-reports : {W E : Type 0} (rules : StreamRules W E) (events : List Event) (old new : Streams W E) → EmitsAll rules events old new → Eprints rules.reporting (reported_of events) old.err new.err
 emits-reports rules [] old new same =
-    subst (λ err. TellsOn rules.telling [] old.err err) (sym same.1) (tells-nothing rules.telling old.err)
+    subst (λ err. Eprints rules.reporting [] old.err err) (sym same.1) (reports-nothing rules.reporting old.err)
 emits-reports rules (Printed bytes ∷ events) old new (mid, emits, rest) =
-    tells-more rules.telling [] (reported_of events) old.err mid.err new.err emits.1 (emits-reports rules events mid new rest)
+    reports-more rules.reporting [] (reported_of events) old.err mid.err new.err emits.1 (emits-reports rules events mid new rest)
 emits-reports rules (Reported text ∷ events) old new (mid, emits, rest) =
-    tells-more rules.telling (one_line text) (reported_of events) old.err mid.err new.err emits.2 (emits-reports rules events mid new rest)
+    reports-more rules.reporting (one_line text) (reported_of events) old.err mid.err new.err emits.2 (emits-reports rules events mid new rest)
 
 printed-append : (a : List Event) (line : List ℕ) → printed_of (a ++ Printed line ∷ []) ≡ printed_of a ++ line
 printed-append [] line = append-nil line
@@ -74,10 +74,10 @@ reported-append (Printed bytes ∷ a) line = reported-append a line
 reported-append (Reported text ∷ a) line = ap (λ (rest : List ℕ). one_line text ++ rest) (reported-append a line)
 
 -- Lemma: if a write failed, a prefix of the printed bytes is written, and all messages are.
-pub emits-refuses : {W E : Type 0} (T : Type 0) (rules : StreamRules W E) (events : List Event) (old new : Streams W E) → EmitsTo {T = T} rules events old new (Err WriteFailed) → Refused rules.writing (printed_of events) old.out new.out × TellsOn rules.telling (reported_of events) old.err new.err
+pub emits-refuses : {W E : Type 0} (T : Type 0) (rules : StreamRules W E) (events : List Event) (old new : Streams W E) → EmitsTo {T = T} rules events old new (Err WriteFailed) → Refused rules.writing (printed_of events) old.out new.out × Eprints rules.reporting (reported_of events) old.err new.err
 emits-refuses T rules events old new (before, line, mid, is, emits, refused, same) =
     let printed : printed_of events ≡ printed_of before ++ line = ap printed_of is ∙ printed-append before line in
     let reported : reported_of events ≡ reported_of before = ap reported_of is ∙ reported-append before line in (
       subst (λ bytes. Refused rules.writing bytes old.out new.out) (sym printed) (Refused-join rules.writing (printed_of before) line old.out mid.out new.out (emits-prints rules before old mid emits) refused),
-      subst (λ err. TellsOn rules.telling (reported_of events) old.err err) (sym same) (subst (λ bytes. TellsOn rules.telling bytes old.err mid.err) (sym reported) (emits-reports rules before old mid emits)),
+      subst (λ err. Eprints rules.reporting (reported_of events) old.err err) (sym same) (subst (λ bytes. Eprints rules.reporting bytes old.err mid.err) (sym reported) (emits-reports rules before old mid emits)),
     )

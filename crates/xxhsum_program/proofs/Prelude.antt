@@ -15,9 +15,9 @@ pub use Rattle.xxh_io.proofs.WriteFacts.{Refused-join, Refused-more, Took-join, 
 pub use Rattle.xxh_io.specs.Digest.{ReadsOn, ReadsTo, Writes}
 pub use Rattle.xxh_io.specs.Kind.{digits_of}
 pub use Rattle.xxh_io.specs.Script.{slice_reading, slice_rest}
-pub use Rattle.xxh_io.specs.Tells.{Told}
-pub use Rattle.xxh_io.specs.declared.ends.Failed.{Failed}
-pub use Rattle.xxh_io.specs.declared.error.DigestError.{DigestError}
+pub use Rattle.xxh_io.specs.Reports.{TakesOrFails}
+pub use Rattle.xxh_io.specs.declared.streams.Failed.{Failed}
+pub use Rattle.xxh_io.specs.declared.digest_error.DigestError.{DigestError}
 pub use Rattle.xxh_io.specs.declared.script_source.SliceSource.{SliceSource}
 pub use Rattle.xxh_program.proofs.ValueFacts.{value-lt}
 pub use Rattle.xxhsum_line.proofs.EntryFacts.{says_same}
@@ -42,13 +42,13 @@ pub use Rattle.xxhsum_program.specs.ListEnd.{Endless, FailedRead, ListEnd, TooMa
 pub use Rattle.xxhsum_program.specs.ListLines.{FailsAfter, IsLastLine, end_piece}
 pub use Rattle.xxhsum_program.specs.Order.{Emits, EmitsAll, EmitsOrNone, EmitsTo, Event, Printed, Reported, StreamRules, effect_of, printed_of, rules_of}
 pub use Rattle.xxhsum_program.specs.Outcomes.{Comes, HasNoValue, IsValueOf, are_digested, has_no_file, is_digested, reason_text}
-pub use Rattle.xxhsum_program.specs.Prelude.{AllByRecursion, EachHas, Lacks, NoneEmpty, OutOfMemory, Outcome, Pieces, Refused, SinkRules, SourceRules, Stop, TellsLines, TellsOn, Took, Watched, WriteFailed, concat, files_of}
+pub use Rattle.xxhsum_program.specs.Prelude.{AllByRecursion, EachHas, Lacks, NoneEmpty, OutOfMemory, Outcome, Pieces, Refused, SinkRules, SourceRules, Stop, EprintsLines, Eprints, Took, ProgressReader, WriteFailed, concat, files_of}
 pub use Rattle.xxhsum_program.specs.Progress.{cleared, count_after, empty_line, left_text, line_text, progress_line, rate_of, shown_text}
 pub use Rattle.xxhsum_program.specs.Report.{is_good, is_unverified, passes}
 pub use Rattle.xxhsum_program.specs.Run.{style_of}
-pub use Rattle.xxhsum_program.specs.Said.{finding_events, numbered}
+pub use Rattle.xxhsum_program.specs.ListMessages.{finding_events, numbered}
 pub use Rattle.xxhsum_program.specs.Streams.{streams_of}
-pub use Rattle.xxhsum_program.specs.Watched.{source_of, watched_reading}
+pub use Rattle.xxhsum_program.specs.ProgressReader.{source_of, progress_reading}
 pub use Rattle.xxhsum_program.specs.declared.entry.Found.TheVariants.{Different, Same, Unread}
 pub use Rattle.xxhsum_program.specs.declared.lines.Lines.{Lines}
 pub use Rattle.xxhsum_program.specs.declared.streams.Streams.{Streams}

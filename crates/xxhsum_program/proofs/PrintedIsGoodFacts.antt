@@ -21,15 +21,15 @@ printed_text kind shape (name ∷ names) (Unread reason ∷ outcomes) = printed_
 listed : {S F : Type 0} (files : Files S F)
     → (kind : Kind) (shape : Shape) (names : List (List ℕ)) (outcomes : List Outcome) → AllByRecursion IsName names
     → EachHas (Comes files kind) names outcomes → AreListed shape.is_little (entries_of kind shape names outcomes)
-listed files kind shape [] outcomes are come = tt
-listed files kind shape (name ∷ names) [] are come = absurd come
-listed files kind shape (name ∷ names) (Digested value ∷ outcomes) are ((free, (file, end, pieces, read, told, opened, on, is)), come) =
+listed files kind shape [] outcomes are added = tt
+listed files kind shape (name ∷ names) [] are added = absurd added
+listed files kind shape (name ∷ names) (Digested value ∷ outcomes) are ((free, (file, end, pieces, read, message, opened, on, is)), added) =
     let small : value < 16 ^ digits_of kind = subst (λ v. v < 16 ^ digits_of kind) (sym is) (value-lt kind (concat pieces)) in
-    ((small, are.0.0, short_names_fit kind shape value name are.0.1, refl), listed files kind shape names outcomes are.1 come)
-listed files kind shape (name ∷ names) (IsDirectory ∷ outcomes) are come =
-    listed files kind shape names outcomes are.1 come.1
-listed files kind shape (name ∷ names) (Unread reason ∷ outcomes) are come =
-    listed files kind shape names outcomes are.1 come.1
+    ((small, are.0.0, short_names_fit kind shape value name are.0.1, refl), listed files kind shape names outcomes are.1 added)
+listed files kind shape (name ∷ names) (IsDirectory ∷ outcomes) are added =
+    listed files kind shape names outcomes are.1 added.1
+listed files kind shape (name ∷ names) (Unread reason ∷ outcomes) are added =
+    listed files kind shape names outcomes are.1 added.1
 
 -- ---- the findings
 
@@ -47,18 +47,18 @@ all_same : {S F : Type 0} (files : Files S F)
     → (kind : Kind) (shape : Shape) (names : List (List ℕ)) (outcomes : List Outcome) (findings : List Finding)
     → EachHas (Comes files kind) names outcomes → FilesStay files kind
     → AreFindingsOf files (entries_of kind shape names outcomes) findings → AllByRecursion IsSame findings
-all_same files kind shape [] outcomes [] come stay are = tt
-all_same files kind shape [] outcomes (f ∷ fs) come stay are = absurd are
-all_same files kind shape (name ∷ names) [] findings come stay are = absurd come
-all_same files kind shape (name ∷ names) (Digested value ∷ outcomes) [] come stay are = absurd are
-all_same files kind shape (name ∷ names) (Digested value ∷ outcomes) (f ∷ fs) come stay are = (
-  one_same files (record { kind = kind; shape = shape; value = value; name = name }) f are.0.0 stay come.0.1 are.0.1 are.0.2,
-  all_same files kind shape names outcomes fs come.1 stay are.1,
+all_same files kind shape [] outcomes [] added stay are = tt
+all_same files kind shape [] outcomes (f ∷ fs) added stay are = absurd are
+all_same files kind shape (name ∷ names) [] findings added stay are = absurd added
+all_same files kind shape (name ∷ names) (Digested value ∷ outcomes) [] added stay are = absurd are
+all_same files kind shape (name ∷ names) (Digested value ∷ outcomes) (f ∷ fs) added stay are = (
+  one_same files (record { kind = kind; shape = shape; value = value; name = name }) f are.0.0 stay added.0.1 are.0.1 are.0.2,
+  all_same files kind shape names outcomes fs added.1 stay are.1,
 )
-all_same files kind shape (name ∷ names) (IsDirectory ∷ outcomes) findings come stay are =
-    all_same files kind shape names outcomes findings come.1 stay are
-all_same files kind shape (name ∷ names) (Unread reason ∷ outcomes) findings come stay are =
-    all_same files kind shape names outcomes findings come.1 stay are
+all_same files kind shape (name ∷ names) (IsDirectory ∷ outcomes) findings added stay are =
+    all_same files kind shape names outcomes findings added.1 stay are
+all_same files kind shape (name ∷ names) (Unread reason ∷ outcomes) findings added stay are =
+    all_same files kind shape names outcomes findings added.1 stay are
 
 as_many : {S F : Type 0} (files : Files S F) (entries : List Listed) (findings : List Finding)
     → AreFindingsOf files entries findings → length findings ≡ length entries
@@ -97,11 +97,11 @@ passed options count some = rw (good options.is_strict count some, verified opti
 
 pub printed_is_good : {S F R : Type 0} (opening : StoreRules S F) (reading : SourceRules F) (list_reading : SourceRules R)
     → PrintedIsGood opening reading list_reading
-printed_is_good opening reading list_reading store kind shape names outcomes source findings end options come stay are some few holds finds =
+printed_is_good opening reading list_reading store kind shape names outcomes source findings end options added stay are some few holds finds =
     let entries = entries_of kind shape names outcomes in
     let held = subst (Holds list_reading source) (printed_text kind shape names outcomes) holds in
-    let found = checks_printed opening reading list_reading store shape.is_little entries source findings end (listed (files_of opening reading store) kind shape names outcomes are come) few held finds in
-    let same = all_same (files_of opening reading store) kind shape names outcomes findings come stay found.1 in
+    let found = checks_printed opening reading list_reading store shape.is_little entries source findings end (listed (files_of opening reading store) kind shape names outcomes are added) few held finds in
+    let same = all_same (files_of opening reading store) kind shape names outcomes findings added stay found.1 in
     let some_findings : 0 < 0 + length findings = omega (arith, as_many (files_of opening reading store) entries findings found.1, some) in
     let sum : report_at options.ignores_missing end findings ≡ record { proper = proper_after 0 findings; improper = 0; unread = 0; same = proper_after 0 findings; different = 0; is_broken = false } =
     ap (λ e. report_at options.ignores_missing e findings) found.0 ∙ adds_up options.ignores_missing no_findings findings same in

@@ -3,11 +3,11 @@ use Rattle.std.proofs.Common.{◌≡◌, ℕ, ◌+◌, Bool, false, List, [], �
 use Rattle.xxhsum_program.specs.Prelude.{EachHas, Found, Options, OutOfMemory, Report, SourceRules, Stop, WriteFailed, one_line}
 use Rattle.xxhsum_program.proofs.Prelude.{EmitsAll, EmitsTo, Finding, Lines, ListEnd, PrintsLine, Proper, StreamRules, Streams, count_proper, passes, streams_of}
 use Rattle.xxhsum_program.specs.CheckList.{AnswersList, AnswersOutcome, Checked, ChecksLine, FindsLines, ReportsLines, line_check}
-use Rattle.xxhsum_program.specs.Said.{break_events, finding_events, found_text, is_silent, lines_events, list_events, numbered, summary_events}
+use Rattle.xxhsum_program.specs.ListMessages.{break_events, finding_events, found_text, is_silent, lines_events, list_events, numbered, summary_events}
 use Rattle.xxhsum_program.proofs.CheckFacts.{Stands, some-read}
 use Rattle.xxhsum_program.proofs.EachFacts.{EachHas-push}
 use Rattle.xxhsum_program.proofs.OrderFacts.{emits-append, emits-join, emits-line, emits-stop}
-use Rattle.xxhsum_program.proofs.SaidFacts.{numbered-push}
+use Rattle.xxhsum_program.proofs.ListMessageFacts.{numbered-push}
 
 -- The clauses of `check_lines` and of `check`.
 abbrev pub LinesChecked : {R W E : Type 0} → (List ℕ → Finding → Type 0) → SourceRules R → StreamRules W E → Options → List ℕ → R → Streams W E → Streams W E → Result Report Stop → Type 0
@@ -25,14 +25,14 @@ ListChecked is_finding reading rules options list source old new result =
 -- ---- a line
 
 -- Lemma: a file's result is printed, unless the run stops.
-pub line-said : {W E : Type 0} (is_finding : Finding → Type 0) (rules : StreamRules W E) (options : Options) (list : List ℕ) (number : ℕ) (name shown : List ℕ) (found : Found) (r_old r_new : Report) (old : Streams W E) (out : W) (result : Result (Unit {0}) Stop)
+pub line-entries : {W E : Type 0} (is_finding : Finding → Type 0) (rules : StreamRules W E) (options : Options) (list : List ℕ) (number : ℕ) (name shown : List ℕ) (found : Found) (r_old r_new : Report) (old : Streams W E) (out : W) (result : Result (Unit {0}) Stop)
     → is_silent options found ≡ false → shown ≡ name → is_finding (Proper name found) → r_new ≡ count_proper options.ignores_missing r_old found → PrintsLine rules.writing (one_line (found_text list number shown found)) old.out out result
     → ChecksLine is_finding (line_check options list number r_old r_new) rules old (streams_of out old.err) result
-line-said is_finding rules options list number name shown found r_old r_new old out (Ok x) speaks same is counted prints =
+line-entries is_finding rules options list number name shown found r_old r_new old out (Ok x) speaks same is counted prints =
     (Proper name found, is, counted, rw speaks (emits-line {T = Unit {0}} rules _ old out (Ok tt) (rw same at prints) tt))
-line-said is_finding rules options list number name shown found r_old r_new old out (Err WriteFailed) speaks same is counted prints =
+line-entries is_finding rules options list number name shown found r_old r_new old out (Err WriteFailed) speaks same is counted prints =
     (Proper name found, is, rw speaks (emits-line {T = Unit {0}} rules _ old out (Err WriteFailed) (rw same at prints) refl))
-line-said is_finding rules options list number name shown found r_old r_new old out (Err OutOfMemory) speaks same is counted prints = (prints, refl)
+line-entries is_finding rules options list number name shown found r_old r_new old out (Err OutOfMemory) speaks same is counted prints = (prints, refl)
 
 -- ---- a line at which the check stops
 

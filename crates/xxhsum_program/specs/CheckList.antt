@@ -9,7 +9,7 @@ use Rattle.xxhsum_program.specs.ListLines.{FailsAfter, IsEndless, IsLastLine, en
 use Rattle.xxhsum_program.specs.Order.{Effect, EmitsAll, EmitsTo, EmitsUnlessFailed, Event, Reported, StreamRules}
 use Rattle.xxhsum_program.specs.declared.streams.Streams.{Streams}
 use Rattle.xxhsum_program.specs.Report.{passes}
-use Rattle.xxhsum_program.specs.Said.{finding_events, list_events, told_refusal}
+use Rattle.xxhsum_program.specs.ListMessages.{finding_events, list_events, refusal_message}
 
 -- The lines, each with its line feed.
 abbrev pub with_line_feeds : List (List ℕ) → List ℕ
@@ -128,7 +128,7 @@ IsListOutcome files is_little name (Unopened refusal) = files.opening.refuses fi
 -- The events of a list: those of its check, or the message that it can't be opened.
 abbrev pub outcome_events : Options → List ℕ → ListOutcome → List Event
 outcome_events options list (Checked findings end) = list_events options list findings end
-outcome_events options list (Unopened refusal) = Reported (told_refusal list refusal) ∷ []
+outcome_events options list (Unopened refusal) = Reported (refusal_message list refusal) ∷ []
 
 -- The list was checked to its end, or can't be opened.
 abbrev pub IsDone : ListOutcome → Type 0

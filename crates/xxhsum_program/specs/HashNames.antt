@@ -1,14 +1,14 @@
 -- A hashing run over names: one outcome for each name, in the order of the names.
 use Rattle.std.specs.Prelude.{◌≡◌, ℕ, Bool, List, [], ◌∷◌, ◌++◌, is_ok, map, IfOk, Result, Ok, Err}
 use Rattle.xxhsum_program.specs.Prelude.{Digested, EachHas, Files, Input, IsDirectory, Kind, OutOfMemory, Outcome, Stop, Style, Unread, WriteFailed, concat}
-use Rattle.xxh_io.specs.declared.error.DigestError.{DigestError}
+use Rattle.xxh_io.specs.declared.digest_error.DigestError.{DigestError}
 use Rattle.xxh_io.specs.Digest.{ReadsTo}
 use Rattle.xxh_program.specs.Kind.{value_of}
 use Rattle.xxh_program.specs.States.{most_reads}
 use Rattle.xxhsum_line.specs.Printed.{styled_line}
 use Rattle.xxhsum_program.specs.Outcomes.{Comes, are_digested}
 use Rattle.xxhsum_program.specs.Order.{Effect, Event, HasEvents, Printed, Reported}
-use Rattle.xxhsum_program.specs.Lines.{lines_of, name_messages, told_input}
+use Rattle.xxhsum_program.specs.Lines.{lines_of, name_messages, input_message}
 
 -- If the run reaches its end, no name is left, and the result is true if each has a value. Only a failed write or a
 -- failed allocation stops it before.
@@ -37,7 +37,7 @@ SaysNames files effect kind style names =
 -- Standard input has its line, or its message; if out of memory for its line, neither.
 abbrev pub read_events : Kind → Style → List ℕ → ℕ → Result ℕ DigestError → List Event
 read_events kind style name value (Ok hash) = Printed (styled_line kind style value name) ∷ []
-read_events kind style name value (Err e) = Reported (told_input e) ∷ []
+read_events kind style name value (Err e) = Reported (input_message e) ∷ []
 
 abbrev pub input_events : Kind → Style → List ℕ → ℕ → Result ℕ DigestError → Result Bool Stop → List Event
 input_events kind style name value read (Ok all) = read_events kind style name value read

@@ -20,9 +20,9 @@ pub mod PrintedList
 pub mod Progress
 pub mod Report
 pub mod Run
-pub mod Said
-pub mod Screen
+pub mod ListMessages
+pub mod Terminal
 pub mod Streams
-pub mod Task
-pub mod Told
-pub mod Watched
+pub mod Command
+pub mod Eprints
+pub mod ProgressReader

@@ -1,7 +1,7 @@
 -- The messages about names and standard input, and lines on standard output.
 use Rattle.std.specs.Prelude.{◌≡◌, ℕ, List, [], ◌∷◌, ◌++◌, codes, Result, Ok, Err}
 use Rattle.xxhsum_program.specs.Prelude.{Digested, IsDirectory, OutOfMemory, Outcome, Reason, Refused, SinkRules, Stop, Took, Unread, WriteFailed, concat}
-use Rattle.xxh_io.specs.declared.error.DigestError.{DigestError}
+use Rattle.xxh_io.specs.declared.digest_error.DigestError.{DigestError}
 use Rattle.xxhsum_program.specs.declared.outcome.Reason.TheVariants as Why
 use Rattle.xxhsum_program.specs.Outcomes.{reason_of, reason_text}
 
@@ -20,8 +20,8 @@ name_messages name (Unread reason) =
     ∷ codes ". " ∷ []) ∷ []
 
 -- The message about standard input, if a read failed.
-abbrev pub told_input : DigestError → List ℕ
-told_input e = concat (codes "Error: " ∷ reason_text (reason_of e) ∷ codes "." ∷ [])
+abbrev pub input_message : DigestError → List ℕ
+input_message e = concat (codes "Error: " ∷ reason_text (reason_of e) ∷ codes "." ∷ [])
 
 -- The lists of all names, joined in the order of the names.
 abbrev pub lines_of : {T U : Type 0} → (List ℕ → T → List U) → List (List ℕ) → List T → List U

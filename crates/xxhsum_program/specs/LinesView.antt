@@ -2,12 +2,12 @@
 use Rattle.std.specs.Prelude.{◌≡◌, ◌⊎◌, ℕ, ◌+◌, ◌-◌, ◌<◌, ◌≤◌, Bool, true, List, [], ◌∷◌, ◌++◌, MatchBool, Option, Some, None, length, slice_range, if◌then◌else◌, Result, Ok, Err}
 use Rattle.std.specs.Borrow.{Bor}
 use Rattle.xxhsum_program.specs.Prelude.{Lacks, NoneEmpty, Pieces, SourceRules, concat}
-use Rattle.xxh_io.specs.declared.ends.Failed.{Failed}
+use Rattle.xxh_io.specs.declared.streams.Failed.{Failed}
 use Rattle.xxhsum_program.specs.declared.lines.Lines.{Lines}
 use Rattle.xxhsum_program.specs.declared.lines.Next.{Next}
 use Rattle.xxhsum_program.specs.declared.lines.Next.TheVariants as Variant
 use Rattle.xxhsum_program.specs.ListLines.{FailsAfter, IsEndless, IsTooLong, end_piece, longest_line}
-use Rattle.xxhsum_program.specs.Watched.{source_of}
+use Rattle.xxhsum_program.specs.ProgressReader.{source_of}
 
 -- The buffered bytes.
 abbrev pub waiting : {R X : Type 0} → Lines R X → List ℕ
@@ -81,7 +81,7 @@ abbrev pub IsNext : {R X : Type 0} → SourceRules R → R → List ℕ → Line
 IsNext reading from done new Variant.Line =
     (line : List ℕ) × Lacks 10 line × IsHeld line new × IsRead reading from done line new
 IsNext reading from done new Variant.Endless =
-    (gone : List ℕ) × HasRead reading from (done ++ gone) new × IsEndless (gone ++ waiting new)
+    (removed : List ℕ) × HasRead reading from (done ++ removed) new × IsEndless (removed ++ waiting new)
 IsNext reading from done new Variant.End = HasRead reading from done new × IsAtEnd new
 IsNext reading from done new Variant.Failed =
     (rest : List ℕ) × FailsAfter reading from (done ++ rest) × Lacks 10 rest

@@ -1,6 +1,6 @@
 -- The bytes written to standard output and standard error, in one order.
 use Rattle.std.specs.Prelude.{◌≡◌, ◌⊎◌, ℕ, Bool, true, List, [], ◌∷◌, ◌++◌, Result, Ok, Err}
-use Rattle.xxhsum_program.specs.Prelude.{OutOfMemory, Refused, SinkRules, Stop, Streams, TellsOn, Took, WriteFailed, one_line}
+use Rattle.xxhsum_program.specs.Prelude.{OutOfMemory, Refused, SinkRules, Stop, Streams, Eprints, Took, WriteFailed, one_line}
 use Rattle.xxhsum_program.specs.Finish.{IsWritten}
 use Rattle.xxhsum_program.specs.Streams.{err_of}
 
@@ -9,10 +9,10 @@ pub record StreamRules (W E : Type 0) : Type 1 where
   pub writing : SinkRules W
   pub held : W → List ℕ
   pub has_lost : W → Bool
-  pub telling : SinkRules E
+  pub reporting : SinkRules E
 
 abbrev pub rules_of : {W E : Type 0} → SinkRules W → (W → List ℕ) → (W → Bool) → SinkRules E → StreamRules W E
-rules_of writing held has_lost telling = record { writing = writing; held = held; has_lost = has_lost; telling = telling }
+rules_of writing held has_lost reporting = record { writing = writing; held = held; has_lost = has_lost; reporting = reporting }
 
 -- Bytes are printed on standard output, or a text is reported as one line on standard error.
 pub data Event : Type 0 where
@@ -22,10 +22,10 @@ pub data Event : Type 0 where
 -- One event. When a message is reported, all bytes printed before it are written, or were lost.
 abbrev pub Emits : {W E : Type 0} → StreamRules W E → Event → Streams W E → Streams W E → Type 0
 Emits rules (Printed bytes) old new =
-    Took rules.writing bytes old.out new.out × TellsOn rules.telling [] (err_of old) (err_of new)
+    Took rules.writing bytes old.out new.out × Eprints rules.reporting [] (err_of old) (err_of new)
 Emits rules (Reported text) old new =
     Took rules.writing [] old.out new.out × IsWritten rules.held rules.has_lost new.out
-    × TellsOn rules.telling (one_line text) (err_of old) (err_of new)
+    × Eprints rules.reporting (one_line text) (err_of old) (err_of new)
 
 -- The bytes that the output holds are written, or were lost, and nothing is printed or reported.
 abbrev pub Releases : {W E : Type 0} → StreamRules W E → Streams W E → Streams W E → Type 0

@@ -1,27 +1,27 @@
 -- The progress display of a long file.
 use Rattle.std.specs.Prelude.{◌≡◌, ℕ, ◌+◌, ◌-◌, ◌*◌, ◌^◌, ◌/◌, Bool, true, false, List, [], ◌∷◌, ◌++◌, Option, Some, None, codes, decimal, if◌then◌else◌, max, min, nat_eq, nat_lt}
-use Rattle.xxhsum_program.specs.Prelude.{SinkRules, TellsOn, concat}
-use Rattle.xxhsum_program.specs.declared.progress.Meter.{Meter}
+use Rattle.xxhsum_program.specs.Prelude.{SinkRules, Eprints, concat}
+use Rattle.xxhsum_program.specs.declared.progress.Progress.{Progress}
 
 -- The sink that the meter writes to.
-abbrev pub end_of : {E : Type 0} → Meter E → E
-end_of meter = meter.end
+abbrev pub end_of : {E : Type 0} → Progress E → E
+end_of progress = progress.end
 
 -- True if the meter shows anything.
-abbrev pub is_shown : {E : Type 0} → Meter E → Bool
-is_shown meter = meter.is_on
+abbrev pub is_shown : {E : Type 0} → Progress E → Bool
+is_shown progress = progress.is_on
 
 -- The number of bytes that the meter has counted.
-abbrev pub bytes_read : {E : Type 0} → Meter E → ℕ
-bytes_read meter = meter.count
+abbrev pub bytes_read : {E : Type 0} → Progress E → ℕ
+bytes_read progress = progress.count
 
 -- The number of bytes that the meter expects, if known.
-abbrev pub bytes_expected : {E : Type 0} → Meter E → Option ℕ
-bytes_expected meter = meter.size
+abbrev pub bytes_expected : {E : Type 0} → Progress E → Option ℕ
+bytes_expected progress = progress.size
 
 -- The start time of the reading, in milliseconds.
-abbrev pub begun : {E : Type 0} → Meter E → ℕ
-begun meter = meter.started
+abbrev pub begun : {E : Type 0} → Progress E → ℕ
+begun progress = progress.started
 
 -- The count after a read, saturating at 2^64 - 1.
 abbrev pub count_after : ℕ → ℕ → ℕ
@@ -74,14 +74,14 @@ shown_text true size millis before count =
     if nat_eq count 0 then cleared before else progress_line size millis before (count_after before count)
 
 -- A read of `count` bytes was counted, and shown at the time `now`. If the meter is off, nothing was written.
-abbrev pub Shows : {E : Type 0} → SinkRules E → ℕ → ℕ → Meter E → Meter E → Type 0
-Shows telling count now old new =
+abbrev pub Shows : {E : Type 0} → SinkRules E → ℕ → ℕ → Progress E → Progress E → Type 0
+Shows reporting count now old new =
     (is_shown new ≡ is_shown old) × (bytes_expected new ≡ bytes_expected old) × (begun new ≡ begun old)
     × (bytes_read new ≡ count_after (bytes_read old) count)
     × (is_shown old ≡ false → end_of new ≡ end_of old)
-    × TellsOn telling (shown_text (is_shown old) (bytes_expected old) (now - begun old) (bytes_read old) count)
+    × Eprints reporting (shown_text (is_shown old) (bytes_expected old) (now - begun old) (bytes_read old) count)
     (end_of old) (end_of new)
 
 -- A read was shown, at some time.
-abbrev pub ShowsSometime : {E : Type 0} → SinkRules E → ℕ → Meter E → Meter E → Type 0
-ShowsSometime telling count old new = (now : ℕ) × Shows telling count now old new
+abbrev pub ShowsSometime : {E : Type 0} → SinkRules E → ℕ → Progress E → Progress E → Type 0
+ShowsSometime reporting count old new = (now : ℕ) × Shows reporting count now old new

@@ -1,12 +1,12 @@
 -- The run of a task, and the exit status.
 use Rattle.std.specs.Prelude.{◌≡◌, ℕ, Bool, true, false, List, [], codes, MatchBool, Result, Ok, Err}
-use Rattle.xxhsum_program.specs.Prelude.{Files, Input, Options, OutOfMemory, Stop, Streams, Style, TellsOn, Took, WriteFailed}
+use Rattle.xxhsum_program.specs.Prelude.{Files, Input, Options, OutOfMemory, Stop, Streams, Style, Eprints, Took, WriteFailed}
 use Rattle.xxhsum_program.specs.CheckList.{SaysList, SaysLists}
 use Rattle.xxhsum_program.specs.Finish.{IsWritten, end_after}
 use Rattle.xxhsum_program.specs.HashNames.{SaysInput, SaysNames}
 use Rattle.xxhsum_program.specs.Order.{Effect, StreamRules}
 use Rattle.xxhsum_program.specs.Streams.{err_of}
-use Rattle.xxhsum_program.specs.Task.{Reads, Task, Tells, has_none}
+use Rattle.xxhsum_program.specs.Command.{Reads, Command, Answers, has_none}
 
 abbrev pub style_of : Options → Style
 style_of options = record {
@@ -36,11 +36,11 @@ PerformsAs files input effect options names =
     MatchBool (has_none names) (PerformsInput files input effect options) (PerformsOn files effect options names)
 
 -- A text is reported and nothing is printed, or files are read as `performs` states.
-abbrev pub DoesTask : {W E : Type 0} → (Options → List (List ℕ) → Type 0) → Effect W E → Task → Type 0
-DoesTask performs effect (Tells text good) =
+abbrev pub DoesCommand : {W E : Type 0} → (Options → List (List ℕ) → Type 0) → Effect W E → Command → Type 0
+DoesCommand performs effect (Answers text good) =
     (effect.result ≡ Ok good) × (effect.new.out ≡ effect.old.out)
-    × TellsOn effect.rules.telling text (err_of effect.old) (err_of effect.new)
-DoesTask performs effect (Reads options words) = performs options words
+    × Eprints effect.rules.reporting text (err_of effect.old) (err_of effect.new)
+DoesCommand performs effect (Reads options words) = performs options words
 
 -- ---- the end
 
@@ -65,4 +65,4 @@ abbrev pub Ends : {W E : Type 0} → StreamRules W E → Result Bool Stop → St
 Ends rules done old new status =
     let ended = end_after (rules.has_lost new.out) done in
     Took rules.writing [] old.out new.out × IsWritten rules.held rules.has_lost new.out
-    × TellsOn rules.telling (end_text ended) (err_of old) (err_of new) × (status ≡ status_of ended)
+    × Eprints rules.reporting (end_text ended) (err_of old) (err_of new) × (status ≡ status_of ended)

@@ -1,7 +1,7 @@
 //! Checks lists of checksum lines against the files that they name.
 
 ghost use Rattle.std.specs.Prelude.{◌≡◌, ◌<◌, ◌≤◌, [], true, List, ℕ, Option, false, length, map, nat_eq, IfErr, IfOk, if◌then◌else◌};
-ghost use Rattle.xxhsum_program.specs.Prelude.{TellsOn, one_line};
+ghost use Rattle.xxhsum_program.specs.Prelude.{Eprints, one_line};
 ghost use Rattle.xxhsum_program.specs.CheckList.{AnswersList, AnswersOutcome, ChecksLine, FindsLines, IsListOutcome, ListOutcome, ReportsLines, SaysList, SaysLists, line_check, outcome_events};
 ghost use Rattle.xxhsum_program.specs.Files.{files_of, input_of};
 ghost use Rattle.xxhsum_program.specs.Findings.{Finding, Improper, IsFinding, TooLong, count_one, count_proper, no_findings, with_broken_end};
@@ -10,22 +10,22 @@ ghost use Rattle.xxhsum_program.specs.LinesView.{IsGiven};
 ghost use Rattle.xxhsum_program.specs.ListEnd.{FailedRead, ListEnd};
 ghost use Rattle.xxhsum_program.specs.Order.{Emits, EmitsAll, EmitsTo, Reported, effect_of, rules_of};
 ghost use Rattle.xxhsum_program.specs.Report.{is_good, is_unverified, passes};
-ghost use Rattle.xxhsum_program.specs.Said.{break_events, count_text, finding_events, found_text, is_silent, lines_events, list_events, printed_summary, summary_events, summary_text, told_of_line, unread_text, unverified_line, unverified_text};
-ghost use Rattle.xxhsum_program.specs.Watched.{source_of};
+ghost use Rattle.xxhsum_program.specs.ListMessages.{break_events, count_text, finding_events, found_text, is_silent, lines_events, list_events, printed_summary, summary_events, summary_text, line_message, unread_text, unverified_line, unverified_text};
+ghost use Rattle.xxhsum_program.specs.ProgressReader.{source_of};
 
 use crate::entry::{Found, compare};
-use crate::job::Job;
+use crate::context::Context;
 use crate::lines::{Lines, Next};
 use crate::outcome::OFFERED;
-use crate::say::{line_of, print, say_line};
-use crate::screen::Ticks;
+use crate::stdout::{line_of, print, print_line};
+use crate::terminal::TimedSink;
 use crate::stop::Stop;
 use crate::streams::Streams;
-use crate::tell::tell_line;
-use crate::watched::{ProgressDisplay, Watched};
+use crate::stderr::eprint_line;
+use crate::progress_reader::{ProgressDisplay, ProgressReader};
 use itoa::Buffer;
 use std::alloc::{AllocError, Global};
-use xxh_io::ends::{Sink, Source};
+use xxh_io::streams::{Sink, Source};
 use xxh_io::waiting::Waiting;
 use xxhsum_fs::store::Store;
 use xxhsum_line::entry::{Meaning, meaning_of};
@@ -141,11 +141,11 @@ struct ListCheck<'a, S, T> {
     name: &'a [u8],
 }
 
-impl<S: Store, T: Ticks> ListCheck<'_, S, T> {
+impl<S: Store, T: TimedSink> ListCheck<'_, S, T> {
     // Checks the lines of `source`, prints and reports the results, and returns whether the list is good.
     fn check<R: Source + Drop, W: Output, E: Sink>(
         &self,
-        source: Watched<R, T>,
+        source: ProgressReader<R, T>,
         streams: &mut Streams<W, E>,
     ) -> Result<bool, Stop>
         requires { W.has_failed streams.old.out ≡ false }
@@ -167,7 +167,7 @@ impl<S: Store, T: Ticks> ListCheck<'_, S, T> {
     // Checks the lines of `source`: up to its end, to a line without an end, or to the last line number.
     fn check_lines<R: Source + Drop, W: Output, E: Sink>(
         &self,
-        source: Watched<R, T>,
+        source: ProgressReader<R, T>,
         streams: &mut Streams<W, E>,
     ) -> Result<Report, Stop>
         requires { W.has_failed streams.old.out ≡ false }
@@ -187,7 +187,7 @@ impl<S: Store, T: Ticks> ListCheck<'_, S, T> {
             match lines.next() {
                 Next::End => return Ok(report),
                 Next::Failed => {
-                    self.tell_of_failure(number, &report, streams);
+                    self.report_failure(number, &report, streams);
                     return Ok(report.with_broken_end());
                 }
                 Next::Endless => {
@@ -240,7 +240,7 @@ impl<S: Store, T: Ticks> ListCheck<'_, S, T> {
         if is_silent(self.options, &found) {
             return Ok(());
         }
-        self.say_found(line.number, &entry.name, &found, &mut streams.out)
+        self.print_found(line.number, &entry.name, &found, &mut streams.out)
     }
 
     // Counts a malformed line. Reports it if `--warn` is given.
@@ -290,15 +290,15 @@ impl<S: Store, T: Ticks> ListCheck<'_, S, T> {
     fn report_line<W: Output, E: Sink>(&self, number: u64, what: &[u8], streams: &mut Streams<W, E>)
         requires { W.has_failed streams.old.out ≡ false }
         ensures reports { Emits (rules_of W.Sink W.held W.has_lost E.Sink)
-            (Reported (told_of_line self.now.name.now number what.now)) streams.old streams.new }
+            (Reported (line_message self.now.name.now number what.now)) streams.old streams.new }
         ensures works { W.has_failed streams.new.out ≡ false }
     {
         streams.release();
-        tell_of_line(self.name, number, what, streams.messages());
+        eprint_line_error(self.name, number, what, streams.messages());
     }
 
     // Prints the result of line `number`.
-    fn say_found<W: Output>(
+    fn print_found<W: Output>(
         &self,
         number: u64,
         name: &[u8],
@@ -312,16 +312,16 @@ impl<S: Store, T: Ticks> ListCheck<'_, S, T> {
         ensures works { IfOk result (λ _. W.has_failed out.new ≡ false) }
     {
         match found {
-            Found::Same => say_line(self.alloc, &[name, b": OK"], out),
-            Found::Different => say_line(self.alloc, &[name, b": FAILED"], out),
+            Found::Same => print_line(self.alloc, &[name, b": OK"], out),
+            Found::Different => print_line(self.alloc, &[name, b": FAILED"], out),
             Found::Unread(reason) => {
-                say_unread(self.alloc, self.name, number, name, reason.text(), out)
+                print_unread(self.alloc, self.name, number, name, reason.text(), out)
             }
         }
     }
 
     // Reports that a read of the list failed. If the list has no well-formed line so far, only the summary reports it.
-    fn tell_of_failure<W: Output, E: Sink>(
+    fn report_failure<W: Output, E: Sink>(
         &self,
         number: u64,
         report: &Report,
@@ -365,12 +365,12 @@ impl<S: Store, T: Ticks> ListCheck<'_, S, T> {
                 b": no properly formatted xxHash checksum lines found",
             ]);
         }
-        self.say_summary(report, unverified, &mut streams.out)
+        self.print_summary(report, unverified, &mut streams.out)
     }
 
     // Prints the summary of a list.
     #[tactic(auto, using(crate::proofs::LineEndFacts::line_join, crate::proofs::LineEndFacts::line_more))]
-    fn say_summary<W: Output>(
+    fn print_summary<W: Output>(
         &self,
         report: &Report,
         unverified: &[u8],
@@ -383,13 +383,13 @@ impl<S: Store, T: Ticks> ListCheck<'_, S, T> {
         ensures works { IfOk result (λ _. W.has_failed out.new ≡ false) }
         ensures only { IfErr result (λ stop. stop ≡ Stop.WriteFailed) }
     {
-        self.say_counts(report, out)?;
-        self.say_unverified(report, unverified, out)
+        self.print_counts(report, out)?;
+        self.print_unverified(report, unverified, out)
     }
 
     // Prints `unverified` if `--ignore-missing` is given and no file matches.
     #[tactic(auto, using(crate::proofs::LineEndFacts::unverified_is))]
-    fn say_unverified<W: Output>(
+    fn print_unverified<W: Output>(
         &self,
         report: &Report,
         unverified: &[u8],
@@ -409,7 +409,7 @@ impl<S: Store, T: Ticks> ListCheck<'_, S, T> {
     }
 
     // Prints the numbers of malformed lines, unread files and mismatches, unless no line is well-formed.
-    fn say_counts<W: Output>(&self, report: &Report, out: &mut W) -> Result<(), Stop>
+    fn print_counts<W: Output>(&self, report: &Report, out: &mut W) -> Result<(), Stop>
         requires { W.has_failed out.old ≡ false }
         ensures prints { PrintsLine W.Sink (printed_summary self.now.options report.now)
             out.old out.new result }
@@ -419,19 +419,19 @@ impl<S: Store, T: Ticks> ListCheck<'_, S, T> {
         if report.proper == 0 || self.options.is_status_only {
             return Ok(());
         }
-        say_count(
+        print_count(
             report.improper,
             b" line is improperly formatted\n",
             b" lines are improperly formatted\n",
             out,
         )?;
-        say_count(
+        print_count(
             report.unread,
             b" listed file could not be read\n",
             b" listed files could not be read\n",
             out,
         )?;
-        say_count(
+        print_count(
             report.different,
             b" computed checksum did NOT match\n",
             b" computed checksums did NOT match\n",
@@ -453,7 +453,7 @@ fn is_silent(options: Options, found: &Found) -> bool
 }
 
 // Prints why the file of line `number` of `list` could not be read.
-fn say_unread<'a, W: Output>(
+fn print_unread<'a, W: Output>(
     alloc: Global,
     list: &'a [u8],
     number: u64,
@@ -478,23 +478,23 @@ fn say_unread<'a, W: Output>(
         why,
         b".",
     ];
-    say_line(alloc, &parts, out)
+    print_line(alloc, &parts, out)
 }
 
 /// Reports what is wrong with line `number` of `list`.
-pub fn tell_of_line<E: Sink>(list: &[u8], number: u64, what: &[u8], err: &mut E)
-    ensures { TellsOn E.Sink (one_line (told_of_line list.now number what.now)) err.old err.new }
+pub fn eprint_line_error<E: Sink>(list: &[u8], number: u64, what: &[u8], err: &mut E)
+    ensures { Eprints E.Sink (one_line (line_message list.now number what.now)) err.old err.new }
 {
     let mut digits = Buffer::new();
     let digits = digits.format(number).as_bytes();
-    tell_line(&[list, b":", digits, b": Error: ", what, b"."], err);
+    eprint_line(&[list, b":", digits, b": Error: ", what, b"."], err);
 }
 
 // Maximum length of a line with a count, in bytes.
 const MOST_COUNT_LINE: usize = 80;
 
 // Prints `count` followed by `one` or `more`, unless it is 0.
-fn say_count<W: Output>(count: u64, one: &[u8], more: &[u8], out: &mut W) -> Result<(), Stop>
+fn print_count<W: Output>(count: u64, one: &[u8], more: &[u8], out: &mut W) -> Result<(), Stop>
     requires one { length one.now ≤ 40 }
     requires more { length more.now ≤ 40 }
     requires writer { W.has_failed out.old ≡ false }
@@ -535,52 +535,52 @@ fn word_for<'a>(count: u64, one: &'a [u8], more: &'a [u8]) -> &'a [u8]
 ///
 /// Both errors end the check at once; the results before it are printed. [`Stop::WriteFailed`] if a write to standard
 /// output fails, or failed before, and [`Stop::OutOfMemory`] if memory for a line runs out.
-pub fn check_list<S: Store, T: Ticks, R: Source + Drop, W: Output, E: Sink>(
-    job: &Job<'_, S, T>,
+pub fn check_list<S: Store, T: TimedSink, R: Source + Drop, W: Output, E: Sink>(
+    context: &Context<'_, S, T>,
     name: &[u8],
     source: R,
     streams: &mut Streams<W, E>,
 ) -> Result<bool, Stop>
-    ensures { SaysList (files_of S.Store S.File.Source job.now.store.now) (input_of R.Source source)
+    ensures { SaysList (files_of S.Store S.File.Source context.now.store.now) (input_of R.Source source)
         (effect_of (rules_of W.Sink W.held W.has_lost E.Sink) streams.old streams.new result)
-        job.now.options name.now }
+        context.now.options name.now }
 {
     if streams.out.failed() {
         return Err(Stop::WriteFailed);
     }
     let list = ListCheck {
-        alloc: job.alloc,
-        store: job.store,
-        options: job.options,
-        progress: job.progress,
+        alloc: context.alloc,
+        store: context.store,
+        options: context.options,
+        progress: context.progress,
         name,
     };
-    list.check(job.progress.watch(source), streams)
+    list.check(context.progress.watch(source), streams)
 }
 
 // Checks the list `name`. A list that can't be opened is reported, and fails.
-fn check_named<S: Store, T: Ticks, W: Output, E: Sink>(
-    job: &Job<'_, S, T>,
+fn check_named<S: Store, T: TimedSink, W: Output, E: Sink>(
+    context: &Context<'_, S, T>,
     name: &[u8],
     streams: &mut Streams<W, E>,
 ) -> Result<bool, Stop>
     requires { W.has_failed streams.old.out ≡ false }
     ensures checks { (outcome : ListOutcome)
-        × IsListOutcome (files_of S.Store S.File.Source job.now.store.now) job.now.options.is_little_endian
+        × IsListOutcome (files_of S.Store S.File.Source context.now.store.now) context.now.options.is_little_endian
         name.now outcome
-        × AnswersOutcome job.now.options outcome result
+        × AnswersOutcome context.now.options outcome result
         × EmitsTo (rules_of W.Sink W.held W.has_lost E.Sink)
-        (outcome_events job.now.options name.now outcome)
+        (outcome_events context.now.options name.now outcome)
         streams.old streams.new result }
     ensures works { IfOk result (λ _. W.has_failed streams.new.out ≡ false) }
 {
-    match job.progress.open(job.store, name) {
+    match context.progress.open(context.store, name) {
         Ok(file) => {
             let list = ListCheck {
-                alloc: job.alloc,
-                store: job.store,
-                options: job.options,
-                progress: job.progress,
+                alloc: context.alloc,
+                store: context.store,
+                options: context.options,
+                progress: context.progress,
                 name,
             };
             list.check(file, streams)
@@ -597,21 +597,21 @@ fn check_named<S: Store, T: Ticks, W: Output, E: Sink>(
 /// # Errors
 ///
 /// As [`check_list`], at once. Later lists are not opened.
-pub fn check_lists<S: Store, T: Ticks, W: Output, E: Sink>(
-    job: &Job<'_, S, T>,
+pub fn check_lists<S: Store, T: TimedSink, W: Output, E: Sink>(
+    context: &Context<'_, S, T>,
     names: &[Vec<u8>],
     streams: &mut Streams<W, E>,
 ) -> Result<bool, Stop>
-    ensures { SaysLists (files_of S.Store S.File.Source job.now.store.now)
+    ensures { SaysLists (files_of S.Store S.File.Source context.now.store.now)
         (effect_of (rules_of W.Sink W.held W.has_lost E.Sink) streams.old streams.new result)
-        job.now.options (map (λ name. name.items) names.now) }
+        context.now.options (map (λ name. name.items) names.now) }
 {
     if streams.out.failed() {
         return Err(Stop::WriteFailed);
     }
     let mut all = true;
     for name in names {
-        let good = check_named(job, name, streams)?;
+        let good = check_named(context, name, streams)?;
         all = all && good;
     }
     Ok(all)

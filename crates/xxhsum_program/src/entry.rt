@@ -5,8 +5,8 @@ ghost use Rattle.xxhsum_program.specs.Files.{files_of};
 ghost use Rattle.xxhsum_program.specs.Found.{IsFound};
 
 use crate::outcome::{Reason, value_named};
-use crate::screen::Ticks;
-use crate::watched::ProgressDisplay;
+use crate::terminal::TimedSink;
+use crate::progress_reader::ProgressDisplay;
 use xxhsum_fs::store::Store;
 use xxhsum_line::entry::Entry;
 
@@ -22,7 +22,7 @@ pub(crate) enum Found {
 }
 
 // Hashes the file that the line names, and compares the value. Each read is offered the whole of `buf`.
-pub(crate) fn compare<S: Store, T: Ticks>(
+pub(crate) fn compare<S: Store, T: TimedSink>(
     store: &S,
     progress: ProgressDisplay<T>,
     entry: &Entry,

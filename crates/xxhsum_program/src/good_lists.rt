@@ -2,7 +2,7 @@
 
 ghost use Rattle.xxhsum_program.specs.GoodList.{GoodMeansEqual, OkMeansEqual};
 
-use xxh_io::ends::Source;
+use xxh_io::streams::Source;
 use xxhsum_fs::store::Store;
 use xxhsum_line::laws::laws_of_lines;
 

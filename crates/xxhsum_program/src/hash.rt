@@ -7,19 +7,19 @@ ghost use Rattle.xxhsum_program.specs.HashNames.{SaysInput, SaysNames, name_even
 ghost use Rattle.xxhsum_program.specs.Lines.{PrintsLine, name_messages};
 ghost use Rattle.xxhsum_program.specs.Order.{EmitsOrNone, effect_of, rules_of};
 ghost use Rattle.xxhsum_program.specs.Run.{style_of};
-ghost use Rattle.xxhsum_program.specs.Told.{TellsLines};
-ghost use Rattle.xxhsum_program.specs.Watched.{source_of};
+ghost use Rattle.xxhsum_program.specs.Eprints.{EprintsLines};
+ghost use Rattle.xxhsum_program.specs.ProgressReader.{source_of};
 
-use crate::job::Job;
+use crate::context::Context;
 use crate::outcome::{OFFERED, Outcome, Reason, outcome_of};
-use crate::say::print;
-use crate::screen::Ticks;
+use crate::stdout::print;
+use crate::terminal::TimedSink;
 use crate::stop::Stop;
 use crate::streams::Streams;
-use crate::tell::tell_line;
-use crate::watched::Watched;
+use crate::stderr::eprint_line;
+use crate::progress_reader::ProgressReader;
 use std::alloc::Global;
-use xxh_io::ends::{Sink, Source};
+use xxh_io::streams::{Sink, Source};
 use xxhsum_fs::store::Store;
 use xxhsum_line::printed::{Shape, Style, styled_line};
 use xxhsum_output::output::Output;
@@ -34,8 +34,8 @@ use xxhsum_options::options::Options;
 ///
 /// Both errors end the run at once; the lines before it are written. [`Stop::WriteFailed`] if a write of a line fails,
 /// and [`Stop::OutOfMemory`] if memory for a line runs out.
-pub fn hash_names<S: Store, T: Ticks, W: Output, E: Sink>(
-    job: &Job<'_, S, T>,
+pub fn hash_names<S: Store, T: TimedSink, W: Output, E: Sink>(
+    context: &Context<'_, S, T>,
     names: &[Vec<u8>],
     streams: &mut Streams<W, E>,
 ) -> Result<bool, Stop>
@@ -43,15 +43,15 @@ pub fn hash_names<S: Store, T: Ticks, W: Output, E: Sink>(
 
     // Each name has one outcome, in order. Standard output has the lines of names with a value, and standard error the
     // messages of the others, in one sequence: when a message is written, all lines before it are written, or were lost.
-    ensures { SaysNames (files_of S.Store S.File.Source job.now.store.now)
+    ensures { SaysNames (files_of S.Store S.File.Source context.now.store.now)
         (effect_of (rules_of W.Sink W.held W.has_lost E.Sink) streams.old streams.new result)
-        job.now.options.kind (style_of job.now.options) (map (λ name. name.items) names.now) }
+        context.now.options.kind (style_of context.now.options) (map (λ name. name.items) names.now) }
 {
     let mut buf = [0; OFFERED];
     let mut all = true;
     for name in names {
-        let outcome = outcome_of(job, job.options.kind, name, &mut buf);
-        write_outcome(job.alloc, job.options, name, &outcome, streams)?;
+        let outcome = outcome_of(context, context.options.kind, name, &mut buf);
+        write_outcome(context.alloc, context.options, name, &outcome, streams)?;
         all = all && outcome.is_digested();
     }
     Ok(all)
@@ -65,11 +65,11 @@ pub fn hash_names<S: Store, T: Ticks, W: Output, E: Sink>(
 /// # Errors
 ///
 /// [`Stop::WriteFailed`] if a write of the line fails, and [`Stop::OutOfMemory`] if memory for it runs out.
-pub fn hash_input<R: Source, T: Ticks, W: Output, E: Sink>(
+pub fn hash_input<R: Source, T: TimedSink, W: Output, E: Sink>(
     alloc: Global,
     options: Options,
     name: &[u8],
-    input: &mut Watched<R, T>,
+    input: &mut ProgressReader<R, T>,
     streams: &mut Streams<W, E>,
 ) -> Result<bool, Stop>
     requires reader { R.has_failed (source_of input.old) ≡ false }
@@ -111,7 +111,7 @@ fn write_outcome<W: Output, E: Sink>(
         }
         Outcome::IsDirectory | Outcome::Unread { .. } => {
             streams.release();
-            tell_outcome(name, outcome, streams.messages());
+            eprint_outcome(name, outcome, streams.messages());
             Ok(())
         }
     }
@@ -148,12 +148,12 @@ fn style_of(options: Options) -> Style
 }
 
 /// Reports why a name has no value. Writes nothing for a name that has one.
-pub fn tell_outcome<'a, E: Sink>(name: &'a [u8], outcome: &'a Outcome, err: &mut E)
-    ensures { TellsLines E.Sink (name_messages name.now outcome.now) err.old err.new }
+pub fn eprint_outcome<'a, E: Sink>(name: &'a [u8], outcome: &'a Outcome, err: &mut E)
+    ensures { EprintsLines E.Sink (name_messages name.now outcome.now) err.old err.new }
 {
     match outcome {
         Outcome::Digested { .. } => {}
-        Outcome::IsDirectory => tell_line(&[b"xxhsum: ", name, b": Is a directory "], err),
+        Outcome::IsDirectory => eprint_line(&[b"xxhsum: ", name, b": Is a directory "], err),
         Outcome::Unread { reason } => {
             let parts: [&[u8]; 7] = [
                 b"Error: Could not ",
@@ -164,7 +164,7 @@ pub fn tell_outcome<'a, E: Sink>(name: &'a [u8], outcome: &'a Outcome, err: &mut
                 reason.text(),
                 b". ",
             ];
-            tell_line(&parts, err);
+            eprint_line(&parts, err);
         }
     }
 }

@@ -2,9 +2,9 @@
 
 ghost use Rattle.std.specs.Prelude.{◌≡◌, ◌+◌, ◌-◌, ◌<◌, ◌≤◌, [], false, List, ℕ, length, Ok, None, IfOk, OnOk};
 
-use crate::screen::Ticks;
-use crate::watched::Watched;
-use xxh_io::ends::{Failed, Source};
+use crate::terminal::TimedSink;
+use crate::progress_reader::ProgressReader;
+use xxh_io::streams::{Failed, Source};
 
 const BUFFER: usize = 65536;
 
@@ -26,7 +26,7 @@ pub enum Next {
 /// Reads the lines of a source, one after another.
 #[derive(Drop)]
 pub struct Lines<R, T> {
-    source: Watched<R, T>,
+    source: ProgressReader<R, T>,
     buf: [u8; BUFFER],
     // `buf[start..end]` is buffered.
     start: usize,
@@ -44,13 +44,13 @@ pub struct Lines<R, T> {
     ghost line_in_bounds: { line_end ≤ length buf },
 }
 
-impl<R: Source + Drop, T: Ticks> Lines<R, T> {
+impl<R: Source + Drop, T: TimedSink> Lines<R, T> {
     ghost use Rattle.xxhsum_line.specs.Parts.{Lacks};
     ghost use Rattle.xxhsum_program.specs.LinesView.{HasRead, IsAtEnd, IsBeforeLineFeed, IsGiven, IsHeld, IsNext, IsTaken, ReadsBehind, StopsAt, most_reads_left, waiting};
-    ghost use Rattle.xxhsum_program.specs.Watched.{source_of};
+    ghost use Rattle.xxhsum_program.specs.ProgressReader.{source_of};
 
     /// Returns the lines of a source that has not been read yet.
-    pub fn new(source: Watched<R, T>) -> Lines<R, T>
+    pub fn new(source: ProgressReader<R, T>) -> Lines<R, T>
         ensures { HasRead R.Source (source_of source) [] result }
     {
         Lines {

@@ -4,10 +4,10 @@ ghost use Rattle.std.specs.Prelude.{◌≡◌, ◌<◌, false, length, IfOk, IfE
 ghost use Rattle.xxhsum_program.specs.Files.{files_of};
 ghost use Rattle.xxhsum_program.specs.Outcomes.{Comes, HasNoValue, IsValueOf, reason_of};
 
-use crate::job::Job;
-use crate::screen::Ticks;
-use crate::watched::ProgressDisplay;
-use xxh_io::error::DigestError;
+use crate::context::Context;
+use crate::terminal::TimedSink;
+use crate::progress_reader::ProgressDisplay;
+use xxh_io::digest_error::DigestError;
 use xxh_io::kind::Kind;
 use xxhsum_fs::refusal::Refusal;
 use xxhsum_fs::store::Store;
@@ -101,7 +101,7 @@ impl From<DigestError> for Reason {
 
 /// Opens and hashes the file of this name. Each read is offered the whole of `buf`. An error is the reason why there is
 /// no value.
-pub(crate) fn value_named<S: Store, T: Ticks>(
+pub(crate) fn value_named<S: Store, T: TimedSink>(
     store: &S,
     progress: ProgressDisplay<T>,
     kind: Kind,
@@ -124,19 +124,19 @@ pub(crate) fn value_named<S: Store, T: Ticks>(
 
 /// Opens and hashes the file of this name. Each read is offered the whole of `buf`. Directories are found by
 /// `is_directory` of the store.
-pub fn outcome_of<S: Store, T: Ticks>(
-    job: &Job<'_, S, T>,
+pub fn outcome_of<S: Store, T: TimedSink>(
+    context: &Context<'_, S, T>,
     kind: Kind,
     name: &[u8],
     buf: &mut [u8],
 ) -> Outcome
     requires { 0 < length buf.old }
-    ensures { Comes (files_of S.Store S.File.Source job.now.store.now) kind name.now result }
+    ensures { Comes (files_of S.Store S.File.Source context.now.store.now) kind name.now result }
 {
-    if job.store.is_directory(name) {
+    if context.store.is_directory(name) {
         return Outcome::IsDirectory;
     }
-    match value_named(job.store, job.progress, kind, name, buf) {
+    match value_named(context.store, context.progress, kind, name, buf) {
         Ok(value) => Outcome::Digested { value },
         Err(reason) => Outcome::Unread { reason },
     }

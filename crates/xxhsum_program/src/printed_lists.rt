@@ -5,7 +5,7 @@ ghost use Rattle.xxh_io.specs.declared.script_source.SliceSource.{SliceSource};
 ghost use Rattle.xxhsum_program.specs.PrintedIsGood.{PrintedIsGood};
 ghost use Rattle.xxhsum_program.specs.PrintedList.{ChecksPrinted, FindsPrintedFiles, FindsPrintedLines, Holds, HoldsPrintedLines, ReadsPrintedLines, ShortNamesFit};
 
-use xxh_io::ends::Source;
+use xxh_io::streams::Source;
 use xxh_io::script_source::SliceSource;
 use xxhsum_fs::store::Store;
 

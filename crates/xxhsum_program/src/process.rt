@@ -5,23 +5,23 @@ ghost use Rattle.xxhsum_program.specs.Files.{files_of, input_of};
 ghost use Rattle.xxhsum_program.specs.Joined.{joined};
 ghost use Rattle.xxhsum_program.specs.Order.{effect_of, rules_of};
 ghost use Rattle.xxhsum_program.specs.Run.{Ends, PerformsAs, end_text, status_of, stop_text};
-ghost use Rattle.xxhsum_program.specs.Task.{IsProgram, answer_text, has_none, is_tree, is_well, run_asked, shows_progress, usage_text, waits_for_terminal, wrong_text};
-ghost use Rattle.xxhsum_program.specs.Prelude.{Stop, TellsOn};
+ghost use Rattle.xxhsum_program.specs.Command.{IsProgram, answer_text, has_none, is_tree, is_well, requested_run, shows_progress, usage_text, waits_for_terminal, wrong_text};
+ghost use Rattle.xxhsum_program.specs.Prelude.{Stop, Eprints};
 
 use crate::arguments::last_part;
 use crate::check::{check_list, check_lists};
 use crate::hash::{hash_input, hash_names};
-use crate::job::Job;
-use crate::say::finish;
-use crate::screen::Ticks;
+use crate::context::Context;
+use crate::stdout::finish;
+use crate::terminal::TimedSink;
 use crate::stop::Stop;
 use crate::streams::Streams;
-use crate::tell::{tell, tell_line};
-use crate::usage::{ABOUT, BEFORE, BEHIND, NO_BENCHMARK, TITLE, tell_options};
-use xxh_io::ends::{Sink, Source};
+use crate::stderr::{eprint, eprint_line};
+use crate::usage::{ABOUT, BEFORE, BEHIND, NO_BENCHMARK, TITLE, eprint_options};
+use xxh_io::streams::{Sink, Source};
 use xxhsum_fs::store::Store;
 use xxhsum_output::output::Output;
-use xxhsum_options::options::{Asked, Options};
+use xxhsum_options::options::{ParsedArgs, Options};
 
 // The name of standard input in lines.
 const INPUT: &[u8] = b"stdin";
@@ -32,7 +32,7 @@ const INPUT_BESIDE_NAMES: &[u8] =
 
 /// True for each standard stream that is a terminal.
 #[derive(Clone, Copy, Debug, PartialEq, Eq)]
-pub struct Terminals {
+pub struct Interactive {
     /// Standard input.
     pub input: bool,
     /// Standard error.
@@ -45,29 +45,29 @@ pub struct Console<R, T> {
     /// Standard input.
     pub input: R,
     /// Which of the standard streams are terminals.
-    pub terminals: Terminals,
+    pub interactive: Interactive,
     /// The screen for progress, which is standard error too.
-    pub screen: T,
+    pub terminal: T,
 }
 
 /// Returns the options of the requested run, and the index of the argument at which its names begin.
-pub fn run_asked(asked: Asked) -> Option<(Options, usize)>
-    ensures { result ≡ run_asked asked }
+pub fn requested_run(parsed: ParsedArgs) -> Option<(Options, usize)>
+    ensures { result ≡ requested_run parsed }
 {
-    match asked {
-        Asked::Run {
+    match parsed {
+        ParsedArgs::Run {
             options,
             names_from,
         } => Some((options, names_from)),
-        Asked::Benchmark
-        | Asked::Version
-        | Asked::Help
-        | Asked::WrongOption { .. }
-        | Asked::NulsInList
-        | Asked::WalkBesideLists
-        | Asked::WalkOfNothing
-        | Asked::InputBesideNames
-        | Asked::NumberTooLarge => None,
+        ParsedArgs::Benchmark
+        | ParsedArgs::Version
+        | ParsedArgs::Help
+        | ParsedArgs::WrongOption { .. }
+        | ParsedArgs::NulsInList
+        | ParsedArgs::WalkBesideLists
+        | ParsedArgs::WalkOfNothing
+        | ParsedArgs::InputBesideNames
+        | ParsedArgs::NumberTooLarge => None,
     }
 }
 
@@ -100,74 +100,74 @@ fn is_tree(options: Options) -> bool
 }
 
 /// True if progress is shown: standard error is a terminal, and neither `-q` nor `--status` is given.
-pub fn shows_progress(terminals: Terminals, options: Options) -> bool
-    ensures { result ≡ shows_progress terminals options }
+pub fn shows_progress(interactive: Interactive, options: Options) -> bool
+    ensures { result ≡ shows_progress interactive options }
 {
-    terminals.errors && !options.is_quiet && !options.is_status_only
+    interactive.errors && !options.is_quiet && !options.is_status_only
 }
 
 /// True if standard input would be read from a terminal without `-`.
-pub fn waits_for_terminal(terminals: Terminals, options: Options, names: &[Vec<u8>]) -> bool
-    ensures { result ≡ waits_for_terminal terminals options (map (λ name. name.items) names.now) }
+pub fn waits_for_terminal(interactive: Interactive, options: Options, names: &[Vec<u8>]) -> bool
+    ensures { result ≡ waits_for_terminal interactive options (map (λ name. name.items) names.now) }
 {
-    has_none(names) && !is_tree(options) && !options.takes_terminal && terminals.input
+    has_none(names) && !is_tree(options) && !options.takes_terminal && interactive.input
 }
 
 /// Handles arguments that ask for no run: writes help, version or an error, and returns whether all is well. Writes
 /// nothing for a run.
-pub fn tell_answer<E: Sink>(program: &[u8], words: &[Vec<u8>], asked: Asked, err: &mut E) -> bool
-    ensures well { result ≡ is_well asked }
-    ensures tells { TellsOn E.Sink
-        (answer_text program.now (map (λ word. word.items) words.now) asked) err.old err.new }
+pub fn eprint_answer<E: Sink>(program: &[u8], words: &[Vec<u8>], parsed: ParsedArgs, err: &mut E) -> bool
+    ensures well { result ≡ is_well parsed }
+    ensures reports { Eprints E.Sink
+        (answer_text program.now (map (λ word. word.items) words.now) parsed) err.old err.new }
 {
-    match asked {
-        Asked::Version => {
-            tell_line(&[program, TITLE], err);
+    match parsed {
+        ParsedArgs::Version => {
+            eprint_line(&[program, TITLE], err);
             true
         }
-        Asked::Help => {
-            tell_usage(program, err);
+        ParsedArgs::Help => {
+            eprint_usage(program, err);
             true
         }
-        Asked::Benchmark => {
-            tell_line(&[program, NO_BENCHMARK], err);
+        ParsedArgs::Benchmark => {
+            eprint_line(&[program, NO_BENCHMARK], err);
             false
         }
-        Asked::WrongOption { at } => {
-            tell_wrong(
+        ParsedArgs::WrongOption { at } => {
+            eprint_wrong(
                 &[b"Wrong parameters: '", word_at(words, at), b"'"],
                 program,
                 err,
             );
             false
         }
-        Asked::NulsInList => {
-            tell_wrong(
+        ParsedArgs::NulsInList => {
+            eprint_wrong(
                 &[b"Wrong parameters: '-z' with '-c' or '--audit'"],
                 program,
                 err,
             );
             false
         }
-        Asked::WalkBesideLists => {
-            tell_wrong(
+        ParsedArgs::WalkBesideLists => {
+            eprint_wrong(
                 &[b"Wrong parameters: '-r' with '-c' or lists of names"],
                 program,
                 err,
             );
             false
         }
-        Asked::WalkOfNothing => {
-            tell_wrong(&[b"Wrong parameters: '-r' without a FILE"], program, err);
+        ParsedArgs::WalkOfNothing => {
+            eprint_wrong(&[b"Wrong parameters: '-r' without a FILE"], program, err);
             false
         }
-        Asked::InputBesideNames => {
-            tell(INPUT_BESIDE_NAMES, err);
+        ParsedArgs::InputBesideNames => {
+            eprint(INPUT_BESIDE_NAMES, err);
             false
         }
-        Asked::Run { .. } => false,
-        Asked::NumberTooLarge => {
-            tell(b"Error: numeric value too large \n", err);
+        ParsedArgs::Run { .. } => false,
+        ParsedArgs::NumberTooLarge => {
+            eprint(b"Error: numeric value too large \n", err);
             false
         }
     }
@@ -184,24 +184,24 @@ fn word_at(words: &[Vec<u8>], at: usize) -> &[u8]
 }
 
 /// Reports what is wrong with the arguments, as one line of these parts, and the usage.
-pub fn tell_wrong<E: Sink>(line: &[&[u8]], program: &[u8], err: &mut E)
-    ensures { TellsOn E.Sink (wrong_text (joined line.now) program.now) err.old err.new }
+pub fn eprint_wrong<E: Sink>(line: &[&[u8]], program: &[u8], err: &mut E)
+    ensures { Eprints E.Sink (wrong_text (joined line.now) program.now) err.old err.new }
 {
-    tell_line(line, err);
-    tell(b"\n", err);
-    tell_usage(program, err);
+    eprint_line(line, err);
+    eprint(b"\n", err);
+    eprint_usage(program, err);
 }
 
 // Reports the usage.
-fn tell_usage<E: Sink>(program: &[u8], err: &mut E)
-    ensures { TellsOn E.Sink (usage_text program.now) err.old err.new }
+fn eprint_usage<E: Sink>(program: &[u8], err: &mut E)
+    ensures { Eprints E.Sink (usage_text program.now) err.old err.new }
 {
-    tell_line(&[program, TITLE], err);
-    tell(ABOUT, err);
-    tell_line(&[b"Usage: ", program, b" [OPTION].. [FILE].."], err);
-    tell(BEFORE, err);
-    tell_options(err);
-    tell(BEHIND, err);
+    eprint_line(&[program, TITLE], err);
+    eprint(ABOUT, err);
+    eprint_line(&[b"Usage: ", program, b" [OPTION].. [FILE].."], err);
+    eprint(BEFORE, err);
+    eprint_options(err);
+    eprint(BEHIND, err);
 }
 
 /// Hashes the files of the names, or checks the lists of these names. Returns whether all went well.
@@ -213,35 +213,35 @@ fn tell_usage<E: Sink>(program: &[u8], err: &mut E)
 /// [`Stop::WriteFailed`] if a write to the output fails, and [`Stop::OutOfMemory`] if memory runs out.
 #[tactic(auto, unfolding(crate::specs::Run::PerformsAs))]
 pub fn perform<S, T, R, W, E>(
-    job: &Job<'_, S, T>,
+    context: &Context<'_, S, T>,
     names: &[Vec<u8>],
     input: R,
     streams: &mut Streams<W, E>,
 ) -> Result<bool, Stop>
 where
     S: Store,
-    T: Ticks,
+    T: TimedSink,
     R: Source + Drop,
     W: Output,
     E: Sink,
     requires reader { R.has_failed input ≡ false }
     requires writer { W.has_failed streams.old.out ≡ false }
-    ensures { PerformsAs (files_of S.Store S.File.Source job.now.store.now)
+    ensures { PerformsAs (files_of S.Store S.File.Source context.now.store.now)
         (input_of R.Source input)
         (effect_of (rules_of W.Sink W.held W.has_lost E.Sink) streams.old streams.new result)
-        job.now.options (map (λ name. name.items) names.now) }
+        context.now.options (map (λ name. name.items) names.now) }
 {
-    if job.options.checks {
+    if context.options.checks {
         if has_none(names) {
-            return check_list(job, INPUT, input, streams);
+            return check_list(context, INPUT, input, streams);
         }
-        return check_lists(job, names, streams);
+        return check_lists(context, names, streams);
     }
     if has_none(names) {
-        let mut input = job.progress.watch(input);
-        return hash_input(job.alloc, job.options, INPUT, &mut input, streams);
+        let mut input = context.progress.watch(input);
+        return hash_input(context.alloc, context.options, INPUT, &mut input, streams);
     }
-    hash_names(job, names, streams)
+    hash_names(context, names, streams)
 }
 
 fn has_none(names: &[Vec<u8>]) -> bool
@@ -253,13 +253,13 @@ fn has_none(names: &[Vec<u8>]) -> bool
 // Reports why the program stops, and returns the exit status: 0 if all went well, otherwise 1.
 fn conclude<E: Sink>(done: Result<bool, Stop>, err: &mut E) -> u8
     ensures status { result ≡ status_of done }
-    ensures tells { TellsOn E.Sink (end_text done) err.old err.new }
+    ensures reports { Eprints E.Sink (end_text done) err.old err.new }
 {
     match done {
         Ok(true) => 0,
         Ok(false) => 1,
         Err(stop) => {
-            tell(line_of(stop), err);
+            eprint(line_of(stop), err);
             1
         }
     }

@@ -2,12 +2,12 @@
 
 ghost use Rattle.std.specs.Prelude.{◌≡◌, ◌<◌};
 ghost use Rattle.xxhsum_program.specs.Progress.{Shows, ShowsSometime, begun, bytes_expected, bytes_read, cleared, end_of, is_shown, left_text, progress_line, rate_of, rate_text};
-ghost use Rattle.xxhsum_program.specs.Told.{TellsOn};
+ghost use Rattle.xxhsum_program.specs.Eprints.{Eprints};
 
-use crate::screen::Ticks;
-use crate::tell::{tell, tell_parts};
+use crate::terminal::TimedSink;
+use crate::stderr::{eprint, eprint_parts};
 use itoa::Buffer;
-use xxh_io::ends::Sink;
+use xxh_io::streams::Sink;
 
 // Bytes between two progress lines: 64 MiB.
 const STEP: u64 = 67108864;
@@ -29,7 +29,7 @@ const ENDED: &[u8] = b"\x1b[?7h\r";
 /// Counts the bytes read from a file. At each 64 MiB it shows the count, the rate and, if the size is known, the time
 /// left. If it is off it shows nothing.
 #[derive(Drop)]
-pub struct Meter<E> {
+pub struct Progress<E> {
     end: E,
     is_on: bool,
     count: u64,
@@ -38,16 +38,16 @@ pub struct Meter<E> {
     started: u64,
 }
 
-impl<E: Sink> Meter<E> {
+impl<E: Sink> Progress<E> {
     /// Returns a meter for a file of `size` bytes, if known, whose reading starts at time `started` (ms).
-    pub fn new(end: E, is_on: bool, size: Option<u64>, started: u64) -> Meter<E>
+    pub fn new(end: E, is_on: bool, size: Option<u64>, started: u64) -> Progress<E>
         ensures end { end_of result ≡ end }
         ensures shown { is_shown result ≡ is_on }
         ensures unread { bytes_read result ≡ 0 }
         ensures size { bytes_expected result ≡ size }
         ensures started { begun result ≡ started }
     {
-        Meter {
+        Progress {
             end,
             is_on,
             count: 0,
@@ -60,7 +60,7 @@ impl<E: Sink> Meter<E> {
     pub fn into_end(self) -> E
         ensures { result ≡ end_of self }
     {
-        let Meter { end, .. } = self;
+        let Progress { end, .. } = self;
         end
     }
 
@@ -81,7 +81,7 @@ impl<E: Sink> Meter<E> {
     }
 }
 
-impl<E: Ticks> Meter<E> {
+impl<E: TimedSink> Progress<E> {
     /// Adds `count` bytes read by the time of the screen's clock. A count of 0 is the end of the file and clears the
     /// progress line.
     pub fn show(&mut self, count: usize)
@@ -93,7 +93,7 @@ impl<E: Ticks> Meter<E> {
 }
 
 /// Returns the screen's time (ms), or 0 if progress is off.
-pub(crate) fn time_of<E: Ticks>(end: &E, is_on: bool) -> u64 {
+pub(crate) fn time_of<E: TimedSink>(end: &E, is_on: bool) -> u64 {
     if is_on { end.now() } else { 0 }
 }
 
@@ -106,31 +106,31 @@ fn rate_of(count: u64, millis: u64) -> u64
 
 // Shows `count` if a multiple of 64 MiB lies between `before` and it.
 fn show_between<E: Sink>(before: u64, count: u64, size: Option<u64>, millis: u64, end: &mut E)
-    ensures { TellsOn E.Sink (progress_line size millis before count) end.old end.new }
+    ensures { Eprints E.Sink (progress_line size millis before count) end.old end.new }
 {
     if before / STEP < count / STEP {
         let rate = rate_of(count, millis);
         show_rate(count, rate, end);
         show_left(size, count, rate, end);
-        tell(ENDED, end);
+        eprint(ENDED, end);
     }
 }
 
 // Shows `count` and the rate.
 fn show_rate<E: Sink>(count: u64, rate: u64, end: &mut E)
-    ensures { TellsOn E.Sink (rate_text count rate) end.old end.new }
+    ensures { Eprints E.Sink (rate_text count rate) end.old end.new }
 {
     let mut digits = Buffer::new();
     let mut rate_digits = Buffer::new();
     let number = digits.format(count / MIB).as_bytes();
     let speed = rate_digits.format(rate / KIB).as_bytes();
     let parts: [&[u8]; 6] = [CLEARED, ONE_ROW, number, b" MiB, ", speed, b" MiB/s"];
-    tell_parts(&parts, end);
+    eprint_parts(&parts, end);
 }
 
 // Shows the seconds left, if the size is known.
 fn show_left<E: Sink>(size: Option<u64>, count: u64, rate: u64, end: &mut E)
-    ensures { TellsOn E.Sink (left_text size count rate) end.old end.new }
+    ensures { Eprints E.Sink (left_text size count rate) end.old end.new }
 {
     let Some(size) = size else {
         return;
@@ -139,15 +139,15 @@ fn show_left<E: Sink>(size: Option<u64>, count: u64, rate: u64, end: &mut E)
         let mut digits = Buffer::new();
         let seconds = size.saturating_sub(count) / KIB / rate;
         let number = digits.format(seconds).as_bytes();
-        tell_parts(&[b", ", number, b" s left"], end);
+        eprint_parts(&[b", ", number, b" s left"], end);
     }
 }
 
 // Clears the progress line, if `count` bytes had one.
 fn clear_after<E: Sink>(count: u64, end: &mut E)
-    ensures { TellsOn E.Sink (cleared count) end.old end.new }
+    ensures { Eprints E.Sink (cleared count) end.old end.new }
 {
     if count >= STEP {
-        tell(CLEARED, end);
+        eprint(CLEARED, end);
     }
 }

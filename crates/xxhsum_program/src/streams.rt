@@ -5,8 +5,8 @@ ghost use Rattle.std.specs.Borrow.{sem};
 ghost use Rattle.xxhsum_program.specs.Finish.{IsWritten};
 ghost use Rattle.xxhsum_program.specs.Joined.{joined};
 
-use crate::tell::tell_line;
-use xxh_io::ends::Sink;
+use crate::stderr::eprint_line;
+use xxh_io::streams::Sink;
 use xxhsum_output::output::Output;
 
 /// Standard output and standard error of a run.
@@ -53,7 +53,7 @@ impl<W: Output, E: Sink> Streams<W, E> {
         &mut self.err
     }
 
-    /// Reports the parts as one line, as [`tell_line`] does, after all bytes that were printed before.
+    /// Reports the parts as one line, as [`eprint_line`] does, after all bytes that were printed before.
     ///
     /// The caller shows that no write to standard output has failed.
     pub fn report(&mut self, parts: &[&[u8]])
@@ -63,6 +63,6 @@ impl<W: Output, E: Sink> Streams<W, E> {
         ensures works { W.has_failed self.new.out ≡ false }
     {
         self.release();
-        tell_line(parts, self.messages());
+        eprint_line(parts, self.messages());
     }
 }

@@ -1,12 +1,12 @@
 //! The help and the version.
 
 ghost use Rattle.std.specs.Prelude.{◌≡◌, [], ◌∷◌, map};
-ghost use Rattle.xxhsum_program.specs.Told.{TellsOn};
+ghost use Rattle.xxhsum_program.specs.Eprints.{Eprints};
 ghost use Rattle.xxhsum_options.specs.Table.{letter_text, row_text, rows_text, seen};
 
-use crate::tell::tell_parts;
-use xxh_io::ends::Sink;
-use xxhsum_options::table::{Does, NO_LETTER, ROWS};
+use crate::stderr::eprint_parts;
+use xxh_io::streams::Sink;
+use xxhsum_options::table::{Action, NO_LETTER, ROWS};
 
 // The first line of help and version, after the program's name.
 pub(crate) const TITLE: &[u8] =
@@ -31,25 +31,25 @@ The exit status is 0 if every file was read and matches its checksum, if it has 
 pub(crate) const NO_BENCHMARK: &[u8] = b": this xxhsum has no benchmark";
 
 // Writes the lines of all options in the help.
-pub(crate) fn tell_options<E: Sink>(err: &mut E)
-    ensures { TellsOn E.Sink (rows_text ROWS) err.old err.new }
+pub(crate) fn eprint_options<E: Sink>(err: &mut E)
+    ensures { Eprints E.Sink (rows_text ROWS) err.old err.new }
 {
-    tell_rows(&ROWS, err);
+    eprint_rows(&ROWS, err);
 }
 
 // Writes the lines of these options.
-fn tell_rows<E: Sink>(rows: &[(u8, &str, Does, &str)], err: &mut E)
-    ensures { TellsOn E.Sink (rows_text (map seen rows.now)) err.old err.new }
+fn eprint_rows<E: Sink>(rows: &[(u8, &str, Action, &str)], err: &mut E)
+    ensures { Eprints E.Sink (rows_text (map seen rows.now)) err.old err.new }
 {
     if let Some((row, rest)) = rows.split_first() {
-        tell_row(row.0, row.1.as_bytes(), row.3.as_bytes(), err);
-        tell_rows(rest, err);
+        eprint_row(row.0, row.1.as_bytes(), row.3.as_bytes(), err);
+        eprint_rows(rest, err);
     }
 }
 
 // Writes the line of an option. Options without help text have none.
-fn tell_row<'a, E: Sink>(letter: u8, name: &'a [u8], help: &'a [u8], err: &mut E)
-    ensures { TellsOn E.Sink (row_text letter name.now help.now) err.old err.new }
+fn eprint_row<'a, E: Sink>(letter: u8, name: &'a [u8], help: &'a [u8], err: &mut E)
+    ensures { Eprints E.Sink (row_text letter name.now help.now) err.old err.new }
 {
     if help.len() == 0 {
         return;
@@ -57,7 +57,7 @@ fn tell_row<'a, E: Sink>(letter: u8, name: &'a [u8], help: &'a [u8], err: &mut E
     let short = [b'-', letter, b',', b' '];
     let shown = shown_letter(letter, &short);
     let parts: [&[u8]; 6] = [b"  ", shown, b"--", name, help, b"\n"];
-    tell_parts(&parts, err);
+    eprint_parts(&parts, err);
 }
 
 // Returns the text before the name of an option with this letter.

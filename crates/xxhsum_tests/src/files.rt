@@ -2,7 +2,7 @@
 
 use crate::entry::entry;
 use std::test::Fail;
-use xxh_io::ends::Source;
+use xxh_io::streams::Source;
 use xxh_io::script_source::{ScriptSource, SliceSource};
 use xxhsum_fs::memory::{MemoryEntry, MemoryFiles};
 use xxhsum_fs::refusal::Refusal;

@@ -77,11 +77,11 @@ fn says(
     Ok(match meaning_of(alloc, line.as_bytes(), is_little)? {
         Meaning::Entry(
             Entry {
-                kind: said_kind,
-                value: said_value,
-                name: said_name,
+                kind: entry_kind,
+                value: entry_value,
+                name: entry_name,
             },
-        ) => said_kind == kind && said_value == value && said_name.as_slice() == name,
+        ) => entry_kind == kind && entry_value == value && entry_name.as_slice() == name,
         Meaning::Comment | Meaning::Malformed => false,
     })
 }

@@ -8,13 +8,13 @@ use xxh_io::script_source::ScriptSource;
 use xxhsum_fs::memory::{MemoryEntry, MemoryFiles};
 use xxhsum_program::check::{check_list, check_lists};
 use xxhsum_program::hash::{hash_input, hash_names};
-use xxhsum_program::job::Job;
-use xxhsum_program::process::Terminals;
-use xxhsum_program::screen::Screen;
+use xxhsum_program::context::Context;
+use xxhsum_program::process::Interactive;
+use xxhsum_program::terminal::Terminal;
 use xxhsum_program::stop::Stop;
 use xxhsum_program::streams::Streams;
-use xxhsum_program::watched::ProgressDisplay;
-use xxhsum_options::options::{Asked, Options, asked_by};
+use xxhsum_program::progress_reader::ProgressDisplay;
+use xxhsum_options::options::{ParsedArgs, Options, parse_args};
 
 const LIST: &[u8] =
     b"26c7827d889f6da3  a\ndeadbeefdeadbeef  b\nnonsense\n0123456789abcdef  gone\nXXH3 (b) = d30345fef8ac3570";
@@ -26,7 +26,7 @@ const CHECKED: &[u8] =
 // The message for the file whose second read fails, as in docs/XXHSUM.md.
 const BAD: &[u8] = b"Error: Could not read 'bad': a failure occurred reading the input file. \n";
 
-const NO_TERMINAL: Terminals = Terminals {
+const NO_TERMINAL: Interactive = Interactive {
     input: false,
     errors: false,
 };
@@ -51,8 +51,8 @@ pub(crate) fn names(alloc: Global, all: &[&[u8]]) -> Result<Vec<Vec<u8>>, AllocE
 }
 
 pub(crate) fn options(kind: Kind, words: &[Vec<u8>]) -> Result<Options, AllocError> {
-    match asked_by(kind, words) {
-        Asked::Run { options, .. } => Ok(options),
+    match parse_args(kind, words) {
+        ParsedArgs::Run { options, .. } => Ok(options),
         _ => Err(AllocError),
     }
 }
@@ -63,7 +63,7 @@ fn each_name_has_its_line(rt: HostRuntime) -> Result<(), AllocError> {
     let files = MemoryFiles::new(&entries);
     let names = names(rt.alloc(), &[b"a", b"b", b"d", b"gone"])?;
     let options = options(Kind::X64, &names)?;
-    for (refuses, told) in [
+    for (refuses, message) in [
         (
             0,
             b"xxhsum: d: Is a directory \nError: Could not open 'gone': No such file or directory. \n".as_slice(),
@@ -75,18 +75,18 @@ fn each_name_has_its_line(rt: HostRuntime) -> Result<(), AllocError> {
             ScriptSink::<99>::new(9, 0),
             ScriptSink::<99>::new(99, refuses),
         );
-        let job = Job {
+        let context = Context {
             alloc: rt.alloc(),
             store: &files,
             options,
-            progress: ProgressDisplay::new(Screen::new(rt.stderr(), &rt), NO_TERMINAL, options),
+            progress: ProgressDisplay::new(Terminal::new(rt.stderr(), &rt), NO_TERMINAL, options),
         };
-        let all = hash_names(&job, &names, &mut streams);
+        let all = hash_names(&context, &names, &mut streams);
         assert!(rt; all == Ok(false));
         assert!(rt;
             streams.out.bytes() == b"26c7827d889f6da3  a\n2d83aaba506794c4  b\n".as_slice()
         );
-        assert!(rt; streams.messages().bytes() == told);
+        assert!(rt; streams.messages().bytes() == message);
     }
     Ok(())
 }
@@ -110,13 +110,13 @@ fn a_failed_write_alone_stops_the_run(rt: HostRuntime) -> Result<(), AllocError>
             ScriptSink::<99>::new(9, write_fails),
             ScriptSink::<99>::new(99, 0),
         );
-        let job = Job {
+        let context = Context {
             alloc: rt.alloc(),
             store: &files,
             options,
-            progress: ProgressDisplay::new(Screen::new(rt.stderr(), &rt), NO_TERMINAL, options),
+            progress: ProgressDisplay::new(Terminal::new(rt.stderr(), &rt), NO_TERMINAL, options),
         };
-        let all = hash_names(&job, &names, &mut streams);
+        let all = hash_names(&context, &names, &mut streams);
         assert!(rt; all == answer);
         assert!(rt; streams.out.bytes() == printed);
         if write_fails == 0 {
@@ -129,7 +129,7 @@ fn a_failed_write_alone_stops_the_run(rt: HostRuntime) -> Result<(), AllocError>
 #[test]
 fn standard_input_has_its_line(rt: HostRuntime) -> Result<(), AllocError> {
     let options = options(Kind::X32, &names(rt.alloc(), &[b"--tag"])?)?;
-    for (read_fails, printed, told) in [
+    for (read_fails, printed, message) in [
         (0, b"XXH32 (stdin) = fb0077f9\n".as_slice(), b"".as_slice()),
         (
             2,
@@ -137,13 +137,13 @@ fn standard_input_has_its_line(rt: HostRuntime) -> Result<(), AllocError> {
             b"Error: a failure occurred reading the input file.\n",
         ),
     ] {
-        let progress = ProgressDisplay::new(Screen::new(rt.stderr(), &rt), NO_TERMINAL, options);
+        let progress = ProgressDisplay::new(Terminal::new(rt.stderr(), &rt), NO_TERMINAL, options);
         let mut input = progress.watch(ScriptSource::new(b"hello", &[1, 9], read_fails));
         let mut streams = Streams::new(ScriptSink::<99>::new(99, 0), ScriptSink::<99>::new(99, 0));
         let all = hash_input(rt.alloc(), options, b"stdin", &mut input, &mut streams);
         assert!(rt; all == Ok(read_fails == 0));
         assert!(rt; streams.out.bytes() == printed);
-        assert!(rt; streams.messages().bytes() == told);
+        assert!(rt; streams.messages().bytes() == message);
     }
     Ok(())
 }
@@ -153,15 +153,15 @@ fn a_list_is_checked(rt: HostRuntime) -> Result<(), AllocError> {
     let entries = entries();
     let files = MemoryFiles::new(&entries);
     let options = options(Kind::X64, &names(rt.alloc(), &[b"-c", b"-w"])?)?;
-    let job = Job {
+    let context = Context {
         alloc: rt.alloc(),
         store: &files,
         options,
-        progress: ProgressDisplay::new(Screen::new(rt.stderr(), &rt), NO_TERMINAL, options),
+        progress: ProgressDisplay::new(Terminal::new(rt.stderr(), &rt), NO_TERMINAL, options),
     };
     let mut streams = Streams::new(ScriptSink::<300>::new(300, 0), ScriptSink::<99>::new(99, 0));
     let source = ScriptSource::new(LIST, &[7, 999], 0);
-    let good = check_list(&job, b"L", source, &mut streams);
+    let good = check_list(&context, b"L", source, &mut streams);
     assert!(rt; good == Ok(false));
     assert!(rt; streams.out.bytes() == CHECKED);
     assert!(rt;
@@ -170,7 +170,7 @@ fn a_list_is_checked(rt: HostRuntime) -> Result<(), AllocError> {
     );
     let lists = names(rt.alloc(), &[b"L"])?;
     let mut streams = Streams::new(ScriptSink::<300>::new(300, 0), ScriptSink::<99>::new(99, 0));
-    let good = check_lists(&job, &lists, &mut streams);
+    let good = check_lists(&context, &lists, &mut streams);
     assert!(rt; good == Ok(false));
     assert!(rt; streams.out.bytes() == CHECKED);
     Ok(())

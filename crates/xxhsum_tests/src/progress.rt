@@ -9,10 +9,10 @@ use xxh_io::kind::Kind;
 use xxh_io::script_sink::ScriptSink;
 use xxh_io::script_source::ScriptSource;
 use xxhsum_fs::memory::MemoryFiles;
-use xxhsum_program::process::Terminals;
-use xxhsum_program::progress::Meter;
-use xxhsum_program::screen::Screen;
-use xxhsum_program::watched::ProgressDisplay;
+use xxhsum_program::process::Interactive;
+use xxhsum_program::progress::Progress;
+use xxhsum_program::terminal::Terminal;
+use xxhsum_program::progress_reader::ProgressDisplay;
 
 const MIB: usize = 1048576;
 
@@ -49,11 +49,11 @@ const READS: &[(&[(usize, u64)], Option<u64>, bool, &str)] = &[
 #[test]
 fn long_reads_are_shown(rt: HostRuntime) {
     for (reads, size, is_on, want) in READS {
-        let mut meter = Meter::new(ScriptSink::<300>::new(300, 0), *is_on, *size, 500);
+        let mut progress = Progress::new(ScriptSink::<300>::new(300, 0), *is_on, *size, 500);
         for (count, now) in *reads {
-            meter.show_at(*count, *now);
+            progress.show_at(*count, *now);
         }
-        let end = meter.into_end();
+        let end = progress.into_end();
         assert!(rt; end.bytes() == want.as_bytes(), "{want}");
     }
 }
@@ -66,12 +66,12 @@ fn watched_files_give_what_they_have(rt: HostRuntime) -> Result<(), AllocError> 
         entry(b"d", ScriptSource::new(b"", &[], 1), true),
     ];
     let files = MemoryFiles::new(&entries);
-    let terminals = Terminals {
+    let interactive = Interactive {
         input: false,
         errors: true,
     };
     let options = options(Kind::X64, &names(rt.alloc(), &[])?)?;
-    let progress = ProgressDisplay::new(Screen::new(rt.stderr(), &rt), terminals, options);
+    let progress = ProgressDisplay::new(Terminal::new(rt.stderr(), &rt), interactive, options);
     for (name, want) in [
         (b"a".as_slice(), b"hel".as_slice()),
         (b"d", b"fails"),

@@ -1,6 +1,6 @@
 //! Buffered lines: the writes of the inner sink.
 
-use xxh_io::ends::Sink;
+use xxh_io::streams::Sink;
 use xxh_io::script_sink::ScriptSink;
 use xxh_io::write::write_all;
 use xxhsum_output::output::Output;

@@ -4,7 +4,7 @@ use std::alloc::Global;
 use std::test::Fail;
 use xxh_io::kind::Kind;
 use xxhsum_options::name::default_kind;
-use xxhsum_options::options::{Asked, asked_by};
+use xxhsum_options::options::{ParsedArgs, parse_args};
 
 // Arguments, separated by a space, as they were passed to `xxhsum`, and how it parsed them.
 const TABLE: &[(&str, &str)] = &[
@@ -72,25 +72,25 @@ const TABLE: &[(&str, &str)] = &[
 ];
 
 // Returns the meaning of the arguments, in the words of the table.
-fn told(alloc: Global, asked: Asked) -> Result<String, Fail> {
-    let (options, names_from) = match asked {
-        Asked::Run {
+fn message(alloc: Global, parsed: ParsedArgs) -> Result<String, Fail> {
+    let (options, names_from) = match parsed {
+        ParsedArgs::Run {
             options,
             names_from,
         } => (options, names_from),
-        Asked::Benchmark => return Ok(String::from_str(alloc, "benchmark")?),
-        Asked::Version => return Ok(String::from_str(alloc, "version")?),
-        Asked::Help => return Ok(String::from_str(alloc, "help")?),
-        Asked::WrongOption { at } => {
+        ParsedArgs::Benchmark => return Ok(String::from_str(alloc, "benchmark")?),
+        ParsedArgs::Version => return Ok(String::from_str(alloc, "version")?),
+        ParsedArgs::Help => return Ok(String::from_str(alloc, "help")?),
+        ParsedArgs::WrongOption { at } => {
             let mut text = String::from_str(alloc, "wrong ")?;
             write!(text, "{at}")?;
             return Ok(text);
         }
-        Asked::NulsInList => return Ok(String::from_str(alloc, "nuls")?),
-        Asked::WalkBesideLists => return Ok(String::from_str(alloc, "lists")?),
-        Asked::WalkOfNothing => return Ok(String::from_str(alloc, "nothing")?),
-        Asked::InputBesideNames => return Ok(String::from_str(alloc, "beside")?),
-        Asked::NumberTooLarge => return Ok(String::from_str(alloc, "large")?),
+        ParsedArgs::NulsInList => return Ok(String::from_str(alloc, "nuls")?),
+        ParsedArgs::WalkBesideLists => return Ok(String::from_str(alloc, "lists")?),
+        ParsedArgs::WalkOfNothing => return Ok(String::from_str(alloc, "nothing")?),
+        ParsedArgs::InputBesideNames => return Ok(String::from_str(alloc, "beside")?),
+        ParsedArgs::NumberTooLarge => return Ok(String::from_str(alloc, "large")?),
     };
     let mut text = String::from_str(
         alloc,
@@ -127,7 +127,7 @@ fn words_ask_for_what_xxhsum_takes_them_for(rt: HostRuntime) -> Result<(), Fail>
         for word in line.split(' ') {
             words.push(word.as_bytes().to_vec(rt.alloc())?)?;
         }
-        let found = told(rt.alloc(), asked_by(Kind::X64, words.as_slice()))?;
+        let found = message(rt.alloc(), parse_args(Kind::X64, words.as_slice()))?;
         assert_eq!(rt; found.as_str(), *want, "at {line}");
     }
     Ok(())

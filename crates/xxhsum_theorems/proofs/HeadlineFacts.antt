@@ -1,12 +1,12 @@
 -- Lemmas on a run over names and on the check of a list.
 use Rattle.std.proofs.Common.{◌≡◌, ℕ, Bool, true, false, List, [], ◌∷◌, ◌++◌, Option, Some, None, inl, inr, refl, sym, ap, ◌∙◌, subst, append-nil, if◌then◌else◌, ◌↔◌, Result, Ok, Err}
-use Rattle.xxhsum_program.specs.Prelude.{AllByRecursion, EachHas, Files, Input, Kind, Options, Shape, SourceRules, StoreRules, Style, TellsOn, Took, concat, files_of, input_of, one_line}
+use Rattle.xxhsum_program.specs.Prelude.{AllByRecursion, EachHas, Files, Input, Kind, Options, Shape, SourceRules, StoreRules, Style, Eprints, Took, concat, files_of, input_of, one_line}
 use Rattle.xxhsum_program.specs.declared.outcome.Outcome.{Outcome}
 use Rattle.xxhsum_program.specs.declared.outcome.Outcome.TheVariants.{Digested, IsDirectory, Unread}
 use Rattle.xxhsum_program.specs.declared.stop.Stop.{Stop}
 use Rattle.xxhsum_program.specs.declared.stop.Stop.TheVariants.{OutOfMemory, WriteFailed}
 use Rattle.xxhsum_theorems.specs.Headline.{IsLine, IsLineAtMost, IsLineOrMessage, PrintsBeginning}
-use Rattle.xxhsum_line.specs.Laws.{PrintedIsOneLine, ToldIsOneLine}
+use Rattle.xxhsum_line.specs.Laws.{PrintedIsOneLine, MessageIsOneLine}
 use Rattle.xxhsum_line.specs.Printed.{line_of, text_of}
 use Rattle.xxhsum_program.specs.CheckList.{EndsAs, SaysList}
 use Rattle.xxhsum_program.specs.Findings.{Finding, Ignored, Improper, Proper, TooLong}
@@ -19,7 +19,7 @@ use Rattle.xxhsum_program.specs.declared.streams.Streams.{Streams}
 use Rattle.xxhsum_program.specs.Outcomes.{Comes, are_digested}
 use Rattle.xxhsum_program.specs.PrintedIsGood.{plain_style}
 use Rattle.xxhsum_program.specs.Run.{status_of}
-use Rattle.xxhsum_program.specs.Said.{finding_events, found_text, improper_text, is_silent, list_events, too_long_text}
+use Rattle.xxhsum_program.specs.ListMessages.{finding_events, found_text, improper_text, is_silent, list_events, too_long_text}
 use Rattle.xxhsum_program.proofs.OrderFacts.{emits-prints, emits-refuses, emits-reports}
 
 pub status : (done : Result Bool Stop) → (status_of done ≡ 0) ↔ (done ≡ Ok true)
@@ -33,7 +33,7 @@ pub each-name-once : {S F W E : Type 0} (files : Files S F) (rules : StreamRules
     → SaysNames files (effect_of rules old new (Ok all)) kind style names
     → (outcomes : List Outcome) × EachHas (Comes files kind) names outcomes
     × (let events = lines_of (name_events kind style) names outcomes in
-    Took rules.writing (printed_of events) old.out new.out × TellsOn rules.telling (reported_of events) old.err new.err)
+    Took rules.writing (printed_of events) old.out new.out × Eprints rules.reporting (reported_of events) old.err new.err)
     × (all ≡ are_digested outcomes)
 each-name-once files rules kind style names old new all (outcomes, done, rest, parts, each, (none, is), emits) =
     let whole : done ≡ names = sym (append-nil done) ∙ ap (λ r. done ++ r) (sym none) ∙ sym parts in
@@ -46,14 +46,14 @@ each-name-once files rules kind style names old new all (outcomes, done, rest, p
 
 -- ---- lines
 
-one-message : ToldIsOneLine → (text : List ℕ) (events : List Event) → events ≡ Reported text ∷ [] → IsLineOrMessage events
-one-message told text events is = (Reported text, is, told text)
+one-message : MessageIsOneLine → (text : List ℕ) (events : List Event) → events ≡ Reported text ∷ [] → IsLineOrMessage events
+one-message message text events is = (Reported text, is, message text)
 
-pub line_or_message : PrintedIsOneLine → ToldIsOneLine → (kind : Kind) (shape : Shape) (name : List ℕ) (outcome : Outcome) → IsLineOrMessage (name_events kind (plain_style shape) name outcome)
-line_or_message printed told kind shape name (Digested value) =
+pub line_or_message : PrintedIsOneLine → MessageIsOneLine → (kind : Kind) (shape : Shape) (name : List ℕ) (outcome : Outcome) → IsLineOrMessage (name_events kind (plain_style shape) name outcome)
+line_or_message printed message kind shape name (Digested value) =
     (Printed (line_of kind shape value name), refl, (text_of kind shape value name, refl, printed kind shape value name))
-line_or_message printed told kind shape name IsDirectory = one-message told _ _ refl
-line_or_message printed told kind shape name (Unread reason) = one-message told _ _ refl
+line_or_message printed message kind shape name IsDirectory = one-message message _ _ refl
+line_or_message printed message kind shape name (Unread reason) = one-message message _ _ refl
 
 line-if : (test : Bool) (event : Event) → IsLine event → IsLineAtMost (if test then event ∷ [] else [])
 line-if true event is = inr (event, refl, is)
@@ -63,12 +63,12 @@ line-unless : (test : Bool) (event : Event) → IsLine event → IsLineAtMost (i
 line-unless true event is = inl refl
 line-unless false event is = inr (event, refl, is)
 
-pub findings_are_lines : ToldIsOneLine → (options : Options) (list : List ℕ) (number : ℕ) (finding : Finding) → IsLineAtMost (finding_events options list number finding)
-findings_are_lines told options list number Ignored = inl refl
-findings_are_lines told options list number Improper = line-if options.warns (Reported (improper_text list number)) (told (improper_text list number))
-findings_are_lines told options list number TooLong = inr (Reported (too_long_text list number), refl, told (too_long_text list number))
-findings_are_lines told options list number (Proper name found) =
-    let text = found_text list number name found in line-unless (is_silent options found) (Printed (one_line text)) (told text)
+pub findings_are_lines : MessageIsOneLine → (options : Options) (list : List ℕ) (number : ℕ) (finding : Finding) → IsLineAtMost (finding_events options list number finding)
+findings_are_lines message options list number Ignored = inl refl
+findings_are_lines message options list number Improper = line-if options.warns (Reported (improper_text list number)) (message (improper_text list number))
+findings_are_lines message options list number TooLong = inr (Reported (too_long_text list number), refl, message (too_long_text list number))
+findings_are_lines message options list number (Proper name found) =
+    let text = found_text list number name found in line-unless (is_silent options found) (Printed (one_line text)) (message text)
 
 -- ---- runs that stop
 

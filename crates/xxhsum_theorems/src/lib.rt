@@ -5,7 +5,7 @@
 
 ghost use Rattle.std.specs.Prelude.{◌≡◌, ◌↔◌, ◌++◌, Bool, List, ℕ, Option, Result, true, codes, IsPermutation};
 ghost use Rattle.std.specs.List.{AllByRecursion, flat_map};
-ghost use Rattle.xxhsum_program.specs.Prelude.{EachHas, Kind, Options, Refused, Shape, Style, TellsOn, Took};
+ghost use Rattle.xxhsum_program.specs.Prelude.{EachHas, Kind, Options, Refused, Shape, Style, Eprints, Took};
 ghost use Rattle.xxhsum_program.specs.declared.streams.Streams.{Streams};
 ghost use Rattle.xxhsum_program.specs.declared.outcome.Outcome.{Outcome};
 ghost use Rattle.xxhsum_program.specs.declared.stop.Stop.{Stop};
@@ -30,9 +30,9 @@ ghost use Rattle.xxhsum_program.specs.Files.{files_of, input_of};
 ghost use Rattle.xxhsum_program.specs.Order.{EmitsAll, EmitsTo, Event, effect_of, printed_of, reported_of, rules_of};
 ghost use Rattle.xxhsum_program.specs.Streams.{err_of};
 ghost use Rattle.xxhsum_program.specs.Run.{status_of};
-ghost use Rattle.xxhsum_program.specs.Said.{finding_events, list_events};
+ghost use Rattle.xxhsum_program.specs.ListMessages.{finding_events, list_events};
 
-use xxh_io::ends::{Sink, Source};
+use xxh_io::streams::{Sink, Source};
 use xxhsum_audit::laws::laws_of_audits;
 use xxhsum_fs::store::Store;
 use xxhsum_line::laws::laws_of_lines;
@@ -61,7 +61,7 @@ pub fn each_name_once<S: Store, W: Sink, E: Sink>()
         × EachHas (Comes (files_of S.Store S.File.Source store) kind) names outcomes
         × (let events = lines_of (name_events kind style) names outcomes in
         Took W.Sink (printed_of events) old.out new.out
-        × TellsOn E.Sink (reported_of events) (err_of old) (err_of new))
+        × Eprints E.Sink (reported_of events) (err_of old) (err_of new))
         × (all ≡ are_digested outcomes) }
 {}
 
@@ -71,17 +71,17 @@ pub fn each_stream<W: Sink, E: Sink>()
     ensures ends { (held : W → List ℕ) (has_lost : W → Bool) (events : List Event)
         → (old new : Streams W E) → EmitsAll (rules_of W.Sink held has_lost E.Sink) events old new
         → Took W.Sink (printed_of events) old.out new.out
-        × TellsOn E.Sink (reported_of events) (err_of old) (err_of new) }
+        × Eprints E.Sink (reported_of events) (err_of old) (err_of new) }
     ensures stops { (held : W → List ℕ) (has_lost : W → Bool) (events : List Event)
         → (old new : Streams W E)
         → EmitsTo {T = Bool} (rules_of W.Sink held has_lost E.Sink) events old new (Err WriteFailed)
         → Refused W.Sink (printed_of events) old.out new.out
-        × TellsOn E.Sink (reported_of events) (err_of old) (err_of new) }
+        × Eprints E.Sink (reported_of events) (err_of old) (err_of new) }
 {}
 
 /// Whatever bytes names have, each message and each printed result is one line, so no name can forge one, for example
 /// one that reports another file as `OK`. The outcome of a name is one line and no message, or one message and no line.
-/// A line of a list has the same, or neither. Each message (`Reported`, `Finds`, `OnlyTells`, `Reports`), each line of
+/// A line of a list has the same, or neither. Each message (`Reported`, `Finds`, `OnlyReports`, `Reports`), each line of
 /// an audit, and the line that no file was verified are `one_line` of a text.
 #[tactic(auto, using(crate::proofs::HeadlineFacts::line_or_message, crate::proofs::HeadlineFacts::findings_are_lines))]
 pub fn one_line_a_name()

@@ -10,7 +10,7 @@ use crate::words::{Halves, IntoU64};
 use twox_words::copies::{copy_front, copy_short};
 
 impl StateInMemory {
-    ghost use Rattle.twox_plain.specs.Record32.{StandsFor, after_write, finish_value};
+    ghost use Rattle.twox_plain.specs.Record32.{Represents, after_write, finish_value};
 
     /// Puts the record's fields in their places.
     ///
@@ -122,7 +122,7 @@ impl StateInMemory {
         requires { usage_of self.old < 16 }
         ensures exact { record_of self.new ≡ after_write (record_of self.old) input.now }
         ensures message { (m : List ℕ)
-            → StandsFor (record_of self.old) m → StandsFor (record_of self.new) (m ++ input.now) }
+            → Represents (record_of self.old) m → Represents (record_of self.new) (m ++ input.now) }
         ensures seed { self.new.seed ≡ self.old.seed }
         ensures in_range { usage_of self.new < 16 }
     {
@@ -213,7 +213,7 @@ impl StateInMemory {
     #[inline(always)]
     pub fn finish(&self) -> u32
         requires { usage_of self.now < 16 }
-        ensures message { (m : List ℕ) → StandsFor (record_of self.now) m
+        ensures message { (m : List ℕ) → Represents (record_of self.now) m
             → result ≡ xxh32 self.now.seed m }
         ensures exact { result ≡ finish_value (record_of self.now) }
     {

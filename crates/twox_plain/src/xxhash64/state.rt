@@ -10,7 +10,7 @@ use crate::words::IntoU64;
 use twox_words::copies::{copy_front, copy_short};
 
 impl StateInMemory {
-    ghost use Rattle.twox_plain.specs.Record64.{StandsFor, after_write, finish_value};
+    ghost use Rattle.twox_plain.specs.Record64.{Represents, after_write, finish_value};
 
     /// Puts the record's fields in their places.
     ///
@@ -99,7 +99,7 @@ impl StateInMemory {
         requires { usage_of self.old < 32 }
         ensures exact { record_of self.new ≡ after_write (record_of self.old) input.now }
         ensures message { (m : List ℕ)
-            → StandsFor (record_of self.old) m → StandsFor (record_of self.new) (m ++ input.now) }
+            → Represents (record_of self.old) m → Represents (record_of self.new) (m ++ input.now) }
         ensures seed { self.new.seed ≡ self.old.seed }
         ensures in_range { usage_of self.new < 32 }
     {
@@ -146,7 +146,7 @@ impl StateInMemory {
     #[inline(always)]
     pub fn finish(&self) -> u64
         requires { usage_of self.now < 32 }
-        ensures message { (m : List ℕ) → StandsFor (record_of self.now) m
+        ensures message { (m : List ℕ) → Represents (record_of self.now) m
             → result ≡ xxh64 self.now.seed m }
         ensures exact { result ≡ finish_value (record_of self.now) }
     {

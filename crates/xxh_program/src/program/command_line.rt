@@ -4,15 +4,15 @@ ghost use Rattle.std.specs.Prelude.{◌≡◌, ◌≤◌, false, Result, Ok};
 ghost use Rattle.xxh_io.specs.Command.{command_of, NumberFits};
 ghost use Rattle.xxh_io.specs.declared.fault.Fault.{Fault};
 ghost use Rattle.xxh_program.specs.Filter.{filter_of};
-ghost use Rattle.xxh_program.specs.Run.{DigestsInput, Performs, Tells, status_after};
+ghost use Rattle.xxh_program.specs.Run.{DigestsInput, Performs, ReportsError, status_after};
 
 use crate::program::blocks::digest_blocks_by;
 use crate::program::engine::digest_reading;
 use crate::program::states::{MAX_READS, resume_32, resume_64, save_32, save_64};
 use std::alloc::Global;
 use xxh_io::command::{Command, parse};
-use xxh_io::ends::{Sink, Source};
-use xxh_io::error::DigestError;
+use xxh_io::streams::{Sink, Source};
+use xxh_io::digest_error::DigestError;
 use xxh_io::fault::{Fault, conclude};
 
 // Size of the read buffer for digests and lines of blocks: larger than the buffer of a process's input, so that the
@@ -57,7 +57,7 @@ pub fn run<R: Source, W: Sink, E: Sink>(
     ensures { (answer : Result (Unit {0}) Fault)
         × Performs (filter_of R.Source W.Sink r.old r.new out.old out.new)
         (command_of words.now) answer
-        × Tells E.Sink answer err.old err.new
+        × ReportsError E.Sink answer err.old err.new
         × (result ≡ status_after answer) }
 {
     let answer = match parse(words) {

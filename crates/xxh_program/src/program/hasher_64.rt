@@ -3,18 +3,18 @@
 ghost use Rattle.std.specs.Prelude.{◌≡◌, ◌≢◌, ◌↔◌, ◌⊎◌, ◌++◌, true, false, List, ℕ, length, Err, IfOk};
 ghost use Rattle.std.specs.List.{concat};
 ghost use Rattle.twox_hash.specs.Xxh64.{xxh64};
-ghost use Rattle.twox_hash.specs.Record64.{StandsFor};
+ghost use Rattle.twox_hash.specs.Record64.{Represents};
 ghost use Rattle.xxh_io.specs.Digest.{ReadsTo, Writes};
 ghost use Rattle.xxh_io.specs.Hex.{hex_line};
 
 use crate::program::engine::{OFFERED, digest_on, read_all};
 use crate::program::feed::Feed;
 use twox_hash::XxHash64;
-use xxh_io::ends::{Sink, Source};
-use xxh_io::error::DigestError;
+use xxh_io::streams::{Sink, Source};
+use xxh_io::digest_error::DigestError;
 
 impl Feed for XxHash64 {
-    ghost follows = { λ h seed m. (h.seed ≡ seed) × StandsFor h m };
+    ghost follows = { λ h seed m. (h.seed ≡ seed) × Represents h m };
 
     ghost has_seed = { λ h seed. h.seed ≡ seed };
 
@@ -43,7 +43,7 @@ pub fn digest_from_64<R: Source, W: Sink>(
     // What was read and what was written, for every list of bytes that the hasher represents.
     ensures digests { (pieces : List (List ℕ))
         × ReadsTo R.Source max_reads pieces r.old r.new result
-        × ((m : List ℕ) → StandsFor hasher m
+        × ((m : List ℕ) → Represents hasher m
         → Writes W.Sink (hex_line 16 (xxh64 hasher.seed (m ++ concat pieces))) w.old w.new result) }
 
     // When each stream fails, and when nothing is written, whatever the hasher represents.
@@ -67,7 +67,7 @@ pub fn read_on_64<R: Source>(
     ensures reads { (pieces : List (List ℕ))
         × ReadsTo R.Source max_reads pieces r.old r.new result
         × IfOk result (λ after. (after.seed ≡ hasher.seed)
-        × ((m : List ℕ) → StandsFor hasher m → StandsFor after (m ++ concat pieces))) }
+        × ((m : List ℕ) → Represents hasher m → Represents after (m ++ concat pieces))) }
     ensures read_failed { (result ≡ Err DigestError.ReadFailed) ↔ (R.has_failed r.new ≡ true) }
     ensures never_writes { result ≢ Err DigestError.WriteFailed }
 {

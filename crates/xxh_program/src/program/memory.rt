@@ -6,8 +6,8 @@ ghost use Rattle.xxh_io.specs.Script.{sink_bytes, sink_fail_at};
 ghost use Rattle.xxh_program.specs.Kind.{digits_of, value_of};
 
 use crate::program::engine::digest;
-use xxh_io::ends::Sink;
-use xxh_io::error::DigestError;
+use xxh_io::streams::Sink;
+use xxh_io::digest_error::DigestError;
 use xxh_io::kind::Kind;
 use xxh_io::script_sink::ScriptSink;
 use xxh_io::script_source::SliceSource;

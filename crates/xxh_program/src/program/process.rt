@@ -9,7 +9,7 @@ ghost use Rattle.xxh_io.specs.declared.from_write.FromWrite.{FromWrite};
 ghost use Rattle.xxh_io.specs.FromWrite.{has_write_failed, writer_of};
 ghost use Rattle.xxh_io.specs.Process.{Asks, EndsAs, command_asked};
 ghost use Rattle.xxh_program.specs.Filter.{filter_of};
-ghost use Rattle.xxh_program.specs.Run.{Performs, Tells, status_after};
+ghost use Rattle.xxh_program.specs.Run.{Performs, ReportsError, status_after};
 
 use crate::program::command_line::run;
 use std::alloc::{AllocError, Global};
@@ -18,8 +18,8 @@ use std::io::{Read, Write};
 use std::rt::Env;
 use xxh_io::arguments::{argument_fault, words_after_name};
 use xxh_io::buffered::Buffered;
-use xxh_io::ends::{Failed, Sink, Source};
-use xxh_io::error::DigestError;
+use xxh_io::streams::{Failed, Sink, Source};
+use xxh_io::digest_error::DigestError;
 use xxh_io::fault::{Fault, conclude};
 use xxh_io::from_read::FromRead;
 use xxh_io::from_write::FromWrite;
@@ -87,7 +87,7 @@ fn run_arguments<R: Source, W: Write, E: Sink>(
         (command_asked asked) ran
         × EndsAs ran answer
         × Keeps (W.contents (writer_of written)) (W.contents (writer_of out.new))
-        × Tells E.Sink answer err.old err.new
+        × ReportsError E.Sink answer err.old err.new
         × (result ≡ status_after answer)) }
 {
     match words_after_name(alloc, args) {

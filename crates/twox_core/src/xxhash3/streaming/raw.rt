@@ -39,12 +39,12 @@ impl<S: FixedBuffer> RawHasherCore<S> {
     ghost use Rattle.twox_core.specs.CoreView.{total_of, done_of, buffered_of};
     ghost use Rattle.twox_core.specs.AfterWrite.{core_after_write};
     ghost use Rattle.twox_core.specs.Finish.{core_finish};
-    ghost use Rattle.twox_core.specs.StandsFor.{StandsFor, TakesPiece};
+    ghost use Rattle.twox_core.specs.Represents.{Represents, TakesPiece};
 
     /// Creates a stream of no bytes.
     #[tactic(auto, using(crate::proofs::StreamFacts::stands_fresh))]
     pub fn new(secret_buffer: SecretBuffer<S>) -> RawHasherCore<S>
-        ensures { StandsFor S.bytes result secret_buffer.seed (S.bytes secret_buffer.secret) [] }
+        ensures { Represents S.bytes result secret_buffer.seed (S.bytes secret_buffer.secret) [] }
     {
         RawHasherCore {
             secret_buffer,
@@ -79,10 +79,10 @@ impl<S: FixedBuffer> RawHasherCore<S> {
     /// with only a secret, that secret and the seed 0.
     #[inline]
     pub fn finish<F: Finalize + Drop>(&self, finalize: F) -> F::Output
-        ensures short { (seed : Option ℕ) (s m : List ℕ) → StandsFor S.bytes self.now seed s m
+        ensures short { (seed : Option ℕ) (s m : List ℕ) → Represents S.bytes self.now seed s m
             → length m ≤ 240
             → result ≡ F.small_of finalize (short_secret seed s) (stream_seed seed) m }
-        ensures long { (seed : Option ℕ) (s m : List ℕ) → StandsFor S.bytes self.now seed s m
+        ensures long { (seed : Option ℕ) (s m : List ℕ) → Represents S.bytes self.now seed s m
             → 240 < length m
             → result ≡ F.large_of finalize (stream_accumulators s m) (stream_block m) (last_stripe m) s (counted (length m)) }
         ensures exact { result
@@ -95,10 +95,10 @@ impl<S: FixedBuffer> RawHasherCore<S> {
     /// kernel.
     #[inline]
     pub fn finish_with<F: Finalize + Drop>(&self, v: impl Vector, finalize: F) -> F::Output
-        ensures short { (seed : Option ℕ) (s m : List ℕ) → StandsFor S.bytes self.now seed s m
+        ensures short { (seed : Option ℕ) (s m : List ℕ) → Represents S.bytes self.now seed s m
             → length m ≤ 240
             → result ≡ F.small_of finalize (short_secret seed s) (stream_seed seed) m }
-        ensures long { (seed : Option ℕ) (s m : List ℕ) → StandsFor S.bytes self.now seed s m
+        ensures long { (seed : Option ℕ) (s m : List ℕ) → Represents S.bytes self.now seed s m
             → 240 < length m
             → result ≡ F.large_of finalize (stream_accumulators s m) (stream_block m) (last_stripe m) s (counted (length m)) }
         ensures exact { result
@@ -113,7 +113,7 @@ impl<S: FixedBuffer> RawHasherCore<S> {
     #[tactic(auto, using(crate::proofs::StreamFacts::stands_count))]
     pub fn total_len(&self) -> u64
         ensures exact { result ≡ total_of self.now }
-        ensures message { (seed : Option ℕ) (s m : List ℕ) → StandsFor S.bytes self.now seed s m
+        ensures message { (seed : Option ℕ) (s m : List ℕ) → Represents S.bytes self.now seed s m
             → result ≡ counted (length m) }
     {
         self.state.total_bytes
@@ -125,7 +125,7 @@ impl<S: FixedBuffer> RawHasherCore<S> {
     #[tactic(auto, using(crate::proofs::StreamFacts::stands_all))]
     pub fn stripes_done(&self) -> u64
         ensures exact { result ≡ done_of self.now }
-        ensures all { (seed : Option ℕ) (s m : List ℕ) → StandsFor S.bytes self.now seed s m
+        ensures all { (seed : Option ℕ) (s m : List ℕ) → Represents S.bytes self.now seed s m
             → length m < 2 ^ 64
             → 64 * result + buffered_of self.now ≡ length m }
     {
@@ -137,11 +137,11 @@ impl<S: FixedBuffer> RawHasherCore<S> {
     pub fn buffered(&self) -> usize
         ensures exact { result ≡ buffered_of self.now }
         ensures within { result ≤ BUFFERED_BYTES }
-        ensures none { (seed : Option ℕ) (s : List ℕ) → StandsFor S.bytes self.now seed s []
+        ensures none { (seed : Option ℕ) (s : List ℕ) → Represents S.bytes self.now seed s []
             → result ≡ 0 }
-        ensures some { (seed : Option ℕ) (s m : List ℕ) → StandsFor S.bytes self.now seed s m
+        ensures some { (seed : Option ℕ) (s m : List ℕ) → Represents S.bytes self.now seed s m
             → 0 < length m → 0 < result }
-        ensures all { (seed : Option ℕ) (s m : List ℕ) → StandsFor S.bytes self.now seed s m
+        ensures all { (seed : Option ℕ) (s m : List ℕ) → Represents S.bytes self.now seed s m
             → length m < 2 ^ 64
             → 64 * done_of self.now + result ≡ length m }
     {
@@ -152,7 +152,7 @@ impl<S: FixedBuffer> RawHasherCore<S> {
     #[tactic(auto, using(crate::proofs::StreamFacts::stands_secret))]
     pub fn into_secret(self) -> S
         ensures exact { result ≡ self.key.secret }
-        ensures message { (seed : Option ℕ) (s m : List ℕ) → StandsFor S.bytes self seed s m
+        ensures message { (seed : Option ℕ) (s m : List ℕ) → Represents S.bytes self seed s m
             → S.bytes result ≡ s }
     {
         let RawHasherCore {
@@ -164,7 +164,7 @@ impl<S: FixedBuffer> RawHasherCore<S> {
 }
 
 impl<S: ClonedBuffer> Clone for RawHasherCore<S> {
-    ghost use Rattle.twox_core.specs.StandsFor.{IsCopy};
+    ghost use Rattle.twox_core.specs.Represents.{IsCopy};
 
     ghost is_clone = { λ a b. IsCopy S.FixedBuffer.bytes a b };
 
@@ -186,7 +186,7 @@ impl<A: Allocator> AllocRawHasher<A> {
     ghost use Rattle.std.specs.Prelude.{◌≡◌, [], ◌<◌, ◌≤◌, length, IfOk, MatchResult};
     ghost use Rattle.std.specs.Box.{boxed_slice_items};
     ghost use Rattle.twox_core.specs.Secret.{default_secret, derived_secret};
-    ghost use Rattle.twox_core.specs.StandsFor.{StandsFor};
+    ghost use Rattle.twox_core.specs.Represents.{Represents};
 
     /// Creates a stream with the seed 0 and the default secret.
     ///
@@ -194,7 +194,7 @@ impl<A: Allocator> AllocRawHasher<A> {
     ///
     /// `AllocError` if out of memory.
     pub fn allocate_default(alloc: A) -> Result<AllocRawHasher<A>, AllocError>
-        ensures { IfOk result (λ h. StandsFor boxed_slice_items h (Some 0) default_secret []) }
+        ensures { IfOk result (λ h. Represents boxed_slice_items h (Some 0) default_secret []) }
     {
         Ok(RawHasherCore::new(SecretBuffer::allocate_default(alloc)?))
     }
@@ -206,7 +206,7 @@ impl<A: Allocator> AllocRawHasher<A> {
     /// `AllocError` if out of memory.
     pub fn allocate_with_seed(alloc: A, seed: u64) -> Result<AllocRawHasher<A>, AllocError>
         ensures { let s = derived_secret seed in
-            IfOk result (λ h. StandsFor boxed_slice_items h (Some seed) s []) }
+            IfOk result (λ h. Represents boxed_slice_items h (Some seed) s []) }
     {
         Ok(RawHasherCore::new(SecretBuffer::allocate_with_seed(alloc, seed)?))
     }
@@ -221,7 +221,7 @@ impl<A: Allocator> AllocRawHasher<A> {
         secret: BoxedSlice<u8, A>,
     ) -> Result<AllocRawHasher<A>, SecretTooShortError<BoxedSlice<u8, A>>>
         ensures { MatchResult result
-            (λ h. (136 ≤ length (boxed_slice_items secret)) × StandsFor boxed_slice_items h (Some seed) (boxed_slice_items secret) [])
+            (λ h. (136 ≤ length (boxed_slice_items secret)) × Represents boxed_slice_items h (Some seed) (boxed_slice_items secret) [])
             (λ e. (length (boxed_slice_items secret) < 136) × (e ≡ secret)) }
     {
         let secret_buffer = SecretBuffer::allocate_with_seed_and_secret(seed, secret)?;
@@ -237,7 +237,7 @@ impl<A: Allocator> AllocRawHasher<A> {
         secret: BoxedSlice<u8, A>,
     ) -> Result<AllocRawHasher<A>, SecretTooShortError<BoxedSlice<u8, A>>>
         ensures { let s = boxed_slice_items secret in
-            MatchResult result (λ h. (136 ≤ length s) × StandsFor boxed_slice_items h None s [])
+            MatchResult result (λ h. (136 ≤ length s) × Represents boxed_slice_items h None s [])
             (λ e. (length s < 136) × (e ≡ secret)) }
     {
         let secret_buffer = SecretBuffer::allocate_with_secret(secret)?;

@@ -1,7 +1,7 @@
 use Rattle.std.proofs.Common.{rules, ◌∷◌, ◌++◌, ◌&&◌, [], ap, append-nil, append_assoc, drop, length, refl, subst, sym, take, ◌-◌, ◌∙◌}
-use Rattle.xxhsum_app.proofs.Prelude.{TellsLines, files_of, items_of, lines-more, list_all-push, missing_in, missing_one, new_in, new_one, settled_in, settled_one, take_rest, tells-nothing, texts_of}
+use Rattle.xxhsum_app.proofs.Prelude.{EprintsLines, files_of, items_of, lines-more, list_all-push, missing_in, missing_one, new_in, new_one, matched_in, matched_one, take_rest, reports-nothing, texts_of}
 use Rattle.xxhsum_audit.specs.Side.{by_path, lines_of, names_of, path_side}
-use Rattle.xxhsum_app.specs.Rows.{AreRows, first_of, is_read, told_in, told_of}
+use Rattle.xxhsum_app.specs.Rows.{AreRows, first_of, is_read, messages_in, row_messages}
 use Rattle.xxhsum_app.proofs.RowFacts.{fails-rows, first-push, flat-push, rows-more}
 use Rattle.xxhsum_app.proofs.digests.digests_of.Goals as goal
 
@@ -11,8 +11,8 @@ loop-side-init g c = record {
   done = [];
   parts = refl;
   are = refl;
-  holds = record { settled = search rules; gone = search rules; come = search rules; all = refl };
-  tells = tells-nothing g.E.Sink c.args.err.now;
+  holds = record { matched = search rules; removed = search rules; added = search rules; all = refl };
+  reports = reports-nothing g.E.Sink c.args.err.now;
 }
 
 pub loop-side-preserved : goal.loop-side-preserved
@@ -28,34 +28,34 @@ loop-side-preserved g c =
     let left = by_path (items_of (drop (lines_of c.in-Some.side) lines)) (texts_of (drop (names_of c.in-Some.side) names)) in
     let behind = ap (λ l. by_path (items_of l) (texts_of (drop (names_of c.in-Some.side) names))) fewer
     ∙ ap (λ l. by_path (items_of (take (length lines - c.lines.result) (drop c.lines.result lines))) (texts_of l)) others in
-    let added = c.in_ok-add_side.ensures in
-    let row = added.0 in
-    let grows = added.2 in
+    let row_added = c.in_ok-add_side.ensures in
+    let row = row_added.0 in
+    let grows = row_added.2 in
     record {
       rows = rows ++ row ∷ [];
       done = so_far.done ++ side ∷ [];
       parts = so_far.parts ∙ ap (λ s. so_far.done ++ s) c.in-Some.ensures.is ∙ sym (append_assoc so_far.done (side ∷ []) left)
           ∙ ap (λ s. (so_far.done ++ side ∷ []) ++ s) behind;
-      are = rows-more (files_of g.S.Store g.S.File.Source c.args.job.now.store.now) kind so_far.done rows side row so_far.are added.1;
+      are = rows-more (files_of g.S.Store g.S.File.Source c.args.context.now.store.now) kind so_far.done rows side row so_far.are row_added.1;
       holds = record {
-        settled = grows.0 ∙ ap (λ f. f ++ settled_in (first_of kind row)) so_far.holds.settled ∙ sym (first-push settled_one kind rows row);
-        gone = grows.1 ∙ ap (λ f. f ++ missing_in (first_of kind row)) so_far.holds.gone ∙ sym (first-push missing_one kind rows row);
-        come = grows.2 ∙ ap (λ f. f ++ new_in (first_of kind row)) so_far.holds.come ∙ sym (first-push new_one kind rows row);
+        matched = grows.0 ∙ ap (λ f. f ++ matched_in (first_of kind row)) so_far.holds.matched ∙ sym (first-push matched_one kind rows row);
+        removed = grows.1 ∙ ap (λ f. f ++ missing_in (first_of kind row)) so_far.holds.removed ∙ sym (first-push missing_one kind rows row);
+        added = grows.2 ∙ ap (λ f. f ++ new_in (first_of kind row)) so_far.holds.added ∙ sym (first-push new_one kind rows row);
         all = grows.3 ∙ ap (λ all. all && is_read row) so_far.holds.all ∙ sym (list_all-push is_read rows row);
       };
-      tells = subst (λ texts. TellsLines g.E.Sink texts c.args.err.now c.add_side.new.err) (sym (flat-push told_of rows row))
-          (lines-more g.E.Sink (told_in rows) (told_of row) _ _ _ so_far.tells added.3);
+      reports = subst (λ texts. EprintsLines g.E.Sink texts c.args.err.now c.add_side.new.err) (sym (flat-push row_messages rows row))
+          (lines-more g.E.Sink (messages_in rows) (row_messages row) _ _ _ so_far.reports row_added.3);
     }
 
 pub returns : goal.returns
 returns g c =
     let so_far = c.loop-side.invariant in
     let all = sym (so_far.parts ∙ ap (λ s. so_far.done ++ s) c.in_default.ensures ∙ append-nil so_far.done) in
-    (so_far.rows, subst (λ s. AreRows (files_of g.S.Store g.S.File.Source c.args.job.now.store.now) c.args.kind s so_far.rows) all so_far.are, so_far.holds, so_far.tells)
+    (so_far.rows, subst (λ s. AreRows (files_of g.S.Store g.S.File.Source c.args.context.now.store.now) c.args.kind s so_far.rows) all so_far.are, so_far.holds, so_far.reports)
 
 pub returns-in_err-add_side : goal.returns-in_err-add_side
 returns-in_err-add_side g c =
     let so_far = c.loop-side.invariant in
     let left = by_path (items_of c.loop-side.lines_left.now) (texts_of c.loop-side.names_left.now) in
     fails-rows _ _ c.from_residual.result c.from_residual.ensures.0
-    (so_far.rows, (so_far.done, left, so_far.parts, so_far.are, rw append-nil at (lines-more g.E.Sink (told_in so_far.rows) [] _ _ _ so_far.tells c.in_err-add_side.ensures)))
+    (so_far.rows, (so_far.done, left, so_far.parts, so_far.are, rw append-nil at (lines-more g.E.Sink (messages_in so_far.rows) [] _ _ _ so_far.reports c.in_err-add_side.ensures)))

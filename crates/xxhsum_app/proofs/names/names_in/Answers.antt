@@ -1,5 +1,5 @@
 use Rattle.xxhsum_app.proofs.Prelude.{ArePartsOf, map-more}
-use Rattle.xxhsum_app.proofs.SaidFacts.{give-more}
+use Rattle.xxhsum_app.proofs.ReadListFacts.{give-more}
 use Rattle.xxhsum_app.proofs.names.names_in.Goals as goal
 
 pub loop-text-preserved : goal.loop-text-preserved

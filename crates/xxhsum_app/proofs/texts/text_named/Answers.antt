@@ -10,4 +10,4 @@ returns-in-Ok g c =
 pub returns-in-Err : goal.returns-in-Err
 returns-in-Err g c =
     let refusal = c.in-Err.refusal in
-    (unopened_text c.args.name.now refusal, inl (refusal, c.in-Err.ensures.refuses, refl), c.tell_unopened.ensures)
+    (unopened_text c.args.name.now refusal, inl (refusal, c.in-Err.ensures.refuses, refl), c.eprint_unopened.ensures)

@@ -1,6 +1,6 @@
 use Rattle.std.proofs.Common.{rules}
 use Rattle.xxhsum_app.proofs.Prelude.{refl, unread_text}
-use Rattle.xxhsum_app.proofs.WatchedTextFacts.{inner-breaks, inner-text}
+use Rattle.xxhsum_app.proofs.ProgressTextFacts.{inner-breaks, inner-text}
 use Rattle.xxhsum_app.proofs.texts.text_of.Goals as goal
 
 pub returns-in-Some : goal.returns-in-Some
@@ -9,4 +9,4 @@ returns-in-Some g c =
 
 pub returns : goal.returns
 returns g c =
-    (unread_text c.args.name.now, (inner-breaks g.R.Source c.args.source (c.read_text.new.source, search rules), refl), c.tell_unread.ensures)
+    (unread_text c.args.name.now, (inner-breaks g.R.Source c.args.source (c.read_text.new.source, search rules), refl), c.eprint_unread.ensures)

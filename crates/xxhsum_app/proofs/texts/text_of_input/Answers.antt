@@ -5,5 +5,5 @@ use Rattle.xxhsum_app.proofs.texts.text_of_input.Goals as goal
 pub returns-in_default : goal.returns-in_default
 returns-in_default g c =
     let source = source_of c.watch.result in
-    let lost = lost-is g.E.Sink (λ text. HasText g.R.Source source text.items) (λ told. Breaks g.R.Source source × (told ≡ unread_text input_name)) c.args.err.now c.text_of.new.err c.in_ok-text.field-0 c.in_default.is c.in_ok-text.ensures in
+    let lost = lost-is g.E.Sink (λ text. HasText g.R.Source source text.items) (λ message. Breaks g.R.Source source × (message ≡ unread_text input_name)) c.args.err.now c.text_of.new.err c.in_ok-text.field-0 c.in_default.is c.in_ok-text.ensures in
     (lost.0, (subst (λ from. Breaks g.R.Source from) c.watch.ensures.source lost.1.0, lost.1.1), lost.2)

@@ -1,6 +1,6 @@
 use Rattle.xxhsum_app.specs.Messages.{messages_of}
-use Rattle.xxhsum_app.proofs.Prelude.{[], ◌&&◌, ◌++◌, ◌∙◌, ◌∷◌, ◌≡◌, MatchResult, ap, append-nil, is-err, lines-more, list_all-push, map, map-append, option_to_list, refl, reverse, subst, sym, tells-nothing, true}
-use Rattle.xxhsum_app.specs.Prelude.{OutOfMemory, TellsLines}
+use Rattle.xxhsum_app.proofs.Prelude.{[], ◌&&◌, ◌++◌, ◌∙◌, ◌∷◌, ◌≡◌, MatchResult, ap, append-nil, is-err, lines-more, list_all-push, map, map-append, option_to_list, refl, reverse, subst, sym, reports-nothing, true}
+use Rattle.xxhsum_app.specs.Prelude.{OutOfMemory, EprintsLines}
 use Rattle.xxhsum_app.proofs.RowFacts.{flat-push}
 use Rattle.xxhsum_app.proofs.VisitFacts.{reverse-push, visits-more}
 use Rattle.xxhsum_app.specs.Walk.{Visits, WalksAll, WalksSome, below, closed_in, closed_of, file_of, given, is_open, place_of, tree_of, waiting_in}
@@ -10,9 +10,9 @@ pub returns-in_err-put_names : goal.returns-in_err-put_names
 returns-in_err-put_names g c =
     let names = map (λ name. name.items) c.args.names.now in
     let is = is-err c.from_residual.result OutOfMemory c.from_residual.ensures.1 in
-    subst (λ r. MatchResult r (λ walked. WalksAll (tree_of g.S.Store g.S.Folders c.args.store.now) (messages_of g.E.Sink c.args.err.now c.args.err.now) names (map (λ file. file.items) walked.files.items) walked.are_all)
+    subst (λ r. MatchResult r (λ walked. WalksAll (tree_of g.S.Store g.S.Folders c.args.store.now) (messages_of g.E.Sink c.args.err.now c.args.err.now) names (map (λ file. file.items) walked.files.items) walked.is_complete)
     (WalksSome (tree_of g.S.Store g.S.Folders c.args.store.now) (messages_of g.E.Sink c.args.err.now c.args.err.now) names))
-    (sym is) ([], map given names, refl, refl, tells-nothing g.E.Sink c.args.err.now)
+    (sym is) ([], map given names, refl, refl, reports-nothing g.E.Sink c.args.err.now)
 
 pub loop-init : goal.loop-init
 loop-init g c = record {
@@ -20,18 +20,18 @@ loop-init g c = record {
   visits = c.in_ok-put_names.ensures ∙ ap (λ w. map (below [] true) (map (λ name. name.items) c.args.names.now) ++ waiting_in w) c.new-waiting.ensures.items ∙ append-nil _;
   files = ap (map (λ file. file.items)) c.new.ensures.items;
   all = refl;
-  tells = tells-nothing g.E.Sink c.args.err.now;
+  reports = reports-nothing g.E.Sink c.args.err.now;
 }
 
-pub returns-in_err-see : goal.returns-in_err-see
-returns-in_err-see g c =
+pub returns-in_err-visit : goal.returns-in_err-visit
+returns-in_err-visit g c =
     let so_far = c.loop.invariant in
     let names = map (λ name. name.items) c.args.names.now in
-    let stop = c.in_err-see.field-0.0 in
-    let is = is-err c.from_residual-in_err-see.result stop c.from_residual-in_err-see.ensures.1 in
-    subst (λ r. MatchResult r (λ walked. WalksAll (tree_of g.S.Store g.S.Folders c.args.store.now) (messages_of g.E.Sink c.args.err.now c.see.new.err) names (map (λ file. file.items) walked.files.items) walked.are_all)
-    (WalksSome (tree_of g.S.Store g.S.Folders c.args.store.now) (messages_of g.E.Sink c.args.err.now c.see.new.err) names))
-    (sym is) (so_far.trace, waiting_in c.loop.waiting.items, c.in_err-see.ensures.0, so_far.visits, subst (λ e. TellsLines g.E.Sink (closed_in so_far.trace) c.args.err.now e) (sym c.in_err-see.ensures.1) so_far.tells)
+    let stop = c.in_err-visit.field-0.0 in
+    let is = is-err c.from_residual-in_err-visit.result stop c.from_residual-in_err-visit.ensures.1 in
+    subst (λ r. MatchResult r (λ walked. WalksAll (tree_of g.S.Store g.S.Folders c.args.store.now) (messages_of g.E.Sink c.args.err.now c.visit.new.err) names (map (λ file. file.items) walked.files.items) walked.is_complete)
+    (WalksSome (tree_of g.S.Store g.S.Folders c.args.store.now) (messages_of g.E.Sink c.args.err.now c.visit.new.err) names))
+    (sym is) (so_far.trace, waiting_in c.loop.waiting.items, c.in_err-visit.ensures.0, so_far.visits, subst (λ e. EprintsLines g.E.Sink (closed_in so_far.trace) c.args.err.now e) (sym c.in_err-visit.ensures.1) so_far.reports)
 
 pub loop-preserved : goal.loop-preserved
 loop-preserved g c =
@@ -39,7 +39,7 @@ loop-preserved g c =
     let names = map (λ name. name.items) c.args.names.now in
     let left = c.pop.new.self.items in
     let place = c.in-Some.place in
-    let sees = c.in_ok-see.ensures in
+    let sees = c.in_ok-visit.ensures in
     let seen = sees.0 in
     let popped : c.loop.waiting.items ≡ left ++ place ∷ [] = c.pop.ensures.items ∙ ap (λ o. left ++ option_to_list o) c.in-Some.is in
     let first : waiting_in c.loop.waiting.items ≡ place_of place ∷ waiting_in left = ap waiting_in popped ∙ ap reverse (map-append place_of left (place ∷ [])) ∙ reverse-push (map place_of left) (place_of place) in
@@ -50,5 +50,5 @@ loop-preserved g c =
       visits = subst (λ w. Visits (tree_of g.S.Store g.S.Folders c.args.store.now) (map given names) (so_far.trace ++ seen ∷ []) w) (sym sees.2) visits;
       files = sees.3 ∙ ap (λ files. files ++ file_of seen) so_far.files ∙ sym (flat-push file_of so_far.trace seen);
       all = sees.4 ∙ ap (λ all. all && is_open seen) so_far.all ∙ sym (list_all-push is_open so_far.trace seen);
-      tells = subst (λ texts. TellsLines g.E.Sink texts c.args.err.now c.see.new.err) (sym (flat-push closed_of so_far.trace seen)) (lines-more g.E.Sink (closed_in so_far.trace) (closed_of seen) _ _ _ so_far.tells sees.5);
+      reports = subst (λ texts. EprintsLines g.E.Sink texts c.args.err.now c.visit.new.err) (sym (flat-push closed_of so_far.trace seen)) (lines-more g.E.Sink (closed_in so_far.trace) (closed_of seen) _ _ _ so_far.reports sees.5);
     }

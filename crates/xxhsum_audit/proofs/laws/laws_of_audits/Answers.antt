@@ -1,4 +1,4 @@
-use Rattle.xxhsum_audit.proofs.AuditFacts.{copies_the_first, has_none_twice, is_one_report, leaves_no_copy, leaves_no_move, tells_each_line_once, tells_each_name_once, tells_right}
+use Rattle.xxhsum_audit.proofs.AuditFacts.{copies_the_first, has_no_duplicate, is_one_report, leaves_no_copy, leaves_no_move, tells_each_line_once, tells_each_name_once, tells_right}
 use Rattle.xxhsum_audit.proofs.CountFacts.{counts_add_up}
 use Rattle.xxhsum_audit.proofs.EqualFacts.{same_means_equal}
 use Rattle.xxhsum_audit.proofs.laws.laws_of_audits.Goals as goal
@@ -7,7 +7,7 @@ pub returns : goal.returns
 returns c = record {
   lines = tells_each_line_once;
   names = tells_each_name_once;
-  none_twice = has_none_twice;
+  no_duplicate = has_no_duplicate;
   right = tells_right;
   no_move = leaves_no_move;
   no_copy = leaves_no_copy;

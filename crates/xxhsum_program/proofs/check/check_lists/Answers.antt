@@ -25,7 +25,7 @@ loop-name-preserved g c =
     let good = c.in_ok-good.good in
     let checked = rw c.deref.ensures.value at c.in_ok-good.ensures.checks in
     let outcome = checked.0 in
-    let options = c.args.job.now.options in
+    let options = c.args.context.now.options in
     let longer : map (λ name. name.items) (take (k + 1) c.args.names.now) ≡ names ++ name ∷ [] =
     map-more (λ name. name.items) c.args.names.now k c.name-item.result c.loop-name-test.true c.name-item.is in
     rw longer record {
@@ -52,7 +52,7 @@ returns-in_err-good g c =
     let stop = c.in_err-good.field-0.0 in
     let checked = rw c.deref.ensures.value at c.in_err-good.ensures.checks in
     let outcome = checked.0 in
-    let options = c.args.job.now.options in
+    let options = c.args.context.now.options in
     let rules = rules_of g.W.Sink g.W.Output.held g.W.Output.has_lost g.E.Sink in
     let old = c.args.streams.now in
     let mid = c.loop-name.streams in

@@ -5,7 +5,7 @@ use Rattle.xxhsum_program.proofs.check.check_named.Goals as goal
 pub returns-in-Ok-clause-checks : goal.returns-in-Ok-clause-checks
 returns-in-Ok-clause-checks g c =
     let checks = c.check.ensures.checks in
-    (Checked checks.0 checks.1, (source_of c.in-Ok.file, c.in-Ok.ensures.opens, checks.2), answers-outcome c.args.job.now.options checks.0 checks.1 c.check.result checks.3, checks.4)
+    (Checked checks.0 checks.1, (source_of c.in-Ok.file, c.in-Ok.ensures.opens, checks.2), answers-outcome c.args.context.now.options checks.0 checks.1 c.check.result checks.3, checks.4)
 
 pub returns-in-Err-clause-checks : goal.returns-in-Err-clause-checks
 returns-in-Err-clause-checks g c =

@@ -1,6 +1,6 @@
 use Rattle.xxhsum_program.proofs.Prelude.{Err, Ok, PrintsLine, refl, rules_of, streams_of, style_of, styled_line, subst}
 use Rattle.xxhsum_program.proofs.HashFacts.{input-stops, is-err}
-use Rattle.xxhsum_program.proofs.ToldFacts.{tells-nothing}
+use Rattle.xxhsum_program.proofs.EprintFacts.{reports-nothing}
 use Rattle.xxhsum_program.proofs.hash.hash_input.Goals as goal
 
 pub returns-in-Err : goal.returns-in-Err
@@ -13,7 +13,7 @@ pub returns-in_ok-print_value-in-Ok : goal.returns-in_ok-print_value-in-Ok
 returns-in_ok-print_value-in-Ok g c =
     let read = c.in-Ok.ensures.value in
     let took = rw read.2 at c.in_ok-print_value-in-Ok.ensures.prints in
-    (read.0, Ok c.in-Ok.value, read.1, refl, (streams_of c.print_value.new.out c.args.streams.now.err, (took, tells-nothing g.E.Sink c.args.streams.now.err), (refl, refl)))
+    (read.0, Ok c.in-Ok.value, read.1, refl, (streams_of c.print_value.new.out c.args.streams.now.err, (took, reports-nothing g.E.Sink c.args.streams.now.err), (refl, refl)))
 
 pub returns-in_err-print_value-in-Ok : goal.returns-in_err-print_value-in-Ok
 returns-in_err-print_value-in-Ok g c =

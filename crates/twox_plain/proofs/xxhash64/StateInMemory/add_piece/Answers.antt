@@ -1,6 +1,6 @@
 use Rattle.twox_plain.proofs.Prelude.{◌++◌, ◌+◌, ◌-◌, ◌≡◌, arith, length, length-take-le, refl, subst, sym, take}
 use Rattle.twox_plain.specs.Core64.{core_after_stripes}
-use Rattle.twox_plain.specs.Record64.{StandsFor, parts, after_write}
+use Rattle.twox_plain.specs.Record64.{Represents, parts, after_write}
 use Rattle.twox_plain.specs.StateInMemory64.{record_of, after_rest}
 use Rattle.twox_plain.specs.declared.xxhash64.SavedState.{SavedState}
 use Rattle.twox_plain.proofs.BlockStateFacts.{after_piece_short, after_piece_full, after_piece_empty}
@@ -21,7 +21,7 @@ returns-then-used-input-lt-BYTES_IN_STRIPE-clause-exact c =
 
 pub returns-then-used-input-lt-BYTES_IN_STRIPE-clause-message : goal.returns-then-used-input-lt-BYTES_IN_STRIPE-clause-message
 returns-then-used-input-lt-BYTES_IN_STRIPE-clause-message c = λ m stands.
-    subst (λ (s : SavedState). StandsFor s (m ++ c.args.input.now)) (sym (returns-then-used-input-lt-BYTES_IN_STRIPE-clause-exact c)) (after_write_stands (record_of c.args.self.now) m c.args.input.now (omega arith) stands)
+    subst (λ (s : SavedState). Represents s (m ++ c.args.input.now)) (sym (returns-then-used-input-lt-BYTES_IN_STRIPE-clause-exact c)) (after_write_stands (record_of c.args.self.now) m c.args.input.now (omega arith) stands)
 
 pub returns-clause-exact : goal.returns-clause-exact
 unfolding after_write after_rest
@@ -38,4 +38,4 @@ returns-clause-exact c =
 
 pub returns-clause-message : goal.returns-clause-message
 returns-clause-message c = λ m stands.
-    subst (λ (s : SavedState). StandsFor s (m ++ c.args.input.now)) (sym (returns-clause-exact c)) (after_write_stands (record_of c.args.self.now) m c.args.input.now (omega arith) stands)
+    subst (λ (s : SavedState). Represents s (m ++ c.args.input.now)) (sym (returns-clause-exact c)) (after_write_stands (record_of c.args.self.now) m c.args.input.now (omega arith) stands)

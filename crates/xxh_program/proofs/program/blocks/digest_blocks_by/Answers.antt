@@ -1,7 +1,7 @@
 use Rattle.std.proofs.Common.{◌≡◌, ℕ, inl, ◌<◌, List, [], ◌∷◌, ◌++◌, length, Ok, Err, IfErr, inr, ◌≤◌, ◌∙◌, take, sym, ap, subst, arith, length-take, length-append, rules, Result}
 use Rattle.std.specs.List.{concat}
-use Rattle.xxh_io.specs.declared.error.DigestError.{DigestError}
-use Rattle.xxh_io.specs.declared.error.DigestError.TheVariants.{ReadFailed, WriteFailed, TooLong}
+use Rattle.xxh_io.specs.declared.digest_error.DigestError.{DigestError}
+use Rattle.xxh_io.specs.declared.digest_error.DigestError.TheVariants.{ReadFailed, WriteFailed, TooLong}
 use Rattle.xxh_io.specs.Pieces.{Pieces}
 use Rattle.xxh_io.specs.Digest.{Writes, Took, Refused}
 use Rattle.xxh_io.specs.Rules.{SourceRules, SinkRules}

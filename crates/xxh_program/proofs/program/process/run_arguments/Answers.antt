@@ -2,9 +2,9 @@ use Rattle.std.proofs.Common.{◌≡◌, Ok, Err, map, string_bytes, refl, sym, 
 use Rattle.xxh_io.specs.declared.fault.Fault.{Fault}
 use Rattle.xxh_io.specs.declared.fault.Fault.TheVariants.{OutOfMemory}
 use Rattle.xxh_io.specs.Process.{AreWords, EndsAs}
-use Rattle.xxh_program.specs.Run.{Tells}
+use Rattle.xxh_program.specs.Run.{ReportsError}
 use Rattle.std.proofs.KnownBytes.{Keeps-refl}
-use Rattle.xxh_io.proofs.ProcessFacts.{no-fault, told-nothing, ends-itself}
+use Rattle.xxh_io.proofs.ProcessFacts.{no-fault, message-nothing, ends-itself}
 use Rattle.xxh_program.proofs.program.process.run_arguments.Goals as goal
 
 pub returns-in-0 : goal.returns-in-0
@@ -12,11 +12,11 @@ returns-in-0 g c =
     let ran = c.run.ensures in
     let words : AreWords (map string_bytes c.args.args.now) c.deref.result.now = rw c.deref.ensures.value c.in-Ok.ensures in
     let none : ran.0 ≡ Ok tt = no-fault ran.0 (sym ran.3 ∙ c.in-0.is) in
-    let quiet : c.run.new.err ≡ c.args.err.now = told-nothing g.E.Sink ran.0 _ _ none ran.2 in
+    let quiet : c.run.new.err ≡ c.args.err.now = message-nothing g.E.Sink ran.0 _ _ none ran.2 in
     let ends : EndsAs ran.0 c.flush.result = subst (λ (r : Result (Unit {0}) Fault). EndsAs r c.flush.result) (sym none) c.flush.ensures.fault in
-    let tells : Tells g.E.Sink c.flush.result c.args.err.now c.conclude.new.err =
-    subst (λ e. Tells g.E.Sink c.flush.result e c.conclude.new.err) quiet c.conclude.ensures.tells in
-    (Ok c.deref.result.now, words, (ran.0, c.flush.result, c.run.new.out, ran.1, ends, c.flush.ensures.bytes, tells, c.conclude.ensures.status))
+    let reports : ReportsError g.E.Sink c.flush.result c.args.err.now c.conclude.new.err =
+    subst (λ e. ReportsError g.E.Sink c.flush.result e c.conclude.new.err) quiet c.conclude.ensures.reports in
+    (Ok c.deref.result.now, words, (ran.0, c.flush.result, c.run.new.out, ran.1, ends, c.flush.ensures.bytes, reports, c.conclude.ensures.status))
 
 pub returns-in-Ok : goal.returns-in-Ok
 returns-in-Ok g c =
@@ -26,4 +26,4 @@ returns-in-Ok g c =
 
 pub returns : goal.returns
 returns g c =
-    (Err OutOfMemory, refl, (Err OutOfMemory, Err OutOfMemory, c.args.out.now, (refl, refl, refl), refl, Keeps-refl _, c.conclude-in-Err.ensures.tells, c.conclude-in-Err.ensures.status))
+    (Err OutOfMemory, refl, (Err OutOfMemory, Err OutOfMemory, c.args.out.now, (refl, refl, refl), refl, Keeps-refl _, c.conclude-in-Err.ensures.reports, c.conclude-in-Err.ensures.status))

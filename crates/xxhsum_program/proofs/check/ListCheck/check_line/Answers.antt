@@ -1,5 +1,5 @@
 use Rattle.xxhsum_program.proofs.Prelude.{◌∙◌, Ignored, Improper, IsFinding, IsGiven, Means, Proper, TooLong, files_of, refl, rules_of, subst, sym}
-use Rattle.xxhsum_program.proofs.StopFacts.{line-said}
+use Rattle.xxhsum_program.proofs.StopFacts.{line-entries}
 use Rattle.xxhsum_program.proofs.check.ListCheck.check_line.Goals as goal
 
 pub returns-in_default-clause-checks : goal.returns-in_default-clause-checks
@@ -30,4 +30,4 @@ returns-clause-checks g c = λ text given.
     let is = subst (IsGiven text) c.in-Some.is given in
     let means = subst (Means c.args.self.now.options.is_little_endian text) c.in-Entry.is (rw is.1 at c.in_ok-entry.ensures.meaning) in
     let entry = c.in-Entry.entry in
-    line-said (IsFinding (files_of g.S.Store g.S.File.Source c.args.self.now.store.now) c.args.self.now.options.is_little_endian text) (rules_of g.W.Sink g.W.Output.held g.W.Output.has_lost g.E.Sink) c.args.self.now.options c.args.self.now.name.now c.args.line.number entry.name.items c.deref.result.now c.compare-found.result c.args.report.now c.count.new.self c.args.streams.now c.say_found.new.out c.say_found.result (sym c.is_silent.ensures ∙ c.if-is_silent.false) c.deref.ensures.value (is.0, entry.kind, entry.value, means, c.compare-found.ensures) c.count.ensures c.say_found.ensures.prints
+    line-entries (IsFinding (files_of g.S.Store g.S.File.Source c.args.self.now.store.now) c.args.self.now.options.is_little_endian text) (rules_of g.W.Sink g.W.Output.held g.W.Output.has_lost g.E.Sink) c.args.self.now.options c.args.self.now.name.now c.args.line.number entry.name.items c.deref.result.now c.compare-found.result c.args.report.now c.count.new.self c.args.streams.now c.print_found.new.out c.print_found.result (sym c.is_silent.ensures ∙ c.if-is_silent.false) c.deref.ensures.value (is.0, entry.kind, entry.value, means, c.compare-found.ensures) c.count.ensures c.print_found.ensures.prints

@@ -4,7 +4,7 @@ use Rattle.xxhsum_program.proofs.CheckFacts.{add_up-push, breaks-endless, breaks
 use Rattle.xxhsum_program.proofs.EachFacts.{EachHas-push}
 use Rattle.xxhsum_program.proofs.HashFacts.{is-err}
 use Rattle.xxhsum_program.proofs.OrderFacts.{emits-append}
-use Rattle.xxhsum_program.proofs.SaidFacts.{numbered-push}
+use Rattle.xxhsum_program.proofs.ListMessageFacts.{numbered-push}
 use Rattle.xxhsum_program.proofs.StopFacts.{emits-break, lines-stop}
 use Rattle.xxhsum_program.proofs.check.ListCheck.check_lines.Goals as goal
 
@@ -66,7 +66,7 @@ returns-in-Failed-clause-checks g c =
       Some FailedRead,
       (so_far.read, so_far.each, breaks-failed g.R.Source (source_of c.args.source) c.loop-number.lines c.next.new.self so_far.read so_far.stands c.in-Failed.ensures.next c.in-Failed.ensures.ended),
       c.with_broken_end.ensures ∙ ap with_broken_end so_far.report,
-      emits-append rules _ _ c.args.streams.now mid c.tell_of_failure.new.streams so_far.emits (emits-break rules list FailedRead c.loop-number.number (length so_far.findings + 1) c.loop-number.report (report_of c.args.self.now.options.ignores_missing so_far.findings) mid c.tell_of_failure.new.streams count so_far.report c.tell_of_failure.ensures.emits),
+      emits-append rules _ _ c.args.streams.now mid c.report_failure.new.streams so_far.emits (emits-break rules list FailedRead c.loop-number.number (length so_far.findings + 1) c.loop-number.report (report_of c.args.self.now.options.ignores_missing so_far.findings) mid c.report_failure.new.streams count so_far.report c.report_failure.ensures.emits),
     )
 
 pub returns-in-Endless-clause-checks : goal.returns-in-Endless-clause-checks

@@ -12,7 +12,7 @@ returns-clause-emits g c =
     let old = c.args.streams.now in
     elim c.if-report-eq0.branch [
       | then-report-eq0 w ↦
-          rw w.streams-is (summary-reported rules options list report old w.report.new.self c.say_summary.new.out c.say_summary.result w.if-report-eq0.true w.report.ensures.reports (rw w.streams-is at c.say_summary.ensures.prints) c.say_summary.ensures.only)
+          rw w.streams-is (summary-reported rules options list report old w.report.new.self c.print_summary.new.out c.print_summary.result w.if-report-eq0.true w.report.ensures.reports (rw w.streams-is at c.print_summary.ensures.prints) c.print_summary.ensures.only)
       | else-report-eq0 w ↦
-          rw w.streams-is (summary-printed rules options list report old c.say_summary.new.out c.say_summary.result w.if-report-eq0.false (rw w.streams-is at c.say_summary.ensures.prints) c.say_summary.ensures.only)
+          rw w.streams-is (summary-printed rules options list report old c.print_summary.new.out c.print_summary.result w.if-report-eq0.false (rw w.streams-is at c.print_summary.ensures.prints) c.print_summary.ensures.only)
     ]

@@ -18,29 +18,29 @@ pub loop-turn-preserved : goal.loop-turn-preserved
 loop-turn-preserved g c = λ from done read.
     let old = c.loop-turn.self in
     let mid = c.take.new.self in
-    let gone = emptied g.R.Source from done c.loop-turn.turn old mid (omega arith) (omega arith) c.take.ensures (c.loop-turn.invariant from done read) in
-    inside-goes-on g.R.Source from done c.loop-turn.turn mid c.refill.new.self c.if-self.false (omega arith) (omega arith) gone c.in-Ok.ensures.reads c.in-Ok.ensures.ends c.in_default.ensures
+    let removed = emptied g.R.Source from done c.loop-turn.turn old mid (omega arith) (omega arith) c.take.ensures (c.loop-turn.invariant from done read) in
+    inside-goes-on g.R.Source from done c.loop-turn.turn mid c.refill.new.self c.if-self.false (omega arith) (omega arith) removed c.in-Ok.ensures.reads c.in-Ok.ensures.ends c.in_default.ensures
 
 pub returns-then-self : goal.returns-then-self
 returns-then-self g c = λ from done read.
     let old = c.loop-turn.self in
     let new = c.take.new.self in
-    let gone = emptied g.R.Source from done c.loop-turn.turn old new (omega arith) (omega arith) c.take.ensures (c.loop-turn.invariant from done read) in
-    inside-ends g.R.Source from done c.loop-turn.turn new c.take.ensures.4 c.if-self.true (none-waits old new (omega arith) (omega arith) c.take.ensures) gone
+    let removed = emptied g.R.Source from done c.loop-turn.turn old new (omega arith) (omega arith) c.take.ensures (c.loop-turn.invariant from done read) in
+    inside-ends g.R.Source from done c.loop-turn.turn new c.take.ensures.4 c.if-self.true (none-waits old new (omega arith) (omega arith) c.take.ensures) removed
 
 pub returns-in-Err : goal.returns-in-Err
 returns-in-Err g c = λ from done read.
     let old = c.loop-turn.self in
     let mid = c.take.new.self in
-    let gone = emptied g.R.Source from done c.loop-turn.turn old mid (omega arith) (omega arith) c.take.ensures (c.loop-turn.invariant from done read) in
-    inside-fails g.R.Source from done c.loop-turn.turn c.in-Err.field-0 mid c.refill.new.self gone c.in-Err.ensures.reads
+    let removed = emptied g.R.Source from done c.loop-turn.turn old mid (omega arith) (omega arith) c.take.ensures (c.loop-turn.invariant from done read) in
+    inside-fails g.R.Source from done c.loop-turn.turn c.in-Err.field-0 mid c.refill.new.self removed c.in-Err.ensures.reads
 
 pub returns-in-Some : goal.returns-in-Some
 returns-in-Some g c = λ from done read.
     let old = c.loop-turn.self in
     let mid = c.take.new.self in
-    let gone = emptied g.R.Source from done c.loop-turn.turn old mid (omega arith) (omega arith) c.take.ensures (c.loop-turn.invariant from done read) in
-    inside-found g.R.Source from done c.loop-turn.turn c.in-Some.len mid c.refill.new.self c.take-in-Some.new.self gone c.in-Ok.ensures.reads c.in-Some.ensures c.take-in-Some.ensures
+    let removed = emptied g.R.Source from done c.loop-turn.turn old mid (omega arith) (omega arith) c.take.ensures (c.loop-turn.invariant from done read) in
+    inside-found g.R.Source from done c.loop-turn.turn c.in-Some.len mid c.refill.new.self c.take-in-Some.new.self removed c.in-Ok.ensures.reads c.in-Some.ensures c.take-in-Some.ensures
 
 pub returns : goal.returns
 returns g c = λ from done read. inside-endless g.R.Source from done c.loop-turn.turn c.loop-turn.self (omega arith) (c.loop-turn.invariant from done read)

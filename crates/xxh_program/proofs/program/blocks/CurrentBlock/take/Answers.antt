@@ -1,7 +1,7 @@
 use Rattle.std.proofs.Common.{◌≡◌, ◌<◌, ◌-◌, ◌++◌, ◌∙◌, [], List, ℕ, IfErr, Err, refl, sym, ap, subst, append-nil, append_assoc, take-append-drop, arith, rules, Result}
 use Rattle.std.proofs.lemmas.Grind.{common_steps}
-use Rattle.xxh_io.specs.declared.error.DigestError.{DigestError}
-use Rattle.xxh_io.specs.declared.error.DigestError.TheVariants.{WriteFailed}
+use Rattle.xxh_io.specs.declared.digest_error.DigestError.{DigestError}
+use Rattle.xxh_io.specs.declared.digest_error.DigestError.TheVariants.{WriteFailed}
 use Rattle.xxh_program.specs.Blocks.{added_lines}
 use Rattle.xxh_program.specs.BlockState.{HasTaken}
 use Rattle.xxh_io.specs.Digest.{Writes, Refused}

@@ -1,6 +1,6 @@
 use Rattle.twox_core.proofs.Prelude.{◌∙◌, ◌≡◌, ap, arith, counted, length, subst}
 use Rattle.twox_core.specs.Ending.{stream_accumulators, stream_block, last_stripe}
-use Rattle.twox_core.specs.StandsFor.{StandsFor}
+use Rattle.twox_core.specs.Represents.{Represents}
 use Rattle.twox_core.specs.Finish.{core_finish}
 use Rattle.twox_core.proofs.StreamFacts.{stands_finished_short, stands_finished_long}
 use Rattle.twox_core.proofs.xxhash3.streaming.raw.RawHasherCore.finish_with.Goals as goal
@@ -22,6 +22,6 @@ returns-clause-long g c = λ seed s m held long.
     let large = g.F.Finalize.large_of c.args.finalize in
     let bytes = g.S.FixedBuffer.bytes in
     let enough = rw c.secret-secret.ensures at c.secret-secret.result.long_enough in
-    let ended = subst (λ h. StandsFor bytes h seed s m → core_finish small large bytes h ≡ large (stream_accumulators s m) (stream_block m) (last_stripe m) s (counted (length m))) c.self.view_is
+    let ended = subst (λ h. Represents bytes h seed s m → core_finish small large bytes h ≡ large (stream_accumulators s m) (stream_block m) (last_stripe m) s (counted (length m))) c.self.view_is
     (λ held. stands_finished_long small large bytes _ seed s m (omega (arith, enough)) c.finish.ensures.size (omega arith) held long) in
     returns-clause-exact g c ∙ ended held

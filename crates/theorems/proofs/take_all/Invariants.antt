@@ -1,8 +1,0 @@
-use Rattle.std.proofs.Common.{◌++◌, ℕ, Option, List, take}
-use Rattle.theorems.specs.Headline.{joined}
-use Rattle.theorems.proofs.take_all.Given as goal
-
--- Invariant: the hasher follows the list that it followed at the start and then the chunks so far.
-abbrev pub invariant-loop-piece : goal.invariant-loop-piece
-invariant-loop-piece g l = (seed : Option ℕ) (s m : List ℕ) → g.H.Stream.follows l.initial.hasher seed s m
-    → g.H.Stream.follows l.hasher seed s (m ++ joined (take l.piece-index l.pieces))

@@ -1,0 +1,10 @@
+-- Proves that facts on the text of a watched source hold for the source that it watches.
+use Rattle.xxhsum_app.proofs.Prelude.{[], ◌++◌, ◌∷◌, Breaks, HasText, List, SourceRules, ProgressReader, inner-pieces, source_of, progress_reading, ℕ}
+
+pub inner-text : {R X : Type 0} (reading : SourceRules R) (source : ProgressReader R X) (text : List ℕ) → HasText (progress_reading reading) source text → HasText reading (source_of source) text
+inner-text reading source text (end, (pieces, some, read, is)) =
+    (source_of end, (pieces, some, inner-pieces reading source end (pieces ++ [] ∷ []) read, is))
+
+pub inner-breaks : {R X : Type 0} (reading : SourceRules R) (source : ProgressReader R X) → Breaks (progress_reading reading) source → Breaks reading (source_of source)
+inner-breaks reading source (end, (pieces, met, some, read, failed)) =
+    (source_of end, (pieces, source_of met, some, inner-pieces reading source met pieces read, failed))

@@ -1,0 +1,30 @@
+use Rattle.xxhsum_app.specs.Walk.{state_of}
+use Rattle.xxhsum_app.specs.Messages.{messages_of}
+use Rattle.xxhsum_app.proofs.Prelude.{◌∙◌, IsIn, IsSeen, Leaf, Lost, Passed, EprintsLines, Tree, and-false, and-true, append-nil, closed_text, place_of, refl, subst, sym, reports-nothing, tree_of}
+use Rattle.xxhsum_app.proofs.VisitFacts.{folder-seen, sees-as}
+use Rattle.xxhsum_app.proofs.walk.visit.Goals as goal
+
+pub returns-in_ok-add_file-in-File : goal.returns-in_ok-add_file-in-File
+returns-in_ok-add_file-in-File g c =
+    let is_file = rw (c.deref.ensures.value, c.in-File.is) at c.kind_at.ensures in
+    (Leaf c.args.place.name.items, (refl, is_file), refl, c.in_ok-add_file-in-File.ensures, sym (and-true _), reports-nothing g.E.Sink c.args.err.now)
+
+pub returns-in-Folder : goal.returns-in-Folder
+returns-in-Folder g c =
+    let tree : Tree = tree_of g.S.Store g.S.Folders c.args.store.now in
+    let is_folder = rw (c.deref.ensures.value, c.in-Folder.is) at c.kind_at.ensures in
+    sees-as (IsIn tree c.deref-in-Folder.result.now) (IsSeen tree (place_of c.args.place)) (messages_of g.E.Sink c.args.err.now c.open_folder.new.err)
+    (state_of c.args.waiting.now.items c.args.walked.now) (state_of c.open_folder.new.waiting.items c.open_folder.new.walked)
+    (λ seen found. folder-seen tree (place_of c.args.place) seen is_folder (rw c.deref-in-Folder.ensures.value at found))
+    c.open_folder.result c.open_folder.ensures
+
+pub returns-in-Other : goal.returns-in-Other
+returns-in-Other g c =
+    let is_other = rw (c.deref.ensures.value, c.in-Other.is) at c.kind_at.ensures in
+    (Passed c.args.place.name.items, (refl, is_other), refl, sym (append-nil _), sym (and-true _), reports-nothing g.E.Sink c.args.err.now)
+
+pub returns-in-Unknown : goal.returns-in-Unknown
+returns-in-Unknown g c =
+    let is_lost = rw (c.deref.ensures.value, c.in-Unknown.is) at c.kind_at.ensures in
+    let message = subst (λ name. EprintsLines g.E.Sink (closed_text name c.in-Unknown.refusal) c.args.err.now c.mark_incomplete.new.err) c.deref-in-Unknown.ensures.value c.mark_incomplete.ensures.reports in
+    (Lost c.args.place.name.items c.in-Unknown.refusal, (refl, is_lost), refl, sym (append-nil _), c.mark_incomplete.ensures.lost ∙ and-false _, message)

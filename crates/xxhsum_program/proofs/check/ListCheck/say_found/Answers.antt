@@ -1,4 +1,0 @@
-use Rattle.xxhsum_program.proofs.check.ListCheck.say_found.Goals as goal
-
-pub returns-in-Unread-clause-prints : goal.returns-in-Unread-clause-prints
-returns-in-Unread-clause-prints g c = rw c.in-Unread.is (rw c.text.ensures at c.say_unread.ensures.prints)

@@ -1,4 +1,0 @@
-use Rattle.xxhsum_program.proofs.check.say_unread.Goals as goal
-
-pub returns-clause-prints : goal.returns-clause-prints
-returns-clause-prints g c = rw (c.as_bytes-digits.ensures.value, c.format.ensures.text) at c.say_line.ensures.prints

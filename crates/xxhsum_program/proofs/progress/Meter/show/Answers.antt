@@ -1,4 +1,0 @@
-use Rattle.xxhsum_program.proofs.progress.Meter.show.Goals as goal
-
-pub returns : goal.returns
-returns g c = (c.time_of-now.result, c.show_at.ensures)

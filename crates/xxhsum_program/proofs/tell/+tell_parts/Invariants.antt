@@ -1,6 +1,0 @@
-use Rattle.std.proofs.Common.{length}
-use Rattle.xxhsum_program.proofs.tell.+tell_parts.Given as goal
-
--- Decreases: the number of remaining parts
-abbrev pub decreases-tell_parts : goal.decreases-tell_parts
-decreases-tell_parts g l = length l.parts.now

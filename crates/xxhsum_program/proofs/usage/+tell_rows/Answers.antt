@@ -1,8 +1,0 @@
-use Rattle.std.proofs.Common.{sym}
-use Rattle.xxhsum_program.proofs.ToldFacts.{tells-more}
-use Rattle.xxhsum_program.proofs.usage.+tell_rows.Goals as goal
-
-pub returns-in-Some : goal.returns-in-Some
-returns-in-Some g t c =
-    rw (c.in-Some.ensures.cases.0, sym c.as_bytes.ensures.value, sym c.as_bytes-in-Some.ensures.value)
-    (tells-more g.E.Sink _ _ _ _ _ c.tell_row.ensures c.tell_rows.ensures)
