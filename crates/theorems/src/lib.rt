@@ -169,7 +169,11 @@ fn update_all<H: StreamingHasher>(hasher: &mut H, pieces: &[&[u8]])
 }
 
 // Returns the values after some chunks, and after more.
-fn digests<H: StreamingHasher>(hasher: &mut H, first: &[&[u8]], rest: &[&[u8]]) -> (H::Value, H::Value)
+fn digests<H: StreamingHasher>(
+    hasher: &mut H,
+    first: &[&[u8]],
+    rest: &[&[u8]],
+) -> (H::Value, H::Value)
     ensures { (seed : Option ℕ) (s : List ℕ) → H.follows hasher.old seed s []
         → AreValuesOf (H.value seed s) first.now rest.now result }
 {

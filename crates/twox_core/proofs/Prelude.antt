@@ -21,8 +21,8 @@ pub use Rattle.twox_core.specs.Long.{stripes_of}
 pub use Rattle.twox_core.specs.OtherBytes.{IsOtherShort128, IsOtherShort64}
 pub use Rattle.twox_core.specs.Parts.{chunk_at, pair_at, stripe_at}
 pub use Rattle.twox_core.specs.Primes.{prime32_2, prime64_1, prime64_2, prime64_3, prime_mx1, prime_mx2}
-pub use Rattle.twox_core.specs.SecretBytes.{secret_bytes}
 pub use Rattle.twox_core.specs.Represents.{IsCopy, TookStripes}
+pub use Rattle.twox_core.specs.SecretBytes.{secret_bytes}
 pub use Rattle.twox_core.specs.Steps.{add64, sub64, word64}
 pub use Rattle.twox_core.specs.StreamKey.{StreamKey}
 pub use Rattle.twox_core.specs.Stripes.{no_stripe}

@@ -1,8 +1,8 @@
 //! A stream of each kind, with its value after an input in chunks.
 
-use theorems::Stream;
 use std::alloc::Global;
 use std::boxed::BoxedSlice;
+use theorems::Stream;
 use twox_hash::xxhash3::{FixedBuffer, SecretBuffer};
 use twox_hash::{XxHash3_64, XxHash3_128, xxhash3_64, xxhash3_128};
 

@@ -7,8 +7,8 @@ use crate::kinds::{
     seeded_have,
 };
 use crate::rows::{SEED, first, gen_10240, rows, seeded_rows};
-use theorems::Stream;
 use std::alloc::Global;
+use theorems::Stream;
 use twox_hash::xxhash3::{DEFAULT_SECRET_RAW, SecretBuffer};
 use twox_hash::{XxHash3_64, XxHash3_128};
 

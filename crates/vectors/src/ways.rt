@@ -2,9 +2,9 @@
 
 use crate::kernels;
 use crate::rows::{Kind, Recipe, Row, next_number};
-use theorems::Stream;
 use std::alloc::{AllocError, Global};
 use std::boxed::BoxedSlice;
+use theorems::Stream;
 use twox_hash::{XxHash3_64, XxHash3_128, XxHash32, XxHash64};
 
 /// True if every way to compute the test case's hash returns its value.

@@ -3,8 +3,8 @@ use Rattle.std.proofs.Common.{◌≡◌, Ok, Err, refl, Result}
 use Rattle.xxh_io.specs.declared.fault.Fault.{Fault}
 use Rattle.xxh_io.specs.declared.fault.Fault.TheVariants.{Usage, BadSeed, BadSize, BadState, OutOfMemory, Digest}
 use Rattle.xxh_io.specs.Process.{EndsAs}
-use Rattle.xxh_io.specs.Rules.{SinkRules}
 use Rattle.xxh_io.specs.Reports.{ReportsError, status_after}
+use Rattle.xxh_io.specs.Rules.{SinkRules}
 
 pub no-fault : (answer : Result (Unit {0}) Fault) → status_after answer ≡ 0 → answer ≡ Ok tt
 no-fault (Ok x) is = refl

@@ -3,8 +3,8 @@
 ghost use Rattle.std.specs.Prelude.{◌≡◌, false};
 ghost use Rattle.xxh_io.specs.Reports.{ReportsError, status_after};
 
-use crate::streams::Sink;
 use crate::digest_error::DigestError;
+use crate::streams::Sink;
 use crate::write::write_all;
 use std::alloc::AllocError;
 

@@ -5,7 +5,6 @@
 pub mod arguments;
 pub mod buffered;
 pub mod command;
-pub mod streams;
 pub mod digest_error;
 pub mod fault;
 pub mod from_read;
@@ -14,5 +13,6 @@ pub mod hex;
 pub mod kind;
 pub mod script_sink;
 pub mod script_source;
+pub mod streams;
 pub mod waiting;
 pub mod write;

@@ -3,8 +3,8 @@
 ghost use Rattle.std.specs.Prelude.{◌≡◌, ◌↔◌, ◌+◌, ◌≤◌, ◌++◌, [], true, false, length, Err, IfErr, IfOk, OnErr};
 ghost use Rattle.xxh_io.specs.Digest.{Refused, Writes};
 
-use crate::streams::Sink;
 use crate::digest_error::DigestError;
+use crate::streams::Sink;
 use crate::write::write_all;
 
 /// A buffer of at most `N` bytes to be written.

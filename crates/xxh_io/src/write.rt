@@ -4,9 +4,9 @@ ghost use Rattle.std.specs.Prelude.{◌≡◌, ◌↔◌, ◌≤◌, true, false
 ghost use Rattle.xxh_io.specs.Digest.{Writes};
 ghost use Rattle.xxh_io.specs.Hex.{hex_line};
 
-use crate::streams::{Failed, Sink};
 use crate::digest_error::DigestError;
 use crate::hex::write_digits;
+use crate::streams::{Failed, Sink};
 
 // Maximum number of digits of a line.
 const MOST_DIGITS: usize = 32;

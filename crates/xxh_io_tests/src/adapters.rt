@@ -3,10 +3,10 @@
 use std::io;
 use std::io::{ErrorKind, Read, Write};
 use std::test::Fail;
-use xxh_io::streams::{Sink, Source};
 use xxh_io::digest_error::DigestError;
 use xxh_io::from_read::FromRead;
 use xxh_io::from_write::FromWrite;
+use xxh_io::streams::{Sink, Source};
 use xxh_io::write::{write_all, write_line};
 
 // A slice as a writer takes what fits, and then nothing.

@@ -7,8 +7,8 @@ use std::io;
 use std::io::{ErrorKind, Read};
 use std::test::Fail;
 use xxh_io::buffered::Buffered;
-use xxh_io::streams::Source;
 use xxh_io::from_read::FromRead;
+use xxh_io::streams::Source;
 
 /// Returns up to three bytes a read, and fails once, at its second read.
 #[derive(Drop)]

@@ -1,7 +1,7 @@
 //! The source that follows a script.
 
-use xxh_io::streams::Source;
 use xxh_io::script_source::ScriptSource;
+use xxh_io::streams::Source;
 
 // The result of one read of six bytes, if the source has not failed.
 fn six<'a>(r: &mut ScriptSource<'_>, buf: &'a mut [u8; 6]) -> &'a [u8] {

@@ -5,15 +5,15 @@ use std::io::IsTerminal;
 use std::process::ExitCode;
 use xxh_io::from_read::FromRead;
 use xxh_io::from_write::FromWrite;
+use xxhsum_app::run::run;
 use xxhsum_fs::system::SystemFiles;
 use xxhsum_fs::uninterrupted::Uninterrupted;
 use xxhsum_output::visible::Visible;
 use xxhsum_output::whole_lines::WholeLines;
 use xxhsum_program::arguments::ProcessArguments;
 use xxhsum_program::process::{Console, Interactive};
-use xxhsum_program::terminal::Terminal;
 use xxhsum_program::streams::Streams;
-use xxhsum_app::run::run;
+use xxhsum_program::terminal::Terminal;
 
 // Passes the process's arguments, files and streams to the program.
 fn main(rt: HostRuntime) -> ExitCode {

@@ -1,6 +1,6 @@
 -- Lemmas on the result of a search: an item, or the reported reason why there is none.
 use Rattle.xxhsum_app.proofs.Prelude.{◌≡◌, Err, Finds, List, None, Ok, Option, Result, Some, subst, ℕ}
-use Rattle.xxhsum_app.specs.Prelude.{SinkRules, Stop, Eprints, one_line}
+use Rattle.xxhsum_app.specs.Prelude.{Eprints, SinkRules, Stop, one_line}
 
 -- Lemma: a search has the properties that its property of items and its property of reasons imply.
 pub finds-as : {T E : Type 0} (reporting : SinkRules E) (is_found other : T → Type 0) (is_why other_why : List ℕ → Type 0) (old new : E) → ((x : T) → is_found x → other x) → ((text : List ℕ) → is_why text → other_why text)

@@ -2,11 +2,11 @@
 use Rattle.std.proofs.Common.{◌≡◌, ℕ, true, List, [], ◌∷◌, Option, Some, None, refl, sym, ap, subst, ◌∙◌, inl, inr, Ok}
 use Rattle.xxhsum_app.proofs.Prelude.{AuditMeansEqual, Both, Effect, IsFileOf, IsPermutation-sym, Line, Name, Side, among_permutation, are_same, both-true, by_path, by_turns, compare_to_name, effect_of, same_means_equal}
 use Rattle.xxhsum_app.specs.Prelude.{Digested, Files, IsDirectory, Kind, Options, Outcome, SourceRules, StoreRules, StreamRules, Streams, Unread, files_of}
+use Rattle.xxhsum_app.specs.Audits.{AuditsItems, AuditsSides, OnlyReportsDuplicate}
+use Rattle.xxhsum_app.specs.Rows.{Added, AreRows, Met, Removed, Row, are_read, kept_in, seen_in}
 use Rattle.xxhsum_audit.specs.Found.{Changed, Copied, Found, Missing, Moved, New, Same}
 use Rattle.xxhsum_audit.specs.Item.{IsAmong, Item, Says, kind_of, name_of, path_of, value_of}
 use Rattle.xxhsum_program.specs.Outcomes.{Comes, IsValueOf, is_digested}
-use Rattle.xxhsum_app.specs.Audits.{AuditsItems, AuditsSides, OnlyReportsDuplicate}
-use Rattle.xxhsum_app.specs.Rows.{AreRows, Added, Removed, Met, Row, are_read, kept_in, seen_in}
 
 all-same : (f : List Found) → are_same f ≡ true → (one : Found) → IsAmong f one → (line name : Item) × (one ≡ Same line name)
 all-same [] e one h = absurd h

@@ -2,9 +2,9 @@
 use Rattle.std.proofs.Common.{◌≡◌, ℕ, List, [], ◌∷◌, map, refl, sym, ap, subst, ◌∙◌, inl, inr, Less, Equal, Greater}
 use Rattle.xxhsum_app.proofs.Prelude.{Both, Found, IsAmong, IsPermutation-refl, Item, Line, Missing, Name, New, Rises, Says, Side, ahead, back, by_turns, compare_lines, compare_paths, kind_of, met, name_of, paths_total}
 use Rattle.xxhsum_app.specs.Prelude.{Digested, Files, IsDirectory, Kind, Outcome, Unread}
-use Rattle.xxhsum_audit.specs.Audit.{HasMoves, IsAudit, as_found, compared, missing_in, new_in, matched_in}
+use Rattle.xxhsum_app.specs.Rows.{Added, AreRows, Met, Removed, Row, first_in, kept_in, seen_in}
+use Rattle.xxhsum_audit.specs.Audit.{HasMoves, IsAudit, as_found, compared, matched_in, missing_in, new_in}
 use Rattle.xxhsum_audit.specs.Side.{against, beside, by_path, compare_to_name, in_turn}
-use Rattle.xxhsum_app.specs.Rows.{AreRows, Added, Removed, Met, Row, first_in, kept_in, seen_in}
 
 -- ---- the first element of a merge
 

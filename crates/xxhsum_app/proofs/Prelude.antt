@@ -11,17 +11,30 @@ pub use Rattle.std.specs.List.{ends_with}
 pub use Rattle.std.specs.declared.alloc.AllocError.{AllocError}
 pub use Rattle.xxh_io.proofs.WriteFacts.{Refused-join, Refused-more, Took-join}
 pub use Rattle.xxh_io.specs.Digest.{Took}
+pub use Rattle.xxhsum_app.specs.AuditLaws.{AuditMeansEqual, IsFileOf}
+pub use Rattle.xxhsum_app.specs.Audits.{AnswersAudit, ReportsDuplicate, duplicate_text}
+pub use Rattle.xxhsum_app.specs.Digests.{AddsRow, DigestsRows, Grows, HoldsRows}
+pub use Rattle.xxhsum_app.specs.Finds.{Finds}
+pub use Rattle.xxhsum_app.specs.Names.{AreNamesIn, ListNames, ListNone, end_of}
+pub use Rattle.xxhsum_app.specs.Prelude.{Kind, Options, OutOfMemory, SinkRules, SourceRules, Stop, files_of, input_of}
+pub use Rattle.xxhsum_app.specs.ReadList.{HaveItems, ListSays, ListSaysNothing}
+pub use Rattle.xxhsum_app.specs.Report.{PrintsReport, are_same, counts_text, report_text, shown_lines, shown_text}
+pub use Rattle.xxhsum_app.specs.Rows.{Added, AreRows, IsRow, Met, Removed, Row, messages_in}
+pub use Rattle.xxhsum_app.specs.Texts.{Breaks, GivesText, HasNoText, HasText, unopened_text, unread_text}
+pub use Rattle.xxhsum_app.specs.Walk.{Closed, IsIn, IsSeen, Leaf, Lost, Opened, Passed, Seen, Tree, Visits, WalksAll, are_open, below, closed_in, closed_text, files_in, given, place_of, tree_of, waiting_in, with_slash}
+pub use Rattle.xxhsum_app.specs.WalkLaws.{FindsOnce, HoldsNames, IsOnce}
+pub use Rattle.xxhsum_app.specs.declared.walk.Walked.{Walked}
 pub use Rattle.xxhsum_audit.proofs.AmongFacts.{among_either, among_permutation}
+pub use Rattle.xxhsum_audit.proofs.DuplicateFacts.{rises}
 pub use Rattle.xxhsum_audit.proofs.EqualFacts.{same_means_equal}
 pub use Rattle.xxhsum_audit.proofs.FoundFacts.{met_is}
 pub use Rattle.xxhsum_audit.proofs.OrderFacts.{ahead, back, paths_total}
 pub use Rattle.xxhsum_audit.proofs.TurnFacts.{by_turns}
-pub use Rattle.xxhsum_audit.proofs.DuplicateFacts.{rises}
-pub use Rattle.xxhsum_audit.specs.Audit.{missing_in, missing_one, new_in, new_one, matched_in, matched_one}
+pub use Rattle.xxhsum_audit.specs.Audit.{matched_in, matched_one, missing_in, missing_one, new_in, new_one}
 pub use Rattle.xxhsum_audit.specs.Found.{Found, Missing, New, found_of, founds_of, met}
 pub use Rattle.xxhsum_audit.specs.Item.{IsAmong, Item, Says, item_of, items_of, kind_of, name_of, names_of, texts_of}
 pub use Rattle.xxhsum_audit.specs.List.{GiveAll, SayAll, SaysOne, TakesLine, entry_item}
-pub use Rattle.xxhsum_audit.specs.Order.{IsOrder, Rises, find_duplicate, compare_lines, compare_paths, rank_lines, rank_names}
+pub use Rattle.xxhsum_audit.specs.Order.{IsOrder, Rises, compare_lines, compare_paths, find_duplicate, rank_lines, rank_names}
 pub use Rattle.xxhsum_audit.specs.Parts.{ArePartsOf}
 pub use Rattle.xxhsum_audit.specs.Read.{BreaksOff}
 pub use Rattle.xxhsum_audit.specs.Side.{by_path, compare_to_name, path_side}
@@ -35,36 +48,23 @@ pub use Rattle.xxhsum_fs.specs.declared.folders.PathKind.{PathKind}
 pub use Rattle.xxhsum_fs.specs.declared.folders.PathKind.TheVariants.{File, Folder, Other, Unknown}
 pub use Rattle.xxhsum_line.proofs.LackFacts.{first_same, lacks_not, lacks_right}
 pub use Rattle.xxhsum_line.specs.Parts.{Lacks}
-pub use Rattle.xxhsum_program.proofs.CheckFacts.{Stands, breaks-endless, breaks-failed, ends-well, some-read, stands-line, stands-new}
-pub use Rattle.xxhsum_program.proofs.EachFacts.{EachHas-push, all-push, and-false, and-true, both-true, list_all-push, map-more, map-split}
-pub use Rattle.xxhsum_program.proofs.HashFacts.{is-err}
-pub use Rattle.xxhsum_program.proofs.EprintFacts.{lines-more, reports-nothing}
-pub use Rattle.xxhsum_program.proofs.ProgressReaderFacts.{inner-pieces}
-pub use Rattle.xxhsum_program.specs.EachHas.{EachHas}
-pub use Rattle.xxhsum_program.specs.Lines.{PrintsLine}
-pub use Rattle.xxhsum_program.specs.LinesView.{IsGiven}
-pub use Rattle.xxhsum_program.specs.Order.{Effect, effect_of, rules_of}
-pub use Rattle.xxhsum_program.specs.Outcomes.{is_digested}
-pub use Rattle.xxhsum_program.specs.Run.{input_name}
-pub use Rattle.xxhsum_program.specs.ListMessages.{improper_text, too_long_text}
-pub use Rattle.xxhsum_program.specs.Streams.{err_of, streams_of}
-pub use Rattle.xxhsum_program.specs.Eprints.{EprintsLines}
-pub use Rattle.xxhsum_program.specs.ProgressReader.{source_of, progress_reading}
-pub use Rattle.xxhsum_program.specs.declared.process.Interactive.{Interactive}
-pub use Rattle.xxhsum_program.specs.declared.progress_reader.ProgressReader.{ProgressReader}
-pub use Rattle.xxhsum_app.specs.AuditLaws.{AuditMeansEqual, IsFileOf}
-pub use Rattle.xxhsum_app.specs.Audits.{AnswersAudit, ReportsDuplicate, duplicate_text}
-pub use Rattle.xxhsum_app.specs.Digests.{AddsRow, DigestsRows, Grows, HoldsRows}
-pub use Rattle.xxhsum_app.specs.Finds.{Finds}
-pub use Rattle.xxhsum_app.specs.Names.{AreNamesIn, ListNames, ListNone, end_of}
-pub use Rattle.xxhsum_app.specs.Prelude.{Kind, Options, OutOfMemory, SinkRules, SourceRules, Stop, files_of, input_of}
-pub use Rattle.xxhsum_app.specs.Report.{PrintsReport, are_same, counts_text, report_text, shown_lines, shown_text}
-pub use Rattle.xxhsum_app.specs.Rows.{AreRows, Added, Removed, IsRow, Met, Row, messages_in}
-pub use Rattle.xxhsum_app.specs.ReadList.{HaveItems, ListSays, ListSaysNothing}
-pub use Rattle.xxhsum_app.specs.Texts.{Breaks, GivesText, HasNoText, HasText, unopened_text, unread_text}
-pub use Rattle.xxhsum_app.specs.Walk.{Closed, IsIn, IsSeen, Leaf, Lost, Opened, Passed, Seen, Tree, Visits, WalksAll, are_open, below, closed_in, closed_text, files_in, given, place_of, tree_of, waiting_in, with_slash}
-pub use Rattle.xxhsum_app.specs.WalkLaws.{FindsOnce, HoldsNames, IsOnce}
-pub use Rattle.xxhsum_app.specs.declared.walk.Walked.{Walked}
 pub use Rattle.xxhsum_options.specs.Name.{kind_of_program}
 pub use Rattle.xxhsum_options.specs.Options.{parsed_args}
 pub use Rattle.xxhsum_options.specs.declared.options.ParsedArgs.{ParsedArgs}
+pub use Rattle.xxhsum_program.proofs.CheckFacts.{Stands, breaks-endless, breaks-failed, ends-well, some-read, stands-line, stands-new}
+pub use Rattle.xxhsum_program.proofs.EachFacts.{EachHas-push, all-push, and-false, and-true, both-true, list_all-push, map-more, map-split}
+pub use Rattle.xxhsum_program.proofs.EprintFacts.{lines-more, reports-nothing}
+pub use Rattle.xxhsum_program.proofs.HashFacts.{is-err}
+pub use Rattle.xxhsum_program.proofs.ProgressReaderFacts.{inner-pieces}
+pub use Rattle.xxhsum_program.specs.EachHas.{EachHas}
+pub use Rattle.xxhsum_program.specs.Eprints.{EprintsLines}
+pub use Rattle.xxhsum_program.specs.Lines.{PrintsLine}
+pub use Rattle.xxhsum_program.specs.LinesView.{IsGiven}
+pub use Rattle.xxhsum_program.specs.ListMessages.{improper_text, too_long_text}
+pub use Rattle.xxhsum_program.specs.Order.{Effect, effect_of, rules_of}
+pub use Rattle.xxhsum_program.specs.Outcomes.{is_digested}
+pub use Rattle.xxhsum_program.specs.ProgressReader.{progress_reading, source_of}
+pub use Rattle.xxhsum_program.specs.Run.{input_name}
+pub use Rattle.xxhsum_program.specs.Streams.{err_of, streams_of}
+pub use Rattle.xxhsum_program.specs.declared.process.Interactive.{Interactive}
+pub use Rattle.xxhsum_program.specs.declared.progress_reader.ProgressReader.{ProgressReader}

@@ -1,4 +1,4 @@
--- Proves that facts on the text of a watched source hold for the source that it watches.
+-- Proves that facts on the text of a source with progress hold for its inner source.
 use Rattle.xxhsum_app.proofs.Prelude.{[], ◌++◌, ◌∷◌, Breaks, HasText, List, SourceRules, ProgressReader, inner-pieces, source_of, progress_reading, ℕ}
 
 pub inner-text : {R X : Type 0} (reading : SourceRules R) (source : ProgressReader R X) (text : List ℕ) → HasText (progress_reading reading) source text → HasText reading (source_of source) text

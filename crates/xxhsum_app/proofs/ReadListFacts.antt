@@ -1,6 +1,6 @@
 -- Lemmas on the items of texts and lines, after one more text or line.
-use Rattle.xxhsum_program.specs.ListLines.{longest_line}
 use Rattle.xxhsum_app.proofs.Prelude.{[], ◌++◌, ◌∙◌, ◌∷◌, ◌≤◌, Bool, GiveAll, HaveItems, Item, List, SayAll, SaysOne, TakesLine, all-push, ap, append-nil, append_assoc, length, refl, subst, sym, true, ℕ}
+use Rattle.xxhsum_program.specs.ListLines.{longest_line}
 
 pub give-more : {X : Type 0} (gives : List ℕ → List X → Type 0) (texts : List (List ℕ)) (text : List ℕ) (all more : List X) → GiveAll gives texts all
     → gives text more → GiveAll gives (texts ++ text ∷ []) (all ++ more)

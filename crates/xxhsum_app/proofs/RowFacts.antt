@@ -3,13 +3,13 @@ use Rattle.std.proofs.Common.{◌≡◌, ℕ, Bool, true, false, ◌&&◌, List,
 use Rattle.xxhsum_app.specs.Messages.{effect_messages}
 use Rattle.xxhsum_app.proofs.Prelude.{AllocError, Compared, DigestsRows, Effect, FileDigest, Grows, PrintsReport, Side, Verdict, and-false, and-true, are_same, by_path, flat_map-append, is_digested, map-append, met_is}
 use Rattle.xxhsum_app.specs.Prelude.{Digested, Files, IsDirectory, Kind, Options, Outcome, Unread}
-use Rattle.xxhsum_audit.specs.Audit.{HasMoves, IsAudit, missing_in, new_in, matched_in}
-use Rattle.xxhsum_audit.specs.Found.{Found, Missing, New, found_of, founds_of, met}
-use Rattle.xxhsum_audit.specs.Item.{Item, item_of, items_of}
-use Rattle.xxhsum_audit.specs.Order.{Rises, compare_lines, compare_paths}
 use Rattle.xxhsum_app.proofs.JoinFacts.{is-audit}
 use Rattle.xxhsum_app.specs.Audits.{AnswersAudit, AuditsSides}
 use Rattle.xxhsum_app.specs.Rows.{AreRows, IsRow, Row, are_read, digest_of, first_in, first_of, kept_in, kind_of_new, seen_in}
+use Rattle.xxhsum_audit.specs.Audit.{HasMoves, IsAudit, matched_in, missing_in, new_in}
+use Rattle.xxhsum_audit.specs.Found.{Found, Missing, New, found_of, founds_of, met}
+use Rattle.xxhsum_audit.specs.Item.{Item, item_of, items_of}
+use Rattle.xxhsum_audit.specs.Order.{Rises, compare_lines, compare_paths}
 
 pub rows-more : {S F : Type 0} (files : Files S F) (kind : Kind) (sides : List (Side Item (List ℕ))) (rows : List Row) (side : Side Item (List ℕ)) (row : Row) → AreRows files kind sides rows → IsRow files kind side row → AreRows files kind (sides ++ side ∷ []) (rows ++ row ∷ [])
 rows-more files kind [] rows side row none is =

@@ -2,9 +2,9 @@
 use Rattle.std.proofs.Common.{◌≡◌, ◌⊎◌, ℕ, ◌+◌, ◌<◌, Bool, true, false, List, [], ◌∷◌, ◌++◌, map, get_or, length, refl, sym, ap, subst, inl, inr, Ok, Err, arith, ◌∙◌, IsSorted, is_lt, nat_cmp, reverse, Result}
 use Rattle.xxhsum_app.specs.Messages.{Messages}
 use Rattle.xxhsum_app.proofs.Prelude.{File, Folder, IsAmong, IsPermutation-sym, IsPermutation-trans, Other, PathKind, Stop, Unknown, both-true, get_or-map, length-map, reverse-append, slice_cmp}
-use Rattle.xxhsum_audit.proofs.AmongFacts.{among_either, among_left, among_permutation, among_right}
 use Rattle.xxhsum_app.specs.Walk.{Closed, HasKind, IsIn, IsSeen, Leaf, Lost, Opened, Passed, Place, Seen, SeesOne, Tree, Visits, WalkState, are_open, below, below_of, file_of, files_in, given, is_open, with_slash}
 use Rattle.xxhsum_app.specs.WalkLaws.{FindsEachFile, FindsNoOther, IsSteady, LeadsTo}
+use Rattle.xxhsum_audit.proofs.AmongFacts.{among_either, among_left, among_permutation, among_right}
 
 -- Lemma: the last element of a list is the first of its reverse.
 pub reverse-push : {X : Type 0} (xs : List X) (x : X) → reverse (xs ++ x ∷ []) ≡ x ∷ reverse xs

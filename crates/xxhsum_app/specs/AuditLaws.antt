@@ -1,10 +1,10 @@
 -- The meaning of a good audit.
 use Rattle.std.specs.Prelude.{◌≡◌, ℕ, true, List, Ok}
 use Rattle.xxhsum_app.specs.Prelude.{Files, Options, SourceRules, StoreRules, StreamRules, Streams, effect_of, files_of}
-use Rattle.xxhsum_audit.specs.Item.{IsAmong, Item, normalize_path, kind_of, path_of, value_of}
-use Rattle.xxhsum_program.specs.Outcomes.{IsValueOf}
 use Rattle.xxhsum_app.specs.Audits.{Audits}
 use Rattle.xxhsum_app.specs.ReadList.{ListSays}
+use Rattle.xxhsum_audit.specs.Item.{IsAmong, Item, kind_of, normalize_path, path_of, value_of}
+use Rattle.xxhsum_program.specs.Outcomes.{IsValueOf}
 
 -- The name leads to the line's path, and reads of its file returned bytes with the line's value.
 abbrev pub IsFileOf : {S F : Type 0} → Files S F → Item → List ℕ → Type 0

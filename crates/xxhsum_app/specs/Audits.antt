@@ -1,17 +1,17 @@
 -- An audit of names against the list of a name.
 use Rattle.std.specs.Prelude.{◌≡◌, ◌⊎◌, ℕ, Bool, true, false, ◌&&◌, List, [], ◌∷◌, Option, Some, None, codes, Result, Ok, Err}
-use Rattle.xxhsum_app.specs.Prelude.{Files, Options, OutOfMemory, SinkRules, Stop, Streams, Eprints, concat, one_line}
+use Rattle.xxhsum_app.specs.Prelude.{Eprints, Files, Options, OutOfMemory, SinkRules, Stop, Streams, concat, one_line}
+use Rattle.xxhsum_app.specs.Finds.{AndThen, HasNoRoom, OnlyReports}
+use Rattle.xxhsum_app.specs.Messages.{Reports, effect_messages}
+use Rattle.xxhsum_app.specs.ReadList.{ListSays, ListSaysNothing}
+use Rattle.xxhsum_app.specs.Report.{PrintsReport, are_same}
+use Rattle.xxhsum_app.specs.Rows.{AreRows, ReportsRows, Row, are_read, kept_in, kind_of_new, messages_in, seen_in}
 use Rattle.xxhsum_audit.specs.Audit.{IsAudit}
 use Rattle.xxhsum_audit.specs.Found.{Found}
 use Rattle.xxhsum_audit.specs.Item.{Item, names_of}
 use Rattle.xxhsum_audit.specs.Order.{IsOrder, find_duplicate, rank_lines, rank_names}
 use Rattle.xxhsum_audit.specs.Side.{by_path}
 use Rattle.xxhsum_program.specs.Order.{Effect, Releases}
-use Rattle.xxhsum_app.specs.Finds.{AndThen, HasNoRoom, OnlyReports}
-use Rattle.xxhsum_app.specs.Messages.{Reports, effect_messages}
-use Rattle.xxhsum_app.specs.Report.{PrintsReport, are_same}
-use Rattle.xxhsum_app.specs.Rows.{AreRows, Row, ReportsRows, are_read, kept_in, kind_of_new, seen_in, messages_in}
-use Rattle.xxhsum_app.specs.ReadList.{ListSays, ListSaysNothing}
 
 -- The message that another name of the list leads to the same path as this one.
 abbrev pub duplicate_text : List ℕ → List ℕ → List ℕ

@@ -5,13 +5,13 @@ use Rattle.xxhsum_app.specs.Prelude.{Digested, Files, Kind, Outcome}
 use Rattle.xxhsum_audit.specs.declared.digest.FileDigest.{FileDigest}
 use Rattle.xxhsum_audit.specs.declared.moves.Compared.{Compared}
 use Rattle.xxhsum_audit.specs.declared.side.Side.{Side}
-use Rattle.xxhsum_audit.specs.Audit.{missing_in, new_in, matched_in}
+use Rattle.xxhsum_app.specs.Messages.{Messages, Reports}
+use Rattle.xxhsum_app.specs.Rows.{AreRows, ReportsRows, Row, are_read, first_in, first_of, is_read, messages_in, row_messages}
+use Rattle.xxhsum_audit.specs.Audit.{matched_in, missing_in, new_in}
 use Rattle.xxhsum_audit.specs.Found.{Found, founds_of}
 use Rattle.xxhsum_audit.specs.Item.{Item, Says, item_of, items_of}
 use Rattle.xxhsum_program.specs.Lines.{name_messages}
 use Rattle.xxhsum_program.specs.Outcomes.{Comes, is_digested}
-use Rattle.xxhsum_app.specs.Messages.{Messages, Reports}
-use Rattle.xxhsum_app.specs.Rows.{AreRows, Row, ReportsRows, are_read, first_in, first_of, is_read, messages_in, row_messages}
 
 -- The name has this digest, and nothing is reported. Or it has none, and the reason is reported.
 abbrev pub DigestsName : {S F E : Type 0} → Files S F → Messages E → Kind → List ℕ → Option FileDigest → Type 0

@@ -1,7 +1,7 @@
 -- A value is found, or reported missing.
 use Rattle.std.specs.Prelude.{◌≡◌, ◌⊎◌, ℕ, false, List, Option, Some, None, Result, Ok, Err}
+use Rattle.xxhsum_app.specs.Prelude.{Effect, Eprints, OutOfMemory, SinkRules, Stop, one_line}
 use Rattle.xxhsum_program.specs.Streams.{err_of}
-use Rattle.xxhsum_app.specs.Prelude.{Effect, OutOfMemory, SinkRules, Stop, Eprints, one_line}
 
 -- It is found; or one line reports why it isn't; or memory ran out, and nothing is reported.
 abbrev pub Finds : {T E : Type 0} → Result (Option T) Stop → SinkRules E → (T → Type 0) → (List ℕ → Type 0) → E → E → Type 0

@@ -1,7 +1,7 @@
 -- The messages of a part of a run.
 use Rattle.std.specs.Prelude.{ℕ, List}
+use Rattle.xxhsum_app.specs.Prelude.{Effect, EprintsLines, SinkRules}
 use Rattle.xxhsum_program.specs.Streams.{err_of}
-use Rattle.xxhsum_app.specs.Prelude.{Effect, SinkRules, EprintsLines}
 
 -- Standard error with its rules, before and after the part.
 pub record Messages (E : Type 0) : Type 1 where

@@ -1,12 +1,12 @@
 -- The names in lists of names.
 use Rattle.std.specs.Prelude.{◌≡◌, ℕ, List, ◌++◌}
 use Rattle.xxhsum_app.specs.Prelude.{Files, Input}
+use Rattle.xxhsum_app.specs.Texts.{GiveTexts, LackText}
 use Rattle.xxhsum_audit.specs.List.{GiveAll}
 use Rattle.xxhsum_audit.specs.Parts.{ArePartsOf}
-use Rattle.xxhsum_program.specs.Command.{has_none}
-use Rattle.xxhsum_app.specs.Texts.{GiveTexts, LackText}
 use Rattle.xxhsum_options.specs.declared.options.NamesFrom.{NamesFrom}
 use Rattle.xxhsum_options.specs.declared.options.NamesFrom.TheVariants.{Words, Lines, Nuls}
+use Rattle.xxhsum_program.specs.Command.{has_none}
 
 -- The byte that ends each name of a list.
 abbrev pub end_of : NamesFrom → ℕ

@@ -1,6 +1,7 @@
 -- The meaning of the lines of an audited list.
 use Rattle.std.specs.Prelude.{◌≡◌, ◌⊎◌, ℕ, ◌+◌, ◌≤◌, Bool, List, [], ◌∷◌, ◌++◌, length}
 use Rattle.xxhsum_app.specs.Prelude.{AllByRecursion, Files, Refusal, SourceRules}
+use Rattle.xxhsum_app.specs.Texts.{unopened_text, unread_text}
 use Rattle.xxhsum_audit.specs.Item.{Item}
 use Rattle.xxhsum_audit.specs.List.{SayAll}
 use Rattle.xxhsum_line.specs.Entry.{SaysNothing}
@@ -8,7 +9,6 @@ use Rattle.xxhsum_program.specs.CheckList.{EndsAs, EndsWell, ReadsSome}
 use Rattle.xxhsum_program.specs.ListEnd.{Endless, FailedRead}
 use Rattle.xxhsum_program.specs.ListLines.{IsTooLong, longest_line}
 use Rattle.xxhsum_program.specs.ListMessages.{improper_text, too_long_text}
-use Rattle.xxhsum_app.specs.Texts.{unopened_text, unread_text}
 
 -- None of the lines is too long, and their items are these.
 abbrev pub HaveItems : Bool → List (List ℕ) → List Item → Type 0

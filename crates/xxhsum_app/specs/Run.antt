@@ -4,14 +4,14 @@ use Rattle.xxhsum_app.specs.Prelude.{Effect, Files, Input, Options, Stop}
 use Rattle.xxhsum_program.specs.declared.process.Interactive.{Interactive}
 use Rattle.xxhsum_program.specs.HashNames.{SaysNames}
 use Rattle.xxhsum_program.specs.Streams.{err_of, streams_of}
-use Rattle.xxhsum_program.specs.Run.{DoesCommand, PerformsAs, PerformsOn, style_of}
-use Rattle.xxhsum_program.specs.Command.{IsProgram, command_of}
 use Rattle.xxhsum_app.specs.Audits.{Audits}
 use Rattle.xxhsum_app.specs.Finds.{AndThen, HasNoRoom, OnlyReports}
 use Rattle.xxhsum_app.specs.Messages.{effect_messages, messages_of}
 use Rattle.xxhsum_app.specs.Names.{ListNames, ListNone, end_of}
 use Rattle.xxhsum_app.specs.Walk.{Tree, WalksAll, WalksSome}
 use Rattle.xxhsum_options.specs.Options.{are_listed}
+use Rattle.xxhsum_program.specs.Command.{IsProgram, command_of}
+use Rattle.xxhsum_program.specs.Run.{DoesCommand, PerformsAs, PerformsOn, style_of}
 
 -- Without an audit, the names in lists are hashed, or checked as lists.
 abbrev pub WalksNames : {S F R W E : Type 0} → Files S F → Input R → Effect W E → Options → List (List ℕ) → Type 0
@@ -64,7 +64,7 @@ PerformsWords tree files input effect options words =
     (MatchBool (are_listed options.names_from) (WalksNames files input effect options words)
     (PerformsAs files input effect options words)))
 
--- The task of the arguments is done; or memory for the arguments ran out, and nothing is printed or reported.
+-- The command of the arguments is done; or memory for the arguments ran out, and nothing is printed or reported.
 abbrev pub DoesArguments : {W E : Type 0} → (Options → List (List ℕ) → Type 0) → Effect W E → Interactive
     → Option (List (List ℕ)) → Type 0
 DoesArguments performs effect interactive None = HasNoRoom effect

@@ -4,13 +4,13 @@ use Rattle.std.specs.Cmp.Lexicographic.{slice_cmp}
 use Rattle.std.specs.List.{ends_with, flat_map, list_all}
 use Rattle.std.specs.Ordering.{nat_cmp}
 use Rattle.xxhsum_app.specs.Prelude.{FolderRules, OutOfMemory, Refusal, Stop, StoreRules, Unread}
+use Rattle.xxhsum_app.specs.Messages.{Messages, Reports}
+use Rattle.xxhsum_app.specs.declared.walk.Waiting.{Waiting}
+use Rattle.xxhsum_app.specs.declared.walk.Walked.{Walked}
 use Rattle.xxhsum_fs.specs.declared.folders.PathKind.{PathKind}
 use Rattle.xxhsum_fs.specs.declared.folders.PathKind.TheVariants.{File, Folder, Other, Unknown}
 use Rattle.xxhsum_program.specs.Lines.{name_messages}
 use Rattle.xxhsum_program.specs.declared.outcome.Reason.TheVariants.{Unopened}
-use Rattle.xxhsum_app.specs.Messages.{Messages, Reports}
-use Rattle.xxhsum_app.specs.declared.walk.Waiting.{Waiting}
-use Rattle.xxhsum_app.specs.declared.walk.Walked.{Walked}
 
 -- A name, and true if it was given, false if it was found in a directory.
 abbrev pub Place : Type 0

@@ -1,10 +1,10 @@
 -- Laws of walks: the files of a walk are the files that names in directories lead to.
 use Rattle.std.specs.Prelude.{◌≡◌, ◌<◌, ℕ, Bool, true, false, List, [], ◌∷◌, length, map, IsPermutation}
+use Rattle.xxhsum_app.specs.Walk.{HasKind, Place, Seen, Tree, Visits, are_open, below, files_in, given, with_slash}
 use Rattle.xxhsum_audit.specs.Item.{IsAmong}
 use Rattle.xxhsum_fs.specs.declared.folders.PathKind.{PathKind}
 use Rattle.xxhsum_fs.specs.declared.folders.PathKind.TheVariants.{File, Folder}
 use Rattle.xxhsum_line.specs.Parts.{Lacks}
-use Rattle.xxhsum_app.specs.Walk.{HasKind, Place, Seen, Tree, Visits, are_open, below, files_in, given, with_slash}
 
 -- Each name leads to one thing, and each directory has the same names whenever it is read, in any order.
 pub record IsSteady (tree : Tree) : Type 0 where

@@ -1,22 +1,22 @@
 //! Audits names against a list of digests.
 
 ghost use Rattle.std.specs.Prelude.{◌≡◌, false, IfOk, map};
-ghost use Rattle.xxhsum_audit.specs.Item.{items_of, texts_of};
-ghost use Rattle.xxhsum_audit.specs.List.{entry_item};
-ghost use Rattle.xxhsum_audit.specs.Order.{IsOrder, Rises, find_duplicate, compare_lines, compare_paths, rank_lines, rank_names};
-ghost use Rattle.xxhsum_program.specs.Files.{files_of};
-ghost use Rattle.xxhsum_program.specs.Finish.{IsWritten};
-ghost use Rattle.xxhsum_program.specs.Order.{effect_of, rules_of};
 ghost use Rattle.xxhsum_app.specs.AuditLaws.{AuditMeansEqual};
 ghost use Rattle.xxhsum_app.specs.Audits.{Audits, AuditsItems, AuditsList, AuditsSides, ReportsDuplicate};
 ghost use Rattle.xxhsum_app.specs.Rows.{kind_of_new};
+ghost use Rattle.xxhsum_audit.specs.Item.{items_of, texts_of};
+ghost use Rattle.xxhsum_audit.specs.List.{entry_item};
+ghost use Rattle.xxhsum_audit.specs.Order.{IsOrder, Rises, compare_lines, compare_paths, find_duplicate, rank_lines, rank_names};
+ghost use Rattle.xxhsum_program.specs.Files.{files_of};
+ghost use Rattle.xxhsum_program.specs.Finish.{IsWritten};
+ghost use Rattle.xxhsum_program.specs.Order.{effect_of, rules_of};
 
 use crate::digests::digests_of;
-use crate::report::{are_same, print_report};
 use crate::read_list::read_list;
+use crate::report::{are_same, print_report};
 use std::alloc::{AllocError, Global};
-use xxh_io::streams::Sink;
 use xxh_io::kind::Kind;
+use xxh_io::streams::Sink;
 use xxhsum_audit::digest::FileDigest;
 use xxhsum_audit::moves::verdicts;
 use xxhsum_audit::order::{find_duplicate, names_of, put_lines_in_order, put_names_in_order};
@@ -24,10 +24,10 @@ use xxhsum_fs::store::Store;
 use xxhsum_line::entry::Entry;
 use xxhsum_output::output::Output;
 use xxhsum_program::context::Context;
-use xxhsum_program::terminal::TimedSink;
+use xxhsum_program::stderr::eprint_line;
 use xxhsum_program::stop::Stop;
 use xxhsum_program::streams::Streams;
-use xxhsum_program::stderr::eprint_line;
+use xxhsum_program::terminal::TimedSink;
 
 /// Compares the names with the lines of the list of this name, and prints a verdict on each. Returns whether all are
 /// the same.

@@ -2,22 +2,22 @@
 
 ghost use Rattle.std.specs.Prelude.{◌<◌, MatchResult, length};
 ghost use Rattle.xxhsum_program.specs.Files.{files_of};
-ghost use Rattle.xxhsum_audit.specs.Item.{items_of, texts_of};
-ghost use Rattle.xxhsum_audit.specs.Side.{by_path, path_side};
 ghost use Rattle.xxhsum_app.specs.Digests.{AddsRow, DigestsName, DigestsRows, FailsRows};
 ghost use Rattle.xxhsum_app.specs.Messages.{messages_of};
 ghost use Rattle.xxhsum_app.specs.Rows.{IsRow};
+ghost use Rattle.xxhsum_audit.specs.Item.{items_of, texts_of};
+ghost use Rattle.xxhsum_audit.specs.Side.{by_path, path_side};
 
 use std::alloc::AllocError;
-use xxh_io::streams::Sink;
 use xxh_io::kind::Kind;
+use xxh_io::streams::Sink;
 use xxhsum_audit::digest::FileDigest;
 use xxhsum_audit::moves::Compared;
 use xxhsum_audit::side::{Side, first_by_path};
 use xxhsum_audit::verdict::Verdict;
 use xxhsum_fs::store::Store;
-use xxhsum_program::hash::eprint_outcome;
 use xxhsum_program::context::Context;
+use xxhsum_program::hash::eprint_outcome;
 use xxhsum_program::outcome::{OFFERED, Outcome, outcome_of};
 use xxhsum_program::terminal::TimedSink;
 

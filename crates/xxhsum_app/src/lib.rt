@@ -5,8 +5,8 @@
 pub mod audit;
 mod digests;
 pub mod names;
+mod read_list;
 mod report;
 pub mod run;
-mod read_list;
 pub mod texts;
 pub mod walk;

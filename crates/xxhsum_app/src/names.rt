@@ -1,19 +1,19 @@
 //! Reads names from lists of names.
 
 ghost use Rattle.std.specs.Prelude.{◌≡◌, ◌∷◌, ◌++◌, [], false, map, IfOk};
-ghost use Rattle.xxhsum_program.specs.Files.{files_of, input_of};
 ghost use Rattle.xxhsum_app.specs.Finds.{Finds};
 ghost use Rattle.xxhsum_app.specs.Names.{AddsNames, AreNamesIn, ListNames, ListNone, end_of};
+ghost use Rattle.xxhsum_program.specs.Files.{files_of, input_of};
 
 use crate::texts::texts_named;
 use std::alloc::{AllocError, Global};
 use xxh_io::streams::{Sink, Source};
 use xxhsum_audit::parts::cut_at;
 use xxhsum_fs::store::Store;
-use xxhsum_program::context::Context;
-use xxhsum_program::terminal::TimedSink;
-use xxhsum_program::stop::Stop;
 use xxhsum_options::options::NamesFrom;
+use xxhsum_program::context::Context;
+use xxhsum_program::stop::Stop;
+use xxhsum_program::terminal::TimedSink;
 
 /// Returns the names in these lists, or in the input if there is no list, in order. Returns `None` if a list can't be
 /// opened or read, which is reported.

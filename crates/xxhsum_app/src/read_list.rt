@@ -16,9 +16,9 @@ use xxhsum_line::entry::Entry;
 use xxhsum_program::check::eprint_line_error;
 use xxhsum_program::context::Context;
 use xxhsum_program::lines::{Lines, Next};
-use xxhsum_program::terminal::TimedSink;
-use xxhsum_program::stop::Stop;
 use xxhsum_program::progress_reader::ProgressReader;
+use xxhsum_program::stop::Stop;
+use xxhsum_program::terminal::TimedSink;
 
 // Returns the entries of the list of this name. Returns `None` if it can't be opened or read, or a line is malformed or
 // too long, which is reported.
@@ -34,7 +34,13 @@ pub(crate) fn read_list<S: Store, T: TimedSink, E: Sink>(
         list.now) err.old err.new }
 {
     match context.progress.open(context.store, list) {
-        Ok(file) => read_lines(context.alloc, context.options.is_little_endian, list, file, err),
+        Ok(file) => read_lines(
+            context.alloc,
+            context.options.is_little_endian,
+            list,
+            file,
+            err,
+        ),
         Err(refusal) => {
             eprint_unopened(list, &refusal, err);
             Ok(None)

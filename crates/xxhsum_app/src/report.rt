@@ -1,18 +1,18 @@
 //! Prints the report of an audit.
 
 ghost use Rattle.std.specs.Prelude.{◌≡◌, ◌++◌, false, IfOk};
+ghost use Rattle.xxhsum_app.specs.Report.{PrintsReport, are_same, class_text, counts_text, shown_text};
 ghost use Rattle.xxhsum_audit.specs.Found.{found_of, founds_of};
 ghost use Rattle.xxhsum_program.specs.Lines.{PrintsLine};
-ghost use Rattle.xxhsum_app.specs.Report.{PrintsReport, are_same, class_text, counts_text, shown_text};
 
 use itoa::Buffer;
 use std::alloc::{AllocError, Global};
 use xxh_io::streams::Sink;
 use xxhsum_audit::text::verdict_line;
 use xxhsum_audit::verdict::{Class, Verdict, count_of};
+use xxhsum_options::options::Options;
 use xxhsum_program::stdout::print;
 use xxhsum_program::stop::Stop;
-use xxhsum_options::options::Options;
 
 // Prints the verdicts, and the count of each class.
 pub(crate) fn print_report<W: Sink>(

@@ -1,15 +1,15 @@
 //! Runs the program over its arguments.
 
 ghost use Rattle.std.specs.Prelude.{◌≡◌, false, Bool, List, ℕ, Option, Some, Result, drop, map, IfSome};
+ghost use Rattle.xxhsum_app.specs.Prelude.{Stop, Streams};
+ghost use Rattle.xxhsum_app.specs.Run.{AuditsBelow, AuditsWords, DoesArguments, PerformsWords, WalksFolders, WalksNames, all_well};
+ghost use Rattle.xxhsum_app.specs.Walk.{tree_of};
+ghost use Rattle.xxhsum_options.specs.Options.{are_listed};
 ghost use Rattle.xxhsum_program.specs.Arguments.{AreArguments};
 ghost use Rattle.xxhsum_program.specs.Files.{files_of, input_of};
 ghost use Rattle.xxhsum_program.specs.Finish.{IsWritten};
 ghost use Rattle.xxhsum_program.specs.Order.{Releases, effect_of, rules_of};
 ghost use Rattle.xxhsum_program.specs.Run.{Ends};
-ghost use Rattle.xxhsum_app.specs.Prelude.{Stop, Streams};
-ghost use Rattle.xxhsum_app.specs.Run.{AuditsBelow, AuditsWords, DoesArguments, PerformsWords, WalksFolders, WalksNames, all_well};
-ghost use Rattle.xxhsum_app.specs.Walk.{tree_of};
-ghost use Rattle.xxhsum_options.specs.Options.{are_listed};
 
 use crate::audit::audit_names;
 use crate::names::names_listed;
@@ -18,22 +18,22 @@ use std::alloc::{AllocError, Global};
 use xxh_io::streams::{Sink, Source};
 use xxhsum_fs::folders::Folders;
 use xxhsum_fs::store::Store;
+use xxhsum_options::name::default_kind;
+use xxhsum_options::options::{parse_args, words_behind};
 use xxhsum_output::output::Output;
 use xxhsum_program::arguments::{Arguments, all_arguments};
 use xxhsum_program::check::check_lists;
-use xxhsum_program::hash::hash_names;
 use xxhsum_program::context::Context;
+use xxhsum_program::hash::hash_names;
 use xxhsum_program::process::{
-    Console, arguments_behind_name, end, perform, program_of, requested_run, eprint_answer, eprint_wrong,
-    waits_for_terminal,
+    Console, arguments_behind_name, end, eprint_answer, eprint_wrong, perform, program_of,
+    requested_run, waits_for_terminal,
 };
-use xxhsum_program::terminal::TimedSink;
+use xxhsum_program::progress_reader::ProgressDisplay;
+use xxhsum_program::stderr::eprint;
 use xxhsum_program::stop::Stop;
 use xxhsum_program::streams::Streams;
-use xxhsum_program::stderr::eprint;
-use xxhsum_program::progress_reader::ProgressDisplay;
-use xxhsum_options::name::default_kind;
-use xxhsum_options::options::{parse_args, words_behind};
+use xxhsum_program::terminal::TimedSink;
 
 /// Does what the arguments ask for, over a store of files and these streams. Returns the exit status: 0 if every file
 /// was hashed or matches its line, and all output is written, otherwise 1.

@@ -3,11 +3,11 @@
 ghost use Rattle.std.specs.Prelude.{◌≡◌, ◌∷◌, ◌++◌, [], false, List, ℕ, IfOk, map};
 ghost use Rattle.xxhsum_program.specs.Files.{files_of, input_of};
 ghost use Rattle.xxhsum_app.specs.Prelude.{EachHas, Eprints, one_line};
-ghost use Rattle.xxhsum_program.specs.Run.{input_name};
-ghost use Rattle.xxhsum_program.specs.Command.{has_none};
-ghost use Rattle.xxhsum_program.specs.ProgressReader.{source_of};
 ghost use Rattle.xxhsum_app.specs.Finds.{Finds};
 ghost use Rattle.xxhsum_app.specs.Texts.{Breaks, GiveTexts, GivesText, HasNoText, HasText, LackText, LacksOne, unopened_text, unread_text};
+ghost use Rattle.xxhsum_program.specs.Command.{has_none};
+ghost use Rattle.xxhsum_program.specs.ProgressReader.{source_of};
+ghost use Rattle.xxhsum_program.specs.Run.{input_name};
 
 use std::alloc::{AllocError, Global};
 use xxh_io::streams::{Sink, Source};
@@ -15,10 +15,10 @@ use xxhsum_audit::read::read_text;
 use xxhsum_fs::refusal::Refusal;
 use xxhsum_fs::store::Store;
 use xxhsum_program::context::Context;
-use xxhsum_program::terminal::TimedSink;
-use xxhsum_program::stop::Stop;
-use xxhsum_program::stderr::eprint_line;
 use xxhsum_program::progress_reader::{ProgressDisplay, ProgressReader};
+use xxhsum_program::stderr::eprint_line;
+use xxhsum_program::stop::Stop;
+use xxhsum_program::terminal::TimedSink;
 
 // The name of standard input.
 const INPUT: &[u8] = b"stdin";

@@ -7,10 +7,10 @@ use Rattle.xxhsum_audit.proofs.Prelude.{compare_lines, rank_lines}
 use Rattle.xxhsum_audit.proofs.AmongFacts.{among_either, among_flat_map, among_permutation, among_same}
 use Rattle.xxhsum_audit.proofs.CopyFacts.{Ignores, IsOriginal, all_ignore, from_copies, lines_ignore, missing_ignore, names_ignore, new_ignore, original_is}
 use Rattle.xxhsum_audit.proofs.DigestFacts.{FitsDigest, FitsName, all_apart, all_fit_digest, all_fit_name, climbs}
+use Rattle.xxhsum_audit.proofs.DuplicateFacts.{not_twice}
 use Rattle.xxhsum_audit.proofs.FoundFacts.{Covers, covers, met_pair, moved_pair}
 use Rattle.xxhsum_audit.proofs.OrderFacts.{digests_tied}
 use Rattle.xxhsum_audit.proofs.SideFacts.{IsSide, by_names, side_of_lines, side_of_names}
-use Rattle.xxhsum_audit.proofs.DuplicateFacts.{not_twice}
 use Rattle.xxhsum_audit.proofs.UniqueFacts.{one_order, one_rise}
 
 covers_names : (ls ns : List Item) → Covers ls ns (compared ls ns)
@@ -210,7 +210,7 @@ module _ (lines names : List Item) (found : List Found) (audit : IsAudit lines n
         kept_stays = stays;
       }
 
-  -- Lemma: a property of the results settled by name and of the results by digest is a property of all results.
+  -- Lemma: a property of the results matched by name and of the results by digest is a property of all results.
   each : (P : Found → Type 0) → ((one : Found) → IsMatched one → IsAmong (matched_in first) one → P one)
       → ((one : Found) → IsAmong rest one → FitsDigest one → P (with_copy moves.kept one)) → (one : Found) → IsAmong found one → P one
   each P by_name by_digest one h =

@@ -13,12 +13,12 @@ pub use Rattle.std.proofs.lemmas.Map.Lookups.{exact_bytes, exact_unsigned}
 pub use Rattle.std.specs.Cmp.{IsTotalOrder}
 pub use Rattle.std.specs.Cmp.Lexicographic.{slice_cmp}
 pub use Rattle.std.specs.Ordering.{is_eq, is_lt, nat_cmp, ordering_index, ordering_reverse, ordering_then}
-pub use Rattle.xxhsum_audit.specs.Audit.{HasMoves, IsAudit, IsDuplicate, as_found, compared, copied, missing_in, missing_one, moved, new_in, new_one, original, same_in, same_one, matched_in, matched_one, with_copy}
+pub use Rattle.xxhsum_audit.specs.Audit.{HasMoves, IsAudit, IsDuplicate, as_found, compared, copied, matched_in, matched_one, missing_in, missing_one, moved, new_in, new_one, original, same_in, same_one, with_copy}
 pub use Rattle.xxhsum_audit.specs.Found.{Changed, Copied, Found, Missing, Moved, New, Same, founds_of, is_of_class, line_in, lines_in, met, name_in, names_in}
 pub use Rattle.xxhsum_audit.specs.Item.{HasSameDigest, IsAmong, Item, LacksPath, Says, is_dotted, item_of, items_of, kind_of, name_of, names_of, path_of, texts_of, value_of}
 unfoldable pub use Rattle.xxhsum_audit.specs.Item.{normalize_path}
 pub use Rattle.xxhsum_audit.specs.Laws.{CopiesTheFirst, CountsAddUp, HasNoDuplicate, IsKept, IsOneReport, IsRight, LeavesNoCopy, LeavesNoMove, SameMeansEqual, StaysSame, TellsEachLineOnce, TellsEachNameOnce, TellsRight}
-pub use Rattle.xxhsum_audit.specs.Order.{Ascends, IsOrder, Rises, find_duplicate, compare_digests, compare_lines, compare_paths, rank_digests, rank_lines, rank_names, rank_of, shares_path}
+pub use Rattle.xxhsum_audit.specs.Order.{Ascends, IsOrder, Rises, compare_digests, compare_lines, compare_paths, find_duplicate, rank_digests, rank_lines, rank_names, rank_of, shares_path}
 pub use Rattle.xxhsum_audit.specs.Parts.{ArePartsOf, ended}
 pub use Rattle.xxhsum_audit.specs.Side.{IsFirst, against, by_digest, compare_to_name, in_turn}
 unfoldable pub use Rattle.xxhsum_audit.specs.Side.{beside}

@@ -7,7 +7,7 @@ use Rattle.xxhsum_audit.proofs.OrderFacts.{back, lines_exact, lines_total, paths
 
 -- ---- one side of the results: the lines or the names, and the unmatched ones
 
--- A side: the items of a result are settled, or all of them are unmatched.
+-- A side: the items of a result are matched, or all of them are unmatched.
 abbrev pub IsSide : (of alone : Found → List Item) → Type 0
 IsSide of alone = (x : Found) → (of x ≡ flat_map of (matched_one x) ++ alone x) × (flat_map alone (matched_one x) ≡ [])
 

@@ -77,7 +77,7 @@ with_copy kept found = found
 
 -- ---- an audit
 
--- The results `found` are the settled ones, followed by the results of the other lines and names, sorted by digest and
+-- The results `found` are the matched ones, followed by the results of the other lines and names, sorted by digest and
 -- merged. A name that is still new becomes a copy if an unchanged file has its digest.
 pub record HasMoves (matched : List Found) (removed added : List Item) (found : List Found) : Type 0 where
   pub kept : List Item

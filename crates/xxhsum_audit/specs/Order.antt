@@ -6,7 +6,7 @@ use Rattle.std.specs.declared.cmp.Ordering.TheVariants.{Less}
 use Rattle.std.specs.Ordering.{nat_cmp, ordering_then, is_eq, is_lt}
 use Rattle.xxh_io.specs.declared.kind.Kind.{Kind}
 use Rattle.xxh_io.specs.declared.kind.Kind.TheVariants.{X32, X64, X3_64, X3_128}
-use Rattle.xxhsum_audit.specs.Item.{IsAmong, Item, normalize_path, kind_of, name_of, value_of}
+use Rattle.xxhsum_audit.specs.Item.{IsAmong, Item, kind_of, name_of, normalize_path, value_of}
 
 -- The position of an algorithm among the algorithms.
 abbrev pub rank_of : Kind → ℕ

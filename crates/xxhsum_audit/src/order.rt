@@ -1,8 +1,8 @@
 //! The orders of names and of digests by which lines and names are merged.
 
 ghost use Rattle.std.specs.Prelude.{◌≡◌, IfOk, MatchOption, None, Some};
-ghost use Rattle.xxhsum_audit.specs.Item.{normalize_path, item_of, items_of, names_of, texts_of};
-ghost use Rattle.xxhsum_audit.specs.Order.{IsOrder, find_duplicate, compare_digests, compare_paths, rank_digests, rank_lines, rank_names, rank_of, shares_path};
+ghost use Rattle.xxhsum_audit.specs.Item.{item_of, items_of, names_of, normalize_path, texts_of};
+ghost use Rattle.xxhsum_audit.specs.Order.{IsOrder, compare_digests, compare_paths, find_duplicate, rank_digests, rank_lines, rank_names, rank_of, shares_path};
 
 use crate::digest::FileDigest;
 use std::alloc::{AllocError, Global};

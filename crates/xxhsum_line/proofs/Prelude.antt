@@ -19,4 +19,4 @@ pub use Rattle.xxhsum_line.specs.Escapes.{before, body_of, escape, escaped, is_e
 pub use Rattle.xxhsum_line.specs.Meaning.{Means}
 pub use Rattle.xxhsum_line.specs.Parts.{EndsTagged, HasNoParts, HasNoTaggedParts, HasParts, IsPlain, IsTagged, IsTaggedWith, Lacks, up_to_nul, without_return}
 pub use Rattle.xxhsum_line.specs.Printed.{formed, full_tag, line_of, plain_text, prefix_of, shown, tagged_text, text_of}
-pub use Rattle.xxhsum_line.specs.Tags.{without_prefix, has_prefix, is_little_tag, kind_of_count, kind_of_digits, kind_of_tag}
+pub use Rattle.xxhsum_line.specs.Tags.{has_prefix, is_little_tag, kind_of_count, kind_of_digits, kind_of_tag, without_prefix}

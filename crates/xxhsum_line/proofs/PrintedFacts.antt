@@ -3,7 +3,7 @@ use Rattle.xxhsum_line.proofs.Prelude.{◌≡◌, ◌≢◌, ℕ, ◌<◌, ◌+�
 use Rattle.xxhsum_line.proofs.Prelude.{cond-false, ne_eqb, same_from_push, nat_tests, digits_of, Kind, X32, X64, X3_64, X3_128, value_shown, Says, SaysPlain, TextSays, is_comment, value_meant, body_of, escaped, is_escaped, mark_of}
 use Rattle.xxhsum_line.proofs.Prelude.{name_meant, needs_escape, unescaped, Lacks, up_to_nul, without_return, formed, full_tag, line_of, plain_text, prefix_of, shown, tagged_text, text_of, without_prefix, has_prefix, is_little_tag, kind_of_count}
 use Rattle.xxhsum_line.proofs.Prelude.{kind_of_digits, kind_of_tag}
-use Rattle.xxhsum_line.specs.Laws.{PlainTextsStay, PrintedIsAccepted, PrintedIsNoComment, PrintedIsOneLine, MessageIsOneLine}
+use Rattle.xxhsum_line.specs.Laws.{MessageIsOneLine, PlainTextsStay, PrintedIsAccepted, PrintedIsNoComment, PrintedIsOneLine}
 use Rattle.xxhsum_line.specs.declared.printed.Shape.{Shape}
 use Rattle.xxhsum_line.proofs.EscapeFacts.{escape_is_undone, escaped_lacks_line_feed, escaped_length, escaped_lacks_nul, escaped_lacks_return, plain_names_stay}
 use Rattle.xxhsum_line.proofs.LackFacts.{lacks_both, up_to_nul_whole, without_return_whole}

@@ -8,7 +8,7 @@ ghost use Rattle.xxhsum_line.specs.Meaning.{FitsKind, Means};
 use crate::digits::value_shown;
 use crate::escapes::{body_of, is_escaped, name_meant};
 use crate::parts::{Parts, parts_of, up_to_nul, without_return};
-use crate::tags::{without_prefix, is_little_tag, kind_of_digits, kind_of_tag};
+use crate::tags::{is_little_tag, kind_of_digits, kind_of_tag, without_prefix};
 use std::alloc::{AllocError, Global};
 use xxh_io::kind::Kind;
 

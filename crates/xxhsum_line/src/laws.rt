@@ -3,7 +3,7 @@
 ghost use Rattle.std.specs.Prelude.{◌≡◌, ◌<◌, ◌^◌, true, IfOk};
 ghost use Rattle.xxh_io.specs.Kind.{digits_of};
 ghost use Rattle.xxhsum_line.specs.Entry.{Says};
-ghost use Rattle.xxhsum_line.specs.Laws.{EscapeIsUndone, NotBothForms, PlainNamesStay, PlainPartsAreOne, PlainTextsStay, PrintedIsAccepted, PrintedIsNoComment, PrintedIsOneLine, SaysOneThing, TaggedPartsAreOne, MessageIsOneLine};
+ghost use Rattle.xxhsum_line.specs.Laws.{EscapeIsUndone, MessageIsOneLine, NotBothForms, PlainNamesStay, PlainPartsAreOne, PlainTextsStay, PrintedIsAccepted, PrintedIsNoComment, PrintedIsOneLine, SaysOneThing, TaggedPartsAreOne};
 ghost use Rattle.xxhsum_line.specs.Parts.{Lacks};
 
 use crate::entry::{Entry, Meaning, meaning_of};

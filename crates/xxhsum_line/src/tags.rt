@@ -1,7 +1,7 @@
 //! The tags of lines and their algorithms.
 
 ghost use Rattle.std.specs.Prelude.{◌≡◌};
-ghost use Rattle.xxhsum_line.specs.Tags.{without_prefix, is_little_tag, kind_of_count, kind_of_digits, kind_of_tag, tag_of};
+ghost use Rattle.xxhsum_line.specs.Tags.{is_little_tag, kind_of_count, kind_of_digits, kind_of_tag, tag_of, without_prefix};
 
 use xxh_io::kind::Kind;
 

@@ -4,7 +4,7 @@ ghost use Rattle.std.specs.Prelude.{◌≡◌, ◌≤◌, length, IfOk};
 ghost use Rattle.xxhsum_options.specs.Letters.{alone, kind_step, letter_of, letters_step, numbered_kind, skipped_number};
 
 use crate::number::number_at;
-use crate::options::{ParsedArgs, Options, Step};
+use crate::options::{Options, ParsedArgs, Step};
 use crate::table::{NO_LETTER, letter_step};
 use xxh_io::kind::Kind;
 

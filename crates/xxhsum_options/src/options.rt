@@ -1,7 +1,7 @@
 //! The arguments of the command line.
 
 ghost use Rattle.std.specs.Prelude.{◌≡◌, drop, map};
-ghost use Rattle.xxhsum_options.specs.Options.{parsed_args, have_input, leaves_input, lists_audited, lists_before, run_from, word_step};
+ghost use Rattle.xxhsum_options.specs.Options.{have_input, leaves_input, lists_audited, lists_before, parsed_args, run_from, word_step};
 
 use crate::letters::letters;
 use crate::table::name_step;

@@ -3,7 +3,7 @@
 ghost use Rattle.std.specs.Prelude.{◌≡◌, map};
 ghost use Rattle.xxhsum_options.specs.Table.{action_step, of_letter, of_name, seen};
 
-use crate::options::{ParsedArgs, NamesFrom, Options, Step};
+use crate::options::{NamesFrom, Options, ParsedArgs, Step};
 
 /// The effect of an option.
 #[derive(Clone, Copy, Debug, PartialEq, Eq)]
@@ -144,7 +144,12 @@ pub const ROWS: [(u8, &str, Action, &str); 19] = [
         "       print the version",
     ),
     (b'-', "", Action::EndsOptions, ""),
-    (b'b', "bench-all", Action::Returns(ParsedArgs::Benchmark), ""),
+    (
+        b'b',
+        "bench-all",
+        Action::Returns(ParsedArgs::Benchmark),
+        "",
+    ),
 ];
 
 // Applies `--` and this name to these options.

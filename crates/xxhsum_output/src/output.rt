@@ -4,8 +4,8 @@ ghost use Rattle.std.specs.Prelude.{◌≡◌, [], false, List, ℕ, Bool};
 ghost use Rattle.std.specs.List.{concat};
 ghost use Rattle.xxh_io.specs.Pieces.{Pieces};
 
-use xxh_io::streams::Sink;
 use xxh_io::script_sink::ScriptSink;
+use xxh_io::streams::Sink;
 
 /// A sink that may hold bytes for a while, to write many at once.
 ///

@@ -7,8 +7,8 @@ ghost use Rattle.xxh_io.specs.Hex.{hex_digit};
 ghost use Rattle.xxh_io.specs.Pieces.{Pieces};
 ghost use Rattle.xxhsum_output.specs.Shown.{in_hex, is_calm, is_clean, is_plain, shown, shown_all, shown_byte};
 
-use xxh_io::streams::{Failed, Sink};
 use xxh_io::digest_error::DigestError;
+use xxh_io::streams::{Failed, Sink};
 use xxh_io::write::write_all;
 
 // In UTF-8 a control character of two bytes is this one and one from 128 to 159.

@@ -1,6 +1,6 @@
 -- Lemmas on a hashing run, at a name and where it stops.
 use Rattle.std.proofs.Common.{◌≡◌, ℕ, Bool, false, List, [], ◌∷◌, ◌++◌, refl, sym, ap, ◌∙◌, subst, append-nil, append_assoc, Ok, Err, Result, IsErrAnd}
-use Rattle.xxhsum_program.specs.Prelude.{Digested, EachHas, IsDirectory, Kind, OutOfMemory, Outcome, SinkRules, Stop, Style, EprintsLines, Eprints, Took, Unread, WriteFailed}
+use Rattle.xxhsum_program.specs.Prelude.{Digested, EachHas, Eprints, EprintsLines, IsDirectory, Kind, OutOfMemory, Outcome, SinkRules, Stop, Style, Took, Unread, WriteFailed}
 use Rattle.xxhsum_program.proofs.Prelude.{EmitsAll, EmitsOrNone, EmitsTo, EndsWith, IsWritten, PrintsLine, StreamRules, Streams, input_events, is_digested, lines_of, name_events, name_messages, streams_of, styled_line}
 use Rattle.xxhsum_program.proofs.OrderFacts.{emits-append, emits-join}
 use Rattle.xxhsum_program.proofs.EachFacts.{EachHas-push}

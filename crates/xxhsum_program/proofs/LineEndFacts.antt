@@ -2,7 +2,7 @@
 use Rattle.std.proofs.Common.{◌≡◌, ◌≢◌, ℕ, ◌<◌, List, [], ◌∷◌, ◌++◌, Bool, true, false, Ok, Err, IfErr, codes, nat_eq, ◌||◌, refl, sym, subst, if◌then◌else◌, arith, append-nil, ap, ◌∙◌, Result}
 use Rattle.xxhsum_program.specs.Prelude.{Options, OutOfMemory, Report, SinkRules, Stop, Took, WriteFailed, concat}
 use Rattle.xxhsum_program.proofs.Prelude.{Emits, EmitsTo, Event, FailedRead, Printed, PrintsLine, Refused-join, Refused-more, Reported, StreamRules, Streams, Took-join, is_unverified, streams_of}
-use Rattle.xxhsum_program.specs.ListMessages.{break_events, count_text, no_line_text, printed_summary, summary_events, summary_text, line_message, unverified_line, unverified_text}
+use Rattle.xxhsum_program.specs.ListMessages.{break_events, count_text, line_message, no_line_text, printed_summary, summary_events, summary_text, unverified_line, unverified_text}
 use Rattle.xxhsum_program.proofs.OrderFacts.{emits-join, emits-line}
 
 -- Lemma: a line is refused if its first part is refused.

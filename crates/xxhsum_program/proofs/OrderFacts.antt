@@ -1,6 +1,6 @@
 -- Lemmas on events of both streams.
 use Rattle.std.proofs.Common.{◌≡◌, ℕ, List, [], ◌∷◌, ◌++◌, refl, sym, ap, ◌∙◌, subst, append-nil, append_assoc, Ok, Err, IfErr, Result}
-use Rattle.xxhsum_program.proofs.Prelude.{OutOfMemory, PrintsLine, Refused, Refused-join, Stop, Streams, Eprints, Took, Took-join, WriteFailed, one_line, streams_of}
+use Rattle.xxhsum_program.proofs.Prelude.{Eprints, OutOfMemory, PrintsLine, Refused, Refused-join, Stop, Streams, Took, Took-join, WriteFailed, one_line, streams_of}
 use Rattle.xxhsum_program.specs.Order.{Emits, EmitsAll, EmitsOrNone, EmitsTo, Event, Printed, Reported, StreamRules, printed_of, reported_of}
 use Rattle.xxhsum_program.proofs.EprintFacts.{reports-more, reports-nothing}
 

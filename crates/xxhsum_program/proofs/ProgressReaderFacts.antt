@@ -1,4 +1,4 @@
--- Proves that facts on watched sources hold for the sources that they watch.
+-- Proves that facts on sources with progress hold for their inner sources.
 use Rattle.xxhsum_program.proofs.Prelude.{[], ◌++◌, ◌∷◌, DigestError, Err, List, Ok, Pieces, ReadsOn, ReadsTo, Result, SourceRules, ProgressReader, ap, source_of, progress_reading, ℕ}
 use Rattle.xxh_io.specs.declared.digest_error.DigestError.TheVariants.{ReadFailed, WriteFailed, TooLong}
 

@@ -6,8 +6,8 @@ use Rattle.xxhsum_program.specs.CheckList.{AnswersList, AnswersOutcome, Checked,
 use Rattle.xxhsum_program.specs.ListMessages.{break_events, finding_events, found_text, is_silent, lines_events, list_events, numbered, summary_events}
 use Rattle.xxhsum_program.proofs.CheckFacts.{Stands, some-read}
 use Rattle.xxhsum_program.proofs.EachFacts.{EachHas-push}
-use Rattle.xxhsum_program.proofs.OrderFacts.{emits-append, emits-join, emits-line, emits-stop}
 use Rattle.xxhsum_program.proofs.ListMessageFacts.{numbered-push}
+use Rattle.xxhsum_program.proofs.OrderFacts.{emits-append, emits-join, emits-line, emits-stop}
 
 -- The clauses of `check_lines` and of `check`.
 abbrev pub LinesChecked : {R W E : Type 0} → (List ℕ → Finding → Type 0) → SourceRules R → StreamRules W E → Options → List ℕ → R → Streams W E → Streams W E → Result Report Stop → Type 0

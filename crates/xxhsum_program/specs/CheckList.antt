@@ -8,8 +8,8 @@ use Rattle.xxhsum_program.specs.ListEnd.{ListEnd, Whole, TooMany, Endless, Faile
 use Rattle.xxhsum_program.specs.ListLines.{FailsAfter, IsEndless, IsLastLine, end_piece}
 use Rattle.xxhsum_program.specs.Order.{Effect, EmitsAll, EmitsTo, EmitsUnlessFailed, Event, Reported, StreamRules}
 use Rattle.xxhsum_program.specs.declared.streams.Streams.{Streams}
-use Rattle.xxhsum_program.specs.Report.{passes}
 use Rattle.xxhsum_program.specs.ListMessages.{finding_events, list_events, refusal_message}
+use Rattle.xxhsum_program.specs.Report.{passes}
 
 -- The lines, each with its line feed.
 abbrev pub with_line_feeds : List (List ℕ) → List ℕ

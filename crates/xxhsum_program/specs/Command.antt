@@ -1,4 +1,4 @@
--- The task of the arguments.
+-- The command of the arguments.
 use Rattle.std.specs.Prelude.{◌≡◌, ℕ, Bool, true, false, ◌&&◌, ◌||◌, not, List, [], ◌∷◌, ◌++◌, Option, Some, None, codes, drop, get_or, length, nat_eq, if◌then◌else◌}
 use Rattle.xxhsum_program.specs.Prelude.{Options, concat, one_line}
 use Rattle.xxhsum_program.specs.declared.process.Interactive.{Interactive}
@@ -90,7 +90,7 @@ requested_run WalkOfNothing = None
 requested_run InputBesideNames = None
 requested_run NumberTooLarge = None
 
--- The task of a run with these options and names.
+-- The command of a run with these options and names.
 abbrev pub command_of_run : Interactive → List ℕ → Options → List (List ℕ) → Command
 command_of_run interactive program options names =
     if waits_for_terminal interactive options names then Answers (wrong_text (codes "Wrong parameters") program) false
@@ -100,7 +100,7 @@ abbrev pub command_from : Interactive → List ℕ → List (List ℕ) → Parse
 command_from interactive program words parsed None = Answers (answer_text program words parsed) (is_well parsed)
 command_from interactive program words parsed (Some run) = command_of_run interactive program run.0 (drop run.1 words)
 
--- The task of the arguments after the program's name.
+-- The command of the arguments after the program's name.
 abbrev pub command_of : Interactive → List ℕ → List (List ℕ) → Command
 command_of interactive program words =
     let parsed = parsed_args (kind_of_program program) words in

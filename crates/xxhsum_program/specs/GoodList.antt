@@ -6,9 +6,9 @@ use Rattle.xxhsum_line.specs.Entry.{Says, SaysNothing, is_comment}
 use Rattle.xxhsum_program.specs.CheckList.{FindsLines, MeetsLines, is_good_list}
 use Rattle.xxhsum_program.specs.Findings.{Finding, IsFinding}
 use Rattle.xxhsum_program.specs.ListEnd.{ListEnd}
+use Rattle.xxhsum_program.specs.ListMessages.{finding_events}
 use Rattle.xxhsum_program.specs.Order.{printed_of}
 use Rattle.xxhsum_program.specs.Outcomes.{IsValueOf}
-use Rattle.xxhsum_program.specs.ListMessages.{finding_events}
 
 -- There is no file of this name, and missing files are ignored.
 abbrev pub IsPassedOver : {S F : Type 0} → Files S F → Bool → List ℕ → Type 0

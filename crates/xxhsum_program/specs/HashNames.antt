@@ -8,7 +8,7 @@ use Rattle.xxh_program.specs.States.{most_reads}
 use Rattle.xxhsum_line.specs.Printed.{styled_line}
 use Rattle.xxhsum_program.specs.Outcomes.{Comes, are_digested}
 use Rattle.xxhsum_program.specs.Order.{Effect, Event, HasEvents, Printed, Reported}
-use Rattle.xxhsum_program.specs.Lines.{lines_of, name_messages, input_message}
+use Rattle.xxhsum_program.specs.Lines.{input_message, lines_of, name_messages}
 
 -- If the run reaches its end, no name is left, and the result is true if each has a value. Only a failed write or a
 -- failed allocation stops it before.

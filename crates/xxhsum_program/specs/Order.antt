@@ -1,6 +1,6 @@
 -- The bytes written to standard output and standard error, in one order.
 use Rattle.std.specs.Prelude.{◌≡◌, ◌⊎◌, ℕ, Bool, true, List, [], ◌∷◌, ◌++◌, Result, Ok, Err}
-use Rattle.xxhsum_program.specs.Prelude.{OutOfMemory, Refused, SinkRules, Stop, Streams, Eprints, Took, WriteFailed, one_line}
+use Rattle.xxhsum_program.specs.Prelude.{Eprints, OutOfMemory, Refused, SinkRules, Stop, Streams, Took, WriteFailed, one_line}
 use Rattle.xxhsum_program.specs.Finish.{IsWritten}
 use Rattle.xxhsum_program.specs.Streams.{err_of}
 

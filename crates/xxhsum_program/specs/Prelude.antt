@@ -12,7 +12,7 @@ pub use Rattle.xxhsum_line.specs.declared.printed.Shape.{Shape}
 pub use Rattle.xxhsum_line.specs.declared.printed.Style.{Style}
 pub use Rattle.xxhsum_program.specs.EachHas.{EachHas}
 pub use Rattle.xxhsum_program.specs.Files.{Files, Input, files_of, input_of}
-pub use Rattle.xxhsum_program.specs.Eprints.{EprintsLines, Eprints}
+pub use Rattle.xxhsum_program.specs.Eprints.{Eprints, EprintsLines}
 pub use Rattle.xxhsum_program.specs.declared.check.Report.{Report}
 pub use Rattle.xxhsum_program.specs.declared.entry.Found.{Found}
 pub use Rattle.xxhsum_program.specs.declared.outcome.Outcome.{Outcome}
@@ -22,5 +22,5 @@ pub use Rattle.xxhsum_program.specs.declared.stop.Stop.{Stop}
 pub use Rattle.xxhsum_program.specs.declared.stop.Stop.TheVariants.{OutOfMemory, WriteFailed}
 pub use Rattle.xxhsum_program.specs.declared.streams.Streams.{Streams}
 pub use Rattle.xxhsum_program.specs.declared.progress_reader.ProgressReader.{ProgressReader}
-pub use Rattle.xxhsum_program.specs.declared.progress_reader.ProgressDisplay.{ProgressDisplay}
 pub use Rattle.xxhsum_options.specs.declared.options.Options.{Options}
+pub use Rattle.xxhsum_program.specs.declared.progress_reader.ProgressDisplay.{ProgressDisplay}

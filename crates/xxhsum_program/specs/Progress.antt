@@ -1,21 +1,21 @@
 -- The progress display of a long file.
 use Rattle.std.specs.Prelude.{◌≡◌, ℕ, ◌+◌, ◌-◌, ◌*◌, ◌^◌, ◌/◌, Bool, true, false, List, [], ◌∷◌, ◌++◌, Option, Some, None, codes, decimal, if◌then◌else◌, max, min, nat_eq, nat_lt}
-use Rattle.xxhsum_program.specs.Prelude.{SinkRules, Eprints, concat}
+use Rattle.xxhsum_program.specs.Prelude.{Eprints, SinkRules, concat}
 use Rattle.xxhsum_program.specs.declared.progress.Progress.{Progress}
 
--- The sink that the meter writes to.
+-- The sink that progress is written to.
 abbrev pub end_of : {E : Type 0} → Progress E → E
 end_of progress = progress.end
 
--- True if the meter shows anything.
+-- True if progress is shown.
 abbrev pub is_shown : {E : Type 0} → Progress E → Bool
 is_shown progress = progress.is_on
 
--- The number of bytes that the meter has counted.
+-- The number of bytes read so far.
 abbrev pub bytes_read : {E : Type 0} → Progress E → ℕ
 bytes_read progress = progress.count
 
--- The number of bytes that the meter expects, if known.
+-- The expected number of bytes, if known.
 abbrev pub bytes_expected : {E : Type 0} → Progress E → Option ℕ
 bytes_expected progress = progress.size
 
@@ -73,7 +73,7 @@ shown_text false size millis before count = []
 shown_text true size millis before count =
     if nat_eq count 0 then cleared before else progress_line size millis before (count_after before count)
 
--- A read of `count` bytes was counted, and shown at the time `now`. If the meter is off, nothing was written.
+-- A read of `count` bytes was counted, and shown at the time `now`. If it is off, nothing was written.
 abbrev pub Shows : {E : Type 0} → SinkRules E → ℕ → ℕ → Progress E → Progress E → Type 0
 Shows reporting count now old new =
     (is_shown new ≡ is_shown old) × (bytes_expected new ≡ bytes_expected old) × (begun new ≡ begun old)

@@ -1,7 +1,7 @@
 -- A source whose reads are shown.
 use Rattle.std.specs.Prelude.{◌≡◌, ℕ, Bool, List, Option, None, MatchBool, Result, Ok, Err}
 use Rattle.xxh_io.specs.declared.streams.Failed.{Failed}
-use Rattle.xxhsum_program.specs.Prelude.{ProgressDisplay, SinkRules, SourceRules, StoreRules, ProgressReader}
+use Rattle.xxhsum_program.specs.Prelude.{ProgressDisplay, ProgressReader, SinkRules, SourceRules, StoreRules}
 use Rattle.xxhsum_program.specs.declared.progress.Progress.{Progress}
 use Rattle.xxhsum_program.specs.Progress.{ShowsSometime, bytes_expected, bytes_read, is_shown}
 
@@ -9,7 +9,7 @@ use Rattle.xxhsum_program.specs.Progress.{ShowsSometime, bytes_expected, bytes_r
 abbrev pub source_of : {R E : Type 0} → ProgressReader R E → R
 source_of progress_reader = progress_reader.source
 
--- The meter that counts its bytes.
+-- The progress of its reads.
 abbrev pub progress_of : {R E : Type 0} → ProgressReader R E → Progress E
 progress_of progress_reader = progress_reader.progress
 
@@ -27,13 +27,13 @@ abbrev pub IsExpected : {S F T : Type 0} → StoreRules S F → S → ProgressDi
 IsExpected opening store display name size =
     MatchBool (shows_reads display) (opening.sizes store name size) (size ≡ None)
 
--- The meter is for the file of this name, and has counted no bytes.
+-- The progress is that of the file of this name, of which no byte is read.
 abbrev pub IsFresh : {S F T E : Type 0} → StoreRules S F → S → ProgressDisplay T → List ℕ → Progress E → Type 0
 IsFresh opening store display name progress =
     (is_shown progress ≡ shows_reads display) × (bytes_read progress ≡ 0)
     × IsExpected opening store display name (bytes_expected progress)
 
--- The rules of a watched source are the rules of its inner source.
+-- The rules of a source with progress are the rules of its inner source.
 abbrev pub progress_reading : {R X : Type 0} → SourceRules R → SourceRules (ProgressReader R X)
 progress_reading reading = record {
   has_failed = λ progress_reader. reading.has_failed (source_of progress_reader);

@@ -1,12 +1,12 @@
--- The run of a task, and the exit status.
+-- The run of a command, and the exit status.
 use Rattle.std.specs.Prelude.{◌≡◌, ℕ, Bool, true, false, List, [], codes, MatchBool, Result, Ok, Err}
-use Rattle.xxhsum_program.specs.Prelude.{Files, Input, Options, OutOfMemory, Stop, Streams, Style, Eprints, Took, WriteFailed}
+use Rattle.xxhsum_program.specs.Prelude.{Eprints, Files, Input, Options, OutOfMemory, Stop, Streams, Style, Took, WriteFailed}
 use Rattle.xxhsum_program.specs.CheckList.{SaysList, SaysLists}
+use Rattle.xxhsum_program.specs.Command.{Answers, Command, Reads, has_none}
 use Rattle.xxhsum_program.specs.Finish.{IsWritten, end_after}
 use Rattle.xxhsum_program.specs.HashNames.{SaysInput, SaysNames}
 use Rattle.xxhsum_program.specs.Order.{Effect, StreamRules}
 use Rattle.xxhsum_program.specs.Streams.{err_of}
-use Rattle.xxhsum_program.specs.Command.{Reads, Command, Answers, has_none}
 
 abbrev pub style_of : Options → Style
 style_of options = record {

@@ -8,29 +8,29 @@ ghost use Rattle.xxhsum_program.specs.Findings.{Finding, Improper, IsFinding, To
 ghost use Rattle.xxhsum_program.specs.Lines.{PrintsLine};
 ghost use Rattle.xxhsum_program.specs.LinesView.{IsGiven};
 ghost use Rattle.xxhsum_program.specs.ListEnd.{FailedRead, ListEnd};
+ghost use Rattle.xxhsum_program.specs.ListMessages.{break_events, count_text, finding_events, found_text, is_silent, line_message, lines_events, list_events, printed_summary, summary_events, summary_text, unread_text, unverified_line, unverified_text};
 ghost use Rattle.xxhsum_program.specs.Order.{Emits, EmitsAll, EmitsTo, Reported, effect_of, rules_of};
-ghost use Rattle.xxhsum_program.specs.Report.{is_good, is_unverified, passes};
-ghost use Rattle.xxhsum_program.specs.ListMessages.{break_events, count_text, finding_events, found_text, is_silent, lines_events, list_events, printed_summary, summary_events, summary_text, line_message, unread_text, unverified_line, unverified_text};
 ghost use Rattle.xxhsum_program.specs.ProgressReader.{source_of};
+ghost use Rattle.xxhsum_program.specs.Report.{is_good, is_unverified, passes};
 
-use crate::entry::{Found, compare};
 use crate::context::Context;
+use crate::entry::{Found, compare};
 use crate::lines::{Lines, Next};
 use crate::outcome::OFFERED;
+use crate::progress_reader::{ProgressDisplay, ProgressReader};
+use crate::stderr::eprint_line;
 use crate::stdout::{line_of, print, print_line};
-use crate::terminal::TimedSink;
 use crate::stop::Stop;
 use crate::streams::Streams;
-use crate::stderr::eprint_line;
-use crate::progress_reader::{ProgressDisplay, ProgressReader};
+use crate::terminal::TimedSink;
 use itoa::Buffer;
 use std::alloc::{AllocError, Global};
 use xxh_io::streams::{Sink, Source};
 use xxh_io::waiting::Waiting;
 use xxhsum_fs::store::Store;
 use xxhsum_line::entry::{Meaning, meaning_of};
-use xxhsum_output::output::Output;
 use xxhsum_options::options::Options;
+use xxhsum_output::output::Output;
 
 /// Counts of a list's lines, by result.
 #[derive(Clone, Copy, Debug, PartialEq, Eq)]

@@ -1,10 +1,10 @@
-//! The context of a run's tasks.
+//! The context of a run.
 
 use crate::progress_reader::ProgressDisplay;
 use std::alloc::Global;
 use xxhsum_options::options::Options;
 
-/// The context of each task of a run: the allocator, the files, the options, and the display of progress.
+/// The context of a run: the allocator, the files, the options, and the display of progress.
 #[derive(Clone, Copy)]
 pub struct Context<'a, S, T> {
     /// The allocator.

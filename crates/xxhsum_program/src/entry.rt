@@ -5,8 +5,8 @@ ghost use Rattle.xxhsum_program.specs.Files.{files_of};
 ghost use Rattle.xxhsum_program.specs.Found.{IsFound};
 
 use crate::outcome::{Reason, value_named};
-use crate::terminal::TimedSink;
 use crate::progress_reader::ProgressDisplay;
+use crate::terminal::TimedSink;
 use xxhsum_fs::store::Store;
 use xxhsum_line::entry::Entry;
 

@@ -2,28 +2,28 @@
 
 ghost use Rattle.std.specs.Prelude.{◌≡◌, false, map, IfOk};
 ghost use Rattle.xxhsum_line.specs.Printed.{styled_line};
+ghost use Rattle.xxhsum_program.specs.Eprints.{EprintsLines};
 ghost use Rattle.xxhsum_program.specs.Files.{files_of, input_of};
 ghost use Rattle.xxhsum_program.specs.HashNames.{SaysInput, SaysNames, name_events};
 ghost use Rattle.xxhsum_program.specs.Lines.{PrintsLine, name_messages};
 ghost use Rattle.xxhsum_program.specs.Order.{EmitsOrNone, effect_of, rules_of};
-ghost use Rattle.xxhsum_program.specs.Run.{style_of};
-ghost use Rattle.xxhsum_program.specs.Eprints.{EprintsLines};
 ghost use Rattle.xxhsum_program.specs.ProgressReader.{source_of};
+ghost use Rattle.xxhsum_program.specs.Run.{style_of};
 
 use crate::context::Context;
 use crate::outcome::{OFFERED, Outcome, Reason, outcome_of};
+use crate::progress_reader::ProgressReader;
+use crate::stderr::eprint_line;
 use crate::stdout::print;
-use crate::terminal::TimedSink;
 use crate::stop::Stop;
 use crate::streams::Streams;
-use crate::stderr::eprint_line;
-use crate::progress_reader::ProgressReader;
+use crate::terminal::TimedSink;
 use std::alloc::Global;
 use xxh_io::streams::{Sink, Source};
 use xxhsum_fs::store::Store;
 use xxhsum_line::printed::{Shape, Style, styled_line};
-use xxhsum_output::output::Output;
 use xxhsum_options::options::Options;
+use xxhsum_output::output::Output;
 
 /// Writes the digest line of each named file, in order. Reports names that have none: directories, and files that can't
 /// be opened or read to their end. Returns whether all have one.

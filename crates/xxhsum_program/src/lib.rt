@@ -4,19 +4,19 @@
 
 pub mod arguments;
 pub mod check;
+pub mod context;
 mod entry;
 pub mod good_lists;
 pub mod hash;
-pub mod context;
 pub mod lines;
 pub mod outcome;
 pub mod printed_lists;
 pub mod process;
 pub mod progress;
+pub mod progress_reader;
+pub mod stderr;
 pub mod stdout;
-pub mod terminal;
 pub mod stop;
 pub mod streams;
-pub mod stderr;
+pub mod terminal;
 mod usage;
-pub mod progress_reader;

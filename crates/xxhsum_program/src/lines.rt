@@ -2,8 +2,8 @@
 
 ghost use Rattle.std.specs.Prelude.{◌≡◌, ◌+◌, ◌-◌, ◌<◌, ◌≤◌, [], false, List, ℕ, length, Ok, None, IfOk, OnOk};
 
-use crate::terminal::TimedSink;
 use crate::progress_reader::ProgressReader;
+use crate::terminal::TimedSink;
 use xxh_io::streams::{Failed, Source};
 
 const BUFFER: usize = 65536;

@@ -5,8 +5,8 @@ ghost use Rattle.xxhsum_program.specs.Files.{files_of};
 ghost use Rattle.xxhsum_program.specs.Outcomes.{Comes, HasNoValue, IsValueOf, reason_of};
 
 use crate::context::Context;
-use crate::terminal::TimedSink;
 use crate::progress_reader::ProgressDisplay;
+use crate::terminal::TimedSink;
 use xxh_io::digest_error::DigestError;
 use xxh_io::kind::Kind;
 use xxhsum_fs::refusal::Refusal;

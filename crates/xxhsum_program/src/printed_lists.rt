@@ -5,8 +5,8 @@ ghost use Rattle.xxh_io.specs.declared.script_source.SliceSource.{SliceSource};
 ghost use Rattle.xxhsum_program.specs.PrintedIsGood.{PrintedIsGood};
 ghost use Rattle.xxhsum_program.specs.PrintedList.{ChecksPrinted, FindsPrintedFiles, FindsPrintedLines, Holds, HoldsPrintedLines, ReadsPrintedLines, ShortNamesFit};
 
-use xxh_io::streams::Source;
 use xxh_io::script_source::SliceSource;
+use xxh_io::streams::Source;
 use xxhsum_fs::store::Store;
 
 /// Lemma: a printed list is accepted whole. The names of its entries contain no NUL, and each line has at most 32,767

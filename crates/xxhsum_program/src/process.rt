@@ -6,22 +6,22 @@ ghost use Rattle.xxhsum_program.specs.Joined.{joined};
 ghost use Rattle.xxhsum_program.specs.Order.{effect_of, rules_of};
 ghost use Rattle.xxhsum_program.specs.Run.{Ends, PerformsAs, end_text, status_of, stop_text};
 ghost use Rattle.xxhsum_program.specs.Command.{IsProgram, answer_text, has_none, is_tree, is_well, requested_run, shows_progress, usage_text, waits_for_terminal, wrong_text};
-ghost use Rattle.xxhsum_program.specs.Prelude.{Stop, Eprints};
+ghost use Rattle.xxhsum_program.specs.Prelude.{Eprints, Stop};
 
 use crate::arguments::last_part;
 use crate::check::{check_list, check_lists};
-use crate::hash::{hash_input, hash_names};
 use crate::context::Context;
+use crate::hash::{hash_input, hash_names};
+use crate::stderr::{eprint, eprint_line};
 use crate::stdout::finish;
-use crate::terminal::TimedSink;
 use crate::stop::Stop;
 use crate::streams::Streams;
-use crate::stderr::{eprint, eprint_line};
+use crate::terminal::TimedSink;
 use crate::usage::{ABOUT, BEFORE, BEHIND, NO_BENCHMARK, TITLE, eprint_options};
 use xxh_io::streams::{Sink, Source};
 use xxhsum_fs::store::Store;
+use xxhsum_options::options::{Options, ParsedArgs};
 use xxhsum_output::output::Output;
-use xxhsum_options::options::{ParsedArgs, Options};
 
 // The name of standard input in lines.
 const INPUT: &[u8] = b"stdin";
@@ -39,14 +39,14 @@ pub struct Interactive {
     pub errors: bool,
 }
 
-/// The environment of a run: the input, which streams are terminals, and the screen for progress.
+/// The environment of a run: the input, which streams are terminals, and the terminal for progress.
 #[derive(Drop)]
 pub struct Console<R, T> {
     /// Standard input.
     pub input: R,
     /// Which of the standard streams are terminals.
     pub interactive: Interactive,
-    /// The screen for progress, which is standard error too.
+    /// The terminal for progress, which is standard error too.
     pub terminal: T,
 }
 
@@ -115,7 +115,12 @@ pub fn waits_for_terminal(interactive: Interactive, options: Options, names: &[V
 
 /// Handles arguments that ask for no run: writes help, version or an error, and returns whether all is well. Writes
 /// nothing for a run.
-pub fn eprint_answer<E: Sink>(program: &[u8], words: &[Vec<u8>], parsed: ParsedArgs, err: &mut E) -> bool
+pub fn eprint_answer<E: Sink>(
+    program: &[u8],
+    words: &[Vec<u8>],
+    parsed: ParsedArgs,
+    err: &mut E,
+) -> bool
     ensures well { result ≡ is_well parsed }
     ensures reports { Eprints E.Sink
         (answer_text program.now (map (λ word. word.items) words.now) parsed) err.old err.new }

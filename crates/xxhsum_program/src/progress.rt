@@ -1,11 +1,11 @@
 //! Progress of long files, on standard error if it is a terminal.
 
 ghost use Rattle.std.specs.Prelude.{◌≡◌, ◌<◌};
-ghost use Rattle.xxhsum_program.specs.Progress.{Shows, ShowsSometime, begun, bytes_expected, bytes_read, cleared, end_of, is_shown, left_text, progress_line, rate_of, rate_text};
 ghost use Rattle.xxhsum_program.specs.Eprints.{Eprints};
+ghost use Rattle.xxhsum_program.specs.Progress.{Shows, ShowsSometime, begun, bytes_expected, bytes_read, cleared, end_of, is_shown, left_text, progress_line, rate_of, rate_text};
 
-use crate::terminal::TimedSink;
 use crate::stderr::{eprint, eprint_parts};
+use crate::terminal::TimedSink;
 use itoa::Buffer;
 use xxh_io::streams::Sink;
 
@@ -39,7 +39,7 @@ pub struct Progress<E> {
 }
 
 impl<E: Sink> Progress<E> {
-    /// Returns a meter for a file of `size` bytes, if known, whose reading starts at time `started` (ms).
+    /// Returns the progress of a file of `size` bytes, if known, whose reading starts at time `started` (ms).
     pub fn new(end: E, is_on: bool, size: Option<u64>, started: u64) -> Progress<E>
         ensures end { end_of result ≡ end }
         ensures shown { is_shown result ≡ is_on }
@@ -82,7 +82,7 @@ impl<E: Sink> Progress<E> {
 }
 
 impl<E: TimedSink> Progress<E> {
-    /// Adds `count` bytes read by the time of the screen's clock. A count of 0 is the end of the file and clears the
+    /// Adds `count` bytes read by the time of the sink's clock. A count of 0 is the end of the file and clears the
     /// progress line.
     pub fn show(&mut self, count: usize)
         ensures { ShowsSometime E.Sink count self.old self.new }
@@ -92,7 +92,7 @@ impl<E: TimedSink> Progress<E> {
     }
 }
 
-/// Returns the screen's time (ms), or 0 if progress is off.
+/// Returns the sink's time (ms), or 0 if progress is off.
 pub(crate) fn time_of<E: TimedSink>(end: &E, is_on: bool) -> u64 {
     if is_on { end.now() } else { 0 }
 }

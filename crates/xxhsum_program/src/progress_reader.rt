@@ -1,20 +1,20 @@
-//! Sources whose reads are shown as progress. A watched source returns the same bytes as the source itself.
+//! Sources whose reads are shown as progress. They return the same bytes as without progress.
 
 ghost use Rattle.std.specs.Prelude.{◌≡◌, ◌≢◌, ◌<◌, ◌≤◌, false, List, ℕ, length, take, is_err, Err, IfErr, IfOk, OnErr};
 ghost use Rattle.std.specs.List.{concat};
 ghost use Rattle.xxh_io.specs.Digest.{ReadsTo};
 ghost use Rattle.xxh_program.specs.Kind.{value_of};
 ghost use Rattle.xxh_program.specs.States.{most_reads};
-ghost use Rattle.xxhsum_program.specs.Progress.{bytes_expected, bytes_read, is_shown};
 ghost use Rattle.xxhsum_program.specs.Command.{shows_progress};
+ghost use Rattle.xxhsum_program.specs.Progress.{bytes_expected, bytes_read, is_shown};
 ghost use Rattle.xxhsum_program.specs.ProgressReader.{IsFresh, ShowsRead, progress_of, shows_reads, source_of};
 
 use crate::process::{Interactive, shows_progress};
 use crate::progress::{Progress, time_of};
 use crate::terminal::TimedSink;
-use xxh_io::streams::{Failed, Source};
 use xxh_io::digest_error::DigestError;
 use xxh_io::kind::Kind;
+use xxh_io::streams::{Failed, Source};
 use xxh_program::program::value_of_source;
 use xxhsum_fs::refusal::Refusal;
 use xxhsum_fs::store::Store;
@@ -23,7 +23,7 @@ use xxhsum_options::options::Options;
 // The maximum number of reads of a file.
 const MAX_READS: u64 = u64::MAX;
 
-/// A source whose reads a meter shows. It returns the same bytes as its source.
+/// A source whose reads are shown as progress. It returns the same bytes as its own source.
 #[derive(Drop)]
 pub struct ProgressReader<R, T> {
     source: R,
@@ -31,7 +31,7 @@ pub struct ProgressReader<R, T> {
 }
 
 impl<R: Source, T: TimedSink> ProgressReader<R, T> {
-    /// Returns this source, watched by this meter.
+    /// Returns this source, with this progress.
     pub fn new(source: R, progress: Progress<T>) -> ProgressReader<R, T>
         ensures source { source_of result ≡ source }
         ensures progress { progress_of result ≡ progress }
@@ -107,7 +107,7 @@ impl<T: TimedSink> ProgressDisplay<T> {
         }
     }
 
-    /// Returns this source, watched. Its size is not known.
+    /// Returns this source, with its progress. Its size is not known.
     pub fn watch<R: Source>(&self, source: R) -> ProgressReader<R, T>
         ensures source { source_of result ≡ source }
         ensures shown { is_shown (progress_of result) ≡ shows_reads self.now }
@@ -115,15 +115,22 @@ impl<T: TimedSink> ProgressDisplay<T> {
         ensures size { bytes_expected (progress_of result) ≡ None }
     {
         let started = time_of(&self.terminal, self.is_on);
-        ProgressReader::new(source, Progress::new(self.terminal, self.is_on, None, started))
+        ProgressReader::new(
+            source,
+            Progress::new(self.terminal, self.is_on, None, started),
+        )
     }
 
-    /// Opens the file of this name, watched. Its expected size is the store's.
+    /// Opens the file of this name, with its progress. Its expected size is the store's.
     ///
     /// # Errors
     ///
     /// The store's reason if it doesn't open the file.
-    pub fn open<S: Store>(&self, store: &S, name: &[u8]) -> Result<ProgressReader<S::File, T>, Refusal>
+    pub fn open<S: Store>(
+        &self,
+        store: &S,
+        name: &[u8],
+    ) -> Result<ProgressReader<S::File, T>, Refusal>
         ensures opens { IfOk result (λ file. S.opens store.now name.now (source_of file)) }
         ensures fresh { IfOk result
             (λ file. IsFresh S.Store store.now self.now name.now (progress_of file)) }
@@ -136,7 +143,7 @@ impl<T: TimedSink> ProgressDisplay<T> {
         }
     }
 
-    // Returns a meter for the file of this name.
+    // Returns the progress of the file of this name.
     fn progress_of<S: Store>(&self, store: &S, name: &[u8]) -> Progress<T>
         ensures { IsFresh S.Store store.now self.now name.now result }
     {

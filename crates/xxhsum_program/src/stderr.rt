@@ -2,8 +2,8 @@
 
 ghost use Rattle.std.specs.Prelude.{◌≡◌};
 ghost use Rattle.xxhsum_line.specs.Escapes.{escaped, mark_of, needs_escape, one_line};
-ghost use Rattle.xxhsum_program.specs.Joined.{joined};
 ghost use Rattle.xxhsum_program.specs.Eprints.{Eprints};
+ghost use Rattle.xxhsum_program.specs.Joined.{joined};
 
 use xxh_io::streams::Sink;
 use xxh_io::write::write_all;

@@ -1,4 +1,4 @@
-//! The screen of the progress line, and its clock.
+//! The terminal of the progress line, and its clock.
 
 ghost use Rattle.std.specs.Io.KnownBytes.{Appends, Keeps};
 ghost use Rattle.xxhsum_program.specs.Terminal.{has_terminal_failed, shown_on};
@@ -22,7 +22,7 @@ pub struct Terminal<'a, W, P> {
 }
 
 impl<'a, W: Write + Copy, P: Clock> Terminal<'a, W, P> {
-    /// A screen on which nothing was shown yet.
+    /// Returns a terminal on which nothing was shown yet.
     pub fn new(writer: W, process: &'a P) -> Terminal<'a, W, P> {
         Terminal {
             writer,

@@ -1,8 +1,8 @@
 //! The help and the version.
 
 ghost use Rattle.std.specs.Prelude.{◌≡◌, [], ◌∷◌, map};
-ghost use Rattle.xxhsum_program.specs.Eprints.{Eprints};
 ghost use Rattle.xxhsum_options.specs.Table.{letter_text, row_text, rows_text, seen};
+ghost use Rattle.xxhsum_program.specs.Eprints.{Eprints};
 
 use crate::stderr::eprint_parts;
 use xxh_io::streams::Sink;

@@ -2,8 +2,8 @@
 
 use crate::entry::entry;
 use std::test::Fail;
-use xxh_io::streams::Source;
 use xxh_io::script_source::{ScriptSource, SliceSource};
+use xxh_io::streams::Source;
 use xxhsum_fs::memory::{MemoryEntry, MemoryFiles};
 use xxhsum_fs::refusal::Refusal;
 use xxhsum_fs::store::Store;

@@ -6,15 +6,15 @@ use xxh_io::kind::Kind;
 use xxh_io::script_sink::ScriptSink;
 use xxh_io::script_source::ScriptSource;
 use xxhsum_fs::memory::{MemoryEntry, MemoryFiles};
+use xxhsum_options::options::{Options, ParsedArgs, parse_args};
 use xxhsum_program::check::{check_list, check_lists};
-use xxhsum_program::hash::{hash_input, hash_names};
 use xxhsum_program::context::Context;
+use xxhsum_program::hash::{hash_input, hash_names};
 use xxhsum_program::process::Interactive;
-use xxhsum_program::terminal::Terminal;
+use xxhsum_program::progress_reader::ProgressDisplay;
 use xxhsum_program::stop::Stop;
 use xxhsum_program::streams::Streams;
-use xxhsum_program::progress_reader::ProgressDisplay;
-use xxhsum_options::options::{ParsedArgs, Options, parse_args};
+use xxhsum_program::terminal::Terminal;
 
 const LIST: &[u8] =
     b"26c7827d889f6da3  a\ndeadbeefdeadbeef  b\nnonsense\n0123456789abcdef  gone\nXXH3 (b) = d30345fef8ac3570";

@@ -11,8 +11,8 @@ use xxh_io::script_source::ScriptSource;
 use xxhsum_fs::memory::MemoryFiles;
 use xxhsum_program::process::Interactive;
 use xxhsum_program::progress::Progress;
-use xxhsum_program::terminal::Terminal;
 use xxhsum_program::progress_reader::ProgressDisplay;
+use xxhsum_program::terminal::Terminal;
 
 const MIB: usize = 1048576;
 

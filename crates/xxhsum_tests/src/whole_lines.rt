@@ -1,7 +1,7 @@
 //! Buffered lines: the writes of the inner sink.
 
-use xxh_io::streams::Sink;
 use xxh_io::script_sink::ScriptSink;
+use xxh_io::streams::Sink;
 use xxh_io::write::write_all;
 use xxhsum_output::output::Output;
 use xxhsum_output::whole_lines::WholeLines;

@@ -1,12 +1,12 @@
 -- Lemmas on a run over names and on the check of a list.
 use Rattle.std.proofs.Common.{◌≡◌, ℕ, Bool, true, false, List, [], ◌∷◌, ◌++◌, Option, Some, None, inl, inr, refl, sym, ap, ◌∙◌, subst, append-nil, if◌then◌else◌, ◌↔◌, Result, Ok, Err}
-use Rattle.xxhsum_program.specs.Prelude.{AllByRecursion, EachHas, Files, Input, Kind, Options, Shape, SourceRules, StoreRules, Style, Eprints, Took, concat, files_of, input_of, one_line}
+use Rattle.xxhsum_program.specs.Prelude.{AllByRecursion, EachHas, Eprints, Files, Input, Kind, Options, Shape, SourceRules, StoreRules, Style, Took, concat, files_of, input_of, one_line}
 use Rattle.xxhsum_program.specs.declared.outcome.Outcome.{Outcome}
 use Rattle.xxhsum_program.specs.declared.outcome.Outcome.TheVariants.{Digested, IsDirectory, Unread}
 use Rattle.xxhsum_program.specs.declared.stop.Stop.{Stop}
 use Rattle.xxhsum_program.specs.declared.stop.Stop.TheVariants.{OutOfMemory, WriteFailed}
 use Rattle.xxhsum_theorems.specs.Headline.{IsLine, IsLineAtMost, IsLineOrMessage, PrintsBeginning}
-use Rattle.xxhsum_line.specs.Laws.{PrintedIsOneLine, MessageIsOneLine}
+use Rattle.xxhsum_line.specs.Laws.{MessageIsOneLine, PrintedIsOneLine}
 use Rattle.xxhsum_line.specs.Printed.{line_of, text_of}
 use Rattle.xxhsum_program.specs.CheckList.{EndsAs, SaysList}
 use Rattle.xxhsum_program.specs.Findings.{Finding, Ignored, Improper, Proper, TooLong}

@@ -5,7 +5,7 @@
 
 ghost use Rattle.std.specs.Prelude.{◌≡◌, ◌↔◌, ◌++◌, Bool, List, ℕ, Option, Result, true, codes, IsPermutation};
 ghost use Rattle.std.specs.List.{AllByRecursion, flat_map};
-ghost use Rattle.xxhsum_program.specs.Prelude.{EachHas, Kind, Options, Refused, Shape, Style, Eprints, Took};
+ghost use Rattle.xxhsum_program.specs.Prelude.{EachHas, Eprints, Kind, Options, Refused, Shape, Style, Took};
 ghost use Rattle.xxhsum_program.specs.declared.streams.Streams.{Streams};
 ghost use Rattle.xxhsum_program.specs.declared.outcome.Outcome.{Outcome};
 ghost use Rattle.xxhsum_program.specs.declared.stop.Stop.{Stop};
@@ -29,8 +29,8 @@ ghost use Rattle.xxhsum_program.specs.PrintedIsGood.{PrintedIsGood, plain_style}
 ghost use Rattle.xxhsum_program.specs.Files.{files_of, input_of};
 ghost use Rattle.xxhsum_program.specs.Order.{EmitsAll, EmitsTo, Event, effect_of, printed_of, reported_of, rules_of};
 ghost use Rattle.xxhsum_program.specs.Streams.{err_of};
-ghost use Rattle.xxhsum_program.specs.Run.{status_of};
 ghost use Rattle.xxhsum_program.specs.ListMessages.{finding_events, list_events};
+ghost use Rattle.xxhsum_program.specs.Run.{status_of};
 
 use xxh_io::streams::{Sink, Source};
 use xxhsum_audit::laws::laws_of_audits;

@@ -13,9 +13,9 @@ ghost use Rattle.xxh_program.specs.Streams.{FollowsDefault};
 use crate::program::engine::OFFERED;
 use twox_hash::xxhash3::{DefaultSecret, SecretBuffer};
 use twox_hash::xxhash3_128::RawHasher;
-use xxh_io::streams::{Failed, Sink, Source};
 use xxh_io::digest_error::DigestError;
 use xxh_io::hex::{LINE, offset_line};
+use xxh_io::streams::{Failed, Sink, Source};
 use xxh_io::waiting::Waiting;
 use xxh_io::write::write_all;
 

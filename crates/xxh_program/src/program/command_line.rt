@@ -11,9 +11,9 @@ use crate::program::engine::digest_reading;
 use crate::program::states::{MAX_READS, resume_32, resume_64, save_32, save_64};
 use std::alloc::Global;
 use xxh_io::command::{Command, parse};
-use xxh_io::streams::{Sink, Source};
 use xxh_io::digest_error::DigestError;
 use xxh_io::fault::{Fault, conclude};
+use xxh_io::streams::{Sink, Source};
 
 // Size of the read buffer for digests and lines of blocks: larger than the buffer of a process's input, so that the
 // bytes are not copied from there.

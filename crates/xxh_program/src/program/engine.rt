@@ -9,9 +9,9 @@ ghost use Rattle.xxh_program.specs.Kind.{digits_of, value_of};
 
 use crate::program::feed::Feed;
 use crate::program::value::value_of_source;
-use xxh_io::streams::{Failed, Sink, Source};
 use xxh_io::digest_error::DigestError;
 use xxh_io::kind::Kind;
+use xxh_io::streams::{Failed, Sink, Source};
 use xxh_io::write::write_line;
 
 // Size of the read buffer of the public calls.

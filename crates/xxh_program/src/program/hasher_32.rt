@@ -10,8 +10,8 @@ ghost use Rattle.xxh_io.specs.Hex.{hex_line};
 use crate::program::engine::{OFFERED, digest_on, read_all};
 use crate::program::feed::Feed;
 use twox_hash::XxHash32;
-use xxh_io::streams::{Sink, Source};
 use xxh_io::digest_error::DigestError;
+use xxh_io::streams::{Sink, Source};
 
 impl Feed for XxHash32 {
     ghost follows = { λ h seed m. (h.seed ≡ seed) × Represents h m };

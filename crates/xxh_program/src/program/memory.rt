@@ -6,11 +6,11 @@ ghost use Rattle.xxh_io.specs.Script.{sink_bytes, sink_fail_at};
 ghost use Rattle.xxh_program.specs.Kind.{digits_of, value_of};
 
 use crate::program::engine::digest;
-use xxh_io::streams::Sink;
 use xxh_io::digest_error::DigestError;
 use xxh_io::kind::Kind;
 use xxh_io::script_sink::ScriptSink;
 use xxh_io::script_source::SliceSource;
+use xxh_io::streams::Sink;
 
 /// Writes the digest line of the bytes into the sink, as [`digest`] does from a source that returns them all and never
 /// fails. The caller proves that the sink has not failed, that no write of its script fails, and that it has space for

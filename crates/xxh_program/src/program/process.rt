@@ -18,11 +18,11 @@ use std::io::{Read, Write};
 use std::rt::Env;
 use xxh_io::arguments::{argument_fault, words_after_name};
 use xxh_io::buffered::Buffered;
-use xxh_io::streams::{Failed, Sink, Source};
 use xxh_io::digest_error::DigestError;
 use xxh_io::fault::{Fault, conclude};
 use xxh_io::from_read::FromRead;
 use xxh_io::from_write::FromWrite;
+use xxh_io::streams::{Failed, Sink, Source};
 
 // Size of the input's buffer for reads that offer fewer bytes, as those of `save` and `resume` do: one system call for
 // each of these would halve the speed.

@@ -9,8 +9,8 @@ use crate::program::hasher_32::{digest_from_32, read_on_32};
 use crate::program::hasher_64::{digest_from_64, read_on_64};
 use std::alloc::Global;
 use twox_hash::{XxHash32, XxHash64, xxhash32, xxhash64};
-use xxh_io::streams::{Sink, Source};
 use xxh_io::fault::Fault;
+use xxh_io::streams::{Sink, Source};
 use xxh_io::write::write_all;
 
 // Maximum number of reads that the program makes.

@@ -10,9 +10,9 @@ use crate::program::feed::Feed;
 use crate::program::hasher_3_64::with_seed_64;
 use crate::program::hasher_3_128::with_seed_128;
 use twox_hash::{XxHash32, XxHash64};
-use xxh_io::streams::Source;
 use xxh_io::digest_error::DigestError;
 use xxh_io::kind::Kind;
+use xxh_io::streams::Source;
 
 // Returns the value of what is read, by a hasher of no bytes whose value is the algorithm's under the seed.
 fn value_by<H: Feed, R: Source>(

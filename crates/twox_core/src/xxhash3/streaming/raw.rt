@@ -185,8 +185,8 @@ pub type AllocRawHasher<A> = RawHasherCore<BoxedSlice<u8, A>>;
 impl<A: Allocator> AllocRawHasher<A> {
     ghost use Rattle.std.specs.Prelude.{◌≡◌, [], ◌<◌, ◌≤◌, length, IfOk, MatchResult};
     ghost use Rattle.std.specs.Box.{boxed_slice_items};
-    ghost use Rattle.twox_core.specs.Secret.{default_secret, derived_secret};
     ghost use Rattle.twox_core.specs.Represents.{Represents};
+    ghost use Rattle.twox_core.specs.Secret.{default_secret, derived_secret};
 
     /// Creates a stream with the seed 0 and the default secret.
     ///

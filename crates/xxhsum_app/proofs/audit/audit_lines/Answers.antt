@@ -1,6 +1,6 @@
 use Rattle.std.proofs.Common.{◌≡◌, ℕ, Bool, true, false, List, Option, Some, None, codes, refl, inl, sym, ap, subst, ◌∙◌}
-use Rattle.xxhsum_app.specs.Prelude.{SinkRules, Eprints, one_line}
-use Rattle.xxhsum_app.proofs.Prelude.{IsOrder, Item, Rises, ReportsDuplicate, find_duplicate, compare_lines, compare_paths, items_of, map-id, name_of, names_of, rank_lines, rank_names, rises, texts_of, duplicate_text}
+use Rattle.xxhsum_app.specs.Prelude.{Eprints, SinkRules, one_line}
+use Rattle.xxhsum_app.proofs.Prelude.{IsOrder, Item, ReportsDuplicate, Rises, compare_lines, compare_paths, duplicate_text, find_duplicate, items_of, map-id, name_of, names_of, rank_lines, rank_names, rises, texts_of}
 use Rattle.xxhsum_app.proofs.audit.audit_lines.Goals as goal
 
 -- Lemmas on two names with one path: one of them is reported, or there are none.

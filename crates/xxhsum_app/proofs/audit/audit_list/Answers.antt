@@ -1,4 +1,4 @@
-use Rattle.xxhsum_app.proofs.Prelude.{ListSays, ListSaysNothing, files_of, inl, map, entry_item}
+use Rattle.xxhsum_app.proofs.Prelude.{ListSays, ListSaysNothing, entry_item, files_of, inl, map}
 use Rattle.xxhsum_app.proofs.FindFacts.{found-is}
 use Rattle.xxhsum_app.proofs.audit.audit_list.Goals as goal
 

@@ -1,5 +1,5 @@
-use Rattle.xxhsum_program.specs.Order.{rules_of}
 use Rattle.xxhsum_app.proofs.GoodAuditFacts.{audit-means-equal}
+use Rattle.xxhsum_program.specs.Order.{rules_of}
 use Rattle.xxhsum_app.proofs.audit.audit_means_equal.Goals as goal
 
 pub returns : goal.returns

@@ -1,7 +1,7 @@
 use Rattle.xxhsum_app.specs.Messages.{messages_of}
-use Rattle.xxhsum_app.proofs.Prelude.{◌∙◌, AddsRow, Added, Compared, Removed, IsRow, Met, New, Ok, Says, ap, false, files_of, item_of, map, met, path_side, refl, subst, sym, reports-nothing}
+use Rattle.xxhsum_app.proofs.Prelude.{◌∙◌, Added, AddsRow, Compared, IsRow, Met, New, Ok, Removed, Says, ap, false, files_of, item_of, map, met, path_side, refl, reports-nothing, subst, sym}
+use Rattle.xxhsum_app.proofs.RowFacts.{grows-added, grows-met, grows-nothing, grows-removed, not-digested}
 use Rattle.xxhsum_program.specs.declared.outcome.Outcome.TheVariants.{Digested}
-use Rattle.xxhsum_app.proofs.RowFacts.{grows-added, grows-removed, grows-met, grows-nothing, not-digested}
 use Rattle.xxhsum_app.proofs.digests.add_side.Goals as goal
 
 pub returns-in_ok-push-in-Line : goal.returns-in_ok-push-in-Line

@@ -1,5 +1,5 @@
 use Rattle.std.proofs.Common.{rules, ◌∷◌, ◌++◌, ◌&&◌, [], ap, append-nil, append_assoc, drop, length, refl, subst, sym, take, ◌-◌, ◌∙◌}
-use Rattle.xxhsum_app.proofs.Prelude.{EprintsLines, files_of, items_of, lines-more, list_all-push, missing_in, missing_one, new_in, new_one, matched_in, matched_one, take_rest, reports-nothing, texts_of}
+use Rattle.xxhsum_app.proofs.Prelude.{EprintsLines, files_of, items_of, lines-more, list_all-push, matched_in, matched_one, missing_in, missing_one, new_in, new_one, reports-nothing, take_rest, texts_of}
 use Rattle.xxhsum_audit.specs.Side.{by_path, lines_of, names_of, path_side}
 use Rattle.xxhsum_app.specs.Rows.{AreRows, first_of, is_read, messages_in, row_messages}
 use Rattle.xxhsum_app.proofs.RowFacts.{fails-rows, first-push, flat-push, rows-more}

@@ -1,5 +1,5 @@
 use Rattle.std.proofs.Common.{◌+◌, ◌∷◌, ◌++◌, [], ap, arith, inl, inr, length, map, refl, subst, true, false}
-use Rattle.xxhsum_app.proofs.Prelude.{IsGiven, TakesLine, breaks-endless, breaks-failed, ends-well, improper_text, length_push, entry_item, some-read, source_of, stands-line, stands-new, too_long_text, unread_text}
+use Rattle.xxhsum_app.proofs.Prelude.{IsGiven, TakesLine, breaks-endless, breaks-failed, ends-well, entry_item, improper_text, length_push, some-read, source_of, stands-line, stands-new, too_long_text, unread_text}
 use Rattle.xxhsum_app.proofs.ReadListFacts.{have-entries-more}
 use Rattle.xxhsum_app.proofs.read_list.read_lines.Goals as goal
 

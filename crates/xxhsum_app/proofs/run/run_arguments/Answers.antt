@@ -1,8 +1,8 @@
 use Rattle.xxhsum_app.proofs.Prelude.{◌∙◌, ◌≡◌, ParsedArgs, Kind, List, None, Ok, Option, Options, Some, Interactive, ap, parsed_args, codes, drop, false, kind_of_program, map, refl, sym, true, ℕ}
-use Rattle.xxhsum_program.specs.Command.{Reads, Answers, answer_text, is_well, requested_run, command_from, command_of, waits_for_terminal, wrong_text}
+use Rattle.xxhsum_program.specs.Command.{Answers, Reads, answer_text, command_from, command_of, is_well, requested_run, waits_for_terminal, wrong_text}
 use Rattle.xxhsum_app.proofs.run.run_arguments.Goals as goal
 
--- Lemmas on the task of the arguments.
+-- Lemmas on the command of the arguments.
 
 -- Lemma: `command_of` the arguments is `command_from` the words, options and run that were computed from them.
 command-is : (interactive : Interactive) (program : List ℕ) (arguments words : List (List ℕ)) (kind : Kind) (parsed : ParsedArgs) (run : Option (Options × ℕ)) → words ≡ drop 1 arguments → kind ≡ kind_of_program program → parsed ≡ parsed_args kind words → run ≡ requested_run parsed → command_of interactive program (drop 1 arguments) ≡ command_from interactive program words parsed run

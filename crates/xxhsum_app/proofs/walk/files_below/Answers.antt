@@ -1,6 +1,6 @@
 use Rattle.xxhsum_app.specs.Messages.{messages_of}
-use Rattle.xxhsum_app.proofs.Prelude.{[], ◌&&◌, ◌++◌, ◌∙◌, ◌∷◌, ◌≡◌, MatchResult, ap, append-nil, is-err, lines-more, list_all-push, map, map-append, option_to_list, refl, reverse, subst, sym, reports-nothing, true}
-use Rattle.xxhsum_app.specs.Prelude.{OutOfMemory, EprintsLines}
+use Rattle.xxhsum_app.proofs.Prelude.{[], ◌&&◌, ◌++◌, ◌∙◌, ◌∷◌, ◌≡◌, MatchResult, ap, append-nil, is-err, lines-more, list_all-push, map, map-append, option_to_list, refl, reports-nothing, reverse, subst, sym, true}
+use Rattle.xxhsum_app.specs.Prelude.{EprintsLines, OutOfMemory}
 use Rattle.xxhsum_app.proofs.RowFacts.{flat-push}
 use Rattle.xxhsum_app.proofs.VisitFacts.{reverse-push, visits-more}
 use Rattle.xxhsum_app.specs.Walk.{Visits, WalksAll, WalksSome, below, closed_in, closed_of, file_of, given, is_open, place_of, tree_of, waiting_in}

@@ -1,4 +1,4 @@
-use Rattle.xxhsum_app.proofs.Prelude.{◌≡◌, List, Seen, EprintsLines, Visits, are_open, closed_in, files_in, given, map, tree_of, waiting_in}
+use Rattle.xxhsum_app.proofs.Prelude.{◌≡◌, EprintsLines, List, Seen, Visits, are_open, closed_in, files_in, given, map, tree_of, waiting_in}
 use Rattle.xxhsum_app.proofs.walk.files_below.Given as goal
 
 -- Invariant: the names visited so far, their files, and the reports on them

@@ -1,4 +1,4 @@
-use Rattle.xxhsum_app.proofs.Prelude.{◌++◌, ◌∙◌, Closed, ClosesFor, Opened, EprintsLines, and-false, and-true, ap, append-nil, below, closed_text, false, map, refl, subst, sym, reports-nothing, waiting_in, with_slash}
+use Rattle.xxhsum_app.proofs.Prelude.{◌++◌, ◌∙◌, Closed, ClosesFor, EprintsLines, Opened, and-false, and-true, ap, append-nil, below, closed_text, false, map, refl, reports-nothing, subst, sym, waiting_in, with_slash}
 use Rattle.xxhsum_app.proofs.walk.open_folder.Goals as goal
 
 pub returns-in-Ok : goal.returns-in-Ok

@@ -1,6 +1,6 @@
 use Rattle.xxhsum_app.specs.Walk.{state_of}
 use Rattle.xxhsum_app.specs.Messages.{messages_of}
-use Rattle.xxhsum_app.proofs.Prelude.{◌∙◌, IsIn, IsSeen, Leaf, Lost, Passed, EprintsLines, Tree, and-false, and-true, append-nil, closed_text, place_of, refl, subst, sym, reports-nothing, tree_of}
+use Rattle.xxhsum_app.proofs.Prelude.{◌∙◌, EprintsLines, IsIn, IsSeen, Leaf, Lost, Passed, Tree, and-false, and-true, append-nil, closed_text, place_of, refl, reports-nothing, subst, sym, tree_of}
 use Rattle.xxhsum_app.proofs.VisitFacts.{folder-seen, sees-as}
 use Rattle.xxhsum_app.proofs.walk.visit.Goals as goal
 

@@ -1,7 +1,7 @@
 use Rattle.xxhsum_line.proofs.EntryFacts.{says_same}
 use Rattle.xxhsum_line.proofs.EscapeFacts.{escape_is_undone, plain_names_stay}
 use Rattle.xxhsum_line.proofs.PartFacts.{plain_same, tagged_same, not_both}
-use Rattle.xxhsum_line.proofs.PrintedFacts.{plain_texts_stay, printed_is_accepted, printed_is_no_comment, printed_is_one_line, message_is_one_line}
+use Rattle.xxhsum_line.proofs.PrintedFacts.{message_is_one_line, plain_texts_stay, printed_is_accepted, printed_is_no_comment, printed_is_one_line}
 use Rattle.xxhsum_line.proofs.laws.laws_of_lines.Goals as goal
 
 pub returns : goal.returns

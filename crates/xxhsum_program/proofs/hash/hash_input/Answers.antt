@@ -1,6 +1,6 @@
 use Rattle.xxhsum_program.proofs.Prelude.{Err, Ok, PrintsLine, refl, rules_of, streams_of, style_of, styled_line, subst}
-use Rattle.xxhsum_program.proofs.HashFacts.{input-stops, is-err}
 use Rattle.xxhsum_program.proofs.EprintFacts.{reports-nothing}
+use Rattle.xxhsum_program.proofs.HashFacts.{input-stops, is-err}
 use Rattle.xxhsum_program.proofs.hash.hash_input.Goals as goal
 
 pub returns-in-Err : goal.returns-in-Err

@@ -1,5 +1,5 @@
-use Rattle.xxhsum_program.proofs.ProgressFacts.{line-between}
 use Rattle.xxhsum_program.proofs.EprintFacts.{reports-more}
+use Rattle.xxhsum_program.proofs.ProgressFacts.{line-between}
 use Rattle.xxhsum_program.proofs.progress.show_between.Goals as goal
 
 pub returns-then-before-count : goal.returns-then-before-count

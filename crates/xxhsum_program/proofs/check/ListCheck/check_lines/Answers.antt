@@ -3,8 +3,8 @@ use Rattle.xxhsum_program.proofs.Prelude.{Endless, FailedRead, IsFinding, TooMan
 use Rattle.xxhsum_program.proofs.CheckFacts.{add_up-push, breaks-endless, breaks-failed, ends-well, some-read, stands-line, stands-new}
 use Rattle.xxhsum_program.proofs.EachFacts.{EachHas-push}
 use Rattle.xxhsum_program.proofs.HashFacts.{is-err}
-use Rattle.xxhsum_program.proofs.OrderFacts.{emits-append}
 use Rattle.xxhsum_program.proofs.ListMessageFacts.{numbered-push}
+use Rattle.xxhsum_program.proofs.OrderFacts.{emits-append}
 use Rattle.xxhsum_program.proofs.StopFacts.{emits-break, lines-stop}
 use Rattle.xxhsum_program.proofs.check.ListCheck.check_lines.Goals as goal
 
