@@ -35,7 +35,8 @@ Refused-more writing a b old new first =
     (first.0, first.1, first.2, first.3, (rest ++ b, ap (λ bytes. bytes ++ b) first.4.1 ∙ append_assoc (concat first.0) rest b, some))
 
 -- Lemma: a write of `b` after `a` was taken is a write of `a ++ b` with the same result.
-pub Writes-join : {W T : Type 0} (writing : SinkRules W) (a b : List ℕ) (old mid new : W) (result : Result T DigestError) → IfErr result (λ e. e ≡ WriteFailed) → Took writing a old mid → Writes writing b mid new result → Writes writing (a ++ b) old new result
+pub Writes-join : {W T : Type 0} (writing : SinkRules W) (a b : List ℕ) (old mid new : W) (result : Result T DigestError) → IfErr result (λ e. e ≡ WriteFailed)
+    → Took writing a old mid → Writes writing b mid new result → Writes writing (a ++ b) old new result
 Writes-join writing a b old mid new (Ok x) only first second = Took-join writing a b old mid new first second
 Writes-join writing a b old mid new (Err WriteFailed) only first second = Refused-join writing a b old mid new first second
 Writes-join writing a b old mid new (Err ReadFailed) only first second = cc

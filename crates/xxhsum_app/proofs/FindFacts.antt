@@ -10,7 +10,8 @@ finds-as reporting is_found other is_why other_why old new more why (Ok None) fi
 finds-as reporting is_found other is_why other_why old new more why (Err stop) finds = finds
 
 -- Lemma: an item that a search returns has the property, and nothing is reported.
-pub found-is : {T E : Type 0} (reporting : SinkRules E) (is_found : T → Type 0) (is_why : List ℕ → Type 0) (old new : E) (found : Option T) (x : T) → found ≡ Some x → Finds (Ok found) reporting is_found is_why old new → is_found x × (new ≡ old)
+pub found-is : {T E : Type 0} (reporting : SinkRules E) (is_found : T → Type 0) (is_why : List ℕ → Type 0) (old new : E) (found : Option T) (x : T)
+    → found ≡ Some x → Finds (Ok found) reporting is_found is_why old new → is_found x × (new ≡ old)
 found-is {T} reporting is_found is_why old new found x is finds =
     subst (λ (o : Option T). Finds (Ok o) reporting is_found is_why old new) is finds
 

@@ -14,6 +14,7 @@ give-more gives (t ∷ texts) text all more given one = (
   give-more gives texts text given.1 more given.4 one,
 )
 
-pub have-entries-more : (is_little : Bool) (lines : List (List ℕ)) (line : List ℕ) (old new : List Item) → HaveItems is_little lines old → length line ≤ longest_line → TakesLine is_little line old new true → HaveItems is_little (lines ++ line ∷ []) new
+pub have-entries-more : (is_little : Bool) (lines : List (List ℕ)) (line : List ℕ) (old new : List Item) → HaveItems is_little lines old
+    → length line ≤ longest_line → TakesLine is_little line old new true → HaveItems is_little (lines ++ line ∷ []) new
 have-entries-more is_little lines line old new entries short (more, is, one) =
     (all-push (λ l. length l ≤ longest_line) lines line entries.0 short, subst (λ items. SayAll is_little (lines ++ line ∷ []) items) (sym is) (give-more (SaysOne is_little) lines line old more entries.1 one))

@@ -29,7 +29,8 @@ stops-in-line T writing options all before behind one old mid new OutOfMemory sp
     (before, one ∷ behind, parts, subst (λ w. Took writing (shown_lines options.is_quiet before) old w) (sym same) took)
 
 -- Lemma: a report stops after all its lines if there is no memory for the counts.
-pub stops-in-counts : {W : Type 0} (T : Type 0) (writing : SinkRules W) (options : Options) (all : List Found) (old new : W) → Took writing (shown_lines options.is_quiet all) old new → PrintsReport {T = T} writing options all old new (Err OutOfMemory)
+pub stops-in-counts : {W : Type 0} (T : Type 0) (writing : SinkRules W) (options : Options) (all : List Found) (old new : W)
+    → Took writing (shown_lines options.is_quiet all) old new → PrintsReport {T = T} writing options all old new (Err OutOfMemory)
 stops-in-counts T writing options all old new took = (all, [], sym (append-nil all), took)
 
 -- Lemma: a report has the result of the write of its counts, after all its lines.

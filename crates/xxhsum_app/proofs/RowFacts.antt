@@ -59,7 +59,8 @@ grows-added old new one item is more matched removed all = (
 )
 
 -- Lemma: a line and its name add their verdict.
-pub grows-met : (old new : Compared) (verdict : Verdict) (line item : Item) → found_of verdict ≡ met line item → new.matched.items ≡ old.matched.items ++ verdict ∷ [] → new.removed ≡ old.removed → new.added ≡ old.added → new.is_complete ≡ old.is_complete
+pub grows-met : (old new : Compared) (verdict : Verdict) (line item : Item) → found_of verdict ≡ met line item → new.matched.items ≡ old.matched.items ++ verdict ∷ []
+    → new.removed ≡ old.removed → new.added ≡ old.added → new.is_complete ≡ old.is_complete
     → Grows old new (met line item ∷ []) true
 grows-met old new verdict line item is more removed added all = (
   ap founds_of more ∙ map-append found_of old.matched.items (verdict ∷ []) ∙ ap (λ x. founds_of old.matched.items ++ x ∷ []) is

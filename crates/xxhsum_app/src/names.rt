@@ -31,7 +31,8 @@ pub fn names_listed<S: Store, T: TimedSink, R: Source + Drop, E: Sink>(
     ensures { let given = map (λ list. list.items) lists.now in Finds result E.Sink
         (λ names. ListNames (files_of S.Store S.File.Source context.now.store.now) (input_of R.Source input)
         (end_of context.now.options.names_from) given (map (λ name. name.items) names.items))
-        (ListNone (files_of S.Store S.File.Source context.now.store.now) (input_of R.Source input) given) err.old err.new }
+        (ListNone (files_of S.Store S.File.Source context.now.store.now) (input_of R.Source input) given)
+        err.old err.new }
 {
     let Some(texts) = texts_named(context, lists, input, err)? else {
         return Ok(None);

@@ -113,8 +113,8 @@ pub fn texts_named<S: Store, T: TimedSink, R: Source + Drop, E: Sink>(
     ensures { let given = map (λ name. name.items) names.now in Finds result E.Sink
         (λ texts. GiveTexts (files_of S.Store S.File.Source context.now.store.now) (input_of R.Source input) given
         (map (λ text. text.items) texts.items) (has_none given))
-        (λ message. LackText (files_of S.Store S.File.Source context.now.store.now) (input_of R.Source input) given message
-        (has_none given)) err.old err.new }
+        (λ message. LackText (files_of S.Store S.File.Source context.now.store.now) (input_of R.Source input) given
+        message (has_none given)) err.old err.new }
 {
     if has_none(names) {
         return text_of_input(context.alloc, context.progress, input, err);

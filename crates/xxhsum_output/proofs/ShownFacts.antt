@@ -33,7 +33,8 @@ takes-more writing bytes i old mid new h took more =
     subst (λ text. Took writing text old new) (sym (shown-more bytes i h)) (Took-join writing (shown_all (take i bytes)) (shown_byte (get_or bytes i 0)) old mid new took more)
 
 -- Lemma: the displayed form of all bytes is refused if one byte's form is refused after the bytes before it.
-pub refuses-rest : {W : Type 0} (writing : SinkRules W) (bytes : List ℕ) (i : ℕ) (old mid new : W) → i < length bytes → Took writing (shown_all (take i bytes)) old mid → Refused writing (shown_byte (get_or bytes i 0)) mid new → Refused writing (shown_all bytes) old new
+pub refuses-rest : {W : Type 0} (writing : SinkRules W) (bytes : List ℕ) (i : ℕ) (old mid new : W) → i < length bytes → Took writing (shown_all (take i bytes)) old mid
+    → Refused writing (shown_byte (get_or bytes i 0)) mid new → Refused writing (shown_all bytes) old new
 refuses-rest writing bytes i old mid new h took refused =
     let front = shown_all (take i bytes) ++ shown_byte (get_or bytes i 0) in
     let joined = Refused-join writing (shown_all (take i bytes)) (shown_byte (get_or bytes i 0)) old mid new took refused in
@@ -42,7 +43,8 @@ refuses-rest writing bytes i old mid new h took refused =
 -- ---- laws
 
 -- Lemma: the inner sink takes the displayed forms of the chunks, joined.
-pub shows_pieces : {W : Type 0} (writing : SinkRules W) (pieces : List (List ℕ)) (old new : Visible W) → Pieces (TakesShown writing) old pieces new → Took writing (concat (map (shown (is_shown old)) pieces)) (terminal_of old) (terminal_of new)
+pub shows_pieces : {W : Type 0} (writing : SinkRules W) (pieces : List (List ℕ)) (old new : Visible W) → Pieces (TakesShown writing) old pieces new
+    → Took writing (concat (map (shown (is_shown old)) pieces)) (terminal_of old) (terminal_of new)
 shows_pieces writing [] old new led = ([], ap terminal_of led, refl)
 shows_pieces {W} writing (piece ∷ pieces) old new led =
     let mid : Visible W = led.0 in

@@ -22,7 +22,8 @@ all-refused writing text waiting first old new gathers refused =
 took-one : {W : Type 0} (writing : SinkRules W) (piece : List ℕ) (old new : W) → writing.takes old piece new → Took writing piece old new
 took-one writing piece old new takes = (piece ∷ [], (new, takes, refl), append-nil piece)
 
-passes-on : {W : Type 0} (writing : SinkRules W) (text piece : List ℕ) (first : W) (old new : WholeLines W) → Gathers writing text first (behind old) (waiting_lines old) → Passes writing old piece new → Gathers writing (text ++ piece) first (behind new) (waiting_lines new)
+passes-on : {W : Type 0} (writing : SinkRules W) (text piece : List ℕ) (first : W) (old new : WholeLines W) → Gathers writing text first (behind old) (waiting_lines old)
+    → Passes writing old piece new → Gathers writing (text ++ piece) first (behind new) (waiting_lines new)
 passes-on writing text piece first old new gathers (inl (same, waits)) =
     let front = gathers.0 in
     (front, subst (λ met. Took writing front first met) (sym same) gathers.1, ap (λ bytes. front ++ bytes) waits ∙ sym (append_assoc front (waiting_lines old) piece) ∙ ap (λ bytes. bytes ++ piece) gathers.2)
@@ -46,7 +47,8 @@ reaches-on writing text piece first old new (inr (failed, refused)) (inr (none, 
     inr (ap writing.has_failed same ∙ failed, subst (λ bytes. Refused writing bytes first (behind new)) (no-more text piece none) (subst (λ met. Refused writing text first met) (sym same) refused))
 reaches-on writing text piece first old new (inr (failed, refused)) (inr (none, inr (worked, failed', refused'))) = cc
 
-reaches-all : {W : Type 0} (writing : SinkRules W) (text : List ℕ) (pieces : List (List ℕ)) (first : W) (old new : WholeLines W) → Reaches writing text first old → Pieces (TakesPiece writing) old pieces new → Reaches writing (text ++ concat pieces) first new
+reaches-all : {W : Type 0} (writing : SinkRules W) (text : List ℕ) (pieces : List (List ℕ)) (first : W) (old new : WholeLines W)
+    → Reaches writing text first old → Pieces (TakesPiece writing) old pieces new → Reaches writing (text ++ concat pieces) first new
 reaches-all writing text [] first old new reaches led =
     subst (λ met. Reaches writing (text ++ []) first met) (sym led) (subst (λ bytes. Reaches writing bytes first old) (sym (append-nil text)) reaches)
 reaches-all writing text (piece ∷ pieces) first old new reaches led =
@@ -61,7 +63,8 @@ pub taken-reaches : {W : Type 0} (writing : SinkRules W) (bytes : List ℕ) (pie
 taken-reaches writing bytes pieces old new works empty led are =
     subst (λ all. Reaches writing all (behind old) new) are (reaches-all writing [] pieces (behind old) old new (reaches-none writing old works empty) led)
 
-refused-behind : {W : Type 0} (writing : SinkRules W) (text bytes rest : List ℕ) (first : W) (old new : WholeLines W) → Reaches writing text first old → RefusesLine writing old new → bytes ≡ text ++ rest → 0 < length rest → Refused writing bytes first (behind new)
+refused-behind : {W : Type 0} (writing : SinkRules W) (text bytes rest : List ℕ) (first : W) (old new : WholeLines W) → Reaches writing text first old
+    → RefusesLine writing old new → bytes ≡ text ++ rest → 0 < length rest → Refused writing bytes first (behind new)
 refused-behind writing text bytes rest first old new (inl (works, gathers)) (inl (inl (failed, same))) are some = cc
 refused-behind writing text bytes rest first old new (inr (failed, refused)) (inl (inl (failed', same))) are some =
     subst (λ all. Refused writing all first (behind new)) (sym are) (Refused-more writing text rest first (behind new) (subst (λ met. Refused writing text first met) (sym same) refused))

@@ -6,14 +6,16 @@ use Rattle.xxhsum_program.specs.ListMessages.{break_events, count_text, line_mes
 use Rattle.xxhsum_program.proofs.OrderFacts.{emits-join, emits-line}
 
 -- Lemma: a line is refused if its first part is refused.
-pub line_more : {W T : Type 0} (writing : SinkRules W) (a b : List ℕ) (old new : W) (result : Result T Stop) (stop : Stop) → result ≡ Err stop → stop ≡ WriteFailed → PrintsLine {T = T} writing a old new (Err stop) → PrintsLine writing (a ++ b) old new result
+pub line_more : {W T : Type 0} (writing : SinkRules W) (a b : List ℕ) (old new : W) (result : Result T Stop) (stop : Stop) → result ≡ Err stop
+    → stop ≡ WriteFailed → PrintsLine {T = T} writing a old new (Err stop) → PrintsLine writing (a ++ b) old new result
 line_more writing a b old new (Ok x) stop is only prints = cc
 line_more writing a b old new (Err WriteFailed) WriteFailed is only prints = Refused-more writing a b old new prints
 line_more writing a b old new (Err OutOfMemory) WriteFailed is only prints = cc
 line_more writing a b old new (Err e) OutOfMemory is only prints = cc
 
 -- Lemma: a line has the result of its second part if its first part was taken.
-pub line_join : {W T : Type 0} (writing : SinkRules W) (a b : List ℕ) (old mid new : W) (result : Result T Stop) → Took writing a old mid → IfErr result (λ stop. stop ≡ WriteFailed) → PrintsLine writing b mid new result → PrintsLine writing (a ++ b) old new result
+pub line_join : {W T : Type 0} (writing : SinkRules W) (a b : List ℕ) (old mid new : W) (result : Result T Stop) → Took writing a old mid
+    → IfErr result (λ stop. stop ≡ WriteFailed) → PrintsLine writing b mid new result → PrintsLine writing (a ++ b) old new result
 line_join writing a b old mid new (Ok x) took only prints = Took-join writing a b old mid new took prints
 line_join writing a b old mid new (Err WriteFailed) took only prints = Refused-join writing a b old mid new took prints
 line_join writing a b old mid new (Err OutOfMemory) took only prints = cc

@@ -145,7 +145,8 @@ IsInside reading from done reads lines =
     × (longest_line < length (removed ++ waiting lines))
     × (reads ≤ length (removed ++ waiting lines) + (if lines.has_ended then 1 else 0))
 
-pub inside-new : {R X : Type 0} (reading : SourceRules R) (from : R) (done : List ℕ) (lines : Lines R X) → lines.end ≤ length lines.buf → longest_line < lines.end - lines.start → Lacks 10 (waiting lines) → HasRead reading from done lines → IsInside reading from done 0 lines
+pub inside-new : {R X : Type 0} (reading : SourceRules R) (from : R) (done : List ℕ) (lines : Lines R X) → lines.end ≤ length lines.buf
+    → longest_line < lines.end - lines.start → Lacks 10 (waiting lines) → HasRead reading from done lines → IsInside reading from done 0 lines
 inside-new reading from done lines inside long lacks read =
     let size = waiting-count lines inside in
     ([], subst (λ bytes. HasRead reading from bytes lines) (sym (append-nil done)) read, lacks, omega (arith, size, long), omega arith)
@@ -168,7 +169,8 @@ emptied reading from done reads old new ordered inside taken (removed, read, lac
     (removed ++ waiting old, all, lacks, long, rw taken.2 most)
 
 -- Lemma: the line is complete if it is the last one.
-pub inside-ends : {R X : Type 0} (reading : SourceRules R) (from : R) (done : List ℕ) (reads : ℕ) (lines : Lines R X) → lines.is_long ≡ true → lines.has_ended ≡ true → waiting lines ≡ [] → IsEmptied reading from done reads lines → IsNext reading from done lines Variant.Line
+pub inside-ends : {R X : Type 0} (reading : SourceRules R) (from : R) (done : List ℕ) (reads : ℕ) (lines : Lines R X) → lines.is_long ≡ true
+    → lines.has_ended ≡ true → waiting lines ≡ [] → IsEmptied reading from done reads lines → IsNext reading from done lines Variant.Line
 inside-ends reading from done reads lines is_long ended none (removed, read, lacks, long, most) =
     let held : IsHeld removed lines = rw is_long long in
     (removed, lacks, held, inr (omega (arith, long), read, (ended, none)))

@@ -40,7 +40,8 @@ emits-line rules line old out (Err WriteFailed) prints only = ([], line, old, re
 emits-line rules line old out (Err OutOfMemory) prints only = cc
 
 -- Lemma: the same for a line for which memory may run out.
-pub emits-line-or-none : {W E T : Type 0} (rules : StreamRules W E) (line : List ℕ) (old : Streams W E) (out : W) (result : Result T Stop) → PrintsLine rules.writing line old.out out result → EmitsOrNone rules (Printed line ∷ []) old (streams_of out old.err) result
+pub emits-line-or-none : {W E T : Type 0} (rules : StreamRules W E) (line : List ℕ) (old : Streams W E) (out : W) (result : Result T Stop)
+    → PrintsLine rules.writing line old.out out result → EmitsOrNone rules (Printed line ∷ []) old (streams_of out old.err) result
 emits-line-or-none rules line old out (Ok x) prints = emits-line rules line old out (Ok x) prints tt
 emits-line-or-none rules line old out (Err WriteFailed) prints = emits-line {T = Unit {0}} rules line old out (Err WriteFailed) prints refl
 emits-line-or-none rules line old out (Err OutOfMemory) same = (same, refl)

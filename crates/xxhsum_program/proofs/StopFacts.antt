@@ -59,7 +59,8 @@ lines-stop is_finding reading rules options list source old mid new before after
     )
 
 -- Lemma: the events of the end of a list, with equal numbers and reports.
-pub emits-break : {W E : Type 0} (rules : StreamRules W E) (list : List ℕ) (end : ListEnd) (m n : ℕ) (r s : Report) (old new : Streams W E) → m ≡ n → r ≡ s → EmitsAll rules (break_events list m r end) old new → EmitsAll rules (break_events list n s end) old new
+pub emits-break : {W E : Type 0} (rules : StreamRules W E) (list : List ℕ) (end : ListEnd) (m n : ℕ) (r s : Report) (old new : Streams W E) → m ≡ n
+    → r ≡ s → EmitsAll rules (break_events list m r end) old new → EmitsAll rules (break_events list n s end) old new
 emits-break rules list end m n r s old new numbers reports emits =
     subst (λ k. EmitsAll rules (break_events list k s end) old new) numbers (subst (λ x. EmitsAll rules (break_events list m x end) old new) reports emits)
 

@@ -42,7 +42,7 @@ pub fn hash_names<S: Store, T: TimedSink, W: Output, E: Sink>(
     requires { W.has_failed streams.old.out ≡ false }
 
     // Each name has one outcome, in order. Standard output has the lines of names with a value, and standard error the
-    // messages of the others, in one sequence: when a message is written, all lines before it are written, or were lost.
+    // messages of the others, in one sequence: when a message is written, all lines before it are written, or lost.
     ensures { SaysNames (files_of S.Store S.File.Source context.now.store.now)
         (effect_of (rules_of W.Sink W.held W.has_lost E.Sink) streams.old streams.new result)
         context.now.options.kind (style_of context.now.options) (map (λ name. name.items) names.now) }

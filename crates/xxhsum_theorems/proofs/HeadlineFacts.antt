@@ -79,7 +79,8 @@ beginning rules events old new WriteFailed emits =
 beginning rules events old new OutOfMemory emits =
     (printed_of events, [], new.out, sym (append-nil (printed_of events)), emits-prints rules events old new emits, inl refl)
 
-unless-failed : {W E : Type 0} (rules : StreamRules W E) (events : List Event) (old new : Streams W E) (stop : Stop) → EmitsUnlessFailed (effect_of rules old new (Err stop)) events → PrintsBeginning rules.writing (printed_of events) old.out new.out
+unless-failed : {W E : Type 0} (rules : StreamRules W E) (events : List Event) (old new : Streams W E) (stop : Stop)
+    → EmitsUnlessFailed (effect_of rules old new (Err stop)) events → PrintsBeginning rules.writing (printed_of events) old.out new.out
 unless-failed rules events old new stop (inl emits) = beginning rules events old new stop emits
 unless-failed rules events old new stop (inr (failed, same, silent, is)) =
     ([], printed_of events, old.out, refl, ([], refl, refl), inl same)

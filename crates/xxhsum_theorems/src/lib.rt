@@ -81,8 +81,8 @@ pub fn each_stream<W: Sink, E: Sink>()
 
 /// Whatever bytes names have, each message and each printed result is one line, so no name can forge one, for example
 /// one that reports another file as `OK`. The outcome of a name is one line and no message, or one message and no line.
-/// A line of a list has the same, or neither. Each message (`Reported`, `Finds`, `OnlyReports`, `Reports`), each line of
-/// an audit, and the line that no file was verified are `one_line` of a text.
+/// A line of a list has the same, or neither. Each message (`Reported`, `Finds`, `OnlyReports`, `Reports`), each line
+/// of an audit, and the line that no file was verified are `one_line` of a text.
 #[tactic(auto, using(crate::proofs::HeadlineFacts::line_or_message, crate::proofs::HeadlineFacts::findings_are_lines))]
 pub fn one_line_a_name()
     ensures names { (kind : Kind) (shape : Shape) (name : List ℕ) (outcome : Outcome)

@@ -8,7 +8,8 @@ use Rattle.xxhsum_app.proofs.run.run_arguments.Goals as goal
 command-is : (interactive : Interactive) (program : List ℕ) (arguments words : List (List ℕ)) (kind : Kind) (parsed : ParsedArgs) (run : Option (Options × ℕ)) → words ≡ drop 1 arguments → kind ≡ kind_of_program program → parsed ≡ parsed_args kind words → run ≡ requested_run parsed → command_of interactive program (drop 1 arguments) ≡ command_from interactive program words parsed run
 command-is interactive program arguments words kind parsed run same kinds is runs = rw (runs, is, kinds, same) refl
 
-command-message : (interactive : Interactive) (program : List ℕ) (words : List (List ℕ)) (parsed : ParsedArgs) (run : Option (Options × ℕ)) → run ≡ None → command_from interactive program words parsed run ≡ Answers (answer_text program words parsed) (is_well parsed)
+command-message : (interactive : Interactive) (program : List ℕ) (words : List (List ℕ)) (parsed : ParsedArgs) (run : Option (Options × ℕ)) → run ≡ None
+    → command_from interactive program words parsed run ≡ Answers (answer_text program words parsed) (is_well parsed)
 command-message interactive program words parsed run is = rw is refl
 
 -- A requested run, which may wait for a terminal.
