@@ -70,7 +70,7 @@ def parts(top, anew):
     """Runs the parts, each with the minimum number of its checks, and returns their results. Parts that are started
     before they are followed run in parallel with the others. `anew` are the arguments for `rt ci`."""
     yield Part(top, "what the pages quote", 10, "checks/readme").follow()
-    wrong_bodies = Part(top, "wrong bodies, beside and after the proofs", 1026, "checks/wrong-bodies", "--beside-ci")
+    wrong_bodies = Part(top, "wrong bodies, beside and after the proofs", 1027, "checks/wrong-bodies", "--beside-ci")
     beside = [Part(top, "the library for C without rt", 22, "c/check", "--without-rt"),
               Part(top, "the cargo crate without rt", 37, "rust/check", "--without-rt"),
               Part(top, "the eraser, and the source that it wrote", 120, "rust/checks/eraser"),

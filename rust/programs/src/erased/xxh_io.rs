@@ -7,8 +7,7 @@
 pub mod arguments;
 pub mod buffered;
 pub mod command;
-pub mod ends;
-pub mod error;
+pub mod digest_error;
 pub mod fault;
 pub mod from_read;
 pub mod from_write;
@@ -16,5 +15,6 @@ pub mod hex;
 pub mod kind;
 pub mod script_sink;
 pub mod script_source;
+pub mod streams;
 pub mod waiting;
 pub mod write;

@@ -8,26 +8,26 @@ use crate::rattle::io::IsTerminal;
 use crate::rattle::process::ExitCode;
 use crate::programs::xxh_io::from_read::FromRead;
 use crate::programs::xxh_io::from_write::FromWrite;
-use crate::programs::xxhsum_files::system::SystemFiles;
-use crate::programs::xxhsum_files::uninterrupted::Uninterrupted;
+use crate::programs::xxhsum_app::run::run;
+use crate::programs::xxhsum_fs::system::SystemFiles;
+use crate::programs::xxhsum_fs::uninterrupted::Uninterrupted;
 use crate::programs::xxhsum_output::visible::Visible;
 use crate::programs::xxhsum_output::whole_lines::WholeLines;
 use crate::programs::xxhsum_program::arguments::ProcessArguments;
-use crate::programs::xxhsum_program::process::{Console, Terminals};
-use crate::programs::xxhsum_program::screen::Screen;
+use crate::programs::xxhsum_program::process::{Console, Interactive};
 use crate::programs::xxhsum_program::streams::Streams;
-use crate::programs::xxhsum_tree::run::run;
+use crate::programs::xxhsum_program::terminal::Terminal;
 
 // Passes the process's arguments, files and streams to the program.
 pub fn main(rt: HostRuntime) -> ExitCode {
     let (shows_output, shows_errors) = (rt.stdout().is_terminal(), rt.stderr().is_terminal());
     let console = Console {
         input: FromRead::new(Uninterrupted::new(rt.stdin())),
-        terminals: Terminals {
+        interactive: Interactive {
             input: rt.stdin().is_terminal(),
             errors: shows_errors,
         },
-        screen: Screen::new(rt.stderr(), &rt),
+        terminal: Terminal::new(rt.stderr(), &rt),
     };
     // On a terminal control characters are made visible, and each line is written at once.
     let output = Visible::new(FromWrite::new(rt.stdout()), shows_output);

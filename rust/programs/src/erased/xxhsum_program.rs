@@ -6,20 +6,19 @@
 
 pub mod arguments;
 pub mod check;
+pub mod context;
 mod entry;
 pub mod good_lists;
 pub mod hash;
-pub mod job;
 pub mod lines;
 pub mod outcome;
 pub mod printed_lists;
 pub mod process;
 pub mod progress;
-pub mod say;
-pub mod screen;
+pub mod progress_reader;
+pub mod stderr;
+pub mod stdout;
 pub mod stop;
 pub mod streams;
-pub mod tell;
-pub mod told_lines;
+pub mod terminal;
 mod usage;
-pub mod watched;

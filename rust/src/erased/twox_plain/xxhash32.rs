@@ -23,7 +23,7 @@ use std::{fmt, hash};
 /// hasher.finish_32() // 0x9e5e7e93, as XxHash32::oneshot(0, b"Hello, world!\0")
 /// ```
 ///
-/// In contracts a hasher is its record, [`SavedState`]. A record represents a list of bytes (`StandsFor`) if writing
+/// In contracts a hasher is its record, [`SavedState`]. A record represents a list of bytes (`Represents`) if writing
 /// chunks that join to the list produces it. The contracts of `write` and `finish` are in these terms.
 ///
 /// Two hashers are equal if and only if their records are, including unread bytes of the buffer: hashers of the same

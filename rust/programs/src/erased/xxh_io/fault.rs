@@ -3,8 +3,8 @@
 
 //! Errors of a command: the line and the exit status of each, and how it is written to standard error.
 
-use crate::programs::xxh_io::ends::Sink;
-use crate::programs::xxh_io::error::DigestError;
+use crate::programs::xxh_io::digest_error::DigestError;
+use crate::programs::xxh_io::streams::Sink;
 use crate::programs::xxh_io::write::write_all;
 use crate::rattle::AllocError;
 

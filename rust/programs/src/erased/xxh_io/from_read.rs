@@ -3,7 +3,7 @@
 
 //! Standard readers as sources.
 
-use crate::programs::xxh_io::ends::{Failed, Source};
+use crate::programs::xxh_io::streams::{Failed, Source};
 use crate::rattle::io::Read;
 
 /// A standard reader as a source. Every error of a read is a failure, including an interruption.

@@ -3,7 +3,7 @@
 
 //! Standard writers as sinks.
 
-use crate::programs::xxh_io::ends::{Failed, Sink};
+use crate::programs::xxh_io::streams::{Failed, Sink};
 use crate::rattle::io::Write;
 
 /// A standard writer as a sink. Every error of a write is a failure, and so is a write that takes nothing.

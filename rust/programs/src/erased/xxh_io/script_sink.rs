@@ -3,7 +3,7 @@
 
 //! A sink in memory that follows a script and exposes its bytes.
 
-use crate::programs::xxh_io::ends::{Failed, Sink};
+use crate::programs::xxh_io::streams::{Failed, Sink};
 
 /// A sink for `N` bytes that takes a limited number of bytes per write, and fails at one write. Allocates nothing.
 ///

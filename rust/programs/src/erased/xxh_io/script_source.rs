@@ -3,7 +3,7 @@
 
 //! Sources in memory, which expose their bytes: one that follows a script, and one over a slice.
 
-use crate::programs::xxh_io::ends::{Failed, Source};
+use crate::programs::xxh_io::streams::{Failed, Source};
 
 /// A source that returns bytes in chunks of given sizes, and fails at one read. Allocates nothing.
 ///

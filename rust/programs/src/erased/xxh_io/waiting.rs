@@ -3,8 +3,8 @@
 
 //! A buffer of bytes to be written.
 
-use crate::programs::xxh_io::ends::Sink;
-use crate::programs::xxh_io::error::DigestError;
+use crate::programs::xxh_io::digest_error::DigestError;
+use crate::programs::xxh_io::streams::Sink;
 use crate::programs::xxh_io::write::write_all;
 
 /// A buffer of at most `N` bytes to be written.

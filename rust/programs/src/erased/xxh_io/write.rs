@@ -3,9 +3,9 @@
 
 //! Bytes and digest lines, written to a sink.
 
-use crate::programs::xxh_io::ends::{Failed, Sink};
-use crate::programs::xxh_io::error::DigestError;
+use crate::programs::xxh_io::digest_error::DigestError;
 use crate::programs::xxh_io::hex::write_digits;
+use crate::programs::xxh_io::streams::{Failed, Sink};
 
 // Maximum number of digits of a line.
 const MOST_DIGITS: usize = 32;

@@ -14,39 +14,39 @@ use std::cmp::Ordering;
 /// Lines and names, merged by path.
 pub struct Compared<'n> {
     /// The results of the names that are in both lists.
-    pub settled: Vec<Verdict<'n>>,
+    pub matched: Vec<Verdict<'n>>,
     /// The lines whose names were not given.
-    pub gone: Vec<FileDigest<'n>>,
+    pub removed: Vec<FileDigest<'n>>,
     /// The names that no line has, with their digests.
-    pub come: Vec<FileDigest<'n>>,
+    pub added: Vec<FileDigest<'n>>,
     /// True if each given name has a digest.
-    pub are_all: bool,
+    pub is_complete: bool,
 }
 
 /// Returns the results of all lines and names: first the names in both lists, then the others, sorted by digest.
 /// Returns `AllocError` if out of memory.
 pub fn verdicts<'n>(alloc: Global, compared: Compared<'n>) -> Result<Vec<Verdict<'n>>, AllocError> {
     let Compared {
-        settled,
-        gone,
-        come,
-        are_all: _,
+        matched,
+        removed,
+        added,
+        is_complete: _,
     } = compared;
-    let mut kept = same_in(alloc, &settled)?;
-    let mut gone = gone;
-    let mut come = come;
-    let mut found = settled;
+    let mut kept = same_in(alloc, &matched)?;
+    let mut removed = removed;
+    let mut added = added;
+    let mut found = matched;
     put_digests_in_order(&mut kept);
-    put_digests_in_order(&mut gone);
-    put_digests_in_order(&mut come);
-    add_moves(&gone, &come, &kept, &mut found)?;
+    put_digests_in_order(&mut removed);
+    put_digests_in_order(&mut added);
+    add_moves(&removed, &added, &kept, &mut found)?;
     Ok(found)
 }
 
 // Returns the unchanged files.
-fn same_in<'n>(alloc: Global, settled: &[Verdict<'n>]) -> Result<Vec<FileDigest<'n>>, AllocError> {
+fn same_in<'n>(alloc: Global, matched: &[Verdict<'n>]) -> Result<Vec<FileDigest<'n>>, AllocError> {
     let mut kept = Vec::new(alloc);
-    for verdict in settled {
+    for verdict in matched {
         if let Verdict::Same { name, .. } = *verdict {
             kept.push(name)?;
         }
@@ -56,17 +56,17 @@ fn same_in<'n>(alloc: Global, settled: &[Verdict<'n>]) -> Result<Vec<FileDigest<
 
 // Appends the results of the lines whose names are gone and of the new names.
 fn add_moves<'n>(
-    gone: &[FileDigest<'n>],
-    come: &[FileDigest<'n>],
+    removed: &[FileDigest<'n>],
+    added: &[FileDigest<'n>],
     kept: &[FileDigest<'n>],
     found: &mut Vec<Verdict<'n>>,
 ) -> Result<(), AllocError> {
-    let mut gone_left = gone;
-    let mut come_left = come;
-    while let Some(side) = first_by_digest(gone_left, come_left) {
+    let mut removed_left = removed;
+    let mut added_left = added;
+    while let Some(side) = first_by_digest(removed_left, added_left) {
         found.push(verdict_of(kept, side))?;
-        gone_left = &gone_left[side.lines()..];
-        come_left = &come_left[side.names()..];
+        removed_left = &removed_left[side.lines()..];
+        added_left = &added_left[side.names()..];
     }
     Ok(())
 }

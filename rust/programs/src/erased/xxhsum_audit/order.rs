@@ -20,7 +20,7 @@ fn rank_of(kind: Kind) -> u8 {
 }
 
 // Returns the name without each `./` at its beginning.
-fn bare(name: &[u8]) -> &[u8] {
+fn normalize_path(name: &[u8]) -> &[u8] {
     let mut rest = name;
     while let Some(behind) = rest.strip_prefix(b"./") {
         rest = behind;
@@ -30,7 +30,7 @@ fn bare(name: &[u8]) -> &[u8] {
 
 /// Compares two names. Every `./` at the beginning is ignored.
 pub fn compare_paths(a: &[u8], b: &[u8]) -> Ordering {
-    bare(a).cmp(bare(b))
+    normalize_path(a).cmp(normalize_path(b))
 }
 
 // Compares two names for sorting: those with one path by all their bytes.
@@ -85,7 +85,7 @@ pub fn names_of<'n>(alloc: Global, digests: &[FileDigest<'n>]) -> Result<Vec<&'n
 }
 
 /// Returns the first name with the path of the next one, if there is one.
-pub fn clash_in<'n>(names: &[&'n [u8]]) -> Option<&'n [u8]> {
+pub fn find_duplicate<'n>(names: &[&'n [u8]]) -> Option<&'n [u8]> {
     for at in 0..names.len() {
         if shares_path(names[at], &names[at + 1..]) {
             return Some(names[at]);

@@ -5,47 +5,26 @@
 
 use crate::rattle::prelude::Vec;
 use crate::rattle::{AllocError, Global};
-use crate::programs::xxh_io::ends::{Failed, Source};
+use crate::programs::xxh_io::streams::Source;
 
 // Size of the read buffer.
 const OFFERED: usize = 65536;
 
-/// The error if not all of a source was read.
-#[derive(Clone, Copy, Debug, PartialEq, Eq)]
-pub enum ReadError {
-    /// A read failed.
-    ReadFailed,
-    /// Out of memory.
-    OutOfMemory,
-}
-
-impl From<AllocError> for ReadError {
-    fn from(_error: AllocError) -> ReadError {
-        ReadError::OutOfMemory
-    }
-}
-
-impl From<Failed> for ReadError {
-    fn from(_error: Failed) -> ReadError {
-        ReadError::ReadFailed
-    }
-}
-
-/// Returns all bytes of a source, up to its end, however its reads split them.
+/// Returns all bytes of a source, up to its end, however its reads split them; `None` if a read fails. Returns
+/// `AllocError` if out of memory.
 ///
-/// # Errors
-///
-/// - [`ReadError::ReadFailed`] if a read fails.
-/// - [`ReadError::OutOfMemory`] if out of memory.
-pub fn read_text<R: Source>(alloc: Global, source: &mut R) -> Result<Vec<u8>, ReadError> {
+/// The caller shows that the source has not failed.
+pub fn read_text<R: Source>(alloc: Global, source: &mut R) -> Result<Option<Vec<u8>>, AllocError> {
     let mut bytes = Vec::new(alloc);
     let mut buf = [0; OFFERED];
     for _ in 0..u64::MAX {
-        let count = source.read(&mut buf)?;
+        let Ok(count) = source.read(&mut buf) else {
+            return Ok(None);
+        };
         if count == 0 {
-            return Ok(bytes);
+            return Ok(Some(bytes));
         }
         bytes.extend_from_slice(&buf[..count])?;
     }
-    Err(ReadError::OutOfMemory)
+    Err(AllocError)
 }

@@ -55,10 +55,10 @@ pub fn first_by_path<'n>(
 
 // Returns the first of lines whose names are gone and new names, both sorted by digest.
 pub(crate) fn first_by_digest<'n>(
-    gone: &[FileDigest<'n>],
-    come: &[FileDigest<'n>],
+    removed: &[FileDigest<'n>],
+    added: &[FileDigest<'n>],
 ) -> Option<Side<FileDigest<'n>, FileDigest<'n>>> {
-    match (gone.split_first(), come.split_first()) {
+    match (removed.split_first(), added.split_first()) {
         (None, None) => None,
         (Some((line, _)), None) => Some(Side::Line(*line)),
         (None, Some((name, _))) => Some(Side::Name(*name)),

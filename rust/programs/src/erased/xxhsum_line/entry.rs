@@ -7,7 +7,7 @@ use crate::rattle::prelude::Vec;
 use crate::programs::xxhsum_line::digits::value_shown;
 use crate::programs::xxhsum_line::escapes::{body_of, is_escaped, name_meant};
 use crate::programs::xxhsum_line::parts::{Parts, parts_of, up_to_nul, without_return};
-use crate::programs::xxhsum_line::tags::{bare, is_little_tag, kind_of_digits, kind_of_tag};
+use crate::programs::xxhsum_line::tags::{is_little_tag, kind_of_digits, kind_of_tag, without_prefix};
 use crate::rattle::{AllocError, Global};
 use crate::programs::xxh_io::kind::Kind;
 
@@ -87,5 +87,5 @@ fn shown_in(text: &[u8], is_little: bool) -> Option<Shown<'_>> {
 
 // Returns the digest of digits of this algorithm, with or without their prefix.
 fn value_meant(kind: Kind, digits: &[u8], is_little: bool) -> Option<u128> {
-    value_shown(kind, bare(kind, digits), is_little)
+    value_shown(kind, without_prefix(kind, digits), is_little)
 }

@@ -16,7 +16,7 @@ pub fn kind_of_digits(digits: &[u8]) -> Option<Kind> {
 }
 
 /// Returns the digits without their prefix, which those of XXH3 64-bit may have.
-pub fn bare(kind: Kind, digits: &[u8]) -> &[u8] {
+pub fn without_prefix(kind: Kind, digits: &[u8]) -> &[u8] {
     match kind {
         Kind::X3_64 if digits.starts_with(b"XXH3_") => &digits[5..],
         _ => digits,

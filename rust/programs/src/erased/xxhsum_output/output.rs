@@ -3,8 +3,8 @@
 
 //! Sinks that may write later.
 
-use crate::programs::xxh_io::ends::Sink;
 use crate::programs::xxh_io::script_sink::ScriptSink;
+use crate::programs::xxh_io::streams::Sink;
 
 /// A sink that may hold bytes for a while, to write many at once.
 ///

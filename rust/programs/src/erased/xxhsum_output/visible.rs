@@ -3,8 +3,8 @@
 
 //! A sink in front of a terminal, which makes control characters visible.
 
-use crate::programs::xxh_io::ends::{Failed, Sink};
-use crate::programs::xxh_io::error::DigestError;
+use crate::programs::xxh_io::digest_error::DigestError;
+use crate::programs::xxh_io::streams::{Failed, Sink};
 use crate::programs::xxh_io::write::write_all;
 
 // In UTF-8 a control character of two bytes is this one and one from 128 to 159.

@@ -4,7 +4,7 @@
 //! A sink that buffers lines and writes them whole.
 
 use crate::programs::xxhsum_output::output::Output;
-use crate::programs::xxh_io::ends::{Failed, Sink};
+use crate::programs::xxh_io::streams::{Failed, Sink};
 use crate::programs::xxh_io::waiting::Waiting;
 
 /// Maximum number of buffered bytes.

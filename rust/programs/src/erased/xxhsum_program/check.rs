@@ -4,24 +4,24 @@
 //! Checks lists of checksum lines against the files that they name.
 
 use crate::rattle::prelude::Vec;
+use crate::programs::xxhsum_program::context::Context;
 use crate::programs::xxhsum_program::entry::{Found, compare};
-use crate::programs::xxhsum_program::job::Job;
 use crate::programs::xxhsum_program::lines::{Lines, Next};
 use crate::programs::xxhsum_program::outcome::OFFERED;
-use crate::programs::xxhsum_program::say::{line_of, print, say_line};
-use crate::programs::xxhsum_program::screen::Ticks;
+use crate::programs::xxhsum_program::progress_reader::{ProgressDisplay, ProgressReader};
+use crate::programs::xxhsum_program::stderr::eprint_line;
+use crate::programs::xxhsum_program::stdout::{line_of, print, print_line};
 use crate::programs::xxhsum_program::stop::Stop;
 use crate::programs::xxhsum_program::streams::Streams;
-use crate::programs::xxhsum_program::tell::tell_line;
-use crate::programs::xxhsum_program::watched::{ProgressDisplay, Watched};
+use crate::programs::xxhsum_program::terminal::TimedSink;
 use crate::rattle::itoa::Buffer;
 use crate::rattle::{AllocError, Global};
-use crate::programs::xxh_io::ends::{Sink, Source};
+use crate::programs::xxh_io::streams::{Sink, Source};
 use crate::programs::xxh_io::waiting::Waiting;
-use crate::programs::xxhsum_files::store::Store;
+use crate::programs::xxhsum_fs::store::Store;
 use crate::programs::xxhsum_line::entry::{Meaning, meaning_of};
+use crate::programs::xxhsum_options::options::Options;
 use crate::programs::xxhsum_output::output::Output;
-use crate::programs::xxhsum_words::options::Options;
 
 /// Counts of a list's lines, by result.
 #[derive(Clone, Copy, Debug, PartialEq, Eq)]
@@ -120,11 +120,11 @@ struct ListCheck<'a, S, T> {
     name: &'a [u8],
 }
 
-impl<S: Store, T: Ticks> ListCheck<'_, S, T> {
+impl<S: Store, T: TimedSink> ListCheck<'_, S, T> {
     // Checks the lines of `source`, prints and reports the results, and returns whether the list is good.
     fn check<R: Source , W: Output, E: Sink>(
         &self,
-        source: Watched<R, T>,
+        source: ProgressReader<R, T>,
         streams: &mut Streams<W, E>,
     ) -> Result<bool, Stop> {
         let unverified = self.unverified_line()?;
@@ -136,7 +136,7 @@ impl<S: Store, T: Ticks> ListCheck<'_, S, T> {
     // Checks the lines of `source`: up to its end, to a line without an end, or to the last line number.
     fn check_lines<R: Source , W: Output, E: Sink>(
         &self,
-        source: Watched<R, T>,
+        source: ProgressReader<R, T>,
         streams: &mut Streams<W, E>,
     ) -> Result<Report, Stop> {
         let mut lines = Lines::new(source);
@@ -146,7 +146,7 @@ impl<S: Store, T: Ticks> ListCheck<'_, S, T> {
             match lines.next() {
                 Next::End => return Ok(report),
                 Next::Failed => {
-                    self.tell_of_failure(number, &report, streams);
+                    self.report_failure(number, &report, streams);
                     return Ok(report.with_broken_end());
                 }
                 Next::Endless => {
@@ -190,7 +190,7 @@ impl<S: Store, T: Ticks> ListCheck<'_, S, T> {
         if is_silent(self.options, &found) {
             return Ok(());
         }
-        self.say_found(line.number, &entry.name, &found, &mut streams.out)
+        self.print_found(line.number, &entry.name, &found, &mut streams.out)
     }
 
     // Counts a malformed line. Reports it if `--warn` is given.
@@ -223,11 +223,11 @@ impl<S: Store, T: Ticks> ListCheck<'_, S, T> {
     // Reports what is wrong with line `number`.
     fn report_line<W: Output, E: Sink>(&self, number: u64, what: &[u8], streams: &mut Streams<W, E>) {
         streams.release();
-        tell_of_line(self.name, number, what, streams.messages());
+        eprint_line_error(self.name, number, what, streams.messages());
     }
 
     // Prints the result of line `number`.
-    fn say_found<W: Output>(
+    fn print_found<W: Output>(
         &self,
         number: u64,
         name: &[u8],
@@ -235,17 +235,16 @@ impl<S: Store, T: Ticks> ListCheck<'_, S, T> {
         out: &mut W,
     ) -> Result<(), Stop> {
         match found {
-            Found::Same if self.options.is_quiet => Ok(()),
-            Found::Same => say_line(self.alloc, &[name, b": OK"], out),
-            Found::Different => say_line(self.alloc, &[name, b": FAILED"], out),
+            Found::Same => print_line(self.alloc, &[name, b": OK"], out),
+            Found::Different => print_line(self.alloc, &[name, b": FAILED"], out),
             Found::Unread(reason) => {
-                say_unread(self.alloc, self.name, number, name, reason.text(), out)
+                print_unread(self.alloc, self.name, number, name, reason.text(), out)
             }
         }
     }
 
     // Reports that a read of the list failed. If the list has no well-formed line so far, only the summary reports it.
-    fn tell_of_failure<W: Output, E: Sink>(
+    fn report_failure<W: Output, E: Sink>(
         &self,
         number: u64,
         report: &Report,
@@ -274,22 +273,22 @@ impl<S: Store, T: Ticks> ListCheck<'_, S, T> {
                 b": no properly formatted xxHash checksum lines found",
             ]);
         }
-        self.say_summary(report, unverified, &mut streams.out)
+        self.print_summary(report, unverified, &mut streams.out)
     }
 
     // Prints the summary of a list.
-    fn say_summary<W: Output>(
+    fn print_summary<W: Output>(
         &self,
         report: &Report,
         unverified: &[u8],
         out: &mut W,
     ) -> Result<(), Stop> {
-        self.say_counts(report, out)?;
-        self.say_unverified(report, unverified, out)
+        self.print_counts(report, out)?;
+        self.print_unverified(report, unverified, out)
     }
 
     // Prints `unverified` if `--ignore-missing` is given and no file matches.
-    fn say_unverified<W: Output>(
+    fn print_unverified<W: Output>(
         &self,
         report: &Report,
         unverified: &[u8],
@@ -302,23 +301,23 @@ impl<S: Store, T: Ticks> ListCheck<'_, S, T> {
     }
 
     // Prints the numbers of malformed lines, unread files and mismatches, unless no line is well-formed.
-    fn say_counts<W: Output>(&self, report: &Report, out: &mut W) -> Result<(), Stop> {
+    fn print_counts<W: Output>(&self, report: &Report, out: &mut W) -> Result<(), Stop> {
         if report.proper == 0 || self.options.is_status_only {
             return Ok(());
         }
-        say_count(
+        print_count(
             report.improper,
             b" line is improperly formatted\n",
             b" lines are improperly formatted\n",
             out,
         )?;
-        say_count(
+        print_count(
             report.unread,
             b" listed file could not be read\n",
             b" listed files could not be read\n",
             out,
         )?;
-        say_count(
+        print_count(
             report.different,
             b" computed checksum did NOT match\n",
             b" computed checksums did NOT match\n",
@@ -329,11 +328,16 @@ impl<S: Store, T: Ticks> ListCheck<'_, S, T> {
 
 // True if nothing is printed about a file.
 fn is_silent(options: Options, found: &Found) -> bool {
-    options.is_status_only || (options.ignores_missing && found.is_missing())
+    match found {
+        _ if options.is_status_only => true,
+        Found::Same => options.is_quiet,
+        Found::Different => false,
+        Found::Unread(reason) => options.ignores_missing && reason.is_missing(),
+    }
 }
 
 // Prints why the file of line `number` of `list` could not be read.
-fn say_unread<'a, W: Output>(
+fn print_unread<'a, W: Output>(
     alloc: Global,
     list: &'a [u8],
     number: u64,
@@ -353,22 +357,21 @@ fn say_unread<'a, W: Output>(
         why,
         b".",
     ];
-    say_line(alloc, &parts, out)
+    print_line(alloc, &parts, out)
 }
 
 /// Reports what is wrong with line `number` of `list`.
-pub fn tell_of_line<'a, E: Sink>(list: &'a [u8], number: u64, what: &'a [u8], err: &mut E) {
+pub fn eprint_line_error<E: Sink>(list: &[u8], number: u64, what: &[u8], err: &mut E) {
     let mut digits = Buffer::new();
     let digits = digits.format(number).as_bytes();
-    let parts: [&[u8]; 6] = [list, b":", digits, b": Error: ", what, b"."];
-    tell_line(&parts, err);
+    eprint_line(&[list, b":", digits, b": Error: ", what, b"."], err);
 }
 
 // Maximum length of a line with a count, in bytes.
 const MOST_COUNT_LINE: usize = 80;
 
 // Prints `count` followed by `one` or `more`, unless it is 0.
-fn say_count<W: Output>(count: u64, one: &[u8], more: &[u8], out: &mut W) -> Result<(), Stop> {
+fn print_count<W: Output>(count: u64, one: &[u8], more: &[u8], out: &mut W) -> Result<(), Stop> {
     if count == 0 {
         return Ok(());
     }
@@ -397,8 +400,8 @@ fn word_for<'a>(count: u64, one: &'a [u8], more: &'a [u8]) -> &'a [u8] {
 ///
 /// Both errors end the check at once; the results before it are printed. [`Stop::WriteFailed`] if a write to standard
 /// output fails, or failed before, and [`Stop::OutOfMemory`] if memory for a line runs out.
-pub fn check_list<S: Store, T: Ticks, R: Source , W: Output, E: Sink>(
-    job: &Job<'_, S, T>,
+pub fn check_list<S: Store, T: TimedSink, R: Source , W: Output, E: Sink>(
+    context: &Context<'_, S, T>,
     name: &[u8],
     source: R,
     streams: &mut Streams<W, E>,
@@ -407,28 +410,28 @@ pub fn check_list<S: Store, T: Ticks, R: Source , W: Output, E: Sink>(
         return Err(Stop::WriteFailed);
     }
     let list = ListCheck {
-        alloc: job.alloc,
-        store: job.store,
-        options: job.options,
-        progress: job.progress,
+        alloc: context.alloc,
+        store: context.store,
+        options: context.options,
+        progress: context.progress,
         name,
     };
-    list.check(job.progress.watch(source), streams)
+    list.check(context.progress.watch(source), streams)
 }
 
 // Checks the list `name`. A list that can't be opened is reported, and fails.
-fn check_named<S: Store, T: Ticks, W: Output, E: Sink>(
-    job: &Job<'_, S, T>,
+fn check_named<S: Store, T: TimedSink, W: Output, E: Sink>(
+    context: &Context<'_, S, T>,
     name: &[u8],
     streams: &mut Streams<W, E>,
 ) -> Result<bool, Stop> {
-    match job.progress.open(job.store, name) {
+    match context.progress.open(context.store, name) {
         Ok(file) => {
             let list = ListCheck {
-                alloc: job.alloc,
-                store: job.store,
-                options: job.options,
-                progress: job.progress,
+                alloc: context.alloc,
+                store: context.store,
+                options: context.options,
+                progress: context.progress,
                 name,
             };
             list.check(file, streams)
@@ -445,8 +448,8 @@ fn check_named<S: Store, T: Ticks, W: Output, E: Sink>(
 /// # Errors
 ///
 /// As [`check_list`], at once. Later lists are not opened.
-pub fn check_lists<S: Store, T: Ticks, W: Output, E: Sink>(
-    job: &Job<'_, S, T>,
+pub fn check_lists<S: Store, T: TimedSink, W: Output, E: Sink>(
+    context: &Context<'_, S, T>,
     names: &[Vec<u8>],
     streams: &mut Streams<W, E>,
 ) -> Result<bool, Stop> {
@@ -455,7 +458,7 @@ pub fn check_lists<S: Store, T: Ticks, W: Output, E: Sink>(
     }
     let mut all = true;
     for name in names {
-        let good = check_named(job, name, streams)?;
+        let good = check_named(context, name, streams)?;
         all = all && good;
     }
     Ok(all)

@@ -4,9 +4,9 @@
 //! Compares one line of a list with the file that it names.
 
 use crate::programs::xxhsum_program::outcome::{Reason, value_named};
-use crate::programs::xxhsum_program::screen::Ticks;
-use crate::programs::xxhsum_program::watched::ProgressDisplay;
-use crate::programs::xxhsum_files::store::Store;
+use crate::programs::xxhsum_program::progress_reader::ProgressDisplay;
+use crate::programs::xxhsum_program::terminal::TimedSink;
+use crate::programs::xxhsum_fs::store::Store;
 use crate::programs::xxhsum_line::entry::Entry;
 
 /// The result of comparing a line with its file.
@@ -20,18 +20,8 @@ pub(crate) enum Found {
     Unread(Reason),
 }
 
-impl Found {
-    // True if there is no such file.
-    pub(crate) fn is_missing(&self) -> bool {
-        match self {
-            Found::Same | Found::Different => false,
-            Found::Unread(reason) => reason.is_missing(),
-        }
-    }
-}
-
 // Hashes the file that the line names, and compares the value. Each read is offered the whole of `buf`.
-pub(crate) fn compare<S: Store, T: Ticks>(
+pub(crate) fn compare<S: Store, T: TimedSink>(
     store: &S,
     progress: ProgressDisplay<T>,
     entry: &Entry,

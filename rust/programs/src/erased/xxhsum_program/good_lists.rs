@@ -3,8 +3,8 @@
 
 //! Lemmas about the check of lists: what a good list and a line "OK" guarantee.
 
-use crate::programs::xxh_io::ends::Source;
-use crate::programs::xxhsum_files::store::Store;
+use crate::programs::xxh_io::streams::Source;
+use crate::programs::xxhsum_fs::store::Store;
 use crate::programs::xxhsum_line::laws::laws_of_lines;
 
 /// Lemma: the file of each well-formed line of a good list has the line's value, or is missing and the options ignore

@@ -4,20 +4,20 @@
 //! Digest lines of named files.
 
 use crate::rattle::prelude::Vec;
-use crate::programs::xxhsum_program::job::Job;
+use crate::programs::xxhsum_program::context::Context;
 use crate::programs::xxhsum_program::outcome::{OFFERED, Outcome, Reason, outcome_of};
-use crate::programs::xxhsum_program::say::print;
-use crate::programs::xxhsum_program::screen::Ticks;
+use crate::programs::xxhsum_program::progress_reader::ProgressReader;
+use crate::programs::xxhsum_program::stderr::eprint_line;
+use crate::programs::xxhsum_program::stdout::print;
 use crate::programs::xxhsum_program::stop::Stop;
 use crate::programs::xxhsum_program::streams::Streams;
-use crate::programs::xxhsum_program::tell::tell_line;
-use crate::programs::xxhsum_program::watched::Watched;
+use crate::programs::xxhsum_program::terminal::TimedSink;
 use crate::rattle::Global;
-use crate::programs::xxh_io::ends::{Sink, Source};
-use crate::programs::xxhsum_files::store::Store;
+use crate::programs::xxh_io::streams::{Sink, Source};
+use crate::programs::xxhsum_fs::store::Store;
 use crate::programs::xxhsum_line::printed::{Shape, Style, styled_line};
+use crate::programs::xxhsum_options::options::Options;
 use crate::programs::xxhsum_output::output::Output;
-use crate::programs::xxhsum_words::options::Options;
 
 /// Writes the digest line of each named file, in order. Reports names that have none: directories, and files that can't
 /// be opened or read to their end. Returns whether all have one.
@@ -28,16 +28,16 @@ use crate::programs::xxhsum_words::options::Options;
 ///
 /// Both errors end the run at once; the lines before it are written. [`Stop::WriteFailed`] if a write of a line fails,
 /// and [`Stop::OutOfMemory`] if memory for a line runs out.
-pub fn hash_names<S: Store, T: Ticks, W: Output, E: Sink>(
-    job: &Job<'_, S, T>,
+pub fn hash_names<S: Store, T: TimedSink, W: Output, E: Sink>(
+    context: &Context<'_, S, T>,
     names: &[Vec<u8>],
     streams: &mut Streams<W, E>,
 ) -> Result<bool, Stop> {
     let mut buf = [0; OFFERED];
     let mut all = true;
     for name in names {
-        let outcome = outcome_of(job, job.options.kind, name, &mut buf);
-        write_outcome(job.alloc, job.options, name, &outcome, streams)?;
+        let outcome = outcome_of(context, context.options.kind, name, &mut buf);
+        write_outcome(context.alloc, context.options, name, &outcome, streams)?;
         all = all && outcome.is_digested();
     }
     Ok(all)
@@ -51,11 +51,11 @@ pub fn hash_names<S: Store, T: Ticks, W: Output, E: Sink>(
 /// # Errors
 ///
 /// [`Stop::WriteFailed`] if a write of the line fails, and [`Stop::OutOfMemory`] if memory for it runs out.
-pub fn hash_input<R: Source, T: Ticks, W: Output, E: Sink>(
+pub fn hash_input<R: Source, T: TimedSink, W: Output, E: Sink>(
     alloc: Global,
     options: Options,
     name: &[u8],
-    input: &mut Watched<R, T>,
+    input: &mut ProgressReader<R, T>,
     streams: &mut Streams<W, E>,
 ) -> Result<bool, Stop> {
     match input.value(options.kind, &mut [0; OFFERED]) {
@@ -84,7 +84,7 @@ fn write_outcome<W: Output, E: Sink>(
         }
         Outcome::IsDirectory | Outcome::Unread { .. } => {
             streams.release();
-            tell_outcome(name, outcome, streams.messages());
+            eprint_outcome(name, outcome, streams.messages());
             Ok(())
         }
     }
@@ -114,10 +114,10 @@ fn style_of(options: Options) -> Style {
 }
 
 /// Reports why a name has no value. Writes nothing for a name that has one.
-pub fn tell_outcome<'a, E: Sink>(name: &'a [u8], outcome: &'a Outcome, err: &mut E) {
+pub fn eprint_outcome<'a, E: Sink>(name: &'a [u8], outcome: &'a Outcome, err: &mut E) {
     match outcome {
         Outcome::Digested { .. } => {}
-        Outcome::IsDirectory => tell_line(&[b"xxhsum: ", name, b": Is a directory "], err),
+        Outcome::IsDirectory => eprint_line(&[b"xxhsum: ", name, b": Is a directory "], err),
         Outcome::Unread { reason } => {
             let parts: [&[u8]; 7] = [
                 b"Error: Could not ",
@@ -128,7 +128,7 @@ pub fn tell_outcome<'a, E: Sink>(name: &'a [u8], outcome: &'a Outcome, err: &mut
                 reason.text(),
                 b". ",
             ];
-            tell_line(&parts, err);
+            eprint_line(&parts, err);
         }
     }
 }

@@ -3,9 +3,9 @@
 
 //! Splits a list into lines.
 
-use crate::programs::xxhsum_program::screen::Ticks;
-use crate::programs::xxhsum_program::watched::Watched;
-use crate::programs::xxh_io::ends::{Failed, Source};
+use crate::programs::xxhsum_program::progress_reader::ProgressReader;
+use crate::programs::xxhsum_program::terminal::TimedSink;
+use crate::programs::xxh_io::streams::{Failed, Source};
 
 const BUFFER: usize = 65536;
 
@@ -26,7 +26,7 @@ pub enum Next {
 
 /// Reads the lines of a source, one after another.
 pub struct Lines<R, T> {
-    source: Watched<R, T>,
+    source: ProgressReader<R, T>,
     buf: [u8; BUFFER],
     // `buf[start..end]` is buffered.
     start: usize,
@@ -39,9 +39,9 @@ pub struct Lines<R, T> {
     has_ended: bool,
 }
 
-impl<R: Source , T: Ticks> Lines<R, T> {
+impl<R: Source , T: TimedSink> Lines<R, T> {
     /// Returns the lines of a source that has not been read yet.
-    pub fn new(source: Watched<R, T>) -> Lines<R, T> {
+    pub fn new(source: ProgressReader<R, T>) -> Lines<R, T> {
         Lines {
             source,
             buf: [0; BUFFER],

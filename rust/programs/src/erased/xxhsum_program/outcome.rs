@@ -3,13 +3,13 @@
 
 //! The outcome of one name in a hashing run.
 
-use crate::programs::xxhsum_program::job::Job;
-use crate::programs::xxhsum_program::screen::Ticks;
-use crate::programs::xxhsum_program::watched::ProgressDisplay;
-use crate::programs::xxh_io::error::DigestError;
+use crate::programs::xxhsum_program::context::Context;
+use crate::programs::xxhsum_program::progress_reader::ProgressDisplay;
+use crate::programs::xxhsum_program::terminal::TimedSink;
+use crate::programs::xxh_io::digest_error::DigestError;
 use crate::programs::xxh_io::kind::Kind;
-use crate::programs::xxhsum_files::refusal::Refusal;
-use crate::programs::xxhsum_files::store::Store;
+use crate::programs::xxhsum_fs::refusal::Refusal;
+use crate::programs::xxhsum_fs::store::Store;
 
 /// Size of the buffer for each read of a file, in bytes.
 pub const OFFERED: usize = 131072;
@@ -85,7 +85,7 @@ impl From<DigestError> for Reason {
 
 /// Opens and hashes the file of this name. Each read is offered the whole of `buf`. An error is the reason why there is
 /// no value.
-pub(crate) fn value_named<S: Store, T: Ticks>(
+pub(crate) fn value_named<S: Store, T: TimedSink>(
     store: &S,
     progress: ProgressDisplay<T>,
     kind: Kind,
@@ -103,16 +103,16 @@ pub(crate) fn value_named<S: Store, T: Ticks>(
 
 /// Opens and hashes the file of this name. Each read is offered the whole of `buf`. Directories are found by
 /// `is_directory` of the store.
-pub fn outcome_of<S: Store, T: Ticks>(
-    job: &Job<'_, S, T>,
+pub fn outcome_of<S: Store, T: TimedSink>(
+    context: &Context<'_, S, T>,
     kind: Kind,
     name: &[u8],
     buf: &mut [u8],
 ) -> Outcome {
-    if job.store.is_directory(name) {
+    if context.store.is_directory(name) {
         return Outcome::IsDirectory;
     }
-    match value_named(job.store, job.progress, kind, name, buf) {
+    match value_named(context.store, context.progress, kind, name, buf) {
         Ok(value) => Outcome::Digested { value },
         Err(reason) => Outcome::Unread { reason },
     }

@@ -3,9 +3,9 @@
 
 //! Lemmas about the check of lists that the program printed.
 
-use crate::programs::xxh_io::ends::Source;
 use crate::programs::xxh_io::script_source::SliceSource;
-use crate::programs::xxhsum_files::store::Store;
+use crate::programs::xxh_io::streams::Source;
+use crate::programs::xxhsum_fs::store::Store;
 
 /// Lemma: a printed list is accepted whole. The names of its entries contain no NUL, and each line has at most 32,767
 /// bytes, as the line of a name of at most 16,359 bytes does. However the reads split the list, its lines are those of

@@ -6,18 +6,18 @@
 use crate::rattle::prelude::Vec;
 use crate::programs::xxhsum_program::arguments::last_part;
 use crate::programs::xxhsum_program::check::{check_list, check_lists};
+use crate::programs::xxhsum_program::context::Context;
 use crate::programs::xxhsum_program::hash::{hash_input, hash_names};
-use crate::programs::xxhsum_program::job::Job;
-use crate::programs::xxhsum_program::say::finish;
-use crate::programs::xxhsum_program::screen::Ticks;
+use crate::programs::xxhsum_program::stderr::{eprint, eprint_line};
+use crate::programs::xxhsum_program::stdout::finish;
 use crate::programs::xxhsum_program::stop::Stop;
 use crate::programs::xxhsum_program::streams::Streams;
-use crate::programs::xxhsum_program::tell::{tell, tell_line};
-use crate::programs::xxhsum_program::usage::{ABOUT, BEFORE, BEHIND, NO_BENCHMARK, TITLE, tell_options};
-use crate::programs::xxh_io::ends::{Sink, Source};
-use crate::programs::xxhsum_files::store::Store;
+use crate::programs::xxhsum_program::terminal::TimedSink;
+use crate::programs::xxhsum_program::usage::{ABOUT, BEFORE, BEHIND, NO_BENCHMARK, TITLE, eprint_options};
+use crate::programs::xxh_io::streams::{Sink, Source};
+use crate::programs::xxhsum_fs::store::Store;
+use crate::programs::xxhsum_options::options::{Options, ParsedArgs};
 use crate::programs::xxhsum_output::output::Output;
-use crate::programs::xxhsum_words::options::{Asked, Options};
 
 // The name of standard input in lines.
 const INPUT: &[u8] = b"stdin";
@@ -28,39 +28,39 @@ const INPUT_BESIDE_NAMES: &[u8] =
 
 /// True for each standard stream that is a terminal.
 #[derive(Clone, Copy, Debug, PartialEq, Eq)]
-pub struct Terminals {
+pub struct Interactive {
     /// Standard input.
     pub input: bool,
     /// Standard error.
     pub errors: bool,
 }
 
-/// The environment of a run: the input, which streams are terminals, and the screen for progress.
+/// The environment of a run: the input, which streams are terminals, and the terminal for progress.
 pub struct Console<R, T> {
     /// Standard input.
     pub input: R,
     /// Which of the standard streams are terminals.
-    pub terminals: Terminals,
-    /// The screen for progress, which is standard error too.
-    pub screen: T,
+    pub interactive: Interactive,
+    /// The terminal for progress, which is standard error too.
+    pub terminal: T,
 }
 
 /// Returns the options of the requested run, and the index of the argument at which its names begin.
-pub fn run_asked(asked: Asked) -> Option<(Options, usize)> {
-    match asked {
-        Asked::Run {
+pub fn requested_run(parsed: ParsedArgs) -> Option<(Options, usize)> {
+    match parsed {
+        ParsedArgs::Run {
             options,
             names_from,
         } => Some((options, names_from)),
-        Asked::Benchmark
-        | Asked::Version
-        | Asked::Help
-        | Asked::WrongOption { .. }
-        | Asked::NulsInList
-        | Asked::WalkBesideLists
-        | Asked::WalkOfNothing
-        | Asked::InputBesideNames
-        | Asked::NumberTooLarge => None,
+        ParsedArgs::Benchmark
+        | ParsedArgs::Version
+        | ParsedArgs::Help
+        | ParsedArgs::WrongOption { .. }
+        | ParsedArgs::NulsInList
+        | ParsedArgs::WalkBesideLists
+        | ParsedArgs::WalkOfNothing
+        | ParsedArgs::InputBesideNames
+        | ParsedArgs::NumberTooLarge => None,
     }
 }
 
@@ -86,66 +86,71 @@ fn is_tree(options: Options) -> bool {
 }
 
 /// True if progress is shown: standard error is a terminal, and neither `-q` nor `--status` is given.
-pub fn shows_progress(terminals: Terminals, options: Options) -> bool {
-    terminals.errors && !options.is_quiet && !options.is_status_only
+pub fn shows_progress(interactive: Interactive, options: Options) -> bool {
+    interactive.errors && !options.is_quiet && !options.is_status_only
 }
 
 /// True if standard input would be read from a terminal without `-`.
-pub fn waits_for_terminal(terminals: Terminals, options: Options, names: &[Vec<u8>]) -> bool {
-    has_none(names) && !is_tree(options) && !options.takes_terminal && terminals.input
+pub fn waits_for_terminal(interactive: Interactive, options: Options, names: &[Vec<u8>]) -> bool {
+    has_none(names) && !is_tree(options) && !options.takes_terminal && interactive.input
 }
 
 /// Handles arguments that ask for no run: writes help, version or an error, and returns whether all is well. Writes
 /// nothing for a run.
-pub fn tell_answer<E: Sink>(program: &[u8], words: &[Vec<u8>], asked: Asked, err: &mut E) -> bool {
-    match asked {
-        Asked::Version => {
-            tell_line(&[program, TITLE], err);
+pub fn eprint_answer<E: Sink>(
+    program: &[u8],
+    words: &[Vec<u8>],
+    parsed: ParsedArgs,
+    err: &mut E,
+) -> bool {
+    match parsed {
+        ParsedArgs::Version => {
+            eprint_line(&[program, TITLE], err);
             true
         }
-        Asked::Help => {
-            tell_usage(program, err);
+        ParsedArgs::Help => {
+            eprint_usage(program, err);
             true
         }
-        Asked::Benchmark => {
-            tell_line(&[program, NO_BENCHMARK], err);
+        ParsedArgs::Benchmark => {
+            eprint_line(&[program, NO_BENCHMARK], err);
             false
         }
-        Asked::WrongOption { at } => {
-            tell_wrong(
+        ParsedArgs::WrongOption { at } => {
+            eprint_wrong(
                 &[b"Wrong parameters: '", word_at(words, at), b"'"],
                 program,
                 err,
             );
             false
         }
-        Asked::NulsInList => {
-            tell_wrong(
+        ParsedArgs::NulsInList => {
+            eprint_wrong(
                 &[b"Wrong parameters: '-z' with '-c' or '--audit'"],
                 program,
                 err,
             );
             false
         }
-        Asked::WalkBesideLists => {
-            tell_wrong(
+        ParsedArgs::WalkBesideLists => {
+            eprint_wrong(
                 &[b"Wrong parameters: '-r' with '-c' or lists of names"],
                 program,
                 err,
             );
             false
         }
-        Asked::WalkOfNothing => {
-            tell_wrong(&[b"Wrong parameters: '-r' without a FILE"], program, err);
+        ParsedArgs::WalkOfNothing => {
+            eprint_wrong(&[b"Wrong parameters: '-r' without a FILE"], program, err);
             false
         }
-        Asked::InputBesideNames => {
-            tell(INPUT_BESIDE_NAMES, err);
+        ParsedArgs::InputBesideNames => {
+            eprint(INPUT_BESIDE_NAMES, err);
             false
         }
-        Asked::Run { .. } => false,
-        Asked::NumberTooLarge => {
-            tell(b"Error: numeric value too large \n", err);
+        ParsedArgs::Run { .. } => false,
+        ParsedArgs::NumberTooLarge => {
+            eprint(b"Error: numeric value too large \n", err);
             false
         }
     }
@@ -160,20 +165,20 @@ fn word_at(words: &[Vec<u8>], at: usize) -> &[u8] {
 }
 
 /// Reports what is wrong with the arguments, as one line of these parts, and the usage.
-pub fn tell_wrong<E: Sink>(line: &[&[u8]], program: &[u8], err: &mut E) {
-    tell_line(line, err);
-    tell(b"\n", err);
-    tell_usage(program, err);
+pub fn eprint_wrong<E: Sink>(line: &[&[u8]], program: &[u8], err: &mut E) {
+    eprint_line(line, err);
+    eprint(b"\n", err);
+    eprint_usage(program, err);
 }
 
 // Reports the usage.
-fn tell_usage<E: Sink>(program: &[u8], err: &mut E) {
-    tell_line(&[program, TITLE], err);
-    tell(ABOUT, err);
-    tell_line(&[b"Usage: ", program, b" [OPTION].. [FILE].."], err);
-    tell(BEFORE, err);
-    tell_options(err);
-    tell(BEHIND, err);
+fn eprint_usage<E: Sink>(program: &[u8], err: &mut E) {
+    eprint_line(&[program, TITLE], err);
+    eprint(ABOUT, err);
+    eprint_line(&[b"Usage: ", program, b" [OPTION].. [FILE].."], err);
+    eprint(BEFORE, err);
+    eprint_options(err);
+    eprint(BEHIND, err);
 }
 
 /// Hashes the files of the names, or checks the lists of these names. Returns whether all went well.
@@ -184,28 +189,28 @@ fn tell_usage<E: Sink>(program: &[u8], err: &mut E) {
 ///
 /// [`Stop::WriteFailed`] if a write to the output fails, and [`Stop::OutOfMemory`] if memory runs out.
 pub fn perform<S, T, R, W, E>(
-    job: &Job<'_, S, T>,
+    context: &Context<'_, S, T>,
     names: &[Vec<u8>],
     input: R,
     streams: &mut Streams<W, E>,
 ) -> Result<bool, Stop>
 where
     S: Store,
-    T: Ticks,
+    T: TimedSink,
     R: Source ,
     W: Output,
     E: Sink, {
-    if job.options.checks {
+    if context.options.checks {
         if has_none(names) {
-            return check_list(job, INPUT, input, streams);
+            return check_list(context, INPUT, input, streams);
         }
-        return check_lists(job, names, streams);
+        return check_lists(context, names, streams);
     }
     if has_none(names) {
-        let mut input = job.progress.watch(input);
-        return hash_input(job.alloc, job.options, INPUT, &mut input, streams);
+        let mut input = context.progress.watch(input);
+        return hash_input(context.alloc, context.options, INPUT, &mut input, streams);
     }
-    hash_names(job, names, streams)
+    hash_names(context, names, streams)
 }
 
 fn has_none(names: &[Vec<u8>]) -> bool {
@@ -218,7 +223,7 @@ fn conclude<E: Sink>(done: Result<bool, Stop>, err: &mut E) -> u8 {
         Ok(true) => 0,
         Ok(false) => 1,
         Err(stop) => {
-            tell(line_of(stop), err);
+            eprint(line_of(stop), err);
             1
         }
     }

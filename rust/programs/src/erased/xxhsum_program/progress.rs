@@ -3,10 +3,10 @@
 
 //! Progress of long files, on standard error if it is a terminal.
 
-use crate::programs::xxhsum_program::screen::Ticks;
-use crate::programs::xxhsum_program::tell::{tell, tell_parts};
+use crate::programs::xxhsum_program::stderr::{eprint, eprint_parts};
+use crate::programs::xxhsum_program::terminal::TimedSink;
 use crate::rattle::itoa::Buffer;
-use crate::programs::xxh_io::ends::Sink;
+use crate::programs::xxh_io::streams::Sink;
 
 // Bytes between two progress lines: 64 MiB.
 const STEP: u64 = 67108864;
@@ -27,7 +27,7 @@ const ENDED: &[u8] = b"\x1b[?7h\r";
 
 /// Counts the bytes read from a file. At each 64 MiB it shows the count, the rate and, if the size is known, the time
 /// left. If it is off it shows nothing.
-pub struct Meter<E> {
+pub struct Progress<E> {
     end: E,
     is_on: bool,
     count: u64,
@@ -36,10 +36,10 @@ pub struct Meter<E> {
     started: u64,
 }
 
-impl<E: Sink> Meter<E> {
-    /// Returns a meter for a file of `size` bytes, if known, whose reading starts at time `started` (ms).
-    pub fn new(end: E, is_on: bool, size: Option<u64>, started: u64) -> Meter<E> {
-        Meter {
+impl<E: Sink> Progress<E> {
+    /// Returns the progress of a file of `size` bytes, if known, whose reading starts at time `started` (ms).
+    pub fn new(end: E, is_on: bool, size: Option<u64>, started: u64) -> Progress<E> {
+        Progress {
             end,
             is_on,
             count: 0,
@@ -50,7 +50,7 @@ impl<E: Sink> Meter<E> {
 
     /// Returns the sink for the progress line.
     pub fn into_end(self) -> E {
-        let Meter { end, .. } = self;
+        let Progress { end, .. } = self;
         end
     }
 
@@ -69,8 +69,8 @@ impl<E: Sink> Meter<E> {
     }
 }
 
-impl<E: Ticks> Meter<E> {
-    /// Adds `count` bytes read by the time of the screen's clock. A count of 0 is the end of the file and clears the
+impl<E: TimedSink> Progress<E> {
+    /// Adds `count` bytes read by the time of the sink's clock. A count of 0 is the end of the file and clears the
     /// progress line.
     pub fn show(&mut self, count: usize) {
         let now = time_of(&self.end, self.is_on);
@@ -78,8 +78,8 @@ impl<E: Ticks> Meter<E> {
     }
 }
 
-/// Returns the screen's time (ms), or 0 if progress is off.
-pub(crate) fn time_of<E: Ticks>(end: &E, is_on: bool) -> u64 {
+/// Returns the sink's time (ms), or 0 if progress is off.
+pub(crate) fn time_of<E: TimedSink>(end: &E, is_on: bool) -> u64 {
     if is_on { end.now() } else { 0 }
 }
 
@@ -94,7 +94,7 @@ fn show_between<E: Sink>(before: u64, count: u64, size: Option<u64>, millis: u64
         let rate = rate_of(count, millis);
         show_rate(count, rate, end);
         show_left(size, count, rate, end);
-        tell(ENDED, end);
+        eprint(ENDED, end);
     }
 }
 
@@ -105,7 +105,7 @@ fn show_rate<E: Sink>(count: u64, rate: u64, end: &mut E) {
     let number = digits.format(count / MIB).as_bytes();
     let speed = rate_digits.format(rate / KIB).as_bytes();
     let parts: [&[u8]; 6] = [CLEARED, ONE_ROW, number, b" MiB, ", speed, b" MiB/s"];
-    tell_parts(&parts, end);
+    eprint_parts(&parts, end);
 }
 
 // Shows the seconds left, if the size is known.
@@ -117,13 +117,13 @@ fn show_left<E: Sink>(size: Option<u64>, count: u64, rate: u64, end: &mut E) {
         let mut digits = Buffer::new();
         let seconds = size.saturating_sub(count) / KIB / rate;
         let number = digits.format(seconds).as_bytes();
-        tell_parts(&[b", ", number, b" s left"], end);
+        eprint_parts(&[b", ", number, b" s left"], end);
     }
 }
 
 // Clears the progress line, if `count` bytes had one.
 fn clear_after<E: Sink>(count: u64, end: &mut E) {
     if count >= STEP {
-        tell(CLEARED, end);
+        eprint(CLEARED, end);
     }
 }

@@ -3,8 +3,8 @@
 
 //! Standard output and standard error.
 
-use crate::programs::xxhsum_program::tell::tell_line;
-use crate::programs::xxh_io::ends::Sink;
+use crate::programs::xxhsum_program::stderr::eprint_line;
+use crate::programs::xxh_io::streams::Sink;
 use crate::programs::xxhsum_output::output::Output;
 
 /// Standard output and standard error of a run.
@@ -37,11 +37,11 @@ impl<W: Output, E: Sink> Streams<W, E> {
         &mut self.err
     }
 
-    /// Reports the parts as one line, as [`tell_line`] does, after all bytes that were printed before.
+    /// Reports the parts as one line, as [`eprint_line`] does, after all bytes that were printed before.
     ///
     /// The caller shows that no write to standard output has failed.
     pub fn report(&mut self, parts: &[&[u8]]) {
         self.release();
-        tell_line(parts, self.messages());
+        eprint_line(parts, self.messages());
     }
 }

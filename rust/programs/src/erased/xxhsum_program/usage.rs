@@ -3,9 +3,9 @@
 
 //! The help and the version.
 
-use crate::programs::xxhsum_program::tell::tell_parts;
-use crate::programs::xxh_io::ends::Sink;
-use crate::programs::xxhsum_words::table::{Does, NO_LETTER, ROWS};
+use crate::programs::xxhsum_program::stderr::eprint_parts;
+use crate::programs::xxh_io::streams::Sink;
+use crate::programs::xxhsum_options::table::{Action, NO_LETTER, ROWS};
 
 // The first line of help and version, after the program's name.
 pub(crate) const TITLE: &[u8] =
@@ -30,27 +30,27 @@ The exit status is 0 if every file was read and matches its checksum, if it has 
 pub(crate) const NO_BENCHMARK: &[u8] = b": this xxhsum has no benchmark";
 
 // Writes the lines of all options in the help.
-pub(crate) fn tell_options<E: Sink>(err: &mut E) {
-    tell_rows(&ROWS, err);
+pub(crate) fn eprint_options<E: Sink>(err: &mut E) {
+    eprint_rows(&ROWS, err);
 }
 
 // Writes the lines of these options.
-fn tell_rows<E: Sink>(rows: &[(u8, &str, Does, &str)], err: &mut E) {
+fn eprint_rows<E: Sink>(rows: &[(u8, &str, Action, &str)], err: &mut E) {
     if let Some((row, rest)) = rows.split_first() {
-        tell_row(row.0, row.1.as_bytes(), row.3.as_bytes(), err);
-        tell_rows(rest, err);
+        eprint_row(row.0, row.1.as_bytes(), row.3.as_bytes(), err);
+        eprint_rows(rest, err);
     }
 }
 
 // Writes the line of an option. Options without help text have none.
-fn tell_row<'a, E: Sink>(letter: u8, name: &'a [u8], help: &'a [u8], err: &mut E) {
+fn eprint_row<'a, E: Sink>(letter: u8, name: &'a [u8], help: &'a [u8], err: &mut E) {
     if help.len() == 0 {
         return;
     }
     let short = [b'-', letter, b',', b' '];
     let shown = shown_letter(letter, &short);
     let parts: [&[u8]; 6] = [b"  ", shown, b"--", name, help, b"\n"];
-    tell_parts(&parts, err);
+    eprint_parts(&parts, err);
 }
 
 // Returns the text before the name of an option with this letter.

@@ -6,9 +6,9 @@
 use crate::programs::xxh_program::program::engine::OFFERED;
 use crate::programs::twox_hash::xxhash3::{DefaultSecret, SecretBuffer};
 use crate::programs::twox_hash::xxhash3_128::RawHasher;
-use crate::programs::xxh_io::ends::{Failed, Sink, Source};
-use crate::programs::xxh_io::error::DigestError;
+use crate::programs::xxh_io::digest_error::DigestError;
 use crate::programs::xxh_io::hex::{LINE, offset_line};
+use crate::programs::xxh_io::streams::{Failed, Sink, Source};
 use crate::programs::xxh_io::waiting::Waiting;
 use crate::programs::xxh_io::write::write_all;
 

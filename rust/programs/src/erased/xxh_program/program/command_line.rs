@@ -8,9 +8,9 @@ use crate::programs::xxh_program::program::engine::digest_reading;
 use crate::programs::xxh_program::program::states::{MAX_READS, resume_32, resume_64, save_32, save_64};
 use crate::rattle::Global;
 use crate::programs::xxh_io::command::{Command, parse};
-use crate::programs::xxh_io::ends::{Sink, Source};
-use crate::programs::xxh_io::error::DigestError;
+use crate::programs::xxh_io::digest_error::DigestError;
 use crate::programs::xxh_io::fault::{Fault, conclude};
+use crate::programs::xxh_io::streams::{Sink, Source};
 
 // Size of the read buffer for digests and lines of blocks: larger than the buffer of a process's input, so that the
 // bytes are not copied from there.

@@ -5,9 +5,9 @@
 
 use crate::programs::xxh_program::program::feed::Feed;
 use crate::programs::xxh_program::program::value::value_of_source;
-use crate::programs::xxh_io::ends::{Failed, Sink, Source};
-use crate::programs::xxh_io::error::DigestError;
+use crate::programs::xxh_io::digest_error::DigestError;
 use crate::programs::xxh_io::kind::Kind;
+use crate::programs::xxh_io::streams::{Failed, Sink, Source};
 use crate::programs::xxh_io::write::write_line;
 
 // Size of the read buffer of the public calls.

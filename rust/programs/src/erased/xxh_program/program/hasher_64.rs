@@ -6,8 +6,8 @@
 use crate::programs::xxh_program::program::engine::{OFFERED, digest_on, read_all};
 use crate::programs::xxh_program::program::feed::Feed;
 use crate::programs::twox_hash::XxHash64;
-use crate::programs::xxh_io::ends::{Sink, Source};
-use crate::programs::xxh_io::error::DigestError;
+use crate::programs::xxh_io::digest_error::DigestError;
+use crate::programs::xxh_io::streams::{Sink, Source};
 
 impl Feed for XxHash64 {
     fn feed(&mut self, piece: &[u8]) {

@@ -4,11 +4,11 @@
 //! The digest line of bytes in memory, with no relation of a stream in its contract.
 
 use crate::programs::xxh_program::program::engine::digest;
-use crate::programs::xxh_io::ends::Sink;
-use crate::programs::xxh_io::error::DigestError;
+use crate::programs::xxh_io::digest_error::DigestError;
 use crate::programs::xxh_io::kind::Kind;
 use crate::programs::xxh_io::script_sink::ScriptSink;
 use crate::programs::xxh_io::script_source::SliceSource;
+use crate::programs::xxh_io::streams::Sink;
 
 /// Writes the digest line of the bytes into the sink, as [`digest`] does from a source that returns them all and never
 /// fails. The caller proves that the sink has not failed, that no write of its script fails, and that it has space for

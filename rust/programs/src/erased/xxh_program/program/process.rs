@@ -11,11 +11,11 @@ use crate::rattle::io::{Read, Write};
 use crate::rattle::rt::Env;
 use crate::programs::xxh_io::arguments::{argument_fault, words_after_name};
 use crate::programs::xxh_io::buffered::Buffered;
-use crate::programs::xxh_io::ends::{Failed, Sink, Source};
-use crate::programs::xxh_io::error::DigestError;
+use crate::programs::xxh_io::digest_error::DigestError;
 use crate::programs::xxh_io::fault::{Fault, conclude};
 use crate::programs::xxh_io::from_read::FromRead;
 use crate::programs::xxh_io::from_write::FromWrite;
+use crate::programs::xxh_io::streams::{Failed, Sink, Source};
 
 // Size of the input's buffer for reads that offer fewer bytes, as those of `save` and `resume` do: one system call for
 // each of these would halve the speed.

@@ -8,8 +8,8 @@ use crate::programs::xxh_program::program::hasher_32::{digest_from_32, read_on_3
 use crate::programs::xxh_program::program::hasher_64::{digest_from_64, read_on_64};
 use crate::rattle::Global;
 use crate::programs::twox_hash::{XxHash32, XxHash64, xxhash32, xxhash64};
-use crate::programs::xxh_io::ends::{Sink, Source};
 use crate::programs::xxh_io::fault::Fault;
+use crate::programs::xxh_io::streams::{Sink, Source};
 use crate::programs::xxh_io::write::write_all;
 
 // Maximum number of reads that the program makes.

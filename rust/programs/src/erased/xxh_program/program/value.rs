@@ -8,9 +8,9 @@ use crate::programs::xxh_program::program::feed::Feed;
 use crate::programs::xxh_program::program::hasher_3_64::with_seed_64;
 use crate::programs::xxh_program::program::hasher_3_128::with_seed_128;
 use crate::programs::twox_hash::{XxHash32, XxHash64};
-use crate::programs::xxh_io::ends::Source;
-use crate::programs::xxh_io::error::DigestError;
+use crate::programs::xxh_io::digest_error::DigestError;
 use crate::programs::xxh_io::kind::Kind;
+use crate::programs::xxh_io::streams::Source;
 
 // Returns the value of what is read, by a hasher of no bytes whose value is the algorithm's under the seed.
 fn value_by<H: Feed, R: Source>(

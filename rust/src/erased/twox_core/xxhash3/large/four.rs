@@ -13,11 +13,25 @@ pub(super) trait HalvesProducts: Copy {
     fn halves_products(&self, words: [u64; 4], keys: [u64; 4]) -> [u64; 4];
 }
 
+// Accumulates a stripe into all accumulators, four at a time.
+#[inline(always)]
+pub(super) fn accumulate_by_fours<K: HalvesProducts>(
+    kernel: K,
+    acc: &mut [u64; 8],
+    stripe: &[u8; 64],
+    secret: &[u8; 64],
+) {
+    let [a, b, c, d, e, f, g, h] = *acc;
+    let [a, b, c, d] = accumulate_four(kernel, [a, b, c, d], words(stripe, 0), words(secret, 0));
+    let [e, f, g, h] = accumulate_four(kernel, [e, f, g, h], words(stripe, 4), words(secret, 4));
+    *acc = [a, b, c, d, e, f, g, h];
+}
+
 // Accumulates into four accumulators: adds to each its neighbour's word and the product of the halves of its own word
 // under its key. The neighbours come first, so that the old accumulators are no longer needed and their registers are
 // free.
 #[inline(always)]
-pub(super) fn accumulate_four<K: HalvesProducts>(
+fn accumulate_four<K: HalvesProducts>(
     kernel: K,
     acc: [u64; 4],
     words: [u64; 4],

@@ -38,7 +38,7 @@ impl Vector for Impl {
 // under its key. The neighbours come first, so that the old accumulators are no longer needed and their registers are
 // free.
 #[inline]
-pub(super) fn accumulate_two(acc: [u64; 2], words: [u64; 2], keys: [u64; 2]) -> [u64; 2] {
+fn accumulate_two(acc: [u64; 2], words: [u64; 2], keys: [u64; 2]) -> [u64; 2] {
     let [a0, a1] = acc;
     let [w0, w1] = words;
     let [k0, k1] = keys;

@@ -3,7 +3,7 @@
 
 //! The kernel that works on four accumulators at a time, by `std::simd`.
 
-use super::four::{HalvesProducts, accumulate_four, accumulate_four_by_four};
+use super::four::{HalvesProducts, accumulate_by_fours, accumulate_four_by_four};
 use super::word::words;
 use crate::erased::twox_core::xxhash3::Vector;
 use crate::erased::twox_core::xxhash3::primes::PRIME32_1;
@@ -24,20 +24,7 @@ impl Vector for Impl {
 
     #[inline(always)]
     fn accumulate(&self, acc: &mut [u64; 8], stripe: &[u8; 64], secret: &[u8; 64]) {
-        let [a, b, c, d, e, f, g, h] = *acc;
-        let [a, b, c, d] = accumulate_four(
-            Products {},
-            [a, b, c, d],
-            words(stripe, 0),
-            words(secret, 0),
-        );
-        let [e, f, g, h] = accumulate_four(
-            Products {},
-            [e, f, g, h],
-            words(stripe, 4),
-            words(secret, 4),
-        );
-        *acc = [a, b, c, d, e, f, g, h];
+        accumulate_by_fours(Products {}, acc, stripe, secret);
     }
 
     #[inline(always)]

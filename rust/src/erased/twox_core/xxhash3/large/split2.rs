@@ -3,7 +3,7 @@
 
 //! The kernel that works on two accumulators at a time and never multiplies two words of 64 bits, by `std::simd`.
 
-use super::lanes2::{accumulate_two, words};
+use super::lanes2::{self, words};
 use crate::erased::twox_core::xxhash3::Vector;
 use crate::erased::twox_core::xxhash3::primes::PRIME32_1;
 use super::simd::u64x2;
@@ -25,12 +25,7 @@ impl Vector for Impl {
 
     #[inline(always)]
     fn accumulate(&self, acc: &mut [u64; 8], stripe: &[u8; 64], secret: &[u8; 64]) {
-        let [a, b, c, d, e, f, g, h] = *acc;
-        let [a, b] = accumulate_two([a, b], words(stripe, 0), words(secret, 0));
-        let [c, d] = accumulate_two([c, d], words(stripe, 2), words(secret, 2));
-        let [e, f] = accumulate_two([e, f], words(stripe, 4), words(secret, 4));
-        let [g, h] = accumulate_two([g, h], words(stripe, 6), words(secret, 6));
-        *acc = [a, b, c, d, e, f, g, h];
+        lanes2::Impl {}.accumulate(acc, stripe, secret);
     }
 }
 

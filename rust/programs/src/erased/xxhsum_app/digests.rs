@@ -1,0 +1,83 @@
+// SPDX-License-Identifier: MIT
+// crates/xxhsum_app/src/digests.rt without its contracts, written by rust/erase --programs: change that file.
+
+//! Hashes names and merges them with the lines of a list.
+
+use crate::rattle::prelude::Vec;
+use crate::rattle::AllocError;
+use crate::programs::xxh_io::kind::Kind;
+use crate::programs::xxh_io::streams::Sink;
+use crate::programs::xxhsum_audit::digest::FileDigest;
+use crate::programs::xxhsum_audit::moves::Compared;
+use crate::programs::xxhsum_audit::side::{Side, first_by_path};
+use crate::programs::xxhsum_audit::verdict::Verdict;
+use crate::programs::xxhsum_fs::store::Store;
+use crate::programs::xxhsum_program::context::Context;
+use crate::programs::xxhsum_program::hash::eprint_outcome;
+use crate::programs::xxhsum_program::outcome::{OFFERED, Outcome, outcome_of};
+use crate::programs::xxhsum_program::terminal::TimedSink;
+
+// Hashes names and merges them with lines, both in order. A name with a line is hashed by the line's algorithm, other
+// names by `kind`. A name without a digest is reported, and its line is left out.
+pub(crate) fn digests_of<'n, S: Store, T: TimedSink, E: Sink>(
+    context: &Context<'_, S, T>,
+    kind: Kind,
+    lines: &[FileDigest<'n>],
+    names: &[&'n [u8]],
+    err: &mut E,
+) -> Result<Compared<'n>, AllocError> {
+    let mut compared = Compared {
+        matched: Vec::new(context.alloc),
+        removed: Vec::new(context.alloc),
+        added: Vec::new(context.alloc),
+        is_complete: true,
+    };
+    let mut buf = [0; OFFERED];
+    let mut lines_left = lines;
+    let mut names_left = names;
+    while let Some(side) = first_by_path(lines_left, names_left) {
+        add_side(context, kind, side, &mut buf, &mut compared, err)?;
+        lines_left = &lines_left[side.lines()..];
+        names_left = &names_left[side.names()..];
+    }
+    Ok(compared)
+}
+
+// Adds a row of the merge, with the digest of its name.
+fn add_side<'n, S: Store, T: TimedSink, E: Sink>(
+    context: &Context<'_, S, T>,
+    kind: Kind,
+    side: Side<FileDigest<'n>, &'n [u8]>,
+    buf: &mut [u8],
+    compared: &mut Compared<'n>,
+    err: &mut E,
+) -> Result<(), AllocError> {
+    match side {
+        Side::Line(line) => compared.removed.push(line)?,
+        Side::Name(name) => match digest_name(context, kind, name, buf, err) {
+            Some(found) => compared.added.push(found)?,
+            None => compared.is_complete = false,
+        },
+        Side::Both(line, name) => match digest_name(context, line.kind, name, buf, err) {
+            Some(found) => compared.matched.push(Verdict::met(line, found))?,
+            None => compared.is_complete = false,
+        },
+    }
+    Ok(())
+}
+
+// Hashes the file of a name. Returns `None` if it has no digest, which is reported.
+fn digest_name<'n, S: Store, T: TimedSink, E: Sink>(
+    context: &Context<'_, S, T>,
+    kind: Kind,
+    name: &'n [u8],
+    buf: &mut [u8],
+    err: &mut E,
+) -> Option<FileDigest<'n>> {
+    let outcome = outcome_of(context, kind, name, buf);
+    eprint_outcome(name, &outcome, err);
+    match outcome {
+        Outcome::Digested { value } => Some(FileDigest { name, kind, value }),
+        Outcome::IsDirectory | Outcome::Unread { .. } => None,
+    }
+}

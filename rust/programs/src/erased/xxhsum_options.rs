@@ -1,0 +1,10 @@
+// SPDX-License-Identifier: MIT
+// crates/xxhsum_options/src/lib.rt without its contracts, written by rust/erase --programs: change that file.
+
+//! Parses the arguments of `xxhsum`.
+
+mod letters;
+pub mod name;
+mod number;
+pub mod options;
+pub mod table;

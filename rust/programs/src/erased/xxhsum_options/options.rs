@@ -1,0 +1,207 @@
+// SPDX-License-Identifier: MIT
+// crates/xxhsum_options/src/options.rt without its contracts, written by rust/erase --programs: change that file.
+
+//! The arguments of the command line.
+
+use crate::rattle::prelude::Vec;
+use crate::programs::xxhsum_options::letters::letters;
+use crate::programs::xxhsum_options::table::name_step;
+use crate::programs::xxh_io::kind::Kind;
+
+/// The source of a run's names.
+#[derive(Clone, Copy, Debug, PartialEq, Eq)]
+pub enum NamesFrom {
+    /// The arguments are names.
+    Words,
+    /// `--files-from`, `--filelist`: the arguments are files of names, one per line.
+    Lines,
+    /// `--files0-from`: the arguments are files of names, each ended by a NUL.
+    Nuls,
+}
+
+impl NamesFrom {
+    /// True if the names are read from lists.
+    pub fn are_listed(self) -> bool {
+        match self {
+            NamesFrom::Words => false,
+            NamesFrom::Lines | NamesFrom::Nuls => true,
+        }
+    }
+}
+
+/// The options in effect.
+#[derive(Clone, Copy, Debug, PartialEq, Eq)]
+pub struct Options {
+    /// The algorithm: that of the last `-H`, or otherwise the program's own.
+    pub kind: Kind,
+    /// `-c`, `--check`: the names are lists, which are checked.
+    pub checks: bool,
+    /// `-q`, `--quiet`: OK isn't printed for a verified file.
+    pub is_quiet: bool,
+    /// `--status`: a check prints no result.
+    pub is_status_only: bool,
+    /// `--strict`: a malformed line makes its list a bad one.
+    pub is_strict: bool,
+    /// `-w`, `--warn`: each malformed line is reported.
+    pub warns: bool,
+    /// `--ignore-missing`: a check ignores missing files.
+    pub ignores_missing: bool,
+    /// `--tag`: lines are printed BSD-style.
+    pub is_tagged: bool,
+    /// `--little-endian`: digests are printed, and read, with their lowest byte first.
+    pub is_little_endian: bool,
+    /// `-z`, `--zero`: each printed line ends with a NUL, and its name isn't escaped.
+    pub ends_in_nul: bool,
+    /// `--audit`: the first argument is a checksum list, with which the named files are compared.
+    pub audits: bool,
+    /// `-r`, `--recursive`: the name of a directory means the files below it.
+    pub walks: bool,
+    /// The source of the names.
+    pub names_from: NamesFrom,
+    /// `-`: standard input is read even if it is a terminal.
+    pub takes_terminal: bool,
+}
+
+/// The meaning of the arguments.
+#[derive(Clone, Copy, Debug, PartialEq, Eq)]
+pub enum ParsedArgs {
+    /// Digests of the named files, or a comparison. The names are the arguments from this index on.
+    Run { options: Options, names_from: usize },
+    /// A benchmark, by `-b` or `--bench-all`.
+    Benchmark,
+    /// The program's version.
+    Version,
+    /// The help.
+    Help,
+    /// An error: the argument of this index is not a valid option.
+    WrongOption { at: usize },
+    /// An error: `-z` was given with `-c` or `--audit`.
+    NulsInList,
+    /// An error: `-r` was given with `-c` or lists of names.
+    WalkBesideLists,
+    /// An error: `-r` was given without a name.
+    WalkOfNothing,
+    /// An error: `-` was given with names, or after `--`, so standard input is not read.
+    InputBesideNames,
+    /// An error: an option has a number that is too large.
+    NumberTooLarge,
+}
+
+/// The effect of one argument.
+#[derive(Clone, Copy, Debug, PartialEq, Eq)]
+pub(crate) enum Step {
+    /// It is an option. These are the options after it.
+    Takes(Options),
+    /// It is a name: the options end before it.
+    EndsBefore,
+    /// It is `--`: the names are the arguments after it.
+    EndsAfter,
+    /// It looks like an option, and is not one.
+    IsWrong,
+    /// It determines the result, whatever follows.
+    Settles(ParsedArgs),
+}
+
+/// Parses the arguments after the program's name. The algorithm is this one if they select none.
+pub fn parse_args(kind: Kind, words: &[Vec<u8>]) -> ParsedArgs {
+    let mut options = Options {
+        kind,
+        checks: false,
+        is_quiet: false,
+        is_status_only: false,
+        is_strict: false,
+        warns: false,
+        ignores_missing: false,
+        is_tagged: false,
+        is_little_endian: false,
+        ends_in_nul: false,
+        audits: false,
+        walks: false,
+        names_from: NamesFrom::Words,
+        takes_terminal: false,
+    };
+    for (at, word) in words.iter().enumerate() {
+        match word_step(word.as_slice(), options) {
+            Step::Takes(next) => options = next,
+            Step::EndsBefore => return run_from(options, at, words),
+            Step::EndsAfter => return run_from(options, at + 1, words),
+            Step::IsWrong => return ParsedArgs::WrongOption { at },
+            Step::Settles(parsed) => return parsed,
+        }
+    }
+    run_from(options, words.len(), words)
+}
+
+// Returns the run by these options, of the names from this index on. Refuses a NUL ending if no digests are printed, a
+// walk without a directory name, and standard input that would stay unread.
+fn run_from(options: Options, names_from: usize, words: &[Vec<u8>]) -> ParsedArgs {
+    if options.ends_in_nul && (options.checks || options.audits) {
+        return ParsedArgs::NulsInList;
+    }
+    if options.walks && (options.checks || options.names_from.are_listed()) {
+        return ParsedArgs::WalkBesideLists;
+    }
+    if options.walks && words_behind(words, names_from).len() <= lists_audited(options) {
+        return ParsedArgs::WalkOfNothing;
+    }
+    if leaves_input(options, words_behind(words, names_from)) {
+        return ParsedArgs::InputBesideNames;
+    }
+    ParsedArgs::Run {
+        options,
+        names_from,
+    }
+}
+
+/// Returns the arguments from this index on.
+pub fn words_behind(words: &[Vec<u8>], place: usize) -> &[Vec<u8>] {
+    if place < words.len() {
+        &words[place..]
+    } else {
+        &[]
+    }
+}
+
+// True if `-` is one of the names, or was given before names with which standard input is not read.
+fn leaves_input(options: Options, names: &[Vec<u8>]) -> bool {
+    have_input(names) || (options.takes_terminal && names.len() > lists_before(options))
+}
+
+// Returns the number of checksum lists before the names: an audit has one.
+fn lists_audited(options: Options) -> usize {
+    if options.audits { 1 } else { 0 }
+}
+
+// Returns the number of checksum lists before lists of names: an audit has one.
+fn lists_before(options: Options) -> usize {
+    if options.audits && options.names_from.are_listed() {
+        1
+    } else {
+        0
+    }
+}
+
+// True if one of the names is `-`.
+fn have_input(names: &[Vec<u8>]) -> bool {
+    for name in names {
+        if name.as_slice() == b"-".as_slice() {
+            return true;
+        }
+    }
+    false
+}
+
+// Applies the argument to these options.
+fn word_step(word: &[u8], options: Options) -> Step {
+    if let Some(name) = word.strip_prefix(b"--") {
+        return name_step(name, options);
+    }
+    match word.strip_prefix(b"-") {
+        Some([]) => Step::Takes(Options {
+            takes_terminal: true,
+            ..options
+        }),
+        Some(rest) => letters(rest, options),
+        None => Step::EndsBefore,
+    }
+}
