@@ -1,6 +1,6 @@
 """Tries the mutants of every crate, many in one check: the prover must refuse each.
 
-    checks/wrong-bodies [--jobs N] [--since REV] [--anew] [-v] [CRATE..]
+    checks/wrong-bodies [--jobs N] [--since REV] [--anew] [--write] [-v] [CRATE..]
     rt ci | checks/wrong-bodies --beside-ci [--jobs N] [--anew] [--write] [-v] [CRATE..]
     checks/wrong-bodies --self-test [--jobs N] [CRATE..]
     checks/wrong-bodies --unaimed [CRATE..]
