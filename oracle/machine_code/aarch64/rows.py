@@ -1,0 +1,91 @@
+"""Chooses the rows of oracle/arm-text, on the sources for 64-bit ARM: the C library's and the cargo crate's."""
+import functools
+import os
+
+from symbolic_terms import comparison
+from symbolic_terms.processes import Row
+from symbolic_terms.rows import title_of
+from symbolic_terms.requests import TOP
+
+from .. import calls, cargo_whole, every_length, one_shots, planted_checks, planted_lines, planted_objects, self_tests, streams
+from .. import rows as shared
+from ..sources import assembled
+from . import cargo, changes, on_qemu
+from .objects import Program
+from .table import TABLE, Processor
+
+TEXT = os.path.join(TOP, "c", "asm", "aarch64.s")
+SECRETS = 136, 192
+STREAMED = (5, 33, 70, 257, 300, 513, 700)
+
+
+def program():
+    return assembled(TEXT, cargo.NAME, Program)
+
+
+def choose(given, found):
+    out = []
+    for kind in comparison.kinds(SECRETS):
+        lengths = range(301) if given.all or kind[2] != SECRETS[1] else range(0, 301, 20)
+        out.append(compared(f"{title_of(*kind)}, one-shots of 0 to 300 bytes", found, kind, lengths))
+        if given.all and kind[2] is None and kind[0].startswith("3-"):
+            asked = [*shared.MORE, every_length.PREFETCHED]
+            out.append(compared(f"{title_of(*kind)}, one-shots of 301 to 1100 bytes, and 31744", found, kind, asked))
+        if kind[2] != SECRETS[1]:
+            asked = comparison.STREAMED if given.all else STREAMED
+            out.append(compared(f"{title_of(*kind)}, streams of 5 to 700 bytes", found, kind, asked, True))
+    for name in ("3-64", "3-128"):
+        out.append(Row(f"XXH{name}, secrets of 0 to 135 bytes", functools.partial(short_secrets, found, name)))
+    made = {cargo.NAME: functools.partial(Processor, found)}
+    out += [shared.counted(title, least, functools.partial(other, found, ask)) for title, least, ask in calls.OTHERS]
+    out += [shared.twin_row({cargo.NAME: found}), shared.frames_row({cargo.NAME: found})]
+    out += every_length_rows(made, given.all)
+    out.append(Row("the table of instructions beside qemu", on_qemu.tell))
+    out.append(shared.counted("each instruction is of the table", 15_000, functools.partial(in_table, [found, cargo.program()])))
+    out += self_tests.parts_of_changes("changes of one bit", changes, found, given.all)
+    out += [shared.assembler_row([(source, cargo.NAME) for source in (TEXT, cargo.SOURCE)]),
+            self_tests.planted_row("wrong lines are refused", planted_lines.ARM_ASKED),
+            self_tests.planted_row("texts that assemblers read otherwise are refused", planted_lines.ARM_ALIKE)]
+    out += [self_tests.planted_row("wrong objects are refused", planted_objects.ARM_ASKED),
+            self_tests.planted_row("wrong texts, one for each check, are refused", planted_checks.ARM_ASKED)]
+    out.insert(0, shared.export_row({cargo.NAME: found}, [row.title for row in out]))
+    out += cargo_text_rows(given.all)
+    return [row for row in out if given.only in row.title]
+
+
+def cargo_text_rows(is_all):
+    """Returns the rows on the cargo crate's source."""
+    made = functools.partial(cargo.CargoProcessor, cargo.program())
+    return cargo_whole.named(f"cargo's {cargo.NAME}", cargo_whole.choose(cargo.NAME, made, is_all))
+
+
+def every_length_rows(made, is_all):
+    """Returns the rows of every length and of streams of any updates, by induction: some cases, or all."""
+    out = [row for kind in every_length.UNROLLED for row in
+           shared.of_every_length(made, kind, f"XXH{kind}: every length to 2^64 - 1", every_length.cases(kind))]
+    return [*out, *shared.long_rows(made, is_all), *shared.plain_stream_rows(made, is_all),
+            *shared.xxh3_rows(made, is_all)]
+
+
+def compared(title, found, kind, lengths, is_stream=False):
+    def ask():
+        cpu, answer = Processor(found), streams.of_text if is_stream else one_shots.of_text
+        asked = comparison.requests(*kind, lengths, is_stream)
+        equal, bad = comparison.compare({"the text": lambda request: answer(cpu, request)}, asked)
+        return f"{equal} requests, each one term", bad
+    return Row(title, ask)
+
+
+def in_table(programs):
+    """Returns the number of instructions in the table, and the first missing ones."""
+    code = [x for program in programs for section in program.sections.values() for x in section.values()]
+    bad = [f"{x.section} {x.at:#x}: {x.mnemonic} {x.form}" for x in code if (x.mnemonic, x.form) not in TABLE]
+    return len(code) - len(bad), bad[:5]
+
+
+def short_secrets(found, name):
+    return f"{calls.short_secrets(Processor(found), name, (240, 241))} requests", []
+
+
+def other(found, ask):
+    return ask(Processor(found)), []

@@ -1,0 +1,76 @@
+"""Chooses the rows of oracle/rust-object: one-shots and streams of rustc's object, compared with the definition."""
+import functools
+import os
+import shutil
+import tempfile
+
+from symbolic_terms import comparison
+from symbolic_terms.processes import Row
+from symbolic_terms.rows import title_of
+
+from .. import one_shots, streams
+from .made import SOURCE
+
+SECRETS = (136, 192)
+ONE_BY_ONE = range(301)
+SOME = [*range(0, 33), 48, 63, 64, 65, 96, 128, 129, 160, 192, 240, 241, 255, 256, 257, 300]
+STREAMED = [3, 8, 17, 33, 70]
+LONGER = {"32": range(301, 2001), "64": range(301, 2001), "3-64": range(301, 1101), "3-128": range(301, 1101)}
+# Planted faults: the file, the old and the new text, and requests that detect them.
+WRONG = (
+    ("twox_plain/xxhash64/rounds.rs", "rotate_left(27)", "rotate_left(26)", ("64", "seed", None), [9]),
+    ("twox_plain/xxhash32/rounds.rs", "rotate_left(13)", "rotate_left(14)", ("32", "seed", None), [16]),
+    ("twox_core/width_64.rs", "rotate_left(49)", "rotate_left(48)", ("3-64", "seed", None), [5]),
+    ("twox_core/xxhash3/mixing.rs", "input.len() as u8", "(input.len() as u8) ^ 1", ("3-128", "seed", None), [3]),
+)
+
+
+def choose(given, compilers):
+    out = []
+    for compiler in compilers:
+        cpu = compiler.processor, compiler.program_of()
+        out += [*one_shot_rows(compiler.name, cpu, given.all), *stream_rows(compiler.name, cpu, given.all)]
+    out += [Row(f"a wrong {file}: {old}", functools.partial(is_noticed, compilers[0], *wrong)) for wrong in WRONG for file, old, *_ in [wrong]]
+    return [row for row in out if given.only in row.title]
+
+
+def one_shot_rows(name, cpu, is_all):
+    for kind in comparison.kinds(SECRETS):
+        lengths = [*ONE_BY_ONE, *(LONGER[kind[0]] if is_all else ())] if kind[2] is None or is_all else SOME
+        yield compared(f"{name}: {title_of(*kind)}, one-shots", cpu, kind, lengths)
+
+
+def stream_rows(name, cpu, is_all):
+    """Yields the rows of streams. An XXH3 stream has a seed, and a custom secret or one derived from the seed."""
+    for kind in comparison.kinds(SECRETS):
+        if kind[1] != "secret":
+            yield compared(f"{name}: {title_of(*kind)}, streams", cpu, kind, comparison.STREAMED if is_all else STREAMED, True)
+
+
+def compared(title, of, kind, lengths, is_stream=False):
+    processor, program = of
+
+    def ask():
+        cpu, answer = processor(program), streams.of_text if is_stream else one_shots.of_text
+        asked = comparison.requests(*kind, lengths, is_stream)
+        equal, bad = comparison.compare({"rustc's code": lambda request: answer(cpu, request)}, asked)
+        return f"{equal} requests, each one term", bad
+    return Row(title, ask)
+
+
+def is_noticed(compiler, file, old, new, kind, lengths):
+    """Compiles a planted fault, and checks that a term differs."""
+    with tempfile.TemporaryDirectory(prefix="rust-object-") as room:
+        source = os.path.join(room, "src")
+        shutil.copytree(SOURCE, source)
+        path = os.path.join(source, "erased", file)
+        with open(path, encoding="utf-8") as text:
+            right = text.read()
+        if old not in right:
+            return "0 requests", [f"{file} has no {old}"]
+        with open(path, "w", encoding="utf-8") as text:
+            text.write(right.replace(old, new))
+        cpu = compiler.processor(compiler.program_of(source))
+        asked = comparison.requests(*kind, lengths)
+        _, bad = comparison.compare({"rustc's code": lambda request: one_shots.of_text(cpu, request)}, asked)
+        return "1 source", [] if any("by the definition and" in fault for fault in bad) else ["it was not noticed"]

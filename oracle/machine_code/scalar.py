@@ -1,0 +1,321 @@
+"""Semantics of instructions on words."""
+from symbolic_terms import operations
+from symbolic_terms.refusals import Unsupported
+from symbolic_terms.words import BINARY
+from symbolic_terms.polynomials import Poly, is_same, lifted, plus
+from symbolic_terms.rules import ones
+
+from .flags import carry
+from .instructions import V1, V3, form
+from .memory import ReturnTo
+from .objects import Register
+from .values import WORD, arithmetic, bits, high_and_low, is_term, joined, low
+
+CONDITIONS = "e", "ne", "b", "ae", "a", "be", "l", "ge", "g", "le"
+TWO = "il iq ml mq ll qq"          # operands of additions and comparisons
+
+
+# ---- moves
+
+@form(V1, "nop", "")
+@form(V1, "prefetcht0", "m")
+def nothing(cpu, x):
+    pass
+
+
+@form(V1, "ud2", "")
+def never(cpu, x):
+    raise Unsupported("ud2")
+
+
+@form(V1, "mov", "il iq ml mq wm lm ll qm qq bm hm bb")
+@form(V1, "movl movq", "im")
+@form(V1, "movabs", "iq")
+def move(cpu, x):
+    source, to = x.operands
+    width = cpu.width(x)
+    cpu.put(to, width, cpu.get(source, width, x), x)
+
+
+@form(V1, "movzbl", "ml bl")
+@form(V1, "movzwl", "ml wl")
+def move_widened(cpu, x):
+    source, to = x.operands
+    cpu.put(to, cpu.width(x), cpu.get(source, {"b": 8, "w": 16}[x.mnemonic[4]], x), x)
+
+
+@form(V1, "movsbl", "bl")
+def move_with_sign(cpu, x):
+    source, to = x.operands
+    byte = cpu.get(source, 8, x)
+    if not isinstance(byte, int):
+        raise Unsupported("the sign of a byte that is no number")
+    cpu.put(to, 32, (byte ^ 0x80) - 0x80 & ones(32), x)
+
+
+@form(V3, "movbe", "ml mq lm qm")
+def move_turned(cpu, x):
+    source, to = x.operands
+    width = cpu.width(x)
+    cpu.put(to, width, turned(cpu.get(source, width, x), width), x)
+
+
+@form(V1, "bswap", "l q")
+def turn(cpu, x):
+    to, = x.operands
+    width = cpu.width(x)
+    cpu.put(to, width, turned(cpu.get(to, width, x), width), x)
+
+
+def turned(x, width):
+    """Returns the bytes in reverse order."""
+    return joined(*((bits(x, k, 8), 8) for k in range(width - 8, -8, -8)))
+
+
+@form(V1, "lea", "ml mq")
+def load_address(cpu, x):
+    place, to = x.operands
+    width = cpu.width(x)
+    cpu.put(to, width, low(cpu.effective(place, x), width), x)
+
+
+@form(V1, "push", "q")
+def push(cpu, x):
+    cpu.push(cpu.get(x.operands[0], WORD, x))
+
+
+@form(V1, "pop", "q")
+def pop(cpu, x):
+    value = cpu.pop()
+    if isinstance(value, ReturnTo):
+        raise Unsupported("a place to return to as a value")
+    cpu.put(x.operands[0], WORD, value, x)
+
+
+# ---- branches
+
+@form(V1, "ret", "")
+def leave(cpu, x):
+    to = cpu.pop()
+    if not isinstance(to, ReturnTo):
+        raise Unsupported("a return to no return address")
+    return to
+
+
+@form(V1, "call", "")
+def call(cpu, x):
+    cpu.push(ReturnTo(x.section, x.end))
+    return x.target
+
+
+@form(V1, "jmp", "")
+def jump(cpu, x):
+    return x.target
+
+
+def jump_where(name):
+    def branch(cpu, x):
+        return x.target if cpu.condition(name) else None
+    return branch
+
+
+def set_where(name):
+    def put(cpu, x):
+        cpu.put(x.operands[0], 8, int(cpu.condition(name)), x)
+    return put
+
+
+def move_where(name):
+    """Returns a conditional move. A memory operand is read in either case."""
+    def move(cpu, x):
+        source, to = x.operands
+        width = cpu.width(x)
+        there, here = cpu.get(source, width, x), cpu.get(to, width, x)
+        cpu.put(to, width, there if cpu.condition(name) else here, x)
+    return move
+
+
+for condition in CONDITIONS:
+    form(V1, "j" + condition, "")(jump_where(condition))
+    form(V1, "set" + condition, "b")(set_where(condition))
+    form(V1, "cmov" + condition, "qq mq ll ml")(move_where(condition))
+
+
+# ---- addition, subtraction, logic
+
+def binary(word, kind):
+    def operation(cpu, x):
+        source, to = x.operands
+        width = cpu.width(x)
+        if word in ("xor", "sub") and source == to:     # 0 for any content
+            cpu.set_flags("logic", width, 0, 0, 0)
+            return cpu.put(to, width, 0, x)
+        a, b = cpu.get(to, width, x), cpu.get(source, width, x)
+        if word == "or" and source == to:
+            result = a
+        elif word == "and" and isinstance(b, int) and isinstance(cpu.whole(to), Poly):
+            result = arithmetic(word, WORD, cpu.whole(to), b)     # the mask has no bit above the width
+        else:
+            result = arithmetic(word, width, a, b)
+        cpu.set_flags(kind, width, a, b, result)
+        return cpu.put(to, width, result, x)
+    return operation
+
+
+for mnemonic, kind in (("add", "add"), ("sub", "sub"), ("xor", "logic"), ("or", "logic"), ("and", "logic")):
+    form(V1, mnemonic, TWO)(binary(mnemonic, kind))
+form(V1, "or", "bb")(binary("or", "logic"))
+
+
+@form(V1, "cmp", TWO + " ib lm qm")
+@form(V1, "cmpl cmpq", "im")
+def compare(cpu, x):
+    source, to = x.operands
+    width = cpu.width(x)
+    cpu.set_flags("sub", width, cpu.get(to, width, x), cpu.get(source, width, x), None)
+
+
+@form(V1, "test", "ib il iq bb ll qq")
+def test(cpu, x):
+    source, to = x.operands
+    width = cpu.width(x)
+    a, b = cpu.get(to, width, x), cpu.get(source, width, x)
+    cpu.set_flags("logic", width, a, b, a if source == to else arithmetic("and", width, a, b))
+
+
+@form(V1, "sbb", "ib ll qq")
+def subtract_with_borrow(cpu, x):
+    source, to = x.operands
+    width = cpu.width(x)
+    borrow, a, b = int(carry(cpu)), cpu.get(to, width, x), cpu.get(source, width, x)
+    if is_term(a, b):
+        raise Unsupported("a borrow of symbols")
+    result = arithmetic("sub", width, arithmetic("sub", width, a, b), borrow)
+    cpu.put(to, width, result, x)
+    cpu.set_flags("borrow", width, a, plus(b, borrow), result)
+
+
+@form(V1, "inc dec", "l q")
+def step(cpu, x):
+    to, = x.operands
+    width, kept = cpu.width(x), cpu.carry
+    result = arithmetic("add" if x.mnemonic == "inc" else "sub", width, cpu.get(to, width, x), 1)
+    cpu.set_flags("step", width, None, None, result)
+    cpu.carry = kept
+    cpu.put(to, width, result, x)
+
+
+@form(V1, "neg", "l q")
+def negate(cpu, x):
+    to, = x.operands
+    width = cpu.width(x)
+    a = cpu.get(to, width, x)
+    result = arithmetic("sub", width, 0, a)
+    cpu.set_flags("sub", width, 0, a, result)
+    cpu.put(to, width, result, x)
+
+
+@form(V1, "not", "l q")
+def complement(cpu, x):
+    to, = x.operands
+    width = cpu.width(x)
+    cpu.put(to, width, arithmetic("xor", width, cpu.get(to, width, x), ones(width)), x)
+
+
+# ---- multiplication and division
+
+@form(V1, "imul", "qq ll mq ml iml imq ill iqq")
+def product(cpu, x):
+    width, to = cpu.width(x), x.operands[-1]
+    a, b = (cpu.get(y, width, x) for y in x.operands[:2])
+    cpu.put(to, width, arithmetic("mul", width, a, b), x)
+    cpu.forget_flags()
+
+
+@form(V1, "mul", "q")
+def whole_product(cpu, x):
+    a, b = cpu.registers["rax"], cpu.get(x.operands[0], WORD, x)
+    cpu.registers["rdx"], cpu.registers["rax"] = high_and_low(a, b)
+    cpu.forget_flags()
+
+
+@form(V3, "mulx", "qqq mqq")
+def whole_product_apart(cpu, x):
+    source, lower, upper = x.operands
+    above, below = high_and_low(cpu.registers["rdx"], cpu.get(source, WORD, x))
+    cpu.put(lower, WORD, below, x)
+    cpu.put(upper, WORD, above, x)
+
+
+@form(V1, "div", "w l q")
+def divide(cpu, x):
+    source, = x.operands
+    width = cpu.width(x)
+    above, a, b = low(cpu.registers["rdx"], width), low(cpu.registers["rax"], width), cpu.get(source, width, x)
+    if not is_same(above, 0) or is_same(b, 0):
+        raise Unsupported("a quotient of two words, or by 0")
+    for letter, word in (("a", "udiv"), ("d", "urem")):
+        cpu.put(Register({16: "", 32: "e", 64: "r"}[width] + letter + "x"), width, arithmetic(word, width, a, b), x)
+    cpu.forget_flags()
+
+
+# ---- shifts
+
+def shift(word):
+    def operation(cpu, x):
+        to, width = x.operands[-1], cpu.width(x)
+        k = x.operands[0].value % width if len(x.operands) == 2 else 1
+        a = cpu.get(to, width, x)
+        result = arithmetic(word, width, a, k) if k else a
+        cpu.put(to, width, result, x)
+        if k:
+            cpu.set_flags("shift", width, a, k, result)
+    return operation
+
+
+form(V1, "shl", "il iq l q")(shift("shl"))
+form(V1, "shr", "il iq l q")(shift("lshr"))
+
+
+def side_shifted(width, a, b, k):
+    """Returns a shifted left by k bits, with the upper bits of b below."""
+    if not k:
+        return a
+    return operations.either(BINARY["shl"](width, lifted(a), k), bits(b, width - k, k))
+
+
+@form(V1, "shld", "ill iqq")
+def shift_in(cpu, x):
+    k, source, to = x.operands
+    width = cpu.width(x)
+    cpu.put(to, width, side_shifted(width, cpu.get(to, width, x), cpu.get(source, width, x), k.value % width), x)
+    if k.value % width:
+        cpu.forget_flags()
+
+
+@form(V1, "shrd", "ill iqq")
+def shift_in_from_above(cpu, x):
+    k, source, to = x.operands
+    width = cpu.width(x)
+    k = k.value % width
+    if k:
+        cpu.put(to, width, side_shifted(width, cpu.get(source, width, x), cpu.get(to, width, x), width - k), x)
+        cpu.forget_flags()
+
+
+@form(V1, "rol", "il iq l q")
+def rotate_in_place(cpu, x):
+    to, width = x.operands[-1], cpu.width(x)
+    k = x.operands[0].value % width if len(x.operands) == 2 else 1
+    a = cpu.get(to, width, x)
+    cpu.put(to, width, side_shifted(width, a, a, k), x)
+    if k:
+        cpu.forget_flags()
+
+
+@form(V3, "rorx", "iml imq ill iqq")
+def rotate(cpu, x):
+    k, source, to = x.operands
+    width = cpu.width(x)
+    a = cpu.get(source, width, x)
+    cpu.put(to, width, side_shifted(width, a, a, -k.value % width), x)
