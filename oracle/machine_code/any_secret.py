@@ -57,5 +57,5 @@ class AnySecret(Xxh3Updates):
             if not is_same(value, said):
                 raise NotShown(f"{n} bytes with a secret of {self.secret_length}: another value")
 
-    def questions(self, way, width):
+    def queries(self, way, width):
         return [functools.partial(self.show, case, way, width) for case in self.cases()]

@@ -255,7 +255,7 @@ def null_pointers(cpu):
 
 
 def in_one_place(cpu):
-    """Tests one-shots of concrete messages and secrets that overlap or are equal. The rows with symbols show that no
+    """Tests one-shots of concrete messages and secrets that overlap or are equal. The tasks with symbols show that no
     branch depends on their addresses."""
     entries, count, draw = definition.program().run(), 0, random.Random(3)
     cpu.not_zero = []

@@ -9,7 +9,7 @@ from symbolic_terms.nodes import is_same
 from symbolic_terms.refusals import NotShown, Unsupported
 from symbolic_terms.requests import TOP
 
-from .listed import HIDDEN, WEAK
+from .object_contents import HIDDEN, WEAK
 from .memory import Words
 from .objects import TEXT, Program
 from .one_shots import is_plain

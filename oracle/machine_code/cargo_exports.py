@@ -1,14 +1,14 @@
-"""Lists the exports of the cargo crate's sources with their rows, and finds functions shared by two sources."""
+"""Lists the exports of the cargo crate's sources with their tasks, and finds functions shared by two sources."""
 import re
 
 from .cargo import export_name
 
-BEGIN = "cargo: "                 # beginning of each row's title
+BEGIN = "cargo: "                 # beginning of each task's title
 WIDEST = 64                       # bytes that an instruction reads, at most
 
 
 def shown_by():
-    """Maps each export to the beginning of a row's title."""
+    """Maps each export to the beginning of a task's title."""
     out = {"interface": "the number of the interface", "xxh32_write": "pieces of XXH32", "xxh3_write": "pieces of XXH3",
            **{f"{export_name(name)}_long": f"XXH{name}, secret" for name in ("3-64", "3-128")}}
     return {name: BEGIN + title for name, title in out.items()}

@@ -1,4 +1,4 @@
-"""Lists the exports of the sources for C with the beginnings of the titles of rows that prove them. A source with
+"""Lists the exports of the sources for C with the beginnings of the titles of tasks that prove them. A source with
 another name, or without one of these, fails."""
 from symbolic_terms.refusals import NotShown
 
@@ -9,7 +9,7 @@ STREAMS, FORGET = "streams", "freed states"
 
 
 def shown_by():
-    """Maps each name to the beginning of a row's title."""
+    """Maps each name to the beginning of a task's title."""
     out = {"XXH_versionNumber": "the version", "XXH128_isEqual": "equal hashes", "XXH128_cmp": "the order of hashes",
            "proved_XXH3_generateSecret": "made secrets", "XXH3_generateSecret_fromSeed": "the derived secret"}
     for name in ("XXH32", "XXH64", "XXH128"):
@@ -37,15 +37,15 @@ def twins():
 
 
 def expect_all(program, titles):
-    """Checks that the source exports exactly the names of the table, and that each has its row."""
+    """Checks that the source exports exactly the names of the table, and that each has its task."""
     known = shown_by()
     for name in sorted({*known, *program.exports}):
         if name not in known:
-            raise NotShown(f"{name} is exported, and no row shows it")
+            raise NotShown(f"{name} is exported, and no task shows it")
         if name not in program.exports:
             raise NotShown(f"{name} isn't exported")
         if not any(title.startswith(known[name]) for title in titles):
-            raise NotShown(f"there is no row {known[name]} for {name}")
+            raise NotShown(f"there is no task {known[name]} for {name}")
     return len(known)
 
 
@@ -61,8 +61,8 @@ def expect_twins(program):
 
 def is_of_v3(name):
     """True for all exports of XXH32 and XXH64, and for calls without a message."""
-    row = {**shown_by(), **dict.fromkeys(twins(), STREAMS)}[name]
-    return name.startswith(("XXH32_", "XXH64_")) or row.startswith(("XXH32,", "XXH64,", *OTHERS))
+    task = {**shown_by(), **dict.fromkeys(twins(), STREAMS)}[name]
+    return name.startswith(("XXH32_", "XXH64_")) or task.startswith(("XXH32,", "XXH64,", *OTHERS))
 
 
 OTHERS = ("the version", "equal hashes", "the order of hashes", "canonical forms", "copies of states", FORGET,

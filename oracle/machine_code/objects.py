@@ -1,7 +1,7 @@
 """Reads an assembled object in the form that the verifier runs: instructions by section and address, and constants.
 
 The instructions are those that objdump decodes from the object's bytes; the assembler's input isn't used. Each byte of
-a section belongs to one instruction. listed.py checks the object's other contents. A relocation's target is one that no
+a section belongs to one instruction. object_contents.py checks the object's other contents. A relocation's target is one that no
 linker moves or takes from another library."""
 import collections
 import functools
@@ -11,8 +11,8 @@ import subprocess
 
 from symbolic_terms.refusals import Unsupported
 
-from .decoded import expect_bytes
-from .listed import CODE, RELA, Loaded
+from .disassembly import expect_bytes
+from .object_contents import CODE, RELA, Loaded
 
 # An instruction: `end` is the next one's address; `target` is (section or external function, offset), or None.
 Instruction = collections.namedtuple("Instruction", "section at end mnemonic operands target")

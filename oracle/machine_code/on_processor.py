@@ -12,7 +12,7 @@ import subprocess
 from symbolic_terms.refusals import NotShown
 from symbolic_terms.rules import ones
 
-from .decoded import NOPS
+from .disassembly import NOPS
 from .instructions import OLDER, PARTS, SETS, TABLE, V3, V4, WIDE, letters, needs_v4
 from .memory import ENTRY, Stack, Words
 from .objects import Immediate, Place, Program, Register

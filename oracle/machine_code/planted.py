@@ -13,7 +13,7 @@ from symbolic_terms.requests import TOP, Request
 from symbolic_terms.nodes import WrongRule
 from symbolic_terms.polynomials import variable
 
-from . import (any_updates, calls, covered, every_length, exports, on_processor, one_shots, streams, values,
+from . import (any_updates, calls, coverage, every_length, exports, on_processor, one_shots, streams, values,
                xxh3_updates)
 from .instructions import TABLE, V1, V2
 from .objects import Program
@@ -198,7 +198,7 @@ TEXTS = [
           calls.compare_in_one_place, "in one place: another value"),
     Wrong("a comparison that writes to what it compares", begun("XXH128_cmp", "mov (%rdi),%rax", "mov %rax,(%rdi)"),
           calls.compare, "a store to first"),
-    Wrong("an export that no row shows", ended(*function("XXH_more", ".globl XXH_more")), exported, "no row shows it"),
+    Wrong("an export that no task shows", ended(*function("XXH_more", ".globl XXH_more")), exported, "no task shows it"),
 ]
 
 
@@ -245,7 +245,7 @@ def lacks_a_case(room):
         is_seen = bool(any_updates.left_out("64"))
     proof = xxh3_updates.Xxh3Updates(processor(room))
     pieces = list(proof.all_updates())
-    is_missed = bool(covered.without_update(pieces[:67] + pieces[68:], proof, 300))
+    is_missed = bool(coverage.without_update(pieces[:67] + pieces[68:], proof, 300))
     return is_seen and is_missed and len(every_length.left_out(cases[:13] + cases[14:], 1101, 1024)) > 1
 
 

@@ -90,7 +90,7 @@ def code_of_v3(cpu):
 
 
 X86 = [
-    # listed.py and objects.py
+    # object_contents.py and objects.py
     Wrong("a function at a multiple of 128", in_section('.text.more,"ax",@progbits', ".p2align 7", ".type more,@function", "more:", "ret", ".size more,.-more"),
           of_object, "at a multiple of 128"),
     Wrong("an export without a kind", begun(VERSION, ".globl XXH_more", "XXH_more:"), of_object, "XXH_more is no function"),

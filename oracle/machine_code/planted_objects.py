@@ -1,4 +1,4 @@
-"""Planted faults that only the list of an object's contents (listed.py) refuses, or the rows of exports, twins and
+"""Planted faults that only the list of an object's contents (object_contents.py) refuses, or the tasks of exports, twins and
 frames: each is a committed source with other lines, and its executed instructions are unchanged."""
 import os
 import re
@@ -50,7 +50,7 @@ def with_frame(pattern, new):
 # ---- tests
 
 def of_object(cpu):
-    """Reads the object, as every row does first, and runs the version's call."""
+    """Reads the object, as every task does first, and runs the version's call."""
     calls.version(cpu)
 
 

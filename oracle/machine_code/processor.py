@@ -14,7 +14,7 @@ from symbolic_terms.rules import ones
 from . import flags
 from .instructions import PARTS, VECTORS, WIDE, known
 from .library import ForC
-from .listed import OUTER
+from .object_contents import OUTER
 from .memory import ENTRY, RED, Constants, ReturnTo, Stack, Words, copy, fill
 from .objects import Immediate, Register
 from .values import WORD, Address, address, arithmetic, bits, joined, low, place_of

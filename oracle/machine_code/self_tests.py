@@ -1,57 +1,57 @@
-"""Chooses the rows on the verifier itself: planted faults, disabled checks, changes of instructions, and the table
+"""Chooses the tasks on the verifier itself: planted faults, disabled checks, changes of instructions, and the table
 compared with the processor. They can only fail: no proof of a source depends on them."""
 import functools
 import itertools
 import tempfile
 
-from . import (any_updates, cargo_calls, cargo_planted, cargo_streams, changes, on_processor, planted, planted_checks,
-               planted_lines, planted_objects, planted_values, switched_off)
+from . import (any_updates, cargo_calls, cargo_planted, cargo_streams, mutation, on_processor, planted, planted_checks,
+               planted_lines, planted_objects, planted_values, disabled_checks)
 from .cargo_exports import BEGIN
 from .instructions import SETS, TABLE, V1, V4
-from .questions import CASES, Beside, plain_update, xxh3_update
-from .rows import counted, makers
+from .queries import CASES, Beside, plain_update, xxh3_update
+from .tasks import counted, makers
 
 SOME_CHECKS, SWITCHED_OFF = 9, (4, 100)      # step of planted faults without --all; minimum of disabled checks
 
 
-def planted_row(title, asked):
+def planted_task(title, asked):
     return counted(title, len(asked), functools.partial(planted.refused, asked))
 
 
 def choose(texts, others, is_all):
-    """Returns the rows on c/asm's sources and on cargo's, which are `others`."""
+    """Returns the tasks on c/asm's sources and on cargo's, which are `others`."""
     forms = sum(kind in SETS[on_processor.processor_here()] for kind, _ in TABLE.values())
     without = "" if on_processor.is_v4() else ", without what it lacks of x86-64-v4"
     return [counted(f"the table of instructions beside the processor{without}", forms - 40,
                     functools.partial(beside_processor, [*texts.values(), *others.values()], is_all)),
-            planted_row("wrong lines are refused", planted_lines.X86_ASKED),
-            planted_row("texts that assemblers read otherwise are refused", planted_lines.X86_ALIKE),
-            planted_row("wrong objects are refused", planted_objects.X86_ASKED),
-            planted_row("wrong texts of each kind are refused", planted.ASKED),
-            planted_row("wrong texts, one for each check, are refused", planted_checks.X86_ASKED[::1 if is_all else SOME_CHECKS]),
-            planted_row("calls with wrong operands are refused", planted_values.ASKED),
-            counted("checks that are switched off are noticed", SWITCHED_OFF[is_all], functools.partial(switched_off.tell, is_all)),
+            planted_task("wrong lines are refused", planted_lines.X86_ASKED),
+            planted_task("texts that assemblers read otherwise are refused", planted_lines.X86_ALIKE),
+            planted_task("wrong objects are refused", planted_objects.X86_ASKED),
+            planted_task("wrong texts of each kind are refused", planted.ASKED),
+            planted_task("wrong texts, one for each check, are refused", planted_checks.X86_ASKED[::1 if is_all else SOME_CHECKS]),
+            planted_task("calls with wrong operands are refused", planted_values.ASKED),
+            counted("checks that are switched off are noticed", SWITCHED_OFF[is_all], functools.partial(disabled_checks.tell, is_all)),
             counted("faults of the check itself are noticed", len(planted.CHECKS), planted.noticed),
-            planted_row(f"{BEGIN}wrong texts are refused", cargo_planted.ASKED), *change_rows(texts, others, is_all)]
+            planted_task(f"{BEGIN}wrong texts are refused", cargo_planted.ASKED), *change_tasks(texts, others, is_all)]
 
 
-def change_rows(texts, others, is_all):
-    """Yields rows of single-instruction changes: for x86-64-v4 in its own functions, and of cargo's sources only for
+def change_tasks(texts, others, is_all):
+    """Yields tasks of single-instruction changes: for x86-64-v4 in its own functions, and of cargo's sources only for
     the one that shares no function with c/asm."""
     for name, make in makers(texts).items():
         if name == V4:
-            yield change_row(f"in the widened functions of {name}", (20, 100), is_all, name, make, is_drawn=is_widened)
+            yield change_task(f"in the widened functions of {name}", (20, 100), is_all, name, make, is_drawn=is_widened)
         else:
-            yield change_row(name, (40, 100), is_all, name, make)
+            yield change_task(name, (40, 100), is_all, name, make)
     name = f"cargo's {V1}"
-    row = change_row(name, (30, 30), is_all, f"cargo-{V1}", makers(others)[name],
+    task = change_task(name, (30, 30), is_all, f"cargo-{V1}", makers(others)[name],
                      beside=Beside([*cargo_calls.ALL, *pieces()], cargo_streams.CargoUpdates, each_piece, 241))
-    row.title = BEGIN + row.title
-    yield row
+    task.title = BEGIN + task.title
+    yield task
 
 
 def pieces():
-    """Yields questions that prove cases of chunks: a changed cargo source has no requests of whole streams."""
+    """Yields queries that prove cases of chunks: a changed cargo source has no requests of whole streams."""
     for k in range(CASES):
         yield functools.partial(plain_update, "32", k)
         yield functools.partial(xxh3_update, cargo_streams.CargoUpdates, k)
@@ -78,18 +78,18 @@ def is_widened(section):
     return "widened" in section
 
 
-def change_row(where, counts, is_all, *asked, **more):
-    """Returns a row of `count` changes of one random seed, or with --all of each seed."""
-    count, draws = counts[is_all], changes.DRAWS if is_all else 1
+def change_task(where, counts, is_all, *asked, **more):
+    """Returns a task of `count` changes of one random seed, or with --all of each seed."""
+    count, draws = counts[is_all], mutation.DRAWS if is_all else 1
     return counted(f"changes of one instruction, {where}", count * draws,
-                   functools.partial(changes.noticed, *asked, count, is_all, **more))
+                   functools.partial(mutation.noticed, *asked, count, is_all, **more))
 
 
 def parts_of_changes(title, asked, program, is_all):
-    """Yields a row with a few of a module's changes, or with --all a row for each part of them."""
-    for part in range(changes.ROWS) if is_all else [None]:
-        words = f", part {part + 1} of {changes.ROWS}" if is_all else ""
-        yield counted(title + words, asked.MANY // changes.ROWS if is_all else asked.FEW,
+    """Yields a task with a few of a module's changes, or with --all a task for each part of them."""
+    for part in range(mutation.TASKS) if is_all else [None]:
+        words = f", part {part + 1} of {mutation.TASKS}" if is_all else ""
+        yield counted(title + words, asked.MANY // mutation.TASKS if is_all else asked.FEW,
                       functools.partial(asked.noticed, program, part))
 
 

@@ -8,7 +8,7 @@ import tempfile
 from symbolic_terms.refusals import NotShown, Unsupported
 
 from .grammar import expect_grammar
-from .listed import Object, difference, differences
+from .object_contents import Object, difference, differences
 
 GNU = {"x86-64": "as", "aarch64": "aarch64-linux-gnu-as"}
 TARGETS = {"x86-64": ("x86_64-linux-gnu", "x86_64-unknown-linux-gnu", "att_syntax, raw"),

@@ -4,7 +4,7 @@ import struct
 
 from symbolic_terms.refusals import NotShown
 
-from .listed import CODE, X86_64, Table, frames
+from .object_contents import CODE, X86_64, Table, frames
 
 RETURN_ADDRESS = {X86_64: {16: -8}}      # its register number and offset, which x86-64's table contains
 REMARK = re.compile(r"\s*(#(?!\w|-)|//).*")

@@ -7,7 +7,7 @@ definition's after K stripes. It has j, K, f, N, the mark and the secret, of 64 
 the last f bytes. If K > 0 and f < 64, it also has the last stripe. All else is unconstrained. The secret's bytes are
 symbols: the default secret and derived ones are instances.
 
-Bytes written at a symbolic offset or of a symbolic length are runs (runs.py). The separate functions that take stripes
+Bytes written at a symbolic offset or of a symbolic length are runs (stream_state.py). The separate functions that take stripes
 are proved on their own, from any place in a block (stripes.py)."""
 import collections
 import functools
@@ -27,7 +27,7 @@ from . import exports, streams
 from .every_length import FAR, LIMIT
 from .induction import Loops
 from .memory import ENTRY, Words
-from .runs import Source, State
+from .stream_state import Source, State
 from .stripes import DEEP, Part, Stripes, StripesProof, Summary
 from .values import address
 
@@ -96,7 +96,7 @@ EMPTY = Start((0, 0), 0, 0, (0, 0), [])
 class Xxh3Updates:
     CORE = 0                      # offset of the accumulators in a state, and of the fields except `own`
     HAS_SEED = 0, 1               # whether a stream was created with a seed
-    KINDS = UPDATES, DIGESTS, STRIPES                 # the kinds of rows of a source
+    KINDS = UPDATES, DIGESTS, STRIPES                 # the kinds of tasks of a source
     longest_secret, longest_piece = LONGEST_KEPT, LONGEST
 
     def __init__(self, cpu):
@@ -130,8 +130,8 @@ class Xxh3Updates:
         self.secret_source = Source("s", self.secret_length)
         self.secret = Bytes(self.secret_source, 0, self.secret_length)
 
-    def questions(self, what):
-        """Returns all proofs of a row, by its title."""
+    def queries(self, what):
+        """Returns all proofs of a task, by its title."""
         if what == UPDATES:
             return [functools.partial(self.update, *case) for case in self.all_updates()]
         if what == DIGESTS:

@@ -176,7 +176,7 @@ program = functools.cache(read)      # the same, read once
 
 
 def value(entries, hash_name, kind, seed, secret, message):
-    """Returns the definition's value, by the rule of table.Row.ask: `kind` is seed, default, secret or both."""
+    """Returns the definition's value, by the rule of table.Case.ask: `kind` is seed, default, secret or both."""
     entry = entries[table.HASHES[hash_name]]
     if hash_name in ("32", "64"):
         return entry(seed, message)

@@ -11,7 +11,7 @@ from .requests import LONGEST, seed_symbol
 from .memory import Input, Memory, Piece
 from .nodes import symbol
 from .polynomials import agree, as_word, at_most, given, is_natural, is_same, minus, plus, times, variable
-from .sides import BESIDE
+from .reference import BESIDE
 
 FIELDS = {64: ["total", "accumulators", "buffer", "memsize"],
           32: ["total", "large", "accumulators", "buffer", "memsize"]}

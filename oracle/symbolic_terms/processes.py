@@ -1,4 +1,4 @@
-"""Runs the rows of a check, each in its own process and several at once, prints their results, and parses the check's
+"""Runs the tasks of a check, each in its own process and several at once, prints their results, and parses the check's
 options."""
 import argparse
 import concurrent.futures
@@ -10,17 +10,17 @@ import traceback
 
 import antt
 
-from . import changes
+from . import mutation
 from .refusals import REFUSALS
 from .nodes import WrongRule
 
-SHOWN = 30                   # printed failures of a row
-OWN = resource.RUSAGE_SELF, resource.RUSAGE_CHILDREN       # of a row's process
+SHOWN = 30                   # printed failures of a task
+OWN = resource.RUSAGE_SELF, resource.RUSAGE_CHILDREN       # of a task's process
 FORK, STARTING = multiprocessing.get_context("fork"), threading.Lock()
 
 
-class Row:
-    """A row: its title, and a function that returns the counts, and the failures as lines."""
+class Task:
+    """A task: its title, and a function that returns the counts, and the failures as lines."""
 
     def __init__(self, title, ask, is_deep=True):
         self.title, self.ask = title, ask
@@ -36,16 +36,16 @@ def options(usage, jobs=2):
     return out
 
 
-def run(rows, jobs):
-    """Runs the rows and prints their results. Returns the exit status."""
+def run(tasks, jobs):
+    """Runs the tasks and prints their results. Returns the exit status."""
     began, passed = time.monotonic(), 0
     with concurrent.futures.ThreadPoolExecutor(jobs) as pool:
-        for line, is_good in pool.map(in_process, rows):
+        for line, is_good in pool.map(in_process, tasks):
             passed += is_good
             print(line, flush=True)
     print(f"in {time.monotonic() - began:.0f} s, {processor_time(resource.RUSAGE_CHILDREN):.0f} s of processor time")
-    print(f"{passed} passed, {len(rows) - passed} failed")
-    return 1 if passed < len(rows) or not rows else 0
+    print(f"{passed} passed, {len(tasks) - passed} failed")
+    return 1 if passed < len(tasks) or not tasks else 0
 
 
 def processor_time(of):
@@ -53,37 +53,37 @@ def processor_time(of):
     return used.ru_utime + used.ru_stime
 
 
-def in_process(row):
-    """Runs a row. Returns its output, and whether it passed. A process that is killed fails."""
+def in_process(task):
+    """Runs a task. Returns its output, and whether it passed. A process that is killed fails."""
     with STARTING:     # so that no other process inherits the pipe's end
         ours, theirs = FORK.Pipe(duplex=False)
-        process = FORK.Process(target=answer, args=(row, theirs))
+        process = FORK.Process(target=answer, args=(task, theirs))
         process.start()
         theirs.close()
     try:
         return ours.recv()
     except EOFError:
-        return f"FAILED {row.title}: its process ended", False
+        return f"FAILED {task.title}: its process ended", False
     finally:
         process.join()
 
 
-def answer(row, pipe):
+def answer(task, pipe):
     began = time.monotonic()
-    if row.is_deep:
-        what, bad = antt.with_deep_recursion(outcome, row)
+    if task.is_deep:
+        what, bad = antt.with_deep_recursion(outcome, task)
     else:
-        with changes.limits():
-            what, bad = outcome(row)
+        with mutation.limits():
+            what, bad = outcome(task)
     used = f"{time.monotonic() - began:.1f} s, {sum(map(processor_time, OWN)):.1f} s of processor time, " \
            f"{resource.getrusage(resource.RUSAGE_SELF).ru_maxrss // 1024} MB"
-    lines = [f"{'FAILED' if bad else 'ok'} {row.title}: {what}; {used}", *(f"    {line}" for line in bad[:SHOWN])]
+    lines = [f"{'FAILED' if bad else 'ok'} {task.title}: {what}; {used}", *(f"    {line}" for line in bad[:SHOWN])]
     pipe.send(("\n".join(lines), not bad))
 
 
-def outcome(row):
+def outcome(task):
     try:
-        return row.ask()
+        return task.ask()
     except (*REFUSALS, WrongRule) as error:
         return "", [f"{type(error).__name__}: {error}"]
     except Exception:

@@ -18,7 +18,7 @@ from .memory import Input, Memory, Piece
 from .nodes import symbol
 from .operations import side_by_side
 from .polynomials import agree, at_most, divided, given, is_natural, is_same, minus, plus, Poly, times, variable
-from .sides import BESIDE
+from .reference import BESIDE
 
 LONGEST = (1 << 63) - 1      # bytes of a stream: the header takes differences of addresses as signed numbers
 FIELDS = ["accumulators", "inside", "buffer", "buffered", "uses_seed", "so_far", "total", "per_block", "limit", "seed",

@@ -2,7 +2,7 @@
 import os
 
 from ..cargo import FOLDER, ForCargo, plain
-from ..listed import HIDDEN, WEAK
+from ..object_contents import HIDDEN, WEAK
 from ..sources import assembled
 from . import objects
 from .table import Processor

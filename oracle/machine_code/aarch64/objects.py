@@ -6,8 +6,8 @@ import subprocess
 
 from symbolic_terms.refusals import Unsupported
 
-from ..decoded import expect_bytes
-from ..listed import AARCH64, CODE, RELA, Loaded
+from ..disassembly import expect_bytes
+from ..object_contents import AARCH64, CODE, RELA, Loaded
 
 # An instruction: `form` has a word per operand; `target` is (section or constant, offset), or None.
 Instruction = collections.namedtuple("Instruction", "section at end mnemonic form operands target")

@@ -1,22 +1,22 @@
-"""Models the processor of 64-bit ARM: its registers, memory operands and conditions. linked.py runs it."""
+"""Models the processor of 64-bit ARM: its registers, memory operands and conditions. link_register.py runs it."""
 import operator
 
 from symbolic_terms.refusals import Undecided, Unsupported
 from symbolic_terms.words import TESTS, signed
 from symbolic_terms.polynomials import is_number, plus
 
-from .. import linked
+from .. import link_register
 from ..flags import is_below, is_equal
 from ..library import ForC
-from ..linked import Page
+from ..link_register import Page
 from ..values import WORD, arithmetic, is_term
 
 TABLE = {}                                    # (mnemonic, form) -> function
 SIGNED = {"ge": operator.ge, "lt": operator.lt, "gt": operator.gt, "le": operator.le}
-form = linked.filler(TABLE)
+form = link_register.filler(TABLE)
 
 
-class Processor(linked.Processor):
+class Processor(link_register.Processor):
     TABLE = TABLE
     REGISTERS = [f"x{k}" for k in range(31)]
     ARGUMENTS = REGISTERS[:8]

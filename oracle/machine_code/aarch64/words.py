@@ -5,7 +5,7 @@ from symbolic_terms.polynomials import lifted, plus
 from symbolic_terms.rules import ones
 
 from ..flags import is_equal
-from ..linked import RETURN, Page, ReturnTo
+from ..link_register import RETURN, Page, ReturnTo
 from ..values import WORD, address, arithmetic, bits, high_and_low, joined, low
 from .objects import Register, Shift, Vector
 from .processor import form

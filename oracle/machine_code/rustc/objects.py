@@ -12,7 +12,7 @@ from symbolic_terms.refusals import Unsupported
 
 from .. import lanes, scalar
 from ..instructions import known
-from ..listed import CODE, CONSTANTS, FRAMES, FUNCTION, LOADED, MERGEABLE, NOTE, RELA, is_global
+from ..object_contents import CODE, CONSTANTS, FRAMES, FUNCTION, LOADED, MERGEABLE, NOTE, RELA, is_global
 from ..memory import ReturnTo
 from ..objects import PC32, PLT32, Instruction, Program, Register, split
 from ..processor import Processor

@@ -9,7 +9,7 @@ from symbolic_terms.memory import Memory, is_inside
 from symbolic_terms.nodes import Node, symbol
 from symbolic_terms.polynomials import is_natural, is_same, minus, plus
 
-from .meanings import PURE
+from .semantics import PURE
 from .module import PAGE
 from .opcodes import BY_NAME
 from .validator import ends_of, validate

@@ -7,11 +7,11 @@ from symbolic_terms.nodes import is_same
 from symbolic_terms.polynomials import Poly
 from symbolic_terms.polynomials import is_same as is_same_number
 
-from .. import covered
+from .. import coverage
 from ..xxh3_updates import TAKE, TAKE_MANY
 from . import calls, every_length
 from .assembler import assembled, unsigned
-from .changes import with_change
+from .mutation import with_change
 from .comparing import Texts, compare, with_seed_0
 from .module import Malformed, Reader
 from .stripes import Takers
@@ -181,5 +181,5 @@ def lacks_a_case(proof):
     """True if a missing update, a missing digest and missing stripes are detected."""
     updates, digests, takers = map(list, (proof.all_updates(), proof.digests(), proof.all_taken()))
     del updates[687], digests[310], takers[3]
-    return all([covered.without_update(updates, proof, POINTS), covered.without_digest(digests, proof, POINTS),
-                covered.without_taken(takers, proof, [(TAKE.name, 0)], POINTS)])
+    return all([coverage.without_update(updates, proof, POINTS), coverage.without_digest(digests, proof, POINTS),
+                coverage.without_taken(takers, proof, [(TAKE.name, 0)], POINTS)])

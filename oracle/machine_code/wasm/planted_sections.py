@@ -1,5 +1,5 @@
-"""Planted faults in modules that only the reader of sections or the row of exports refuses: the code is unchanged."""
-from . import rows
+"""Planted faults in modules that only the reader of sections or the task of exports refuses: the code is unchanged."""
+from . import tasks
 from .assembler import section, signed, vector
 from .machine import Machine
 from .module import Malformed, Module, Reader
@@ -64,12 +64,12 @@ WRONG = [
 
 
 def refusal(whole):
-    """Returns the reason why the reader or the row of exports refuses a module, or None."""
+    """Returns the reason why the reader or the task of exports refuses a module, or None."""
     try:
         machine = Machine(Module(whole))
     except Malformed as error:
         return str(error)
-    return next(iter(rows.of_memory(machine, machine.module.exports)), None)
+    return next(iter(tasks.of_memory(machine, machine.module.exports)), None)
 
 
 def tell(machines):

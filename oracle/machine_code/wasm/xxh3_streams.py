@@ -55,9 +55,9 @@ class ModuleUpdates(CargoUpdates):
     def facts_of_any(self):
         return self.facts
 
-    def questions(self, what):
+    def queries(self, what):
         """Omits the comparison of two updates: both widths have one update."""
-        found = super().questions(what)
+        found = super().queries(what)
         return found[1:] if what == STRIPES else found
 
     @staticmethod

@@ -1,4 +1,4 @@
-"""Chooses the rows of oracle/machine-text on c/asm: their requests and their minimum numbers of cases."""
+"""Chooses the tasks of oracle/machine-text on c/asm: their requests and their minimum numbers of cases."""
 import functools
 import itertools
 import os
@@ -8,9 +8,9 @@ from symbolic_terms.refusals import REFUSALS
 from symbolic_terms.requests import TOP, Request
 from symbolic_terms.nodes import WrongRule
 from symbolic_terms.polynomials import variable
-from symbolic_terms.processes import Row
+from symbolic_terms.processes import Task
 
-from . import (any_secret, any_updates, calls, covered, every_length, exports, lanes, long_seeds, one_shots, scalar, streams,
+from . import (any_secret, any_updates, calls, coverage, every_length, exports, lanes, long_seeds, one_shots, scalar, streams,
                xxh3_updates)
 from .cargo import CargoProcessor, CargoProgram
 from .instructions import V1, V2, V3, V4
@@ -56,25 +56,25 @@ def processors(texts):
 
 
 def counted(title, least, ask):
-    """Returns a row with a minimum number of cases: `ask` returns the number that passed, and the failures."""
+    """Returns a task with a minimum number of cases: `ask` returns the number that passed, and the failures."""
     def outcome():
         count, bad = ask()
         few = [f"{count} cases, and {least} at least are wanted"] if count < least and not bad else []
         return f"{count} cases", bad + few
-    return Row(title, outcome)
+    return Task(title, outcome)
 
 
 def choose(options, texts):
-    """Returns the rows on c/asm."""
-    rows = one_shot_rows(texts, options.all) + secret_rows(texts, options.all) + every_length_rows(texts, options.all)
-    rows += stream_rows(texts, options.all) + call_rows(texts, options.all)
-    rows += [assembler_row([(f"{FOLDER}/{name}.s", V1) for name in texts])]
-    rows.insert(0, export_row(texts, [row.title for row in rows]))
-    return rows
+    """Returns the tasks on c/asm."""
+    tasks = one_shot_tasks(texts, options.all) + secret_tasks(texts, options.all) + every_length_tasks(texts, options.all)
+    tasks += stream_tasks(texts, options.all) + call_tasks(texts, options.all)
+    tasks += [assembler_task([(f"{FOLDER}/{name}.s", V1) for name in texts])]
+    tasks.insert(0, export_task(texts, [task.title for task in tasks]))
+    return tasks
 
 
-def export_row(texts, titles):
-    return counted("each export has its row", 54 * len(texts),
+def export_task(texts, titles):
+    return counted("each export has its task", 54 * len(texts),
                    lambda: (sum(exports.expect_all(program, titles) for program in texts.values()), []))
 
 
@@ -83,7 +83,7 @@ def before_v4(texts):
 
 
 def texts_of(texts, hash_name):
-    """Returns the sources with separate rows of a hash. For XXH32 and XXH64 x86-64-v4's code equals x86-64-v3's."""
+    """Returns the sources with separate tasks of a hash. For XXH32 and XXH64 x86-64-v4's code equals x86-64-v3's."""
     return before_v4(texts) if one_shots.is_plain(hash_name) else texts
 
 
@@ -94,7 +94,7 @@ def title_of(hash_name, kind, secret):
 
 
 def compared(texts, title, requests, side=one_shots):
-    """Returns a row of requests, each for all sources: the definition's term is computed once."""
+    """Returns a task of requests, each for all sources: the definition's term is computed once."""
     requests = list(requests)
     texts = texts_of(texts, requests[0].hash_name)
     lengths = [request.length for request in requests]
@@ -109,8 +109,8 @@ def one_by_one(texts, kind, lengths, more=""):
     return compared(texts, title_of(*kind) + more, comparison.requests(*kind, lengths))
 
 
-def one_shot_rows(texts, is_all):
-    """Returns the rows of one-shots. With a secret of 136 bytes x86-64-v4 runs x86-64-v3's code."""
+def one_shot_tasks(texts, is_all):
+    """Returns the tasks of one-shots. With a secret of 136 bytes x86-64-v4 runs x86-64-v3's code."""
     out = [one_by_one(texts if is_all or kind[2] is None else before_v4(texts), kind, ONE_BY_ONE)
            for kind in comparison.kinds(SECRETS)]
     for kind in [("3-64", "default", None), ("3-128", "seed", None), ("3-64", "secret", 192)]:
@@ -122,8 +122,8 @@ def one_shot_rows(texts, is_all):
     return out
 
 
-def secret_rows(texts, is_all):
-    """Returns the rows of secrets that are too short, and of secrets of several lengths."""
+def secret_tasks(texts, is_all):
+    """Returns the tasks of secrets that are too short, and of secrets of several lengths."""
     out, lengths = [], SMALL if is_all else [0, 17, 241]
     for hash_name in ("3-64", "3-128"):
         out.append(of_each(texts, f"XXH{hash_name}, secrets that are too short", 2 * calls.SHORTEST * len(lengths),
@@ -134,16 +134,16 @@ def secret_rows(texts, is_all):
     return out
 
 
-def stream_rows(texts, is_all):
+def stream_tasks(texts, is_all):
     out = []
     for kind in comparison.kinds(STREAM_SECRETS if is_all else SECRETS):
         out.append(compared(texts, f"streams of {title_of(*kind)}", few_streams(*kind), streams))
-    return [*out, *plain_stream_rows(makers(before_v4(texts)), is_all), *xxh3_rows(makers(texts), is_all)]
+    return [*out, *plain_stream_tasks(makers(before_v4(texts)), is_all), *xxh3_tasks(makers(texts), is_all)]
 
 
-def plain_stream_rows(made, is_all, some=SOME_UPDATES):
-    """Returns the rows of streams of XXH32 and XXH64 with any updates: all cases, in parts, or a sample."""
-    out = [counted("each update of XXH32 and XXH64 has its row", 2, updates_left_out)]
+def plain_stream_tasks(made, is_all, some=SOME_UPDATES):
+    """Returns the tasks of streams of XXH32 and XXH64 with any updates: all cases, in parts, or a sample."""
+    out = [counted("each update of XXH32 and XXH64 has its task", 2, updates_left_out)]
     for hash_name in any_updates.LAYOUTS:
         count = len(list(any_updates.updates(hash_name)))
         for name, make in made.items():
@@ -155,9 +155,9 @@ def plain_stream_rows(made, is_all, some=SOME_UPDATES):
     return out
 
 
-def xxh3_rows(made, is_all, kind=xxh3_updates.Xxh3Updates):
-    """Returns the rows of streams of XXH3 with any updates: all cases, in parts, or a sample."""
-    out = [counted("each update of XXH3 has its row", COVERED[is_all] * len(made),
+def xxh3_tasks(made, is_all, kind=xxh3_updates.Xxh3Updates):
+    """Returns the tasks of streams of XXH3 with any updates: all cases, in parts, or a sample."""
+    out = [counted("each update of XXH3 has its task", COVERED[is_all] * len(made),
                    functools.partial(points_left_out, made, is_all, kind))]
     for name, make in made.items():
         for what in kind.KINDS:
@@ -173,13 +173,13 @@ def points_left_out(made, is_all, kind):
     """Returns the number of points, and messages for those that no case contains."""
     count = COVERED[is_all] // 3
     bad = [f"{name}: no case has {point}" for name, make in made.items()
-           for point in covered.left_out(kind(make()), count)]
+           for point in coverage.left_out(kind(make()), count)]
     return 3 * count * len(made), bad[:5]
 
 
 def any_xxh3(make, what, part, kind):
     proof = kind(make())
-    asked, (some, parts) = proof.questions(what), XXH3_CASES[what]
+    asked, (some, parts) = proof.queries(what), XXH3_CASES[what]
     return count_shown(proof, asked[::len(asked) // some] if part is None else asked[part::parts])
 
 
@@ -220,21 +220,21 @@ def count_shown(proof, asked):
 
 # ---- every length
 
-def every_length_rows(texts, is_all):
+def every_length_tasks(texts, is_all):
     made = makers(texts)
-    out = [counted("every length of XXH32 and XXH64 has its row", 2, plain_left_out)]
-    out += [counted("every length of XXH3 has its row", 2, xxh3_left_out)] if is_all else []
+    out = [counted("every length of XXH32 and XXH64 has its task", 2, plain_left_out)]
+    out += [counted("every length of XXH3 has its task", 2, xxh3_left_out)] if is_all else []
     for kind in every_length.UNROLLED:
         out += of_every_length(makers(before_v4(texts)), kind, f"XXH{kind}: every length to 2^64 - 1", every_length.cases(kind))
     if not is_all:
         out += of_every_length({V4: made[V4]}, "3-64:seed", "XXH3-64, seed: one case of every length",
                                every_length.cases("3-64:seed")[:1])
-    return out + long_rows(made, is_all) + (short_rows_of_v4(texts) if is_all else [])
+    return out + long_tasks(made, is_all) + (short_rows_of_v4(texts) if is_all else [])
 
 
-def long_rows(made, is_all):
-    """Returns the rows of XXH3 of every length: all cases, or some with a secret."""
-    out = [counted("every length with any secret has its row", COVERED[is_all],
+def long_tasks(made, is_all):
+    """Returns the tasks of XXH3 of every length: all cases, or some with a secret."""
+    out = [counted("every length with any secret has its task", COVERED[is_all],
                    functools.partial(secrets_left_out, made, is_all))]
     for hash_name, way in itertools.product(("3-64", "3-128"), ("default", "seed")) if is_all else ():
         kind = f"{hash_name}:{way}"
@@ -256,7 +256,7 @@ def long_rows(made, is_all):
 
 
 def short_rows_of_v4(texts):
-    """Returns rows of secrets of 192 bytes for x86-64-v4: the lengths missing in its rows of every length."""
+    """Returns tasks of secrets of 192 bytes for x86-64-v4: the lengths missing in its tasks of every length."""
     return [one_by_one({V4: texts[V4]}, (*kind.split(":"), 192), [*range(241, MORE.stop), every_length.PREFETCHED], f", {V4}")
             for kind in ANY_SECRET]
 
@@ -273,7 +273,7 @@ def plain_left_out():
 
 
 def xxh3_left_out():
-    """Returns the lengths without a case. The length PREFETCHED of a default or derived secret has a separate row."""
+    """Returns the lengths without a case. The length PREFETCHED of a default or derived secret has a separate task."""
     derived = every_length.left_out(every_length.cases("3-64:seed"), MORE.stop, 64 * every_length.DERIVED)
     own = every_length.left_out(every_length.of_secret(), 241, 64 * every_length.DERIVED)
     return told_left_out({"a secret of 192 bytes": own,
@@ -281,7 +281,7 @@ def xxh3_left_out():
 
 
 def told_left_out(found):
-    return len(found), [f"{name}: no row has {left[:5]}" for name, left in found.items() if left]
+    return len(found), [f"{name}: no task has {left[:5]}" for name, left in found.items() if left]
 
 
 def shown(make, kind, asked, seed):
@@ -292,14 +292,14 @@ def shown(make, kind, asked, seed):
 def secrets_left_out(made, is_all):
     """The same for lengths with secrets of any length."""
     proof = any_secret.AnySecret(next(iter(made.values()))())
-    found = covered.without_one_shot(proof.cases(), proof.facts_of_any(), COVERED[is_all])
+    found = coverage.without_one_shot(proof.cases(), proof.facts_of_any(), COVERED[is_all])
     return COVERED[is_all], [f"no case has {point}" for point in found[:5]]
 
 
 def any_secrets(make, kind, is_all):
     hash_name, _, way = kind.partition(":")
     proof = any_secret.AnySecret(make())
-    return count_shown(proof, proof.questions(way, hash_name[2:])[::1 if is_all else SOME_LENGTHS])
+    return count_shown(proof, proof.queries(way, hash_name[2:])[::1 if is_all else SOME_LENGTHS])
 
 
 def up_to_240(make, kind):
@@ -310,11 +310,11 @@ def up_to_240(make, kind):
 # ---- the other calls
 
 def of_each(texts, title, least, call):
-    """Returns a row that calls a function on each processor. The function returns its number of cases, or raises."""
+    """Returns a task that calls a function on each processor. The function returns its number of cases, or raises."""
     return counted(title, least * len(texts), lambda: (sum(call(cpu) for cpu in processors(texts).values()), []))
 
 
-def call_rows(texts, is_all):
+def call_tasks(texts, is_all):
     sizes = [0, 1, 135, 136, 137, 143, 144, 191, 192, 256, 1000] if not is_all else [*range(0, 301), 1000]
     seeds = [0, 1, 17, 136, 241, 300] if is_all else [0, 3, 241]
     made = [(size, length) for size in sizes for length in seeds]
@@ -323,16 +323,16 @@ def call_rows(texts, is_all):
             of("made secrets", len(made) + len(OF_LONG_SEEDS), functools.partial(made_secrets, asked=made)),
             counted(f"exports of {V4} that have the code of {V3}", 24,
                     lambda: (exports.expect_code_of_v3(texts[V4], texts[V3]), [])),
-            twin_row(texts), frames_row(texts)]
+            twin_task(texts), frames_task(texts)]
 
 
-def twin_row(texts):
+def twin_task(texts):
     return counted("names of another's code", 9 * len(texts),
                    lambda: (sum(exports.expect_twins(program) for program in texts.values()), []))
 
 
-def frames_row(texts, least=FEWEST_FRAMED):
-    """Returns the row of unwinding tables: a minimum number of instructions per source."""
+def frames_task(texts, least=FEWEST_FRAMED):
+    """Returns the task of unwinding tables: a minimum number of instructions per source."""
     return counted("the frame at each instruction", least * len(texts),
                    lambda: (sum(map(expect_frames, texts.values())), []))
 
@@ -341,6 +341,6 @@ def made_secrets(cpu, asked):
     return calls.made_secrets(cpu, asked) + long_seeds.made_secrets(cpu, OF_LONG_SEEDS)
 
 
-def assembler_row(sources):
-    """Returns the row that compares each source's objects by three assemblers."""
+def assembler_task(sources):
+    """Returns the task that compares each source's objects by three assemblers."""
     return counted("one object by GNU as, clang and rustc", 2 * len(sources), lambda: (expect_alike(sources), []))

@@ -19,10 +19,10 @@ import traceback
 
 HERE = os.path.dirname(os.path.abspath(__file__))
 UNPLANTED = os.path.join(HERE, "unplanted.txt")
-MODULES = ("grammar", "listed", "objects", "decoded", "sources", "unwinding", "processor", "memory", "runs", "streams", "calls",
-           "cargo", "exports", "instructions", "any_updates", "every_length", "xxh3_updates", "linked", "aarch64.objects",
-           "aarch64.processor", "induction", "stripes", "values", "flags", "../symbolic_terms/memory",
-           "../symbolic_terms/induction")
+MODULES = ("grammar", "object_contents", "objects", "disassembly", "sources", "unwinding", "processor", "memory", "stream_state",
+           "streams", "calls", "cargo", "exports", "instructions", "any_updates", "every_length", "xxh3_updates",
+           "link_register", "aarch64.objects", "aarch64.processor", "induction", "stripes", "values", "flags",
+           "../symbolic_terms/memory", "../symbolic_terms/induction")
 TAKING = {"take": "lines.number += 1", "take_exactly": "lines.number += {count}", "refuse": "pass", "want": "pass"}
 THEMSELVES = "want", "refuse", "take", "take_exactly", "has"
 FEW = 24                          # step of planted faults, without --all
@@ -112,8 +112,8 @@ class Loader(importlib.abc.MetaPathFinder, importlib.abc.SourceLoader):
 
 def every_text():
     """Returns all planted faults, in a fixed order."""
-    from machine_code import cargo_planted, planted, planted_checks, planted_lines, planted_objects, planted_values, rows
-    assert rows
+    from machine_code import cargo_planted, planted, planted_checks, planted_lines, planted_objects, planted_values, tasks
+    assert tasks
     return [*planted_lines.X86_ASKED, *planted_lines.ARM_ASKED, *planted_lines.X86_ALIKE, *planted_objects.X86_ASKED,
             *planted_objects.ARM_ASKED, *planted.ASKED, *cargo_planted.ASKED, *planted_checks.X86_ASKED, *planted_checks.ARM_ASKED,
             *planted_values.ASKED]
@@ -158,7 +158,7 @@ def plain(text):
     return re.sub(r"machine-text-\w+|#\d+", "", text)
 
 
-# ---- the row
+# ---- the task
 
 def unplanted():
     """Maps each check of unplanted.txt to the reason why no planted fault detects it."""

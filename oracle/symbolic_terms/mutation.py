@@ -1,6 +1,6 @@
 """Tests that changes of either side are detected: otherwise a passing comparison would prove nothing.
 
-    one token of the definition               mutants.py's changes; those that change no value are in equal_changes.txt
+    one token of the definition               mutants.py's changes; those that change no value are in equivalent_mutants.txt
     the reference's LLVM code                 another operation, or a number that is one more or one less
     by hand                                   of the definition, that differ on one input in 2 ^ 32 or fewer
 
@@ -17,17 +17,17 @@ import sys
 
 import antt
 import mutants
-import proved_rows
+import proved_cases
 from reasons import CRASH, UNNOTICED, WRONG_RULE
 
-from . import definition, every_length, nodes, sides
+from . import definition, every_length, nodes, reference
 from .refusals import REFUSALS, Undecided
 from .requests import Request, differing_point, differing_point_of_numbers
 from .machine import Function
 from .nodes import Node, WrongRule
 
 SECONDS = 4              # time limit, after which a change counts as not ending
-EQUAL_LINES = os.path.join(os.path.dirname(os.path.abspath(__file__)), "equal_lines.txt")
+EQUAL_LINES = os.path.join(os.path.dirname(os.path.abspath(__file__)), "equivalent_lines.txt")
 RECURSION, MEMORY = 8000, 6 << 30
 NO_NUMBER = (antt.Unreadable, TypeError, AttributeError, IndexError, OverflowError, ValueError, RecursionError,
              NameError, MemoryError, KeyError)
@@ -64,11 +64,11 @@ class Limited:
 def asked():
     """Returns the requests that test changes, the shortest first: the lengths that the proofs compute."""
     out = []
-    for name, lengths in proved_rows.PLAIN.items():
+    for name, lengths in proved_cases.PLAIN.items():
         out += [Request(name, "seed", n) for n in lengths]
     for name in ("3-64", "3-128"):
-        out += [Request(name, "seed", n) for n in proved_rows.SHORT + proved_rows.SEEDED_LONG]
-        out += [Request(name, "secret", n, 136) for n in proved_rows.KEYED_SHORT + [577, 640, 1217]]
+        out += [Request(name, "seed", n) for n in proved_cases.SHORT + proved_cases.SEEDED_LONG]
+        out += [Request(name, "secret", n, 136) for n in proved_cases.KEYED_SHORT + [577, 640, 1217]]
         out += [Request(name, "secret", n, 143) for n in (577, 640, 641)]
         out += [Request(name, "both", n, 137) for n in (240, 241, 641)]
     return sorted([r for request in out for r in [request, *request.with_seed_0()]], key=lambda request: request.length)
@@ -82,14 +82,14 @@ def difference(request, a, b):
 # ---- changes of the definition
 
 class Asked:
-    """A request with the reference's term, in the form of mutants.py's rows: `outcome` is the last result."""
+    """A request with the reference's term, in the form of mutants.py's cases: `outcome` is the last result."""
 
     def __init__(self, request, module):
         self.request, self.length, self.outcome = request, request.length, None
-        self.answer = sides.of_reference(request, module)
+        self.answer = reference.of_reference(request, module)
 
     def agrees(self, entries):
-        """False if the two differ at a point; True if further rows must be tested."""
+        """False if the two differ at a point; True if further cases must be tested."""
         try:
             with Limited():
                 value = self.request.of_definition(entries)
@@ -121,11 +121,11 @@ class Asked:
 class CountedLength:
     """Tests `counted` with a length that no request has."""
 
-    def __init__(self, row):
-        self.row, self.length, self.outcome = row, row.length, None
+    def __init__(self, case):
+        self.case, self.length, self.outcome = case, case.length, None
 
     def agrees(self, entries):
-        self.outcome = None if self.row.agrees(entries) else "another counted length"
+        self.outcome = None if self.case.agrees(entries) else "another counted length"
         return self.outcome is None
 
 
@@ -133,16 +133,16 @@ def of_text(module, part, parts):
     """Returns (outcome, text) for each change of one token, or for a part of them."""
     nodes.forget()
     program = definition.program()
-    rows = [Asked(request, module) for request in asked()]
-    rows += [CountedLength(row) for row in proved_rows.counted_lengths()]
-    by_definition = mutants.rows_by_definition(program, rows)
+    cases = [Asked(request, module) for request in asked()]
+    cases += [CountedLength(case) for case in proved_cases.counted_lengths()]
+    by_definition = mutants.cases_by_definition(program, cases)
     known, out = nodes.mark(), []
     for change in mutants.all_changes(program)[part::parts]:
-        for row in rows:
-            row.outcome = None
+        for case in cases:
+            case.outcome = None
         what = mutants.outcome(program, by_definition, change)
         changed = program.definitions.modules[change.path].definitions[change.name]
-        told = [row.outcome for row in by_definition.get(changed, ()) if row.outcome]
+        told = [case.outcome for case in by_definition.get(changed, ()) if case.outcome]
         out.append((what if what == "unreadable" else told[-1] if told else UNNOTICED, change.text))
         nodes.release(known)
     return out
@@ -206,7 +206,7 @@ def reaching(module, requests):
     try:
         for request in requests:
             seen.clear()
-            sides.of_reference(request, module)
+            reference.of_reference(request, module)
             for name in seen:
                 out[name].append(request)
     finally:
@@ -236,7 +236,7 @@ def changed_outcome(module, change, requests, answers):
         module.functions[change[0]] = with_line(module, *change)
         for request in requests:
             with Limited():
-                value = sides.of_reference(request, module)
+                value = reference.of_reference(request, module)
                 if not nodes.is_same(value, answers[id(request)]):
                     what = difference(request, value, answers[id(request)])
             if what == NOTICED:
@@ -340,7 +340,7 @@ def by_hand(module):
         for name in hashes:
             for n in HAND_LENGTHS[name]:
                 request = Request(name, "seed", n)
-                a, b = request.of_definition(entries), sides.of_reference(request, module)
+                a, b = request.of_definition(entries), reference.of_reference(request, module)
                 asked_lengths += 1
                 if not nodes.is_same(a, b):
                     point = point or not others and differing_point(request, a, b)   # tested once

@@ -1,5 +1,5 @@
 """Prints the term of a request step by step, as each side computes it."""
-from . import definition, nodes, sides
+from . import definition, nodes, reference
 from .nodes import BITS, NODES, PRODUCT, SUM, SYMBOL, Node
 from .requests import Request
 
@@ -74,7 +74,7 @@ def show(module, hash_name, length):
     out = []
     request = Request(hash_name, "seed", length)
     for side, ask in (("the definition", lambda: request.of_definition(definition.program().run())),
-                      ("the reference", lambda: sides.of_reference(request, module))):
+                      ("the reference", lambda: reference.of_reference(request, module))):
         nodes.forget()
         out.append((f"{request}, by {side}", steps(ask())))
     return out

@@ -8,7 +8,7 @@ import tempfile
 
 from symbolic_terms.refusals import Unsupported
 
-from .listed import X86_64, Object
+from .object_contents import X86_64, Object
 from .sources import GNU
 
 SLOT = 16                                     # bytes between instructions that are assembled separately

@@ -1,4 +1,4 @@
-"""Tests the verifier itself: random operations against numbers, algebraic laws, the reference's terms on the rows of
+"""Tests the verifier itself: random operations against numbers, algebraic laws, the reference's terms on the cases of
 the test vectors, and each use of a rule with an independent solver (z3)."""
 import glob
 import os
@@ -8,18 +8,18 @@ import sys
 
 import table
 
-from . import comparison, definition, halves, nodes, operations, sides
+from . import comparison, definition, halves, nodes, operations, reference
 from .requests import Request
 from .words import BINARY
 from .nodes import BITS, NODES, SUM, SYMBOL, Node, most_of, symbol, values_at
 from .operations import (add, add_at, bits, both, either, monus, multiply, multiply_at, quotient, remainder,
                          shift_right,
                          xor)
-from .sides import DEBIAN_PYTHON
+from .reference import DEBIAN_PYTHON
 
 MANY_POINTS = 8
 PRIME = 0x9E3779B185EBCA87
-LONGEST_ROW = 1100
+LONGEST_CASE = 1100
 MOST_NODES = 1_000_000
 
 
@@ -122,35 +122,35 @@ def laws(draw, message):
     ]
 
 
-# ---- the rows of the test vectors
+# ---- the cases of the test vectors
 
-def asked_by(row):
-    name = {entry: name for name, entry in table.HASHES.items()}[row.entry]
-    if row.is_plain():
-        return Request(name, "seed", row.length)
-    if row.secret is None:
-        return Request(name, "seed", row.length, seed=0 if not row.seed and row.length > 240 else None)
-    return Request(name, "secret" if row.seed is None else "both", row.length, row.secret[0])
+def asked_by(case):
+    name = {entry: name for name, entry in table.HASHES.items()}[case.entry]
+    if case.is_plain():
+        return Request(name, "seed", case.length)
+    if case.secret is None:
+        return Request(name, "seed", case.length, seed=0 if not case.seed and case.length > 240 else None)
+    return Request(name, "secret" if case.seed is None else "both", case.length, case.secret[0])
 
 
-def table_rows(module):
-    """Evaluates the reference's terms at the bytes of each row: gcc's compiled code must agree with the header here."""
-    rows = [row for row in map(table.Row, table.lines()) if row.length <= LONGEST_ROW]
+def table_cases(module):
+    """Evaluates the reference's terms at the bytes of each case: gcc's compiled code must agree with the header here."""
+    cases = [case for case in map(table.Case, table.lines()) if case.length <= LONGEST_CASE]
     nodes.forget()
     terms, bad = {}, []
-    for row in sorted(rows, key=lambda row: (row.entry, row.length)):
+    for case in sorted(cases, key=lambda case: (case.entry, case.length)):
         if len(NODES) > MOST_NODES:
             nodes.forget()
             terms.clear()
-        request = asked_by(row)
+        request = asked_by(case)
         if repr(request) not in terms:
-            terms[repr(request)] = sides.of_reference(request, module)
-        seed = row.seed or 0
-        point = {"m": bytes(table.drawn(row.start, row.length)), "seed32": seed % 2 ** 32, "seed64": seed,
-                 "s": bytes(table.drawn(row.secret[1], row.secret[0])) if row.secret else b""}
-        if values_at([terms[repr(request)]], point) != [row.answer]:
-            bad.append(f"disagrees: {row.line}")
-    return f"{len(rows)} rows of up to {LONGEST_ROW} bytes", bad
+            terms[repr(request)] = reference.of_reference(request, module)
+        seed = case.seed or 0
+        point = {"m": bytes(table.drawn(case.start, case.length)), "seed32": seed % 2 ** 32, "seed64": seed,
+                 "s": bytes(table.drawn(case.secret[1], case.secret[0])) if case.secret else b""}
+        if values_at([terms[repr(request)]], point) != [case.answer]:
+            bad.append(f"disagrees: {case.line}")
+    return f"{len(cases)} cases of up to {LONGEST_CASE} bytes", bad
 
 
 # ---- each use of a rule, checked by z3
@@ -280,7 +280,7 @@ def by_solver(module):
     for name, kind, secret in comparison.kinds((136,)):
         for length in range(SOLVED + 1):
             request = Request(name, kind, length, secret)
-            request.of_definition(entries), sides.of_reference(request, module)
+            request.of_definition(entries), reference.of_reference(request, module)
     operations.watching.clear()
     asked = list(solver.asked.values())[::EACH]
     found = [(solver.holds(*question), question) for question in asked]

@@ -86,7 +86,7 @@ def in_numbers(request, is_extreme):
     return out
 
 
-# ---- questions
+# ---- queries
 
 def noticed_by(ask):
     """Returns the detection's name or None. Drops the terms that `ask` makes."""
@@ -102,7 +102,7 @@ def noticed_by(ask):
 
 
 class Call:
-    """Question: a call that compares its result itself."""
+    """Query: a call that compares its result itself."""
     request = None
 
     def __init__(self, call):
@@ -116,7 +116,7 @@ class Call:
 
 
 class OfRequest:
-    """Question: a request, with the definition's value and its term, each computed when first needed."""
+    """Query: a request, with the definition's value and its term, each computed when first needed."""
 
     def __init__(self, request, entries, is_extreme=False):
         self.title, self.request, self.entries, self.term = repr(request), request, entries, None
@@ -145,7 +145,7 @@ class OfRequest:
         return told
 
 
-def questions(entries, is_all, others, library):
+def queries(entries, is_all, others, library):
     """Returns the requests that a library can run, the shortest first, and the other calls."""
     asked = [twin for request in requests(is_all) if library.has(request) for twin in with_twins(request)]
     asked.sort(key=lambda request: request.length)
@@ -154,12 +154,12 @@ def questions(entries, is_all, others, library):
 
 def are_long(asked):
     """True if all requests take longer than an induction."""
-    return all(question.request.length >= LONG for question in asked)
+    return all(query.request.length >= LONG for query in asked)
 
 
 def near(asked, entries, draw, count, shortest):
     """Yields requests with lengths and cuts near to the given ones, with mostly extreme bytes."""
-    requests = [question.request for question in asked if question.request.length < LONG]
+    requests = [query.request for query in asked if query.request.length < LONG]
     for one in draw.choices(requests, k=count if requests else 0):
         n = max(shortest, one.length + draw.randrange(-2, 3))
         cuts = None if one.cuts is None else [max(0, min(n, cut + draw.randrange(-2, 3))) for cut in one.cuts]
@@ -170,7 +170,7 @@ def near(asked, entries, draw, count, shortest):
 def further(asked, entries, shortest):
     """Yields further requests of the same hashes: one-shots of LENGTHS and with other secrets, and streams that add
     each number of bytes to the buffer and leave each number in it."""
-    kinds = {(one.hash_name, one.cuts is None): one for one in (question.request for question in asked)}
+    kinds = {(one.hash_name, one.cuts is None): one for one in (query.request for query in asked)}
     for (hash_name, is_once), one in kinds.items():
         for n, *cuts in [(n,) for n in LENGTHS if n >= shortest] if is_once else further_streams(one_shots.is_plain(hash_name)):
             yield OfRequest(Request(hash_name, one.kind, n, one.secret_length, one.fixed_seed, None if is_once else cuts),
@@ -188,32 +188,32 @@ def further_streams(is_plain):
 
 
 def reaching(cpu, asked):
-    """Maps each place to the questions that run its instruction, as a bit set. Raises if a question detects something
+    """Maps each place to the queries that run its instruction, as a bit set. Raises if a query detects something
     in the unchanged source."""
     found = collections.defaultdict(int)
-    for k, question in enumerate(asked):
+    for k, query in enumerate(asked):
         cpu.used = set()
-        told = question.with_numbers(cpu)
+        told = query.with_numbers(cpu)
         if told:
-            raise NotShown(f"{question.title}: {told}")
+            raise NotShown(f"{query.title}: {told}")
         for place in cpu.used:
             found[place] |= 1 << k
     return {place: bits for place, bits in found.items() if place[0] in cpu.program.sections}
 
 
-# Questions of a library besides requests: other calls, the class that proves updates of XXH3, and a function that
+# Queries of a library besides requests: other calls, the class that proves updates of XXH3, and a function that
 # yields calls for changes that are still undetected; and the length of its shortest one-shots.
 Beside = collections.namedtuple("Beside", "calls updates more shortest")
 FOR_C = Beside([call for _, _, call in calls.OTHERS], xxh3_updates.Xxh3Updates, lambda cpu: (), 0)
 
 
-# ---- questions by induction
+# ---- queries by induction
 
 def by_induction(program, asked, section, updates):
-    """Returns questions that prove some cases of updates and one-shots, chosen by the requests that run a section, and
+    """Returns queries that prove some cases of updates and one-shots, chosen by the requests that run a section, and
     of the section if it takes stripes. `updates` proves the streams of XXH3."""
     found = {}
-    for one in (question.request for question in asked):
+    for one in (query.request for query in asked):
         if one_shots.is_plain(one.hash_name):
             found.setdefault((one.hash_name, one.cuts is None), functools.partial(
                 plain_length if one.cuts is None else plain_update, one.hash_name))
@@ -258,11 +258,11 @@ def long_one_shot(name, way, k, cpu):
 
 
 def any_secret_of(name, way, k, cpu):
-    case_of(any_secret.AnySecret(cpu).questions(way, name[2:]), k)()
+    case_of(any_secret.AnySecret(cpu).queries(way, name[2:]), k)()
 
 
 def own_secret(name, way, k, cpu):
-    """Proves a case with a secret of 192 to 199 bytes; for x86-64-v4 one of the cases in its row."""
+    """Proves a case with a secret of 192 to 199 bytes; for x86-64-v4 one of the cases in its task."""
     is_widened = xxh3_updates.TAKE_WIDENED.name in cpu.program.functions
     cases = every_length.of_secret_by_turns() if is_widened else every_length.of_secret()
     every_length.EveryLength(cpu, f"{name}:{way}").show(case_of(cases, k))

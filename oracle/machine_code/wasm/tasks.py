@@ -1,16 +1,16 @@
-"""Chooses the rows of oracle/modules: the requests of the two modules, and the row that proves each export."""
+"""Chooses the tasks of oracle/modules: the requests of the two modules, and the task that proves each export."""
 import functools
 import hashlib
 import os
 
 from symbolic_terms import comparison
-from symbolic_terms.processes import Row
-from symbolic_terms.rows import STREAM_SECRETS, title_of
+from symbolic_terms.processes import Task
+from symbolic_terms.tasks import STREAM_SECRETS, title_of
 
-from .. import covered
-from .. import rows as of_texts
+from .. import coverage
+from .. import tasks as of_texts
 from ..xxh3_updates import DIGESTS, STRIPES, UPDATES
-from . import calls, changes, comparing, engine, every_length, plain_streams, planted, planted_sections, refusals, xxh3_streams
+from . import calls, mutation, comparing, engine, every_length, plain_streams, planted, planted_sections, refusals, xxh3_streams
 from .machine import STACK, Machine
 from .module import FUNCTION, GLOBAL, MEMORY, Module
 
@@ -22,9 +22,9 @@ GATE_KINDS, GATE_CASES = [("32", "seed"), ("64", "seed"), ("3-64", "seed"), ("3-
 # Cases of XXH3's streams: size of a sample, and the number of parts of all.
 XXH3_CASES = {UPDATES: (8, 4), DIGESTS: (12, 2), STRIPES: (2, 2)}
 GATE_CHANGES, CHANGES = 30, 1000     # of a module
-PARTS = 4                            # rows into which the changes of a module are split
+PARTS = 4                            # tasks into which the changes of a module are split
 
-# Every export, with words of the titles of rows that prove it.
+# Every export, with words of the titles of tasks that prove it.
 XXH3_ONE_SHOTS = {f"twox_xxh3_{bits}{calls.WAYS[way]}": [f"XXH3-{bits}, {way}", "one-shots"]
                   for bits in (64, 128) for way in calls.WAYS}
 EXPORTS = {
@@ -55,20 +55,20 @@ def checksums():
 
 
 def choose(given, machines):
-    """Returns the rows. The machines are made once; each row has its own copies, since it runs as a process."""
+    """Returns the tasks. The machines are made once; each task has its own copies, since it runs as a process."""
     out = lengths(given.all) + of_refusals() + induction(given.all) + streams_by_induction(given.all)
     out += xxh3_streams_by_induction(given.all) + of_engine(given.all) + of_changes(given.all)
     titles = [title for title, _ in out]
-    out.insert(0, ("the exports are those of the table, each with its row", functools.partial(exports, titles=titles)))
-    return [Row(title, functools.partial(ask, machines)) for title, ask in out if given.only in title]
+    out.insert(0, ("the exports are those of the table, each with its task", functools.partial(exports, titles=titles)))
+    return [Task(title, functools.partial(ask, machines)) for title, ask in out if given.only in title]
 
 
 # ---- the exports
 
 def exports(machines, titles):
-    """Checks that each module has exactly the exports of the table, that their rows exist, and where the caller's
+    """Checks that each module has exactly the exports of the table, that their tasks exist, and where the caller's
     memory begins."""
-    bad = [f"no row shows {name}" for name, words in EXPORTS.items()
+    bad = [f"no task shows {name}" for name, words in EXPORTS.items()
            if words != ["the exports"] and not any(all(word in title for word in words) for title in titles)]
     for module, vm in machines.items():
         found = vm.module.exports
@@ -170,7 +170,7 @@ def xxh3_streams_by_induction(is_all):
 def xxh3_cases_are_all(machines, count):
     """Tests `count` points of each kind. The cases are the same for both modules."""
     proof = xxh3_streams.ModuleUpdates(machines[NAMES[0]])
-    found = covered.left_out(proof, count)
+    found = coverage.left_out(proof, count)
     bad = [f"no case has {point}" for point in found[:5]]
     return f"{3 * count} points", bad if planted.lacks_a_case(proof) else [*bad, "a case that is left out isn't missed"]
 
@@ -178,7 +178,7 @@ def xxh3_cases_are_all(machines, count):
 def xxh3_streams_shown(machines, module, what, first, some):
     """Proves the cases of a part, or a sample of `some` cases."""
     proof = xxh3_streams.ModuleUpdates(machines[module])
-    asked = proof.questions(what)
+    asked = proof.queries(what)
     each = len(asked) // some if some else XXH3_CASES[what][1]
     count, bad = of_texts.count_shown(proof, asked[first::each])
     return f"{count} cases", bad
@@ -214,4 +214,4 @@ def of_changes(is_all):
 
 
 def of_changed_bytes(machines, module, count, seed, is_all):
-    return changes.tell(module, machines[module], count, seed, is_all)
+    return mutation.tell(module, machines[module], count, seed, is_all)

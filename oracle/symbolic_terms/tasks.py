@@ -1,4 +1,4 @@
-"""Chooses and runs the rows of oracle/symbolic: the requests, each in its own process, and their results."""
+"""Chooses and runs the tasks of oracle/symbolic: the requests, each in its own process, and their results."""
 import collections
 import functools
 import os
@@ -8,19 +8,19 @@ import unittest.mock
 import mutants
 from reasons import Reasons, is_fault
 
-from . import changed_headers, changes, comparison, every_length, machinery, plain_streams, processes, xxh3_streams
+from . import header_mutants, mutation, comparison, every_length, self_tests, plain_streams, processes, xxh3_streams
 from .comparison import SECRETS
 from .machine import Module
-from .sides import HEADERS, VECTORS, llvm_text, of_reference
+from .reference import HEADERS, VECTORS, llvm_text, of_reference
 
-PARTS = 4                    # rows into which the changes are split
+PARTS = 4                    # tasks into which the changes are split
 SAMPLE = 32                  # in CI, step between tested changes of the definition
 LINES, FEW_LINES = 5000, 100  # changes of the LLVM code, with --all and without
 GATE_SECRETS, STREAM_SECRETS = (136,), (136, 192)
 
 
-class Row(processes.Row):
-    """A row whose function takes a module: the library's code for scalar, SSE2 or AVX2."""
+class Task(processes.Task):
+    """A task whose function takes a module: the library's code for scalar, SSE2 or AVX2."""
 
     def __init__(self, title, ask, vector="scalar", is_deep=True):
         super().__init__(title + ("" if vector == "scalar" else f", {vector}"), ask, is_deep)
@@ -29,11 +29,11 @@ class Row(processes.Row):
 
 def choose(given):
     vectors = list(VECTORS) if given.all else [given.vector]
-    rows = induction(vectors, given.all) + lengths(given.all, given.vector)
+    tasks = induction(vectors, given.all) + lengths(given.all, given.vector)
     if given.all:
-        rows += vector_lengths([vector for vector in vectors if vector != given.vector])
-    rows += of_changes(given.all, given.vector, given.headers) + of_machinery(given.all, given.vector, given.headers)
-    return [row for row in rows if given.only in row.title]
+        tasks += vector_lengths([vector for vector in vectors if vector != given.vector])
+    tasks += of_changes(given.all, given.vector, given.headers) + of_machinery(given.all, given.vector, given.headers)
+    return [task for task in tasks if given.only in task.title]
 
 
 # ---- single lengths
@@ -55,7 +55,7 @@ def lengths(is_all, vector):
 
 
 def vector_lengths(vectors):
-    """Returns the rows of the code for other vector instructions, which differs from 241 bytes on."""
+    """Returns the tasks of the code for other vector instructions, which differs from 241 bytes on."""
     kinds = [kind for kind in comparison.kinds((136,)) if kind[0].startswith("3-")]
     return [compared(title_of(*kind), kind, [*range(241, 501), *comparison.edges(kind[2])], vector)
             for vector in vectors for kind in kinds]
@@ -67,7 +67,7 @@ def compared(title, kind, asked, vector, streams=False):
         equal, complaints = comparison.compare(sides, comparison.requests(*kind, asked, streams))
         return f"{equal} requests, each one term", complaints
     first, last = min(asked), max(asked)
-    return Row(f"{title}: {first} to {last} bytes", ask, vector)
+    return Task(f"{title}: {first} to {last} bytes", ask, vector)
 
 
 # ---- every length
@@ -93,7 +93,7 @@ def shown(title, show, vector="scalar"):
     def ask(module):
         proof = show(module)
         return f"{proof.cases} cases; " + "; ".join(proof.lines()[:4]), []
-    return Row(title, ask, vector)
+    return Task(title, ask, vector)
 
 
 # ---- changes and the machinery
@@ -101,46 +101,46 @@ def shown(title, show, vector="scalar"):
 def of_changes(is_all, vector, headers):
     parts = range(PARTS) if is_all else [0]
     of = PARTS if is_all else SAMPLE
-    out = [Row(f"changes of one token of the definitions, part {part + 1} of {of}",
+    out = [Task(f"changes of one token of the definitions, part {part + 1} of {of}",
                functools.partial(text_changes, part=part, parts=of), vector,
                is_deep=False) for part in parts]
     of = PARTS if is_all else 1
     sample = LINES if is_all else FEW_LINES
-    out += [Row(f"changes of LLVM's text, part {part + 1} of {of}",
+    out += [Task(f"changes of LLVM's text, part {part + 1} of {of}",
                 functools.partial(line_changes, sample=sample, part=part, parts=of), vector,
                 is_deep=False) for part in parts]
-    out.append(Row("changes of the definitions that differ from 2^31 bytes on alone, asked by induction",
+    out.append(Task("changes of the definitions that differ from 2^31 bytes on alone, asked by induction",
                    large_changes, vector))
-    out.append(Row("changes by hand of the definitions, that differ on rare inputs alone", hand_changes, vector))
+    out.append(Task("changes by hand of the definitions, that differ on rare inputs alone", hand_changes, vector))
     if headers != HEADERS:      # the changes fit only Debian's header
         return out
-    asked = changed_headers.CHANGES if is_all else changed_headers.CHANGES[::4]
-    out.append(Row("changes of the header 0.8.1, asked by induction", functools.partial(header_changes, changed=asked)))
+    asked = header_mutants.CHANGES if is_all else header_mutants.CHANGES[::4]
+    out.append(Task("changes of the header 0.8.1, asked by induction", functools.partial(header_changes, changed=asked)))
     if is_all:
-        out.append(Row("changes of the header 0.8.1, streams of XXH3",
-                       functools.partial(header_changes, changed=changed_headers.DEAR)))
+        out.append(Task("changes of the header 0.8.1, streams of XXH3",
+                       functools.partial(header_changes, changed=header_mutants.DEAR)))
     return out
 
 
 def header_changes(module, changed):
-    found = list(changed_headers.tell(changed))
-    return f"{len(found)} questions", [line for is_good, line in found if not is_good]
+    found = list(header_mutants.tell(changed))
+    return f"{len(found)} queries", [line for is_good, line in found if not is_good]
 
 
 def large_changes(module):
-    found = changes.by_induction(module)
+    found = mutation.by_induction(module)
     return f"{len(found)} changes, each refused", [line for is_good, line in found if not is_good]
 
 
 def text_changes(module, part, parts):
-    found = changes.of_text(module, part, parts)
-    reasons, by_induction = mutants.reasons(), [words for words, *_ in changes.AT_LARGE_LENGTHS]
+    found = mutation.of_text(module, part, parts)
+    reasons, by_induction = mutants.reasons(), [words for words, *_ in mutation.AT_LARGE_LENGTHS]
     return told(found), faults(found, lambda text: reasons.of(text) or any(words in text for words in by_induction))
 
 
 def line_changes(module, sample, part, parts):
-    found = changes.of_reference(module, sample, part, parts)
-    return told(found), faults(found, Reasons(changes.EQUAL_LINES).of)
+    found = mutation.of_reference(module, sample, part, parts)
+    return told(found), faults(found, Reasons(mutation.EQUAL_LINES).of)
 
 
 def faults(found, reasons_of):
@@ -153,7 +153,7 @@ def told(found):
 
 
 def hand_changes(module):
-    found = changes.by_hand(module)
+    found = mutation.by_hand(module)
     return f"{len(found)} changes", [line for is_good, line in found if not is_good]
 
 
@@ -169,25 +169,25 @@ def header_is_the_one_named(headers, vector, _module):
 
 
 def of_machinery(is_all, vector, headers):
-    out = [Row("the header is the one that is summed",
+    out = [Task("the header is the one that is summed",
                functools.partial(header_is_the_one_named, headers, vector), vector),
-           Row("the rules are the proved ones", machinery.rules_are_proved, vector),
-           Row("random operations and laws",
-               functools.partial(machinery.random_operations, rounds=300 if is_all else 30), vector)]
+           Task("the rules are the proved ones", self_tests.rules_are_proved, vector),
+           Task("random operations and laws",
+               functools.partial(self_tests.random_operations, rounds=300 if is_all else 30), vector)]
     if is_all:
-        out += [Row("the reference's terms on the rows of the table", machinery.table_rows, vector),
-                Row("a sample of the operations by z3: 0 to 16 bytes", machinery.by_solver, vector)]
+        out += [Task("the reference's terms on the cases of the table", self_tests.table_cases, vector),
+                Task("a sample of the operations by z3: 0 to 16 bytes", self_tests.by_solver, vector)]
     return out
 
 
 # ---- processes
 
-def run(rows, headers, jobs):
-    """Runs the rows, each with its own module. Returns the exit status."""
-    texts = {vector: llvm_text(headers, vector) for vector in {row.vector for row in rows}}
-    return processes.run([processes.Row(row.title, functools.partial(asked, row, texts[row.vector]), row.is_deep)
-                          for row in rows], jobs)
+def run(tasks, headers, jobs):
+    """Runs the tasks, each with its own module. Returns the exit status."""
+    texts = {vector: llvm_text(headers, vector) for vector in {task.vector for task in tasks}}
+    return processes.run([processes.Task(task.title, functools.partial(asked, task, texts[task.vector]), task.is_deep)
+                          for task in tasks], jobs)
 
 
-def asked(row, text):
-    return row.ask(Module(text))
+def asked(task, text):
+    return task.ask(Module(text))

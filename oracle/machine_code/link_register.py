@@ -8,7 +8,7 @@ from symbolic_terms.refusals import Undecided, Unsupported
 from symbolic_terms.nodes import symbol
 from symbolic_terms.polynomials import is_same
 
-from .listed import OUTER
+from .object_contents import OUTER
 from .memory import ENTRY, Constants, Stack, Words, copy, fill
 from .values import WORD, Address, address, joined, low, place_of
 

@@ -1,4 +1,4 @@
-"""Tests that single-instruction changes of the source for 64-bit ARM are detected (../changes.py).
+"""Tests that single-instruction changes of the source for 64-bit ARM are detected (../mutation.py).
 
 A change inverts one of an instruction's 32 bits: of a register, a number, a condition, a shift, a width, or the
 operation. objdump decodes the changed bytes, like the source's. Bytes that are no instruction, or one that the table
@@ -10,11 +10,11 @@ import tempfile
 from reasons import Reasons
 from symbolic_terms.refusals import Unsupported
 
-from .. import changes
+from .. import mutation
 from .objects import SIZE, Shift, listing
 from .table import TABLE, Processor
 
-EQUAL = os.path.join(os.path.dirname(os.path.abspath(__file__)), "equal_changes.txt")
+EQUAL = os.path.join(os.path.dirname(os.path.abspath(__file__)), "equivalent_mutants.txt")
 MANY, FEW = 1000, 40              # changes of a random seed, with --all and without
 BITS = 8 * SIZE
 
@@ -85,7 +85,7 @@ def noticed(program, part):
     is_all = part is not None
     with tempfile.TemporaryDirectory(prefix="arm-text-") as room:
         changed = Changed(program, os.path.join(room, "text.o"))
-        some = changes.of_draws(functools.partial(drawn, changed), MANY if is_all else FEW)
-        some = changes.part_of(some, part) if is_all else some
-        texts, bad = changes.noticed_of(Processor(program), some, Reasons(EQUAL), is_all)
+        some = mutation.of_draws(functools.partial(drawn, changed), MANY if is_all else FEW)
+        some = mutation.part_of(some, part) if is_all else some
+        texts, bad = mutation.noticed_of(Processor(program), some, Reasons(EQUAL), is_all)
     return len(texts), bad

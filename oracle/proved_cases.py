@@ -34,13 +34,13 @@ def counted_lengths():
 
 def choose():
     """Returns the test cases, in the table's order, without repetition."""
-    rows = [table.Row(line) for line in table.lines()]
+    cases = [table.Case(line) for line in table.lines()]
     found = {}
-    for row in rows:
-        words = row.line.split()
+    for case in cases:
+        words = case.line.split()
         seed = words[1] if words[1] in FIXED + ["-"] else "drawn"
-        secret = 0 if row.secret is None else row.secret[0]
-        found.setdefault((words[0], seed, secret, row.length), row)
+        secret = 0 if case.secret is None else case.secret[0]
+        found.setdefault((words[0], seed, secret, case.length), case)
     wanted = []
     for name, lengths in PLAIN.items():
         wanted += [(name, "drawn", 0, n) for n in lengths]
@@ -53,6 +53,6 @@ def choose():
         wanted += [(name, "drawn", 136, 240), (name, "0", 0, 1025)]
     missing = [key for key in wanted if key not in found]
     if missing:
-        raise SystemExit(f"no rows in the table: {missing}")
+        raise SystemExit(f"no cases in the table: {missing}")
     chosen = {id(found[key]) for key in wanted}
-    return [row for row in rows if id(row) in chosen]
+    return [case for case in cases if id(case) in chosen]

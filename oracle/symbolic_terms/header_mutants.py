@@ -5,7 +5,7 @@ import tempfile
 
 from . import every_length, plain_streams, xxh3_streams
 from .refusals import REFUSALS
-from .sides import HEADERS, module
+from .reference import HEADERS, module
 
 LONG, ACCUMULATE = "XXH3_hashLong_internal_loop", "XXH3_accumulate("
 LOOP_64, LOOP_32 = "XXH64_endian_align", "XXH32_endian_align"

@@ -1,8 +1,8 @@
 """Tests that single-instruction changes of an assembly source are detected: another register, operand, number,
 condition or shift, an instruction left out, or two neighbours swapped.
 
-A change is tested by requests that run the instruction (questions.py). It is detected if the source's term differs from
-the definition's, or if the source does something that no call may do. Undetected changes are listed in equal_changes
+A change is tested by requests that run the instruction (queries.py). It is detected if the source's term differs from
+the definition's, or if the source does something that no call may do. Undetected changes are listed in equivalent_mutants
 with their reasons, in one file per source. A listed change that is detected fails. With --all an unneeded reason fails
 too. A crash of this program doesn't count as detection."""
 import collections
@@ -18,13 +18,13 @@ from symbolic_terms import definition, nodes
 from .instructions import PARTS, SETS, TABLE, VECTORS, letters
 from .objects import TEXT, Immediate, Place, Register
 from .one_shots import is_plain
-from .questions import FOR_C, Call, are_long, by_induction, further, near, questions, reaching, takes_stripes
+from .queries import FOR_C, Call, are_long, by_induction, further, near, queries, reaching, takes_stripes
 
-FOLDER = os.path.join(os.path.dirname(os.path.abspath(__file__)), "equal_changes")
+FOLDER = os.path.join(os.path.dirname(os.path.abspath(__file__)), "equivalent_mutants")
 LIMIT = 40_000                   # instructions of a changed source's call
 MOST, NEAR, FEWEST = 200, 40, 10  # shortest requests; generated requests near them; requests tested on symbols
 DRAWS = 10                        # random seeds with --all; one otherwise
-ROWS = 4                          # rows into which the changes of the sources for ARM and RISC-V are split, with --all
+TASKS = 4                          # tasks into which the changes of the sources for ARM and RISC-V are split, with --all
 IDLE = "nop", "prefetcht0", "vzeroupper", "ud2"
 ALIKE = [("je", "jne"), ("jb", "jbe"), ("ja", "jae"), ("jb", "jae"), ("sete", "setne"), ("cmovb", "cmovae"),
          ("add", "sub"), ("xor", "or"), ("and", "or"), ("inc", "dec"), ("neg", "not"), ("shl", "shr"), ("mul", "div"),
@@ -37,13 +37,13 @@ ALIKE = [("je", "jne"), ("jb", "jbe"), ("ja", "jae"), ("jb", "jae"), ("sete", "s
 
 def outcome(cpu, instructions, asked, draw, near_to, more):
     """Returns the outcome of changed instructions: tests the requests that run them, requests near those, a few on
-    symbols, and `more` questions. If only long requests run them, `more` comes first. A question that detects a change
+    symbols, and `more` queries. If only long requests run them, `more` comes first. A query that detects a change
     must accept the unchanged source: otherwise its result says nothing about the change."""
     before = [cpu.program.sections[x.section][x.at] for x in instructions]
-    requests = [question for question in asked if question.request]
+    requests = [query for query in asked if query.request]
     few = draw.sample(requests[:MOST], min(FEWEST, len(requests[:MOST])))
     with_near = itertools.chain(requests, near_to(requests, draw=draw))
-    by_requests = itertools.chain((question.twice for question in with_near), (question.over_symbols for question in few))
+    by_requests = itertools.chain((query.twice for query in with_near), (query.over_symbols for query in few))
     ways = itertools.chain(*((more, by_requests) if are_long(requests) else (by_requests, more)))
     try:
         for x in instructions:
@@ -166,18 +166,18 @@ def written(x):
     return f"{x.mnemonic} {','.join(parts)}".strip()
 
 
-# ---- the row
+# ---- the task
 
 def more_ways(cpu, reached, asked, entries, is_all, section, beside):
-    """Yields further questions about a change in a section: calls without a request, inductions with --all, and further
+    """Yields further queries about a change in a section: calls without a request, inductions with --all, and further
     requests. A function that takes many stripes always gets inductions: its requests take long. If no request reaches
     the change, those of XXH32's and XXH64's streams are used."""
-    requests = [question for question in reached if question.request] or [
-        question for question in asked if question.request and question.request.cuts and is_plain(question.request.hash_name)]
-    yield from (question.over_symbols for question in reached if not question.request)
+    requests = [query for query in reached if query.request] or [
+        query for query in asked if query.request and query.request.cuts and is_plain(query.request.hash_name)]
+    yield from (query.over_symbols for query in reached if not query.request)
     if beside.updates and (is_all or takes_stripes(cpu.program, section)):
-        yield from (question.over_symbols for question in by_induction(cpu.program, requests, section, beside.updates))
-    yield from (question.twice for question in further(requests, entries, beside.shortest))
+        yield from (query.over_symbols for query in by_induction(cpu.program, requests, section, beside.updates))
+    yield from (query.twice for query in further(requests, entries, beside.shortest))
     yield from (Call(call).over_symbols for call in beside.more(cpu))
 
 
@@ -196,23 +196,23 @@ def of_draws(one, count, draws=1):
 
 
 def part_of(changes, part):
-    """Returns a function of places that yields every ROWS-th change, starting at `part`."""
-    return lambda places: itertools.islice(changes(places), part, None, ROWS)
+    """Returns a function of places that yields every TASKS-th change, starting at `part`."""
+    return lambda places: itertools.islice(changes(places), part, None, TASKS)
 
 
 def noticed_of(cpu, changes, known, is_all, beside=FOR_C):
     """Returns the texts of the tested changes, and the messages for undetected ones. `changes` draws from a source's
-    places; `known` has the reasons. The questions about a change don't depend on other changes."""
+    places; `known` has the reasons. The queries about a change don't depend on other changes."""
     nodes.forget()
     cpu.limit = LIMIT
     entries = definition.program().run()
-    asked = questions(entries, is_all, beside.calls, cpu.library)
+    asked = queries(entries, is_all, beside.calls, cpu.library)
     found = reaching(cpu, asked)
     bad, texts = [], []
     near_to = functools.partial(near, entries=entries, count=NEAR, shortest=beside.shortest)
     for place, text, instructions in changes(sorted(found)):
         texts.append(text)
-        reached = [question for k, question in enumerate(asked) if found[place] >> k & 1]
+        reached = [query for k, query in enumerate(asked) if found[place] >> k & 1]
         has_reason = bool(known.of(text))
         more = () if has_reason else more_ways(cpu, reached, asked, entries, is_all, place[0], beside)
         what = outcome(cpu, instructions, reached, random.Random(text), near_to, more)

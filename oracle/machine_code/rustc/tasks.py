@@ -1,15 +1,15 @@
-"""Chooses the rows of oracle/rust-object: one-shots and streams of rustc's object, compared with the definition."""
+"""Chooses the tasks of oracle/rust-object: one-shots and streams of rustc's object, compared with the definition."""
 import functools
 import os
 import shutil
 import tempfile
 
 from symbolic_terms import comparison
-from symbolic_terms.processes import Row
-from symbolic_terms.rows import title_of
+from symbolic_terms.processes import Task
+from symbolic_terms.tasks import title_of
 
 from .. import one_shots, streams
-from .made import SOURCE
+from .compilers import SOURCE
 
 SECRETS = (136, 192)
 ONE_BY_ONE = range(301)
@@ -29,19 +29,19 @@ def choose(given, compilers):
     out = []
     for compiler in compilers:
         cpu = compiler.processor, compiler.program_of()
-        out += [*one_shot_rows(compiler.name, cpu, given.all), *stream_rows(compiler.name, cpu, given.all)]
-    out += [Row(f"a wrong {file}: {old}", functools.partial(is_noticed, compilers[0], *wrong)) for wrong in WRONG for file, old, *_ in [wrong]]
-    return [row for row in out if given.only in row.title]
+        out += [*one_shot_tasks(compiler.name, cpu, given.all), *stream_tasks(compiler.name, cpu, given.all)]
+    out += [Task(f"a wrong {file}: {old}", functools.partial(is_noticed, compilers[0], *wrong)) for wrong in WRONG for file, old, *_ in [wrong]]
+    return [task for task in out if given.only in task.title]
 
 
-def one_shot_rows(name, cpu, is_all):
+def one_shot_tasks(name, cpu, is_all):
     for kind in comparison.kinds(SECRETS):
         lengths = [*ONE_BY_ONE, *(LONGER[kind[0]] if is_all else ())] if kind[2] is None or is_all else SOME
         yield compared(f"{name}: {title_of(*kind)}, one-shots", cpu, kind, lengths)
 
 
-def stream_rows(name, cpu, is_all):
-    """Yields the rows of streams. An XXH3 stream has a seed, and a custom secret or one derived from the seed."""
+def stream_tasks(name, cpu, is_all):
+    """Yields the tasks of streams. An XXH3 stream has a seed, and a custom secret or one derived from the seed."""
     for kind in comparison.kinds(SECRETS):
         if kind[1] != "secret":
             yield compared(f"{name}: {title_of(*kind)}, streams", cpu, kind, comparison.STREAMED if is_all else STREAMED, True)
@@ -55,7 +55,7 @@ def compared(title, of, kind, lengths, is_stream=False):
         asked = comparison.requests(*kind, lengths, is_stream)
         equal, bad = comparison.compare({"rustc's code": lambda request: answer(cpu, request)}, asked)
         return f"{equal} requests, each one term", bad
-    return Row(title, ask)
+    return Task(title, ask)
 
 
 def is_noticed(compiler, file, old, new, kind, lengths):

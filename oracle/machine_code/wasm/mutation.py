@@ -3,7 +3,7 @@
 A change is one instruction replaced by another of the same types, or one inverted bit of an instruction. Changes that
 the reader or the validator refuses are counted separately. The others are tested by requests that run the instruction.
 A change is detected if a value differs at a point, or there is no value. If the terms differ but no such point is
-found, it counts as refused. Changes that break no guarantee are in equal_changes.txt, each with its reason. A crash of
+found, it counts as refused. Changes that break no guarantee are in equivalent_mutants.txt, each with its reason. A crash of
 this program counts as neither."""
 import collections
 import copy
@@ -25,7 +25,7 @@ from .opcodes import OPCODES
 from .validator import Validator, ends_of
 from .xxh3_streams import ModuleUpdates
 
-EQUAL = os.path.join(os.path.dirname(os.path.abspath(__file__)), "equal_changes.txt")
+EQUAL = os.path.join(os.path.dirname(os.path.abspath(__file__)), "equivalent_mutants.txt")
 LENGTHS = [*range(10), *range(14, 36, 3), 63, 64, 65, 96, 97, 120, 128, 129, 145, 200, 240, 241, 256, 257, 300, 1030]
 # If those detect nothing: edges first, then each length, or for streams each ninth.
 EDGES = [16, 17, 8, 9, 3, 4, 5, 128, 129, 240, 241, 31, 32, 33, 64, 65, 96, 97, 256, 257, 0, 1, 512, 513, 576, 1024,
@@ -117,8 +117,8 @@ def refused():
     yield from ((request, refusals.keep_counters) for request in refusals.of_counters())
 
 
-def kind_of(question):
-    request, answer = question
+def kind_of(query):
+    request, answer = query
     return request.hash_name, request.kind, request.secret_length, answer, getattr(request, "what", None)
 
 
@@ -128,15 +128,15 @@ class Covered:
     def __init__(self, vm, is_all):
         by_kind, seen, draw = collections.defaultdict(dict), collections.Counter(), random.Random(5)
         texts = Texts()
-        for question in (*asked(is_all), *long_pieces(vm, is_all)):
+        for query in (*asked(is_all), *long_pieces(vm, is_all)):
             texts.make_room()
-            vm.used, kind = set(), kind_of(question)
-            question[1](vm, question[0])
+            vm.used, kind = set(), kind_of(query)
+            query[1](vm, query[0])
             for place in sorted(vm.used):
                 seen[place, kind] += 1
                 for number in range(KEPT):
                     if draw.randrange(seen[place, kind]) == 0:
-                        by_kind[place][kind, number] = question
+                        by_kind[place][kind, number] = query
         vm.used = None
         self.by_place = {place: draw.sample([*found.values()], len(found)) for place, found in sorted(by_kind.items())}
         self.places = sorted(self.by_place)
@@ -195,10 +195,10 @@ def with_change(vm, function, whole):
 
 # ---- detection
 
-def outcome(vm, texts, questions):
+def outcome(vm, texts, queries):
     """Returns the outcome of some requests on a changed module."""
     found = UNNOTICED
-    for request, answer in questions:
+    for request, answer in queries:
         texts.make_room()
         vm.has_asked = False
         what = of_request(vm, texts, request, answer)
@@ -230,10 +230,10 @@ def differs(request, a, b):
     return values[0] != values[1] or differing_point(request, a, b) is not None
 
 
-def more(questions):
+def more(queries):
     """Yields requests of the same kinds with EDGES, for one one-shot and one stream with many short lengths, for one
     stream of each family with more chunks, and for XXH3 more invalid records."""
-    found = dict.fromkeys(kind_of(question)[:4] for question in questions)
+    found = dict.fromkeys(kind_of(query)[:4] for query in queries)
     # Instructions that only refused calls run are tested by streams too.
     kinds = [kind for kind in found if kind[3] not in REFUSING] or [(*kind[:3], calls.stream) for kind in found][:1]
     for kind in kinds:
@@ -335,11 +335,11 @@ def tell(name, vm, count, seed, is_all):
     """Tests `count` random changes and those by hand. Returns the counts of outcomes, and the failures."""
     covered, texts, known = Covered(vm, is_all), Texts(), Reasons(EQUAL)
     counts, bad = collections.Counter(), []
-    for text, changed, questions in (*drawn_by_hand(vm, covered), *drawn(vm, covered, count, seed)):
-        what = NOT_VALID if changed is None else outcome(changed, texts, questions)
+    for text, changed, queries in (*drawn_by_hand(vm, covered), *drawn(vm, covered, count, seed)):
+        what = NOT_VALID if changed is None else outcome(changed, texts, queries)
         has_reason = what == UNNOTICED and bool(known.of(f"{name}, {text}"))
         if what == UNNOTICED and not has_reason:
-            what = outcome(changed, texts, more(questions))
+            what = outcome(changed, texts, more(queries))
             what = of_many_bytes(changed) if what == UNNOTICED else what
             texts.forget()
         counts["unnoticed, with a reason" if has_reason else what.partition(":")[0]] += 1
