@@ -3,7 +3,7 @@
 A form is a mnemonic with a letter per operand, as in `add ml`: b, w, l, q a register of 8, 16, 32, 64 bits, h a second
 byte such as `ah`, x, y and z a vector of 128, 256 and 512 bits, m memory, i a number. An instruction that isn't in the
 table is refused. scalar.py and lanes.py fill it: each entry is a function of the processor and the instruction. It
-returns the next instruction's place if that isn't the following one."""
+returns the next instruction's place if that isn't the following one. `form` also passes it the operands."""
 from symbolic_terms.refusals import Unsupported
 
 from .objects import Immediate, Place, Register
@@ -37,9 +37,11 @@ OLDER = 16                                 # number of vector registers before x
 def form(kind, mnemonics, letters):
     """Returns a decorator that adds a function to the table for the given mnemonics, letters and instruction set."""
     def put(function):
+        def run(cpu, x):
+            return function(cpu, x, *x.operands)
         for mnemonic in mnemonics.split():
             for one in letters.split() or [""]:
-                TABLE[mnemonic, one] = kind, function
+                TABLE[mnemonic, one] = kind, run
         return function
     return put
 

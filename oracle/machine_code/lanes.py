@@ -67,8 +67,7 @@ def of_halves(words):
 @form(V3, "vmovdqa", "yy")
 @form(V4, "vmovdqu64", "mz zm zz ym")
 @form(V4, "vmovdqa64", "mz zm zz yy")
-def move(cpu, x):
-    source, to = x.operands
+def move(cpu, x, source, to):
     count = lanes_count(x)
     alignment = LANE * count if x.mnemonic.strip("v64") in ("movdqa", "movaps") else 1
     write(cpu, to, x, read(cpu, source, x, count, alignment), alignment)
@@ -78,9 +77,8 @@ def move(cpu, x):
 @form(V3, "vmovq", "qx xq xx mx")
 @form(V1, "movsd", "mx")
 @form(V3, "vmovsd", "mx")
-def move_low(cpu, x):
+def move_low(cpu, x, source, to):
     """Moves 64 bits. A vector destination's next 64 bits become 0."""
-    source, to = x.operands
     word = cpu.lanes(source)[0] if is_vector(source) else cpu.get(source, WORD, x)
     if is_vector(to):
         write(cpu, to, x, [word, 0])
@@ -89,30 +87,26 @@ def move_low(cpu, x):
 
 
 @form(V3, "vmovd", "lx mx")
-def move_narrow(cpu, x):
-    source, to = x.operands
+def move_narrow(cpu, x, source, to):
     write(cpu, to, x, [cpu.get(source, 32, x), 0])
 
 
 @form(V2, "pextrq", "ixq")
 @form(V3, "vpextrq", "ixq")
-def extract(cpu, x):
-    k, source, to = x.operands
+def extract(cpu, x, k, source, to):
     cpu.put(to, WORD, cpu.lanes(source, 1, k.value & 1)[0], x)
 
 
 @form(V3, "vextracti128 vextractf128", "iyx")
 @form(V4, "vextracti64x4", "izy")
-def extract_part(cpu, x):
-    k, source, to = x.operands
+def extract_part(cpu, x, k, source, to):
     count, parts = WIDTHS[to.name[0]], WIDTHS[source.name[0]] // WIDTHS[to.name[0]]
     write(cpu, to, x, cpu.lanes(source, count, count * (k.value % parts)))
 
 
 @form(V3, "vinserti128", "ixyy")
 @form(V4, "vinserti64x4", "iyzz")
-def insert_half(cpu, x):
-    k, source, other, to = x.operands
+def insert_half(cpu, x, k, source, other, to):
     count = lanes_count(x) // 2
     at = count * (k.value & 1)
     half, kept = read(cpu, source, x, count), cpu.lanes(other, count, count - at)
@@ -120,15 +114,13 @@ def insert_half(cpu, x):
 
 
 @form(V3, "vpbroadcastq", "mx my xy xx")
-def broadcast(cpu, x):
-    source, to = x.operands
+def broadcast(cpu, x, source, to):
     word = cpu.lanes(source)[0] if is_vector(source) else cpu.get(source, WORD, x)
     write(cpu, to, x, [word] * lanes_count(x))
 
 
 @form(V3, "vpbroadcastd", "mx my xx xy")
-def broadcast_half(cpu, x):
-    source, to = x.operands
+def broadcast_half(cpu, x, source, to):
     word = halves(cpu.lanes(source)[0])[0] if is_vector(source) else cpu.get(source, 32, x)
     write(cpu, to, x, of_halves([word] * 2 * lanes_count(x)))
 
@@ -143,8 +135,8 @@ def zero_upper(cpu, x):
 
 def by_lane(word):
     """Returns an operation on each 64-bit lane."""
-    def operation(cpu, x):
-        if word == "xor" and len({*x.operands[:2]}) == 1:     # 0 for any content
+    def operation(cpu, x, a, b, *_):
+        if word == "xor" and a == b:     # 0 for any content
             return write(cpu, x.operands[-1], x, [0] * lanes_count(x))
         return write(cpu, x.operands[-1], x, [arithmetic(word, WORD, p, q) for p, q in zip(*two(cpu, x))])
     return operation
@@ -152,7 +144,7 @@ def by_lane(word):
 
 def by_half(word):
     """Returns an operation on each 32-bit word."""
-    def operation(cpu, x):
+    def operation(cpu, x, *_):
         pairs = [pair for lanes in zip(*two(cpu, x)) for pair in zip(*map(halves, lanes))]
         write(cpu, x.operands[-1], x, of_halves([arithmetic(word, 32, p, q) for p, q in pairs]))
     return operation
@@ -173,14 +165,13 @@ for mnemonic, word in (("paddd", "add"), ("psubd", "sub"), ("pmulld", "mul")):
 @form(V1, "pmuludq", "mx xx")
 @form(V3, "vpmuludq", NEW)
 @form(V4, "vpmuludq", WIDE)
-def products(cpu, x):
+def products(cpu, x, *_):
     pairs = zip(*two(cpu, x))
     write(cpu, x.operands[-1], x, [arithmetic("mul", WORD, halves(p)[0], halves(q)[0]) for p, q in pairs])
 
 
 def shifted(word):
-    def operation(cpu, x):
-        k, *rest = x.operands
+    def operation(cpu, x, k, *rest):
         lanes = read(cpu, rest[0], x, lanes_count(x))
         write(cpu, rest[-1], x, [arithmetic(word, WORD, lane, k.value) if k.value < WORD else 0 for lane in lanes])
     return operation
@@ -193,17 +184,15 @@ for mnemonic, word in (("psrlq", "lshr"), ("psllq", "shl")):
 
 
 @form(V4, "vpmullq{1to8}", "mzz")
-def products_by_one(cpu, x):
+def products_by_one(cpu, x, source, other, to):
     """Multiplies all lanes by one word of memory."""
-    source, other, to = x.operands
     factor = cpu.get(source, WORD, x)
     write(cpu, to, x, [arithmetic("mul", WORD, lane, factor) for lane in cpu.lanes(other, lanes_count(x))])
 
 
 @form(V4, "vpternlogq", "izzz imzz")
-def logic_of_three(cpu, x):
+def logic_of_three(cpu, x, table, c, b, a):
     """Implements only the truth table of a three-way xor."""
-    table, c, b, a = x.operands
     if table.value != 0x96:
         raise Unsupported(f"the table {table.value:#x} of three bits")
     lanes = zip(*(read(cpu, y, x, lanes_count(x)) for y in (a, b, c)))
@@ -215,8 +204,7 @@ def logic_of_three(cpu, x):
 @form(V1, "pshufd", "ixx")
 @form(V3, "vpshufd", "ixx iyy")
 @form(V4, "vpshufd", "izz")
-def shuffle(cpu, x):
-    order, source, to = x.operands
+def shuffle(cpu, x, order, source, to):
     lanes, out = read(cpu, source, x, lanes_count(x)), []
     for first in range(0, len(lanes), 2):
         words = [word for lane in lanes[first:first + 2] for word in halves(lane)]
@@ -226,9 +214,8 @@ def shuffle(cpu, x):
 
 @form(V1, "shufps", "ixx")
 @form(V3, "vshufps", "ixxx")
-def shuffle_two(cpu, x):
+def shuffle_two(cpu, x, order, second, first, *_):
     """Selects two words of the first source, and two of the second."""
-    order, second, first = x.operands[:3]
     first, second = ([word for lane in cpu.lanes(y, 2) for word in halves(lane)] for y in (first, second))
     words = [(first if k < 2 else second)[order.value >> 2 * k & 3] for k in range(4)]
     write(cpu, x.operands[-1], x, of_halves(words))
@@ -236,7 +223,7 @@ def shuffle_two(cpu, x):
 
 @form(V1, "punpckldq", "xx mx")
 @form(V3, "vpunpckldq", "xxx mxx")
-def unpack_halves(cpu, x):
+def unpack_halves(cpu, x, *_):
     (a, _), (b, _) = two(cpu, x)
     write(cpu, x.operands[-1], x, of_halves([half for pair in zip(halves(a), halves(b)) for half in pair]))
 
@@ -245,25 +232,23 @@ def unpack_halves(cpu, x):
 @form(V3, "vpunpcklqdq vpunpckhqdq", NEW)
 @form(V1, "movlhps", "xx")
 @form(V3, "vmovlhps", "xxx")
-def unpack(cpu, x):
+def unpack(cpu, x, *_):
     is_high, (a, b) = "hqdq" in x.mnemonic, two(cpu, x)
     write(cpu, x.operands[-1], x, [side[k + is_high] for k in range(0, len(a), 2) for side in (a, b)])
 
 
 @form(V3, "vpalignr", "ixxx imxx iyyy imyy")
-def align(cpu, x):
+def align(cpu, x, k, second, first, to):
     """Shifts each pair of 128-bit parts of both sources by 64 bits."""
-    if x.operands[0].value != LANE:
+    if k.value != LANE:
         raise Unsupported("a shift that is no word")
-    low_part, high_part = (cpu.lanes(y, lanes_count(x)) if is_vector(y) else read(cpu, y, x, lanes_count(x))
-                           for y in x.operands[1:3])
-    pairs = [word for k in range(0, len(low_part), 2) for word in (low_part[k + 1], high_part[k])]
-    write(cpu, x.operands[-1], x, pairs)
+    second, first = (read(cpu, y, x, lanes_count(x)) for y in (second, first))
+    write(cpu, to, x, [word for k in range(0, len(second), 2) for word in (second[k + 1], first[k])])
 
 
 @form(V2, "pshufb", "mx xx")
 @form(V3, "vpshufb", NEW)
-def shuffle_bytes(cpu, x):
+def shuffle_bytes(cpu, x, *_):
     (lanes, order), out = two(cpu, x), []
     for first in range(0, len(lanes), 2):
         whole = [bits(lane, 8 * k, 8) for lane in lanes[first:first + 2] for k in range(8)]
@@ -276,23 +261,20 @@ def shuffle_bytes(cpu, x):
 
 
 @form(V3, "vpblendd", "iyyy ixxx")
-def blend(cpu, x):
-    mask, second, first, to = x.operands
+def blend(cpu, x, mask, second, first, to):
     a, b = ([word for lane in read(cpu, y, x, lanes_count(x)) for word in halves(lane)] for y in (first, second))
     write(cpu, to, x, of_halves([(b if mask.value >> k & 1 else a)[k] for k in range(len(a))]))
 
 
 @form(V3, "vpermq", "iyy")
-def permute(cpu, x):
-    order, source, to = x.operands
+def permute(cpu, x, order, source, to):
     lanes = read(cpu, source, x, 4)
     write(cpu, to, x, [lanes[order.value >> 2 * k & 3] for k in range(4)])
 
 
 @form(V1, "pslldq psrldq", "ix")
 @form(V3, "vpslldq vpsrldq", "ixx iyy")
-def shift_bytes(cpu, x):
-    k, *rest = x.operands
+def shift_bytes(cpu, x, k, *rest):
     lanes, out = read(cpu, rest[0], x, lanes_count(x)), []
     for first in range(0, len(lanes), 2):
         out += bytes_moved(lanes[first:first + 2], min(k.value, 16), "sll" in x.mnemonic)
@@ -307,9 +289,9 @@ def bytes_moved(pair, count, is_left):
 
 
 @form(V3, "vptest", "xx yy")
-def test(cpu, x):
+def test(cpu, x, a, b):
     """Sets the zero flag if the operands have no common bit."""
     result = 0
-    for p, q in zip(*(cpu.lanes(y, lanes_count(x)) for y in x.operands)):
+    for p, q in zip(*(cpu.lanes(y, lanes_count(x)) for y in (a, b))):
         result = arithmetic("or", WORD, result, p if p is q else arithmetic("and", WORD, p, q))
     cpu.set_flags("shift", WORD, None, None, result)

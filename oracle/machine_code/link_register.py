@@ -37,12 +37,15 @@ class Page:
 
 
 def filler(table):
-    """Returns a decorator that adds a function to a table for some mnemonics, each with comma-separated forms."""
+    """Returns a decorator that adds a function to a table for some mnemonics, each with comma-separated forms. It takes
+    the processor, the instruction and the operands."""
     def form(mnemonics, forms):
         def put(function):
+            def run(cpu, x):
+                return function(cpu, x, *x.operands)
             for mnemonic in mnemonics.split():
                 for one in map(str.strip, forms.split(",")):
-                    table[mnemonic, one] = function
+                    table[mnemonic, one] = run
             return function
         return put
     return form

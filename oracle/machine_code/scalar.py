@@ -19,7 +19,7 @@ TWO = "il iq ml mq ll qq"          # operands of additions and comparisons
 
 @form(V1, "nop", "")
 @form(V1, "prefetcht0", "m")
-def nothing(cpu, x):
+def nothing(cpu, x, *_):
     pass
 
 
@@ -31,22 +31,19 @@ def never(cpu, x):
 @form(V1, "mov", "il iq ml mq wm lm ll qm qq bm hm bb")
 @form(V1, "movl movq", "im")
 @form(V1, "movabs", "iq")
-def move(cpu, x):
-    source, to = x.operands
+def move(cpu, x, source, to):
     width = cpu.width(x)
     cpu.put(to, width, cpu.get(source, width, x), x)
 
 
 @form(V1, "movzbl", "ml bl")
 @form(V1, "movzwl", "ml wl")
-def move_widened(cpu, x):
-    source, to = x.operands
+def move_widened(cpu, x, source, to):
     cpu.put(to, cpu.width(x), cpu.get(source, {"b": 8, "w": 16}[x.mnemonic[4]], x), x)
 
 
 @form(V1, "movsbl", "bl")
-def move_with_sign(cpu, x):
-    source, to = x.operands
+def move_with_sign(cpu, x, source, to):
     byte = cpu.get(source, 8, x)
     if not isinstance(byte, int):
         raise Unsupported("the sign of a byte that is no number")
@@ -54,17 +51,10 @@ def move_with_sign(cpu, x):
 
 
 @form(V3, "movbe", "ml mq lm qm")
-def move_turned(cpu, x):
-    source, to = x.operands
-    width = cpu.width(x)
-    cpu.put(to, width, turned(cpu.get(source, width, x), width), x)
-
-
 @form(V1, "bswap", "l q")
-def turn(cpu, x):
-    to, = x.operands
+def move_turned(cpu, x, source, to=None):
     width = cpu.width(x)
-    cpu.put(to, width, turned(cpu.get(to, width, x), width), x)
+    cpu.put(to or source, width, turned(cpu.get(source, width, x), width), x)
 
 
 def turned(x, width):
@@ -73,23 +63,22 @@ def turned(x, width):
 
 
 @form(V1, "lea", "ml mq")
-def load_address(cpu, x):
-    place, to = x.operands
+def load_address(cpu, x, place, to):
     width = cpu.width(x)
     cpu.put(to, width, low(cpu.effective(place, x), width), x)
 
 
 @form(V1, "push", "q")
-def push(cpu, x):
-    cpu.push(cpu.get(x.operands[0], WORD, x))
+def push(cpu, x, source):
+    cpu.push(cpu.get(source, WORD, x))
 
 
 @form(V1, "pop", "q")
-def pop(cpu, x):
+def pop(cpu, x, to):
     value = cpu.pop()
     if isinstance(value, ReturnTo):
         raise Unsupported("a place to return to as a value")
-    cpu.put(x.operands[0], WORD, value, x)
+    cpu.put(to, WORD, value, x)
 
 
 # ---- branches
@@ -120,15 +109,14 @@ def jump_where(name):
 
 
 def set_where(name):
-    def put(cpu, x):
-        cpu.put(x.operands[0], 8, int(cpu.condition(name)), x)
+    def put(cpu, x, to):
+        cpu.put(to, 8, int(cpu.condition(name)), x)
     return put
 
 
 def move_where(name):
     """Returns a conditional move. A memory operand is read in either case."""
-    def move(cpu, x):
-        source, to = x.operands
+    def move(cpu, x, source, to):
         width = cpu.width(x)
         there, here = cpu.get(source, width, x), cpu.get(to, width, x)
         cpu.put(to, width, there if cpu.condition(name) else here, x)
@@ -144,8 +132,7 @@ for condition in CONDITIONS:
 # ---- addition, subtraction, logic
 
 def binary(word, kind):
-    def operation(cpu, x):
-        source, to = x.operands
+    def operation(cpu, x, source, to):
         width = cpu.width(x)
         if word in ("xor", "sub") and source == to:     # 0 for any content
             cpu.set_flags("logic", width, 0, 0, 0)
@@ -169,23 +156,20 @@ form(V1, "or", "bb")(binary("or", "logic"))
 
 @form(V1, "cmp", TWO + " ib lm qm")
 @form(V1, "cmpl cmpq", "im")
-def compare(cpu, x):
-    source, to = x.operands
+def compare(cpu, x, source, to):
     width = cpu.width(x)
     cpu.set_flags("sub", width, cpu.get(to, width, x), cpu.get(source, width, x), None)
 
 
 @form(V1, "test", "ib il iq bb ll qq")
-def test(cpu, x):
-    source, to = x.operands
+def test(cpu, x, source, to):
     width = cpu.width(x)
     a, b = cpu.get(to, width, x), cpu.get(source, width, x)
     cpu.set_flags("logic", width, a, b, a if source == to else arithmetic("and", width, a, b))
 
 
 @form(V1, "sbb", "ib ll qq")
-def subtract_with_borrow(cpu, x):
-    source, to = x.operands
+def subtract_with_borrow(cpu, x, source, to):
     width = cpu.width(x)
     borrow, a, b = int(carry(cpu)), cpu.get(to, width, x), cpu.get(source, width, x)
     if is_term(a, b):
@@ -196,8 +180,7 @@ def subtract_with_borrow(cpu, x):
 
 
 @form(V1, "inc dec", "l q")
-def step(cpu, x):
-    to, = x.operands
+def step(cpu, x, to):
     width, kept = cpu.width(x), cpu.carry
     result = arithmetic("add" if x.mnemonic == "inc" else "sub", width, cpu.get(to, width, x), 1)
     cpu.set_flags("step", width, None, None, result)
@@ -206,8 +189,7 @@ def step(cpu, x):
 
 
 @form(V1, "neg", "l q")
-def negate(cpu, x):
-    to, = x.operands
+def negate(cpu, x, to):
     width = cpu.width(x)
     a = cpu.get(to, width, x)
     result = arithmetic("sub", width, 0, a)
@@ -216,8 +198,7 @@ def negate(cpu, x):
 
 
 @form(V1, "not", "l q")
-def complement(cpu, x):
-    to, = x.operands
+def complement(cpu, x, to):
     width = cpu.width(x)
     cpu.put(to, width, arithmetic("xor", width, cpu.get(to, width, x), ones(width)), x)
 
@@ -225,31 +206,28 @@ def complement(cpu, x):
 # ---- multiplication and division
 
 @form(V1, "imul", "qq ll mq ml iml imq ill iqq")
-def product(cpu, x):
-    width, to = cpu.width(x), x.operands[-1]
-    a, b = (cpu.get(y, width, x) for y in x.operands[:2])
-    cpu.put(to, width, arithmetic("mul", width, a, b), x)
+def product(cpu, x, a, b, *_):
+    width = cpu.width(x)
+    cpu.put(x.operands[-1], width, arithmetic("mul", width, cpu.get(a, width, x), cpu.get(b, width, x)), x)
     cpu.forget_flags()
 
 
 @form(V1, "mul", "q")
-def whole_product(cpu, x):
-    a, b = cpu.registers["rax"], cpu.get(x.operands[0], WORD, x)
-    cpu.registers["rdx"], cpu.registers["rax"] = high_and_low(a, b)
+def whole_product(cpu, x, source):
+    factor = cpu.get(source, WORD, x)
+    cpu.registers["rdx"], cpu.registers["rax"] = high_and_low(cpu.registers["rax"], factor)
     cpu.forget_flags()
 
 
 @form(V3, "mulx", "qqq mqq")
-def whole_product_apart(cpu, x):
-    source, lower, upper = x.operands
+def whole_product_apart(cpu, x, source, lower, upper):
     above, below = high_and_low(cpu.registers["rdx"], cpu.get(source, WORD, x))
     cpu.put(lower, WORD, below, x)
     cpu.put(upper, WORD, above, x)
 
 
 @form(V1, "div", "w l q")
-def divide(cpu, x):
-    source, = x.operands
+def divide(cpu, x, source):
     width = cpu.width(x)
     above, a, b = low(cpu.registers["rdx"], width), low(cpu.registers["rax"], width), cpu.get(source, width, x)
     if not is_same(above, 0) or is_same(b, 0):
@@ -262,19 +240,21 @@ def divide(cpu, x):
 # ---- shifts
 
 def shift(word):
-    def operation(cpu, x):
-        to, width = x.operands[-1], cpu.width(x)
-        k = x.operands[0].value % width if len(x.operands) == 2 else 1
-        a = cpu.get(to, width, x)
-        result = arithmetic(word, width, a, k) if k else a
+    """Returns a shift or rotation, by 1 without an amount."""
+    def operation(cpu, x, *operands):
+        (*amount, to), width = operands, cpu.width(x)
+        k, a = amount[0].value % width if amount else 1, cpu.get(to, width, x)
+        result = side_shifted(width, a, a, k) if word == "rol" else arithmetic(word, width, a, k) if k else a
         cpu.put(to, width, result, x)
-        if k:
+        if k and word == "rol":
+            cpu.forget_flags()
+        elif k:
             cpu.set_flags("shift", width, a, k, result)
     return operation
 
 
-form(V1, "shl", "il iq l q")(shift("shl"))
-form(V1, "shr", "il iq l q")(shift("lshr"))
+for mnemonic, word in (("shl", "shl"), ("shr", "lshr"), ("rol", "rol")):
+    form(V1, mnemonic, "il iq l q")(shift(word))
 
 
 def side_shifted(width, a, b, k):
@@ -285,8 +265,7 @@ def side_shifted(width, a, b, k):
 
 
 @form(V1, "shld", "ill iqq")
-def shift_in(cpu, x):
-    k, source, to = x.operands
+def shift_in(cpu, x, k, source, to):
     width = cpu.width(x)
     cpu.put(to, width, side_shifted(width, cpu.get(to, width, x), cpu.get(source, width, x), k.value % width), x)
     if k.value % width:
@@ -294,8 +273,7 @@ def shift_in(cpu, x):
 
 
 @form(V1, "shrd", "ill iqq")
-def shift_in_from_above(cpu, x):
-    k, source, to = x.operands
+def shift_in_from_above(cpu, x, k, source, to):
     width = cpu.width(x)
     k = k.value % width
     if k:
@@ -303,19 +281,8 @@ def shift_in_from_above(cpu, x):
         cpu.forget_flags()
 
 
-@form(V1, "rol", "il iq l q")
-def rotate_in_place(cpu, x):
-    to, width = x.operands[-1], cpu.width(x)
-    k = x.operands[0].value % width if len(x.operands) == 2 else 1
-    a = cpu.get(to, width, x)
-    cpu.put(to, width, side_shifted(width, a, a, k), x)
-    if k:
-        cpu.forget_flags()
-
-
 @form(V3, "rorx", "iml imq ill iqq")
-def rotate(cpu, x):
-    k, source, to = x.operands
+def rotate(cpu, x, k, source, to):
     width = cpu.width(x)
     a = cpu.get(source, width, x)
     cpu.put(to, width, side_shifted(width, a, a, -k.value % width), x)

@@ -51,105 +51,88 @@ def operands(cpu, x):
 @form("eor orr", "x x x, x x x lsl, x x x lsr, x x x ror, w w w, w w w lsl, w w w lsr, w w w ror")
 @form("and orr", "x x i")
 @form("mul udiv", "x x x, w w w")
-def binary(cpu, x):
+def binary(cpu, x, to, *_):
     width, a, b = operands(cpu, x)
-    if x.mnemonic == "udiv" and b == 0:
-        cpu.put(x.operands[0], 0)
-    else:
-        cpu.put(x.operands[0], arithmetic(OPERATIONS[x.mnemonic], width, a, b))
+    cpu.put(to, 0 if x.mnemonic == "udiv" and b == 0 else arithmetic(OPERATIONS[x.mnemonic], width, a, b))
 
 
 @form("add", "x x")
-def add_low(cpu, x):
+def add_low(cpu, x, to, source):
     """Completes the address of a page."""
-    page = cpu.registers[x.operands[1].name]
+    page = cpu.registers[source.name]
     if not isinstance(page, Page) or page.target != x.target:
         raise Unsupported("the rest of another address than the page's")
     name, at = page.target
-    cpu.put(x.operands[0], address(cpu.constants[name], at))
+    cpu.put(to, address(cpu.constants[name], at))
 
 
 @form("adrp", "x")
-def page(cpu, x):
-    cpu.registers[x.operands[0].name] = Page(x.target)
+def page(cpu, x, to):
+    cpu.registers[to.name] = Page(x.target)
 
 
 @form("adds subs", "x x x, x x i, x x x lsr, w w w")
 @form("ands", "x x i")
 @form("cmp", "x x, x i, x x lsr, w w, w i")
 @form("cmn", "x i")
-def with_flags(cpu, x):
+def with_flags(cpu, x, to, *_):
     width, a, b = operands(cpu, x)
     word = OPERATIONS[x.mnemonic]
     answer = None if x.mnemonic == "cmp" else arithmetic(word, width, a, b)
     if x.mnemonic not in ("cmp", "cmn"):
-        cpu.put(x.operands[0], answer)
+        cpu.put(to, answer)
     cpu.flags = word, width, a, b, answer
 
 
 @form("madd msub", "x x x x, w w w w")
-def multiply_add(cpu, x):
-    to, a, b, c = x.operands
-    product = arithmetic("mul", to.width, cpu.get(a), cpu.get(b))
-    cpu.put(to, arithmetic("add" if x.mnemonic == "madd" else "sub", to.width, cpu.get(c), product))
-
-
 @form("umaddl", "x w w x")
-def multiply_add_long(cpu, x):
-    to, a, b, c = x.operands
-    cpu.put(to, arithmetic("add", WORD, cpu.get(c), arithmetic("mul", WORD, cpu.get(a), cpu.get(b))))
+def multiply_add(cpu, x, to, a, b, c):
+    product = arithmetic("mul", to.width, cpu.get(a), cpu.get(b))
+    cpu.put(to, arithmetic("sub" if x.mnemonic == "msub" else "add", to.width, cpu.get(c), product))
 
 
 @form("umulh", "x x x")
-def high_product(cpu, x):
-    to, a, b = x.operands
+def high_product(cpu, x, to, a, b):
     cpu.put(to, high_and_low(cpu.get(a), cpu.get(b))[0])
 
 
 @form("neg mvn", "x x, w w")
-def from_all(cpu, x):
-    to, a = x.operands
+def from_all(cpu, x, to, a):
     start = 0 if x.mnemonic == "neg" else ones(to.width)
     cpu.put(to, arithmetic("sub", to.width, start, cpu.get(a)))
 
 
 @form("lsl lsr ror", "x x i, w w i")
-def shift(cpu, x):
-    to, a, k = x.operands
+def shift(cpu, x, to, a, k):
     cpu.put(to, shifted(cpu.get(a), to.width, Shift(x.mnemonic, k.value)))
 
 
 @form("ubfx", "x x i i, w w i i")
-def field(cpu, x):
-    to, a, first, n = x.operands
+def field(cpu, x, to, a, first, n):
     cpu.put(to, low(arithmetic("lshr", to.width, cpu.get(a), first.value), n.value))
 
 
 @form("rev", "x x, w w")
-def turned(cpu, x):
-    to, a = x.operands
+def turned(cpu, x, to, a):
     cpu.put(to, joined(*((bits(cpu.get(a), to.width - 8 * k - 8, 8), 8) for k in range(to.width // 8))))
 
 
 # ---- moves
 
 @form("mov", "x x, w w, x i, w i")
-def move(cpu, x):
-    to, source = x.operands
+def move(cpu, x, to, source):
     cpu.put(to, value(cpu, source, to.width))
 
 
 @form("movk", "x i lsl, w i lsl")
-def move_part(cpu, x):
-    to, part, where = x.operands
+def move_part(cpu, x, to, part, where):
     old, first = cpu.get(to), where.amount
     cpu.put(to, joined((bits(old, 0, first), first), (part.value, 16),
                        (bits(old, first + 16, to.width - first - 16), to.width - first - 16)))
 
 
 @form("csel csinc csinv", "x x x c, w w w c")
-def choose(cpu, x):
-    to, a, b, condition = x.operands
+def choose(cpu, x, to, a, b, condition):
     if cpu.test(condition):
         return cpu.put(to, cpu.get(a))
     found = cpu.get(b)
@@ -159,8 +142,8 @@ def choose(cpu, x):
 
 
 @form("cset", "x c, w c")
-def set_by(cpu, x):
-    cpu.put(x.operands[0], int(cpu.test(x.operands[1])))
+def set_by(cpu, x, to, condition):
+    cpu.put(to, int(cpu.test(condition)))
 
 
 # ---- memory
@@ -176,9 +159,8 @@ def width_of(x):
 @form("ldr ldur", "x m, w m, q m, d m, s m")
 @form("ldp", "x x m, w w m, q q m, d d m")
 @form("ldrb ldrh ldurb ldurh", "w m")
-def load(cpu, x):
-    *registers, where = x.operands
-    n = width_of(x)
+def load(cpu, x, *operands):
+    (*registers, where), n = operands, width_of(x)
     memory, at = cpu.place(where, x)
     found = [load_lanes(memory, at, n, k) if isinstance(r, Vector) else memory.load(moved(at, n * k), n)
              for k, r in enumerate(registers)]
@@ -201,9 +183,8 @@ def load_lanes(memory, at, n, k):
 @form("str stur", "x m, w m, q m, d m")
 @form("stp", "x x m, w w m, q q m, d d m")
 @form("strb strh sturb sturh", "w m")
-def store(cpu, x):
-    *registers, where = x.operands
-    n = width_of(x)
+def store(cpu, x, *operands):
+    (*registers, where), n = operands, width_of(x)
     found = [cpu.vectors[r.number] if isinstance(r, Vector) else cpu.get(r) for r in registers]
     memory, at = cpu.place(where, x)
     for k, what in enumerate(found):
@@ -217,8 +198,7 @@ def store(cpu, x):
 
 
 @form("sbcs", "x x x")
-def subtract_with_borrow(cpu, x):
-    to, a, b = x.operands
+def subtract_with_borrow(cpu, x, to, a, b):
     a, b = cpu.get(a), plus(cpu.get(b), int(cpu.test("cc")))
     answer = arithmetic("sub", WORD, a, low(b, WORD))
     cpu.put(to, answer)
@@ -226,9 +206,8 @@ def subtract_with_borrow(cpu, x):
 
 
 @form("ccmp", "x x i c")
-def compare_if(cpu, x):
+def compare_if(cpu, x, a, b, given, condition):
     """Compares if a condition holds. Otherwise sets the given flags: only 0, "unequal", is supported."""
-    a, b, given, condition = x.operands
     if cpu.test(condition):
         a, b = cpu.get(a), cpu.get(b)
         cpu.flags = "sub", WORD, a, b, None
@@ -239,8 +218,7 @@ def compare_if(cpu, x):
 
 
 @form("ld1", "s[] m")
-def load_into_lane(cpu, x):
-    to, where = x.operands
+def load_into_lane(cpu, x, to, where):
     memory, at = cpu.place(where, x)
     words = words_of(cpu.vectors[to.number])
     words[to.lane] = memory.load(at, 4)
@@ -248,13 +226,13 @@ def load_into_lane(cpu, x):
 
 
 @form("brk", "i")
-def never(cpu, x):
+def never(cpu, x, *_):
     raise Unsupported("brk")
 
 
 @form("prfm", "p m")
 @form("nop", "")
-def nothing(cpu, x):
+def nothing(cpu, x, *_):
     pass
 
 
@@ -282,13 +260,11 @@ def jump_if(cpu, x):
 
 
 @form("cbz cbnz", "x, w")
-def jump_if_zero(cpu, x):
-    is_zero = is_equal(cpu, cpu.get(x.operands[0]), 0)
-    return x.target if is_zero == (x.mnemonic == "cbz") else None
+def jump_if_zero(cpu, x, register):
+    return x.target if is_equal(cpu, cpu.get(register), 0) == (x.mnemonic == "cbz") else None
 
 
 @form("tbz", "w i, x i")
-def jump_if_bit(cpu, x):
-    register, k = x.operands
+def jump_if_bit(cpu, x, register, k):
     bit = bits(cpu.get(register), k.value, 1)
     return x.target if is_equal(cpu, bit, 0) else None
