@@ -3,6 +3,8 @@ decided by facts; bytes of an input are terms.
 
 Memory consists of objects: the stack and the module's constants at concrete addresses, and a call's arguments at
 unknown addresses (Address). Each access must be provably inside one object."""
+import operator
+
 from symbolic_terms.refusals import Unsupported
 from symbolic_terms.machine import copy
 from symbolic_terms.memory import Memory, is_inside
@@ -243,49 +245,18 @@ def memory_fill(vm, frame, given):
     memory.fill(at, decided(n, "a length"), low(byte, 8))
 
 
-# ---- variables
+# ---- variables and control flow
 
-@does("local.get")
-def local_get(vm, frame, index):
-    frame.stack.append(frame.variables[index])
-
-
-@does("local.set")
-def local_set(vm, frame, index):
-    frame.variables[index] = frame.stack.pop()
-
-
-@does("local.tee")
-def local_tee(vm, frame, index):
-    frame.variables[index] = frame.stack[-1]
-
-
-@does("global.get")
-def global_get(vm, frame, index):
-    frame.stack.append(vm.globals[index])
-
-
-@does("global.set")
-def global_set(vm, frame, index):
-    vm.globals[index] = frame.stack.pop()
-
-
-@does("drop")
-def drop(vm, frame, given):
-    frame.stack.pop()
-
-
-# ---- control flow
-
-@does("block", "end")
-def nothing(vm, frame, given):
-    pass
-
-
-@does("loop")
-def loop(vm, frame, given):
-    if vm.loops:
-        vm.loops.pass_by(vm, frame)
+DOES.update({
+    "local.get": lambda vm, frame, index: frame.stack.append(frame.variables[index]),
+    "local.set": lambda vm, frame, index: operator.setitem(frame.variables, index, frame.stack.pop()),
+    "local.tee": lambda vm, frame, index: operator.setitem(frame.variables, index, frame.stack[-1]),
+    "global.get": lambda vm, frame, index: frame.stack.append(vm.globals[index]),
+    "global.set": lambda vm, frame, index: operator.setitem(vm.globals, index, frame.stack.pop()),
+    "drop": lambda vm, frame, given: frame.stack.pop(),
+    "loop": lambda vm, frame, given: vm.loops and vm.loops.pass_by(vm, frame),
+    **dict.fromkeys(("block", "end"), lambda vm, frame, given: None),
+})
 
 
 @does("unreachable")
