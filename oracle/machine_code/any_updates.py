@@ -57,10 +57,17 @@ def left_out(hash_name):
 
 
 class AnyUpdates:
+    LAYOUTS, MARKED, longest = LAYOUTS, 4, LONGEST     # MARKED is the size of the marked word
+
     def __init__(self, cpu, hash_name):
         self.cpu, self.hash_name, self.guesses = cpu, hash_name, {}
-        self.width, self.stripe, self.at = int(hash_name), int(hash_name) // 2, LAYOUTS[hash_name]
+        self.width, self.stripe, self.at = int(hash_name), int(hash_name) // 2, self.LAYOUTS[hash_name]
         self.read()
+
+    @property
+    def library(self):
+        """The library that calls the exports."""
+        return self.cpu.library
 
     def forget(self):
         nodes.forget()
@@ -86,7 +93,7 @@ class AnyUpdates:
         """Yields the content of a state that represents stripe * a + r bytes: (offset, size, value)."""
         word, n = self.width // 8, plus(times(self.stripe, a), r)
         yield from ((at, word, x) for at, x in zip(self.at.accumulators, accumulators, strict=True))
-        yield from ((self.at.seed, word, self.seed), (self.at.marked, 4, self.at.mark + r), (self.at.total, 8, n))
+        yield from ((self.at.seed, word, self.seed), (self.at.marked, self.MARKED, self.at.mark + r), (self.at.total, 8, n))
         for k in range(r):
             yield self.at.buffer + k, 1, self.source.load(plus(times(self.stripe, a), k), 1)
 
@@ -97,7 +104,7 @@ class AnyUpdates:
         if not is_same_number(a, 0):
             accumulators = [self.cpu.fresh("accumulator", self.width) for _ in range(4)]
             suppositions.suppose(lambda j: self.accumulator(j, a), accumulators)
-        size = self.cpu.library.SIZES[self.hash_name]
+        size = self.library.SIZES[self.hash_name]
         state = Words("state", size, [(at, 1, self.cpu.fresh("a byte", 8)) for at in range(size)],
                       alignment=streams.ALIGNMENT.get(self.hash_name, 8))
         for at, size, x in self.parts(a, r, accumulators):
@@ -110,19 +117,26 @@ class AnyUpdates:
             if not (same(found, x) or is_same(found, lifted(x))):
                 raise NotShown(f"{what}: the state at {at} is {found} and not {x}, of {self.stripe} * ({a}) + {r}")
 
-    def call(self, what, state, *rest):
-        """Calls a function of the library that resets, updates or digests `state`."""
-        self.cpu.not_zero, self.cpu.live = [], [state]
-        return what(self.cpu, *rest)
+    def call(self, what, state, *rest, family=None):
+        """Calls a function of the library that resets, updates or digests `state`. Proves the loops of a family."""
+        cpu, limit = self.cpu, self.cpu.limit
+        cpu.not_zero, cpu.live, cpu.limit = [], [state], LIMIT
+        cpu.loops = Loops(cpu.program, family, guesses=self.guesses) if family else None
+        try:
+            return what(cpu, *rest)
+        except REFUSALS as error:
+            raise NotShown("; ".join([str(error), *(cpu.loops.refused if family else ())])) from error
+        finally:
+            cpu.loops, cpu.limit = None, limit
 
     # ---- the three steps of the induction
 
     def reset(self):
         """Proves a reset of memory with any content."""
         self.begin(0)
-        with given(at_most(self.source.length, LONGEST)):
-            state = streams.new_state(self.cpu, self.hash_name)
-            self.call(self.cpu.library.reset, state, Request(self.hash_name, "seed", 0), state)
+        with given(at_most(self.source.length, self.longest)):
+            state = streams.new_state(self.cpu, self.hash_name, self.library)
+            self.call(self.library.reset, state, Request(self.hash_name, "seed", 0), state)
             self.expect_state("a reset", state, 0, 0)
 
     def update(self, one):
@@ -130,37 +144,33 @@ class AnyUpdates:
         a = variable("a")
         further = plus(one.further, times(UNROLLED[self.hash_name], variable("d")) if one.more else 0)
         b = plus(a, int(one.fills), further)
-        begun, ended = plus(times(self.stripe, a), one.r), plus(times(self.stripe, b), one.s)
-        self.begin(ended)
-        facts = [minus(variable("d"), 1)] if one.more else []
-        with given(at_most(self.source.length, LONGEST), *facts):
-            state = self.state(a, one.r)
-            piece = Piece(self.source, begun, minus(ended, begun))
-            limit, self.cpu.limit = self.cpu.limit, LIMIT
-            self.cpu.loops = Loops(self.cpu.program, self.family(b), guesses=self.guesses)
-            try:
-                self.call(self.cpu.library.update, state, self.hash_name, state, piece)
-            except REFUSALS as error:
-                raise NotShown("; ".join([str(error), *self.cpu.loops.refused])) from error
-            finally:
-                self.cpu.loops, self.cpu.limit = None, limit
-            self.expect_state("an update", state, b, one.s)
+        self.update_between(a, one.r, b, one.s, [minus(variable("d"), 1)] if one.more else [], self.family(b))
 
-    def family(self, stripes):
+    def update_between(self, a, r, b, s, facts, family):
+        """Proves an update from stripe * a + r bytes to stripe * b + s."""
+        begun, ended = plus(times(self.stripe, a), r), plus(times(self.stripe, b), s)
+        self.begin(ended)
+        with given(at_most(self.source.length, self.longest), *facts):
+            state = self.state(a, r)
+            piece = Piece(self.source, begun, minus(ended, begun))
+            self.call(self.library.update, state, self.hash_name, state, piece, family=family)
+            self.expect_state("an update", state, b, s)
+
+    def family(self, stripes, first=0):
         def after(k):
             return lambda j: self.accumulator(j, k)
         return Family(f"XXH{self.width}, an update", self.stripe, stripes, 4, after,
-                      lambda k, values: suppositions.suppose(after(k), values))
+                      lambda k, values: suppositions.suppose(after(k), values), first=first)
 
     def digest(self, a, r):
         """Proves the digest of a state that represents the whole message."""
         n = plus(times(self.stripe, a), r)
         self.source = Input("m", n)
         self.message = Bytes(self.source, 0, n)
-        with given(at_most(n, LONGEST), *([] if is_same_number(a, 0) else [minus(a, 1)])):
+        with given(at_most(n, self.longest), *([] if is_same_number(a, 0) else [minus(a, 1)])):
             state = self.state(a, r)
             before = streams.contents(state, 1)
-            value = self.call(self.cpu.library.digest, state, self.hash_name, state)
+            value = self.call(self.library.digest, state, self.hash_name, state)
             streams.expect_same("a digest", before, state, 1)
             if not is_same(value, self.texts[f"xxh{self.width}"](self.seed, self.message)):
                 raise NotShown(f"a digest of {n} bytes: another value")

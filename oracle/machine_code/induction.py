@@ -25,11 +25,11 @@ HALF = "lower half"               # of a register that holds a separately comput
 class Family:
     """The definition's words: after(k)(j) is word j of `count` after k stripes. A stripe has `stripe` bytes; there are
     `total` stripes. suppose(k, values) makes these values the words for k. `together` is the number of 32-bit words in
-    a cell."""
+    a cell. A module's loop begins with the stripe `first`."""
 
-    def __init__(self, name, stripe, total, count, after, suppose, together=1):
+    def __init__(self, name, stripe, total, count, after, suppose, together=1, first=0):
         self.name, self.stripe, self.total, self.count, self.after = name, stripe, total, count, after
-        self.put, self.known, self.together = suppose, {}, together
+        self.put, self.known, self.together, self.first = suppose, {}, together, first
 
     def word(self, k, j):
         """Returns the content of cell j after k stripes: one word, or several joined."""
@@ -185,16 +185,20 @@ class Proof(Induction):
                     memory, at = x.place()
                     k, _ = divided(memory.origin(at)[1], self.family.stripe)
                     guesses += [plus(k, d) for d in NEAR if not any(is_same_number(plus(k, d), x) for x in guesses)]
-        values = self.start.values()
-        numbers = {x for x in values if isinstance(x, int)}
-        terms = {x.number for x in values if isinstance(x, Node)}
         for guess in guesses:
-            with contextlib.suppress(*REFUSALS):
-                is_hopeless = isinstance(minus(self.family.total, guess), int) or \
-                    (self.head, repr(guess)) in self.loops.tried
-                if not is_hopeless and is_natural(guess) and self.family.seem(
-                        guess, lambda x: x in numbers if isinstance(x, int) else x.number in terms):
-                    yield guess
+            is_hopeless = isinstance(minus(self.family.total, guess), int) or (self.head, repr(guess)) in self.loops.tried
+            if not is_hopeless and self.holds(guess):
+                yield guess
+
+    def holds(self, first):
+        """True if the words after `first` stripes are in some cells."""
+        numbers = {x for x in self.start.values() if isinstance(x, int)}
+        terms = {x.number for x in self.start.values() if isinstance(x, Node)}
+        try:
+            return is_natural(first) and self.family.seem(
+                first, lambda x: x in numbers if isinstance(x, int) else x.number in terms)
+        except REFUSALS:
+            return False
 
     def by_turns(self, first, guess):
         if not guess(first):
@@ -232,9 +236,11 @@ class Proof(Induction):
         return self.family.words(self.stripes_after(k))
 
     def supposed(self, k):
-        family, width = self.family, 32 if self.family.stripe == 16 else 64
+        family, width, after = self.family, 32 if self.family.stripe == 16 else 64, self.stripes_after(k)
+        if isinstance(after, int):
+            return family.words(after)
         values = [self.cpu.fresh("word", width) for _ in range(family.count)]
-        family.suppose(self.stripes_after(k), values)
+        family.suppose(after, values)
         return [family.cell(values[k:k + family.together]) for k in range(0, family.count, family.together)]
 
     def turn(self):

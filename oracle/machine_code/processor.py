@@ -27,32 +27,20 @@ VECTORS_COUNT = 32
 NO_LIMIT = 1 << 24                # instructions of a call
 
 
-class Processor:
-    """Runs a program on a processor with an instruction set's name. `not_zero` has terms assumed to be nonzero; `loops`
-    is called at each possible loop head, and `live` has the objects that calls may write to then; `used` has the
-    executed instructions; `limit` is the maximum per call. `replaced` maps a function's place to a Python function that
-    runs instead."""
+class Runner:
+    """Runs a program on a processor, which a subclass models. `not_zero` has terms assumed to be nonzero; `loops` is
+    called at each possible loop head, and `live` has the objects that calls may write to then; `used` has the executed
+    instructions; `limit` is the maximum per call. `replaced` maps a function's place to a Python function that runs
+    instead."""
 
-    ARGUMENTS = ARGUMENTS
-    TAKES_STRIPES = ARGUMENTS     # argument registers of a function that takes stripes
-    TOGETHER = 1                  # 32-bit accumulators of one-shots in a cell
     library = ForC                # calls the exports
+    TOGETHER = 1                  # 32-bit accumulators of one-shots in a cell
 
-    known = staticmethod(known)       # returns an instruction's function
-
-    def __init__(self, program, name):
-        self.program, self.name = program, name
+    def __init__(self, program):
+        self.program = program
         self.constants = {key: Constants(key, *x) for key, x in program.constants.items()}
-        self.code = {section: {at: (self.known(x, name), x) for at, x in code.items()}
-                     for section, code in program.sections.items()}
-        for outer in OUTER:
-            self.code[outer] = {0: (functools.partial(call_of_outer, outer), None)}
         self.not_zero, self.loops, self.live, self.replaced = [], None, [], {}
         self.used, self.made, self.limit, self.count = set(), 0, NO_LIMIT, 0
-
-    def change(self, instruction):
-        """Replaces the instruction at its place."""
-        self.code[instruction.section][instruction.at] = self.known(instruction, self.name), instruction
 
     def new_name(self, prefix):
         self.made += 1
@@ -61,6 +49,57 @@ class Processor:
     def fresh(self, prefix, width=WORD):
         """Returns a fresh symbol. Other processors may use the same name with the same width."""
         return symbol(f"{self.new_name(prefix)}:{width}", width)
+
+    def run(self, place):
+        """Runs from a place to the return from the first function."""
+        while place is not None:
+            if self.loops:
+                place = self.loops.pass_by(self, place)
+            place = self.step(place)
+
+    def expect_kept(self, kept):
+        """Checks the callee-saved registers."""
+        for register, x in kept.items():
+            if self.registers[register] is not x:
+                raise Unsupported(f"{register} isn't the caller's at the end")
+
+    def argument(self, where):
+        """Returns a register's value at a function's first instruction."""
+        return self.registers[where]
+
+    def stack_pointer(self):
+        return self.registers[self.STACK_POINTER].place()[1]
+
+    def expect_writable(self, memory):
+        """Checks a store's object: writable, and during a loop's proof the stack or an object of `live`."""
+        is_known = not self.loops or memory is self.stack or any(memory is other for other in self.live)
+        if not isinstance(memory, Words) or not is_known:
+            raise Unsupported(f"a store to {memory.name}")
+
+    def store(self, memory, at, n, x):
+        self.expect_writable(memory)
+        memory.store(at, n, x)
+
+
+class Processor(Runner):
+    """An x86-64 processor with an instruction set's name."""
+
+    ARGUMENTS, STACK_POINTER = ARGUMENTS, "rsp"
+    TAKES_STRIPES = ARGUMENTS     # argument registers of a function that takes stripes
+
+    known = staticmethod(known)       # returns an instruction's function
+
+    def __init__(self, program, name):
+        super().__init__(program)
+        self.name = name
+        self.code = {section: {at: (self.known(x, name), x) for at, x in code.items()}
+                     for section, code in program.sections.items()}
+        for outer in OUTER:
+            self.code[outer] = {0: (functools.partial(call_of_outer, outer), None)}
+
+    def change(self, instruction):
+        """Replaces the instruction at its place."""
+        self.code[instruction.section][instruction.at] = self.known(instruction, self.name), instruction
 
     # ---- calls
 
@@ -80,18 +119,8 @@ class Processor:
             self.registers[where] = x
         kept = {name: self.registers[name] for name in KEPT}
         self.run(self.program.function(name))
-        self.expect_kept(kept)
+        self.expect_kept(kept)         # a return checks the stack pointer: its address is at one place only
         return self.registers["rax"], self.registers["rdx"]
-
-    def expect_kept(self, kept):
-        """Checks the callee-saved registers. A return checks the stack pointer: its address is at one place only."""
-        for register, x in kept.items():
-            if self.registers[register] is not x:
-                raise Unsupported(f"{register} isn't the caller's at the end")
-
-    def argument(self, where):
-        """Returns a register's value at a function's first instruction."""
-        return self.registers[where]
 
     @staticmethod
     def unset_lane():
@@ -100,13 +129,6 @@ class Processor:
     def forget_vectors(self):
         """Makes all lanes unset: a lane must be written before it is read."""
         self.vectors = [[None] * LANES for _ in range(VECTORS_COUNT)]
-
-    def run(self, place):
-        """Runs from a place to the return from the first function."""
-        while place is not None:
-            if self.loops:
-                place = self.loops.pass_by(self, place)
-            place = self.step(place)
 
     def step(self, place):
         """Runs from a place to the next jump or possible loop head. Returns the place reached, or None at the end."""
@@ -131,9 +153,6 @@ class Processor:
                 return section, at
 
     # ---- the stack
-
-    def stack_pointer(self):
-        return self.registers["rsp"].place()[1]
 
     def frame(self):
         """Returns the stack, and the offset of the caller's frame, at a function's first instruction."""
@@ -203,16 +222,6 @@ class Processor:
         if isinstance(x, ReturnTo):
             raise Unsupported("a place to return to as a value")
         return x
-
-    def expect_writable(self, memory):
-        """Checks a store's object: writable, and during a loop's proof the stack or an object of `live`."""
-        is_known = not self.loops or memory is self.stack or any(memory is other for other in self.live)
-        if not isinstance(memory, Words) or not is_known:
-            raise Unsupported(f"a store to {memory.name}")
-
-    def store(self, memory, at, n, x):
-        self.expect_writable(memory)
-        memory.store(at, n, x)
 
     # ---- operands
 

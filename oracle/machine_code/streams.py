@@ -30,9 +30,9 @@ def state_name(hash_name):
     return hash_name.split("-")[0]
 
 
-def new_state(cpu, hash_name):
+def new_state(cpu, hash_name, library=None):
     """Returns memory of a state's size, with any content."""
-    size = cpu.library.SIZES[state_name(hash_name)]
+    size = (library or cpu.library).SIZES[state_name(hash_name)]
     cells = [(at, 8, cpu.fresh("a state's word")) for at in range(0, size, 8)]
     return Words("state", size, cells, alignment=ALIGNMENT.get(hash_name, 8))
 

@@ -11,7 +11,6 @@ from symbolic_terms.definition import suppositions
 from symbolic_terms.induction import moved, same
 from symbolic_terms.refusals import REFUSALS, NotShown
 from symbolic_terms.memory import Input
-from symbolic_terms.nodes import Node
 from symbolic_terms.polynomials import divided, given, is_natural, minus, plus, times, variable
 from symbolic_terms.polynomials import is_same as is_same_number
 
@@ -100,16 +99,6 @@ class StripesProof(Proof):
     def is_run(self, part):
         """True if the part runs turn by turn: 0 or 1 stripes, or a concrete distance to the block's end."""
         return part.turns in (0, 1) or isinstance(minus(self.family.q, part.start[1]), int)
-
-    def holds(self, first):
-        """True if the words after `first` stripes are in some cells."""
-        numbers = {x for x in self.start.values() if isinstance(x, int)}
-        terms = {x.number for x in self.start.values() if isinstance(x, Node)}
-        try:
-            return is_natural(first) and self.family.seem(
-                first, lambda x: x in numbers if isinstance(x, int) else x.number in terms)
-        except REFUSALS:
-            return False
 
     def guess_of_some(self, first):
         """Guesses the loop's cells, with the numbers of stripes in GUESSES left, in total and to the block's end."""

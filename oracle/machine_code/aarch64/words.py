@@ -5,10 +5,10 @@ from symbolic_terms.polynomials import lifted, plus
 from symbolic_terms.rules import ones
 
 from ..flags import is_equal
-from ..link_register import RETURN, Page, ReturnTo
+
 from ..values import WORD, address, arithmetic, bits, high_and_low, joined, low
 from .objects import Register, Shift, Vector
-from .processor import form
+from .processor import RETURN, Page, ReturnTo, form
 from .vectors import of_words, words_of
 
 SIZES = {"b": 1, "h": 2}          # suffixes of ldrb, strh and others

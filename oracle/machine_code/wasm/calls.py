@@ -85,6 +85,31 @@ def expect_kept(what, memory, cells):
         raise Unsupported(f"{what} isn't as it was")
 
 
+class Page:
+    """Calls the exports for streams like a page's JavaScript. `vm.loops` proves loops."""
+    SIZES = {"32": RECORDS["xxh32"], "64": RECORDS["xxh64"], "3": RECORDS["xxh3"]}
+
+    @staticmethod
+    def of_stream(state):
+        secret = getattr(state, "secret", None)
+        return [address(state), *([address(secret), secret.length] if secret else [])]
+
+    @staticmethod
+    def reset(vm, request, state):
+        vm.call(f"twox_{family(request.hash_name)}_start", [address(state), request.seed()])
+
+    @classmethod
+    def update(cls, vm, hash_name, state, piece):
+        answered(vm.call(f"twox_{family(hash_name)}_update", [*cls.of_stream(state), address(piece), piece.length]))
+
+    @classmethod
+    def digest(cls, vm, hash_name, state):
+        out = Memory("the value", BYTES[hash_name])
+        vm.loops.live.append(out)
+        answered(vm.call(export(hash_name) + "_digest", [*cls.of_stream(state), address(out)]))
+        return out.load(0, out.length)
+
+
 # ---- streams
 
 def anything(vm, name, size):

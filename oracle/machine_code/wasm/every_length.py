@@ -8,14 +8,16 @@ import collections
 import table
 from symbolic_terms import definition, nodes
 from symbolic_terms.definition import Bytes, suppositions
-from symbolic_terms.refusals import NotShown
+from symbolic_terms.refusals import REFUSALS, NotShown
 from symbolic_terms.requests import seed_symbol
 from symbolic_terms.memory import Input, Memory
 from symbolic_terms.nodes import Node
 from symbolic_terms.polynomials import at_most, given, minus, plus, times, variable
 
 from .calls import BYTES, WAYS, address, answered, export, is_plain
-from .induction import Family, Loops
+from ..induction import Family
+from ..stripes import Part, Stripes
+from .induction import Loops
 from .values import LEAST_PLACE, SPACE
 
 LONGEST = SPACE - 1 - LEAST_PLACE
@@ -101,8 +103,8 @@ class Proof:
         self.vm, self.told, self.cases = vm, [], 0
         self.texts = definition.program().run(traced=suppositions)
 
-    def call(self, families, hash_name, way, seed, message, secret=None):
-        """Returns the result of a one-shot. Proves the loops of these families by induction."""
+    def call(self, family, hash_name, way, seed, message, secret=None):
+        """Returns the result of a one-shot. Proves the loops of a family by induction."""
         vm, plain = self.vm, is_plain(hash_name)
         vm.seed, vm.has_asked = seed if isinstance(seed, Node) else None, False
         size = BYTES[hash_name]
@@ -111,20 +113,22 @@ class Proof:
         arguments += [address(secret), secret.length] if secret else []
         arguments += [address(message), message.length] + ([address(out)] if out else [])
         name = export(hash_name) + ("" if plain else WAYS[way])
-        results = self.with_loops(name, arguments, families, [out] if out else [])
+        results = self.with_loops(name, arguments, family, [out] if out else [])
         if secret:
             answered(results)
         return out.load(0, size) if out else results[0]
 
-    def with_loops(self, name, arguments, families, live):
-        """Returns an export's results. Proves the loops of these families. The call may write to `live`."""
-        loops = self.vm.loops = Loops(families, live)
+    def with_loops(self, name, arguments, family, live):
+        """Returns an export's results. Proves the loops of the family, if any. The call may write to `live`."""
+        loops = self.vm.loops = Loops(family, live)
         try:
             results = self.vm.call(name, arguments)
+        except REFUSALS as error:
+            raise NotShown("; ".join([str(error), *loops.refused])) from error
         finally:
             self.vm.loops = None
-        if loops.families:
-            raise NotShown(f"{loops.families[0].name}: no such loop was met")
+        if family and not loops.told:
+            raise NotShown(f"{family.name}: no such loop was met")
         if self.vm.has_asked:
             raise NotShown("whether the seed is 0 was asked, which is another case")
         self.told += loops.told
@@ -148,9 +152,9 @@ class Proof:
 
             def after(k):
                 return lambda j: accumulator(seed, message, j, k)
-            family = Family(f"XXH{width} of {n} bytes", turns, 4, width, after,
+            family = Family(f"XXH{width} of {n} bytes", stripe, turns, 4, after,
                             lambda k, values: suppositions.suppose(after(k), values))
-            ours = self.call([family], hash_name, "seed", seed, source)
+            ours = self.call(family, hash_name, "seed", seed, source)
             self.expect(family.name, ours, self.texts[f"xxh{width}"](seed, message))
 
     # ---- XXH3
@@ -174,11 +178,11 @@ class Proof:
         of_blocks += [at_most(B, case.most_blocks)] if case.most_blocks else []
         of_rest = [minus(t, case.least), at_most(t, case.most), at_most(variable("u"), 7)]
         with given(*of_blocks, *of_rest, at_most(n, LONGEST)):
-            self.of_blocks(hash_name, way, n, size, lambda after, suppose: [] if isinstance(B, int) else [
-                Family(f"XXH{hash_name}, {way}, of {n} bytes", times(BLOCK // 64, B), 8, 64, after, suppose)])
+            self.of_blocks(hash_name, way, n, size, lambda name, after, suppose: None if isinstance(B, int) else
+                           Family(name, 64, times(BLOCK // 64, B), 8, after, suppose))
 
-    def of_blocks(self, hash_name, way, n, size, families):
-        """Proves n > 240 bytes, with a custom secret of `size` bytes, or none. `families` makes the loops' families."""
+    def of_blocks(self, hash_name, way, n, size, family):
+        """Proves n > 240 bytes, with a custom secret of `size` bytes, or none. `family` makes the loops' family."""
         seed = seed_symbol(hash_name) if way in ("seed", "both") else 0
         source, own = Input("m", n), Input("s", size) if way in OWN_SECRET else None
         message = Bytes(source, 0, n)
@@ -188,10 +192,10 @@ class Proof:
 
         def after(k):
             return lambda i: accumulator(secret, message, i, k)
-        loops = families(after, lambda k, values: suppositions.suppose(after(k), values))
+        name = f"XXH{hash_name}, {way}, of {n} bytes"
+        loops = family(name, after, lambda k, values: suppositions.suppose(after(k), values))
         ours = self.call(loops, hash_name, way, seed, source, own)
-        self.expect(f"XXH{hash_name}, {way}, of {n} bytes", ours,
-                    self.texts[table.HASHES[hash_name]](seed, secret, message))
+        self.expect(name, ours, self.texts[table.HASHES[hash_name]](seed, secret, message))
 
     def short(self, hash_name, way, n):
         """Proves n bytes, n <= 240, with a secret of any length."""
@@ -199,7 +203,7 @@ class Proof:
         size = plus(64, times(8, q), u)
         with given(minus(q, LEAST_STRIPES), at_most(u, 7), at_most(size, LONGEST)):
             source, own = Input("m", n), Input("s", size)
-            ours = self.call([], hash_name, way, seed, source, own)
+            ours = self.call(None, hash_name, way, seed, source, own)
             theirs = definition.value(self.texts, hash_name, way, seed, Bytes(own, 0, size), Bytes(source, 0, n))
             self.expect(f"XXH{hash_name}, {way}, of {n} bytes", ours, theirs)
 
@@ -208,14 +212,11 @@ class Proof:
         t, u = variable("t"), variable("u")
         q = case.q or variable("q")
         B, J = (variable(name) if there else 0 for name, there in (("B", case.has_blocks), ("J", case.has_more)))
-        whole = times(q, B)
-        n, size = plus(times(64, whole), times(64, J), t, 1), plus(64, times(8, q), u)
-        name = f"XXH{hash_name}, {way}, of {n} bytes"
+        n, size = plus(times(64, times(q, B)), times(64, J), t, 1), plus(64, times(8, q), u)
+        parts = Part((0, 0), times(q, B), (B, 0)), Part((B, 0), J, (B, J))
         with given(*facts_of(case, q, B, J), at_most(t, 63), at_most(u, 7), at_most(size, LONGEST), minus(n, LONG),
                    *([minus(n, FAR), at_most(n, LONGEST)] if case.is_far else [at_most(n, FAR - 1)])):
-            self.of_blocks(hash_name, way, n, size, lambda after, suppose: [
-                *([Family(name, whole, 8, 64, after, suppose, 0, q, B)] if case.has_blocks else []),
-                *([Family(name, plus(whole, J), 8, 64, after, suppose, whole)] if case.has_more else [])])
+            self.of_blocks(hash_name, way, n, size, lambda name, *words: Stripes(name, q, parts, *words))
 
 
 def shortest(hash_name, way):

@@ -1,5 +1,5 @@
-"""Proves the loops of a module over stripes that begin and end anywhere in a block, like ../stripes.py for an assembly
-source, and models its functions that take stripes, whose effects are assumed at their calls.
+"""Models a module's functions that take stripes, whose effects are assumed at their calls, like ../stripes.py for an
+assembly source.
 
 The functions have no names: the call graph identifies them. They get the names of an assembly source."""
 import functools
@@ -8,71 +8,14 @@ from symbolic_terms.refusals import NotShown
 from symbolic_terms.memory import RUNS
 
 from .. import values as of_text
-from ..stripes import DEEP, StripesProof
+from ..stripes import DEEP
 from ..xxh3_updates import TAKE, TAKE_BLOCKS, TAKE_MANY
-from .induction import Head
 from .machine import STACK, STACK_POINTER
 from .values import Address, address
 
 UPDATE = "twox_xxh3_update"
 FRAME = "global.get", "i64.const", "i64.sub"      # beginning of a function that reserves stack
 
-
-class Loops:
-    """Called at each loop head. Proves a loop over stripes of the family's parts, and runs out of it; otherwise runs an
-    iteration. `live` has the memories, besides the stack, that a call may write to."""
-
-    def __init__(self, family, live):
-        self.family, self.live, self.refused = family, live, []
-        self.is_busy = False
-
-    def pass_by(self, vm, frame):
-        if self.is_busy:
-            return
-        self.is_busy, proof = True, Proof(self, vm, frame)
-        try:
-            if proof.show():
-                proof.leave()
-        finally:
-            self.is_busy = False
-
-
-class Proof(StripesProof):
-    """Proof of a loop over stripes."""
-
-    def __init__(self, loops, vm, frame):
-        self.place = Head(vm, frame)
-        self.begin(loops, vm, (f"function {frame.function.index}", self.place.head), self.place.memories)
-
-    def state(self):
-        out = {}
-        for cell, x in self.place.state().items():
-            if cell[0] != "memory":
-                out[cell] = x
-            elif cell[2] != RUNS:
-                out[cell[1], cell[2], x[0]] = x[1]
-        return out
-
-    def put(self, cells):
-        state = {("memory", memory, RUNS): runs for memory, runs in self.runs.items() if runs}
-        for cell in self.start:
-            if isinstance(cell[0], str):
-                state[cell] = self.place.anything(cell) if cell in self.unset else cells[cell]
-        state.update({("memory", *cell[:2]): (cell[2], x) for cell, x in cells.items() if not isinstance(cell[0], str)})
-        self.place.put(state)
-
-    def again(self):
-        self.forget()
-        self.enter(0)
-
-    def turn(self):
-        self.place.turn()
-
-    def leave(self):
-        self.place.leave()
-
-
-# ---- functions that take stripes
 
 def called(function):
     """Returns the indices of the functions that a function calls."""

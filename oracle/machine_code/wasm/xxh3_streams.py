@@ -9,7 +9,6 @@ import functools
 from symbolic_terms.induction import same
 from symbolic_terms.refusals import REFUSALS, NotShown
 from symbolic_terms.requests import LONGEST as MOST_BYTES, Request
-from symbolic_terms.memory import Memory
 from symbolic_terms.nodes import Node, symbol
 from symbolic_terms.polynomials import at_most, given, minus, plus, times, variable
 from symbolic_terms.polynomials import is_same as is_same_number
@@ -18,35 +17,15 @@ from ..cargo_streams import CargoUpdates
 from ..whole_blocks import BLOCKS, in_numbers, parted
 from ..xxh3_updates import STRIPES, Start
 from . import calls, every_length
-from .stripes import UPDATE, Loops, Takers
-from .values import address
+from .induction import Loops
+from .stripes import Takers
 
 LONGEST = every_length.LONGEST    # bytes of a chunk and of a secret, by the size of the memory
 
 
-class Page:
-    """Calls the exports like a page's JavaScript."""
-    SIZES = {"3": calls.RECORDS["xxh3"]}
-
-    @staticmethod
-    def secret(state):
-        return [address(state), address(state.secret), state.secret.length]
-
-    @classmethod
-    def update(cls, vm, hash_name, state, piece):
-        calls.answered(vm.call(UPDATE, [*cls.secret(state), address(piece), piece.length]))
-
-    @classmethod
-    def digest(cls, vm, hash_name, state):
-        out = Memory("the value", calls.BYTES[hash_name])
-        vm.loops.live.append(out)
-        calls.answered(vm.call(calls.export(hash_name) + "_digest", [*cls.secret(state), address(out)]))
-        return out.load(0, out.length)
-
-
 class ModuleUpdates(CargoUpdates):
     CORE, HAS_SEED = 16, (0, 1)
-    library, longest_secret, longest_piece = Page, LONGEST, LONGEST
+    library, longest_secret, longest_piece = calls.Page, LONGEST, LONGEST
 
     def __init__(self, vm):
         super().__init__(vm)
