@@ -8,15 +8,9 @@ bytes to one that represents N plus its length. Its r, its tail and its stripes 
 all else is symbolic. A digest returns the definition's value and leaves the state unchanged."""
 import collections
 
-from symbolic_terms import definition, nodes
-from symbolic_terms.definition import Bytes, suppositions
-from symbolic_terms.induction import same
-from symbolic_terms.refusals import REFUSALS, NotShown
-from symbolic_terms.requests import LONGEST, Request, seed_symbol
-from symbolic_terms.memory import Input, Piece
-from symbolic_terms.nodes import is_same
-from symbolic_terms.polynomials import at_most, given, lifted, minus, plus, times, variable
-from symbolic_terms.polynomials import is_same as is_same_number
+from symbolic_terms import (LONGEST, REFUSALS, Bytes, Input, NotShown, Piece, Request, at_most, definition, given,
+                            is_same, is_same_number, lifted, minus, nodes, plus, same, seed_symbol, suppositions, times,
+                            variable)
 
 from . import streams
 from .every_length import LIMIT, UNROLLED

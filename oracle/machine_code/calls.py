@@ -3,13 +3,8 @@ refusals. Each function runs a processor, returns its number of cases, and raise
 import itertools
 import random
 
-from symbolic_terms import definition, nodes
-from symbolic_terms.definition import Bytes
-from symbolic_terms.refusals import NotShown
-from symbolic_terms.requests import Request
-from symbolic_terms.memory import Input
-from symbolic_terms.nodes import is_same, symbol
-from symbolic_terms.polynomials import at_most, given, plus, times, variable
+from symbolic_terms import (Bytes, Input, NotShown, Request, at_most, definition, given, is_same, nodes, plus, symbol,
+                            times, variable)
 
 from . import one_shots, streams
 from .memory import Numbers, OnlyRead, Words

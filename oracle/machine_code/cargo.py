@@ -5,9 +5,7 @@ Each call of an XXH3 stream takes the secret as an argument. The stream begins w
 import os
 import re
 
-from symbolic_terms.nodes import is_same
-from symbolic_terms.refusals import NotShown, Unsupported
-from symbolic_terms.requests import TOP
+from symbolic_terms import TOP, NotShown, Unsupported, is_same
 
 from .object_contents import HIDDEN, WEAK
 from .memory import Words

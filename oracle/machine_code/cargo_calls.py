@@ -1,8 +1,7 @@
 """Tests the refusals of the cargo crate's exports. calls.py tests those of the C library."""
 import re
 
-from symbolic_terms.memory import Input
-from symbolic_terms.polynomials import at_most, given, plus, variable
+from symbolic_terms import Input, at_most, given, plus, variable
 
 from . import any_updates
 from .calls import BUFFERED, LIMITS, PLACE, TOTAL, WAITING, expect

@@ -1,8 +1,6 @@
 """Proves the chunks of XXH3 streams of a cargo source by induction over the updates, like xxh3_updates.py for the C
 library. A stream has no mark, seed or secret: each call takes the secret as an argument."""
-from symbolic_terms.polynomials import at_most, given, is_natural, minus, plus, variable
-from symbolic_terms.polynomials import is_same as is_same_number
-from symbolic_terms.requests import LONGEST_SECRET
+from symbolic_terms import LONGEST_SECRET, at_most, given, is_natural, is_same_number, minus, plus, variable
 
 from .whole_blocks import with_value
 from .xxh3_updates import ROOM, STRIPES, UPDATES, Xxh3Updates

@@ -9,12 +9,8 @@ import functools
 import itertools
 
 import table
-from symbolic_terms import definition, nodes
-from symbolic_terms.definition import Bytes, suppositions
-from symbolic_terms.refusals import REFUSALS, NotShown
-from symbolic_terms.requests import LONGEST, LONGEST_SECRET, seed_symbol
-from symbolic_terms.memory import Input
-from symbolic_terms.polynomials import Poly, at_most, given, minus, parts_of, plus, times, value_at, variable
+from symbolic_terms import (LONGEST, LONGEST_SECRET, REFUSALS, Bytes, Input, NotShown, Poly, at_most, definition, given,
+                            minus, nodes, parts_of, plus, seed_symbol, suppositions, times, value_at, variable)
 
 from .induction import Family, Loops
 from .values import address

@@ -7,11 +7,8 @@
 import collections
 import operator
 
-from symbolic_terms import operations
-from symbolic_terms.refusals import Undecided, Unsupported
-from symbolic_terms.words import TESTS
-from symbolic_terms.nodes import OPAQUE, Node
-from symbolic_terms.polynomials import is_natural, is_number, is_same, lifted, minus, plus
+from symbolic_terms import (OPAQUE, TESTS, Node, Undecided, Unsupported, is_natural, is_number, is_same_number, lifted,
+                            minus, operations, plus)
 
 from .memory import ENTRY, lie_apart
 from .values import Address, Either, quotients
@@ -73,7 +70,7 @@ def is_zero(cpu):
 
 
 def is_equal(cpu, a, b):
-    if isinstance(a, Either) and is_same(b, 0):
+    if isinstance(a, Either) and is_same_number(b, 0):
         return a.is_zero()
     if isinstance(a, Address) or isinstance(b, Address):
         return are_one_place(a, b)
@@ -119,7 +116,7 @@ def is_within(x):
 
 
 def are_one_place(a, b):
-    if is_same(b, 0) and is_within(a):      # no object begins at 0
+    if is_same_number(b, 0) and is_within(a):      # no object begins at 0
         return False
     if isinstance(a, Address) and isinstance(b, Address) and a.bases == b.bases:
         is_known = isinstance(minus(a.offset, b.offset), int) or is_near(a.offset) and is_near(b.offset)

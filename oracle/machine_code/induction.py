@@ -7,12 +7,8 @@ dropped. The flags are unset at a loop head."""
 import contextlib
 import functools
 
-from symbolic_terms.induction import Induction, same, step_between
-from symbolic_terms.refusals import REFUSALS, NotShown, Undecided
-from symbolic_terms.memory import RUNS, Input
-from symbolic_terms.nodes import Node
-from symbolic_terms.polynomials import divided, given, is_natural, is_number, minus, plus, times
-from symbolic_terms.polynomials import is_same as is_same_number
+from symbolic_terms import (REFUSALS, RUNS, Induction, Input, Node, NotShown, Undecided, divided, given, is_natural,
+                            is_number, is_same_number, minus, plus, same, step_between, times)
 
 from .values import Address, half_of, joined, with_half
 

@@ -4,7 +4,7 @@ A form is a mnemonic with a letter per operand, as in `add ml`: b, w, l, q a reg
 byte such as `ah`, x, y and z a vector of 128, 256 and 512 bits, m memory, i a number. An instruction that isn't in the
 table is refused. scalar.py and lanes.py fill it: each entry is a function of the processor and the instruction. It
 returns the next instruction's place if that isn't the following one. `form` also passes it the operands."""
-from symbolic_terms.refusals import Unsupported
+from symbolic_terms import Unsupported
 
 from .objects import Immediate, Place, Register
 

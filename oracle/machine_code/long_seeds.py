@@ -1,12 +1,7 @@
 """Proves the secrets generated from seeds of 2 ^ 32 bytes and more, by induction over the loops of their hash. For such
 lengths a source divides positions with another instruction."""
-from symbolic_terms import definition
-from symbolic_terms.definition import Bytes, suppositions
-from symbolic_terms.refusals import NotShown
-from symbolic_terms.requests import LONGEST
-from symbolic_terms.memory import Input
-from symbolic_terms.nodes import is_same
-from symbolic_terms.polynomials import at_most, given, minus, variable
+from symbolic_terms import (LONGEST, Bytes, Input, NotShown, at_most, definition, given, is_same, minus, suppositions,
+                            variable)
 
 from .every_length import TURNS, EveryLength, xxh3_case
 from .memory import Words

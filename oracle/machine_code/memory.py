@@ -5,12 +5,11 @@ everything below the stack pointer: there is no red zone across a call."""
 import collections
 import contextlib
 
-from symbolic_terms.refusals import Undecided, Unsupported
-from symbolic_terms.memory import Input, Memory, Unset, is_inside
-from symbolic_terms.nodes import Node, memo
+from symbolic_terms import (Input, Memory, Node, Poly, Undecided, Unset, Unsupported, divided, is_inside, is_natural,
+                            is_same_number, lifted, minus, ones, plus)
+from symbolic_terms.nodes import memo
 from symbolic_terms.operations import bits
-from symbolic_terms.polynomials import WORD, Poly, divided, is_natural, is_same, lifted, minus, plus
-from symbolic_terms.rules import ones
+from symbolic_terms.polynomials import WORD
 
 from .values import place_of
 
@@ -147,7 +146,7 @@ def numbered(x):
 
 def copy(to, source, n, may_overlap):
     """Performs memcpy, or memmove with `may_overlap`."""
-    if is_same(n, 0):
+    if is_same_number(n, 0):
         return
     (memory, at), (source, first) = place_of(to), place_of(source)
     if memory.keeps_runs(at, n):

@@ -5,8 +5,7 @@ import re
 import struct
 import sys
 
-from symbolic_terms.refusals import Unsupported
-from symbolic_terms.requests import TOP
+from symbolic_terms import TOP, Unsupported
 
 sys.path.append(os.path.join(TOP, "assembly"))
 import frames

@@ -9,7 +9,7 @@ import re
 import struct
 import subprocess
 
-from symbolic_terms.refusals import Unsupported
+from symbolic_terms import Unsupported
 
 from .disassembly import expect_bytes
 from .object_contents import CODE, RELA, Loaded

@@ -9,8 +9,7 @@ import os
 import random
 import subprocess
 
-from symbolic_terms.refusals import NotShown
-from symbolic_terms.rules import ones
+from symbolic_terms import NotShown, ones
 
 from .disassembly import NOPS
 from .instructions import OLDER, PARTS, SETS, TABLE, V3, V4, WIDE, letters, needs_v4

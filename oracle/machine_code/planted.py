@@ -7,11 +7,7 @@ import subprocess
 import tempfile
 import unittest.mock
 
-from symbolic_terms import definition, nodes, operations
-from symbolic_terms.refusals import REFUSALS, NotShown
-from symbolic_terms.requests import TOP, Request
-from symbolic_terms.nodes import WrongRule
-from symbolic_terms.polynomials import variable
+from symbolic_terms import REFUSALS, TOP, NotShown, Request, WrongRule, definition, nodes, operations, variable
 
 from . import (any_updates, calls, coverage, every_length, exports, on_processor, one_shots, streams, values,
                xxh3_updates)

@@ -2,8 +2,7 @@
 import os
 import re
 
-from symbolic_terms.polynomials import variable
-from symbolic_terms.requests import TOP
+from symbolic_terms import TOP, variable
 
 from . import any_updates, calls, cargo_planted, every_length, exports, xxh3_updates
 from .aarch64 import objects, table

@@ -3,8 +3,7 @@ import os
 import re
 import tempfile
 
-from symbolic_terms.refusals import NotShown
-from symbolic_terms.requests import TOP
+from symbolic_terms import TOP, NotShown
 
 from .grammar import expect_grammar
 from .sources import by_gnu, expect_alike

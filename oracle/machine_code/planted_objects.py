@@ -3,8 +3,7 @@ frames: each is a committed source with other lines, and its executed instructio
 import os
 import re
 
-from symbolic_terms.refusals import NotShown
-from symbolic_terms.requests import TOP
+from symbolic_terms import TOP, NotShown
 
 from . import calls, exports
 from .aarch64 import objects, table

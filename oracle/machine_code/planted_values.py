@@ -2,9 +2,7 @@
 with operands that it must refuse."""
 import types
 
-from symbolic_terms.induction import Induction
-from symbolic_terms.nodes import symbol
-from symbolic_terms.polynomials import plus, variable
+from symbolic_terms import Induction, plus, symbol, variable
 
 from . import cargo, flags, induction, stripes, values
 from .aarch64 import processor

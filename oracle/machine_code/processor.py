@@ -6,17 +6,14 @@ The flags are unset. Errors are: an address outside of the passed objects, a loa
 store to read-only memory, a branch on a symbol, and a form of an instruction that the table lacks."""
 import functools
 
-from symbolic_terms.refusals import Unsupported
-from symbolic_terms.nodes import symbol
-from symbolic_terms.polynomials import is_natural, is_number, is_same, minus
-from symbolic_terms.rules import ones
+from symbolic_terms import Unsupported, is_natural, is_number, is_same_number, minus, ones, symbol
 
 from . import flags
 from .instructions import PARTS, VECTORS, WIDE, known
-from .library import ForC
 from .object_contents import OUTER
 from .memory import ENTRY, RED, Constants, ReturnTo, Stack, Words, copy, fill
 from .objects import Immediate, Register
+from .streams import ForC
 from .values import WORD, Address, address, arithmetic, bits, joined, low, place_of
 
 KEPT = "rbx", "rbp", "r12", "r13", "r14", "r15"          # callee-saved registers
@@ -290,7 +287,7 @@ def call_of_outer(name, cpu, _):
     if (at + 8) % 16:
         raise Unsupported("a call with the stack at no multiple of 16")
     memory.forget_below(at)
-    if not is_same(n, 0):
+    if not is_same_number(n, 0):
         room, first = place_of(to)
         cpu.expect_writable(room)
         if room is memory and not is_natural(minus(first, at + 8)):

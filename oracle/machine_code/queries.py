@@ -9,10 +9,7 @@ import functools
 import random
 
 from reasons import CRASH
-from symbolic_terms import nodes
-from symbolic_terms.refusals import REFUSALS, NotShown
-from symbolic_terms.requests import Request
-from symbolic_terms.nodes import WrongRule, is_same
+from symbolic_terms import REFUSALS, NotShown, Request, WrongRule, is_same, nodes
 
 from . import any_secret, any_updates, calls, every_length, long_seeds, one_shots, streams, xxh3_updates
 from .memory import Numbers

@@ -1,9 +1,5 @@
 """Semantics of instructions on words."""
-from symbolic_terms import operations
-from symbolic_terms.refusals import Unsupported
-from symbolic_terms.words import BINARY
-from symbolic_terms.polynomials import Poly, is_same, lifted, plus
-from symbolic_terms.rules import ones
+from symbolic_terms import BINARY, Poly, Unsupported, is_same_number, lifted, ones, operations, plus
 
 from .flags import carry
 from .instructions import V1, V3, form
@@ -230,7 +226,7 @@ def whole_product_apart(cpu, x, source, lower, upper):
 def divide(cpu, x, source):
     width = cpu.width(x)
     above, a, b = low(cpu.registers["rdx"], width), low(cpu.registers["rax"], width), cpu.get(source, width, x)
-    if not is_same(above, 0) or is_same(b, 0):
+    if not is_same_number(above, 0) or is_same_number(b, 0):
         raise Unsupported("a quotient of two words, or by 0")
     for letter, word in (("a", "udiv"), ("d", "urem")):
         cpu.put(Register({16: "", 32: "e", 64: "r"}[width] + letter + "x"), width, arithmetic(word, width, a, b), x)

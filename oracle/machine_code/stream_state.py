@@ -2,10 +2,8 @@
 symbolic length."""
 import contextlib
 
-from symbolic_terms.refusals import Unsupported
-from symbolic_terms.memory import RUNS, Input, in_order, is_inside, is_within, outside
-from symbolic_terms.nodes import NODES, SYMBOL, Node
-from symbolic_terms.polynomials import is_natural, is_same, minus, plus
+from symbolic_terms import (NODES, RUNS, SYMBOL, Input, Node, Unsupported, in_order, is_inside, is_natural,
+                            is_same_number, is_within, minus, outside, plus)
 
 from .memory import Words
 
@@ -64,7 +62,7 @@ class State(Words):
         self.check(at, n)
         end, shift, parts, others = plus(at, n), minus(place, at), [], []
         for run in self.runs():
-            if run[2] is source and is_same(run[3], shift):
+            if run[2] is source and is_same_number(run[3], shift):
                 parts.append(run[:2])
             else:
                 others += outside(run, at, end)

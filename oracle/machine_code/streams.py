@@ -3,14 +3,10 @@ reset. Each update gets its chunk as a separate memory object. No digest changes
 import os
 import re
 
-from symbolic_terms.refusals import Unsupported
-from symbolic_terms.requests import TOP
-from symbolic_terms.memory import Piece
-from symbolic_terms.nodes import is_same
-from symbolic_terms.polynomials import is_same as is_same_number
+from symbolic_terms import TOP, Piece, Unsupported, is_same, is_same_number
 
 from .memory import Words
-from .one_shots import NAMES, WAYS, is_plain, of_seed, suppose_seed
+from .one_shots import NAMES, WAYS, is_plain, name_of, of_seed, suppose_seed, value_of
 from .values import address, low
 
 OK, ERROR = 0, 1
@@ -85,3 +81,30 @@ def of_text(cpu, request):
         library.update(cpu, request.hash_name, state, Piece(request.message, at, end - at))
         at = end
     return digest(cpu, request.hash_name, state)
+
+
+class ForC:
+    """Calls the exports of the C library. cargo.py does this for the cargo crate."""
+    SIZES = SIZES     # of states, in bytes
+
+    @staticmethod
+    def has(request):
+        return True
+
+    @staticmethod
+    def one_shot(cpu, hash_name, kind, *arguments):
+        """Returns the hash. Arguments: the message's address and length, the secret's if there is one, the seed."""
+        return value_of(hash_name, cpu.call(name_of(hash_name, kind), *arguments))
+
+    @staticmethod
+    def reset(cpu, request, state):
+        expect_answer(reset(cpu, request, state), OK)
+
+    @staticmethod
+    def update(cpu, hash_name, state, piece):
+        expect_answer(update(cpu, hash_name, state, piece), OK)
+
+    @staticmethod
+    def digest(cpu, hash_name, state):
+        """Returns the hash of everything written to a state."""
+        return value_of(hash_name, cpu.call(f"{NAMES[hash_name]}_digest", address(state)))

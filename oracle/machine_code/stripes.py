@@ -7,12 +7,8 @@ from an iteration that ends a block, and then proved with everything else."""
 import collections
 import functools
 
-from symbolic_terms.definition import suppositions
-from symbolic_terms.induction import moved, same
-from symbolic_terms.refusals import REFUSALS, NotShown
-from symbolic_terms.memory import Input
-from symbolic_terms.polynomials import divided, given, is_natural, minus, plus, times, variable
-from symbolic_terms.polynomials import is_same as is_same_number
+from symbolic_terms import (REFUSALS, Input, NotShown, divided, given, is_natural, is_same_number, minus, moved, plus,
+                            same, suppositions, times, variable)
 
 from .induction import Family, Proof
 from .memory import ENTRY

@@ -3,11 +3,7 @@ import functools
 import itertools
 import os
 
-from symbolic_terms import comparison, nodes
-from symbolic_terms.refusals import REFUSALS
-from symbolic_terms.requests import TOP, Request
-from symbolic_terms.nodes import WrongRule
-from symbolic_terms.polynomials import variable
+from symbolic_terms import REFUSALS, TOP, Request, WrongRule, comparison, nodes, variable
 from symbolic_terms.processes import Task
 
 from . import (any_secret, any_updates, calls, coverage, every_length, exports, lanes, long_seeds, one_shots, scalar, streams,

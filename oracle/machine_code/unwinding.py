@@ -2,7 +2,7 @@
 import re
 import struct
 
-from symbolic_terms.refusals import NotShown
+from symbolic_terms import NotShown
 
 from .object_contents import CODE, X86_64, Table, frames
 

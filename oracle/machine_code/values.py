@@ -5,13 +5,8 @@ is a number. An object's address is only known to be nonzero and aligned. Values
 operations.py are also compared at the points."""
 import contextlib
 
-from symbolic_terms import nodes, operations
-from symbolic_terms.refusals import Undecided
-from symbolic_terms.words import BINARY
-from symbolic_terms.nodes import Node, WrongRule, symbol
-from symbolic_terms.polynomials import (Poly, as_word, constant_of, divided, is_natural, lifted, minus, parts_of, plus,
-                                        wrapped)
-from symbolic_terms.rules import ones, zeros_below
+from symbolic_terms import (BINARY, Node, Poly, Undecided, WrongRule, as_word, constant_of, divided, is_natural, lifted,
+                            minus, nodes, ones, operations, parts_of, plus, symbol, wrapped, zeros_below)
 
 WORD = 64
 HALF, WHOLE = 1 << 63, 1 << 64

@@ -13,15 +13,9 @@ import collections
 import functools
 import itertools
 
-from symbolic_terms import definition, nodes
-from symbolic_terms.definition import Bytes, suppositions
-from symbolic_terms.induction import same
-from symbolic_terms.refusals import REFUSALS, NotShown
-from symbolic_terms.requests import LONGEST, LONGEST_SECRET
-from symbolic_terms.memory import RUNS, Piece
-from symbolic_terms.nodes import is_same
-from symbolic_terms.polynomials import at_most, given, is_natural, minus, plus, times, variable
-from symbolic_terms.polynomials import is_same as is_same_number
+from symbolic_terms import (LONGEST, LONGEST_SECRET, REFUSALS, RUNS, Bytes, NotShown, Piece, at_most, definition, given,
+                            is_natural, is_same, is_same_number, minus, nodes, plus, same, suppositions, times,
+                            variable)
 
 from . import exports, streams
 from .every_length import FAR, LIMIT

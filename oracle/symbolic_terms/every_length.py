@@ -11,7 +11,7 @@ from .requests import LONGEST, LONGEST_SECRET, seed_symbol
 from .memory import Input, Memory
 from .nodes import Node, symbol
 from .operations import side_by_side
-from .polynomials import agree, at_most, divided, given, is_same, minus, plus, Poly, times, variable
+from .polynomials import agree, at_most, divided, given, is_same_number, minus, plus, Poly, times, variable
 
 SHORTEST_SECRET_STRIPES = 9        # stripes of a block, with a secret of 136 bytes
 DEFAULT_SECRET, DEFAULT_STRIPES = 192, 16     # its bytes, and the stripes of a block with it
@@ -200,7 +200,7 @@ def long_loops(accumulator_after, q, B, J, secret, message):
         turns = registers.get("%nbStripes")
         if not isinstance(turns, Poly):
             return None
-        first, is_whole = divided(registers["%input"][1], 64)[0], is_same(turns, q)
+        first, is_whole = divided(registers["%input"][1], 64)[0], is_same_number(turns, q)
         return xxh3_loop(after, "stripes of a block" if is_whole else "stripes of the last block",
                          minus(q, 1) if is_whole else J, cells_at(registers["%acc"]), lambda k: plus(first, k))
     return {"@XXH3_hashLong_internal_loop": blocks, "@XXH3_accumulate": stripes}

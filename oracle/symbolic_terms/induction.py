@@ -7,7 +7,7 @@ violates this becomes unset, if it may, and the turn runs again.
 
 loops.py has the states for LLVM code, ../machine_code/induction.py and wasm/induction.py for assembly and modules."""
 from .polynomials import agree, given, is_number, minus, plus, times, variable
-from .polynomials import is_same as is_same_number
+from .polynomials import is_same_number
 from .refusals import NotShown
 
 

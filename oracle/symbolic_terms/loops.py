@@ -7,7 +7,7 @@ to which a function jumps back."""
 from .induction import Induction, moved
 from .nodes import is_same, symbol
 from .polynomials import given, is_natural, minus, variable
-from .polynomials import is_same as is_same_number
+from .polynomials import is_same_number
 from .refusals import NotShown
 
 

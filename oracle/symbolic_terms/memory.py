@@ -5,7 +5,7 @@ Loading a byte that was never stored is an error."""
 from . import operations
 from .refusals import Unsupported
 from .nodes import symbol
-from .polynomials import constant_of, is_natural, is_number, is_same, minus, plus
+from .polynomials import constant_of, is_natural, is_number, is_same_number, minus, plus
 from .rules import bits_of, from_segments
 
 LONGEST = 1 << 15        # bytes of the window at the start of an input
@@ -173,7 +173,7 @@ class Memory:
     def has_run(self, run):
         """True if the bytes are known to be those of a run."""
         low, high, source, place = run
-        return any(other[2] is source and is_same(other[3], place) and is_within(low, high, other[0], other[1])
+        return any(other[2] is source and is_same_number(other[3], place) and is_within(low, high, other[0], other[1])
                    for other in self.runs())
 
     def put_run(self, at, n, source, place):
@@ -185,7 +185,7 @@ class Memory:
                       if first == RUNS or is_natural(minus(first, end)) or is_natural(minus(at, first + cell[0]))}
         low, high, shift, others = at, end, minus(place, at), []
         for run in self.runs():
-            goes_on = run[2] is source and is_same(run[3], shift)
+            goes_on = run[2] is source and is_same_number(run[3], shift)
             if goes_on and is_natural(minus(run[1], low)) and is_natural(minus(high, run[0])):
                 low, high = in_order(run[0], low)[0], in_order(run[1], high)[1]
             else:

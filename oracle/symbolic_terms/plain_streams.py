@@ -10,7 +10,7 @@ from .refusals import NotShown
 from .requests import LONGEST, seed_symbol
 from .memory import Input, Memory, Piece
 from .nodes import symbol
-from .polynomials import agree, as_word, at_most, given, is_natural, is_same, minus, plus, times, variable
+from .polynomials import agree, as_word, at_most, given, is_natural, is_same_number, minus, plus, times, variable
 from .reference import BESIDE
 
 FIELDS = {64: ["total", "accumulators", "buffer", "memsize"],
@@ -45,16 +45,16 @@ class PlainStreams(Proof):
         n = plus(times(self.stripe, a), r)
         out = [(self.at["total"], self.word, self.total(n)), (self.at["memsize"], 4, r)]
         if self.width == 32:
-            out.append((self.at["large"], 4, int(not is_same(a, 0))))
+            out.append((self.at["large"], 4, int(not is_same_number(a, 0))))
         return out + [(self.at["accumulators"] + self.word * j, self.word, x) for j, x in enumerate(accumulators)]
 
     def buffered(self, a, r):
         """Returns the bytes of an incomplete stripe, as a run in the buffer."""
         first = self.at["buffer"]
-        return [(first, plus(first, r), self.source, minus(times(self.stripe, a), first))] if not is_same(r, 0) else []
+        return [(first, plus(first, r), self.source, minus(times(self.stripe, a), first))] if not is_same_number(r, 0) else []
 
     def state(self, a, r):
-        if is_same(a, 0):
+        if is_same_number(a, 0):
             accumulators = [self.accumulator(j, 0) for j in range(4)]
         else:
             accumulators = [symbol(self.module.fresh("accumulator"), self.width) for _ in range(4)]
@@ -104,7 +104,7 @@ class PlainStreams(Proof):
     def update(self, a, r, b, s, facts):
         """Proves an update by one chunk from stripe * a + r bytes to stripe * b + s."""
         begun, ended = plus(times(self.stripe, a), r), plus(times(self.stripe, b), s)
-        first = plus(a, int(not is_same(r, 0)))     # the first stripe behind the buffered one
+        first = plus(a, int(not is_same_number(r, 0)))     # the first stripe behind the buffered one
         with self.up_to(ended, *facts, *at_least_one(a)):
             self.prepare({})
             self.module.allows_unknown_bits, self.module.beside = self.width == 32, BESIDE
@@ -153,7 +153,7 @@ class PlainStreams(Proof):
 
 def at_least_one(a):
     """Returns the fact that there were stripes, if their number isn't 0."""
-    return [] if is_same(a, 0) else [minus(a, 1)]
+    return [] if is_same_number(a, 0) else [minus(a, 1)]
 
 
 def of_any_length(say):

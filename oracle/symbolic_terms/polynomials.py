@@ -67,7 +67,7 @@ class Poly:
     def __rmod__(self, other): return remainder(other, self)
 
     def __eq__(self, other):
-        if is_same(self, other):
+        if is_same_number(self, other):
             return True
         if is_below(self, other) or is_below(other, self):
             return False
@@ -147,7 +147,7 @@ def constant_of(x):
     return parts_of(x).get((), 0)
 
 
-def is_same(a, b):
+def is_same_number(a, b):
     return is_number(a) and is_number(b) and parts_of(a) == parts_of(b)
 
 
@@ -335,7 +335,7 @@ def monus(a, b):
 
 def divided(a, b):
     """Returns quotient and remainder: guessed, then proved."""
-    if is_same(b, 0):
+    if is_same_number(b, 0):
         raise Undecided(f"{a} / {b}")
     for q in quotients(a, b):
         r = minus(a, times(b, q))
@@ -393,4 +393,4 @@ def agree(a, b):
     """True if two values, or tuples of values, are the same."""
     if isinstance(a, tuple) and isinstance(b, tuple):
         return len(a) == len(b) and all(x is y or agree(x, y) for x, y in zip(a, b))
-    return nodes.is_same(a, b) or is_same(a, b) or isinstance(a, str) and a == b
+    return nodes.is_same(a, b) or is_same_number(a, b) or isinstance(a, str) and a == b

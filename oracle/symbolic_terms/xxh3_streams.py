@@ -17,7 +17,7 @@ from .loops import loops_of
 from .memory import Input, Memory, Piece
 from .nodes import symbol
 from .operations import side_by_side
-from .polynomials import agree, at_most, divided, given, is_natural, is_same, minus, plus, Poly, times, variable
+from .polynomials import agree, at_most, divided, given, is_natural, is_same_number, minus, plus, Poly, times, variable
 from .reference import BESIDE
 
 LONGEST = (1 << 63) - 1      # bytes of a stream: the header takes differences of addresses as signed numbers
@@ -76,7 +76,7 @@ class Xxh3Streams(Proof):
         return plus(first, low), plus(first, high), self.source, minus(place, first)
 
     def buffered(self, b, j, f):
-        return [] if is_same(f, 0) else [self.run(0, f, times(STRIPE, self.stripes(b, j)))]
+        return [] if is_same_number(f, 0) else [self.run(0, f, times(STRIPE, self.stripes(b, j)))]
 
     def before(self, b, j, low):
         """Returns the run of the end of the last stripe, in the buffer from `low` on."""
@@ -96,7 +96,7 @@ class Xxh3Streams(Proof):
     def state(self, b, j, f, runs):
         k = self.stripes(b, j)
         suppositions.clear()
-        if is_same(k, 0):
+        if is_same_number(k, 0):
             accumulators = [self.after(i, 0) for i in range(8)]
         else:
             accumulators = [symbol(self.module.fresh("accumulator"), 64) for _ in range(8)]
@@ -154,7 +154,7 @@ class Xxh3Streams(Proof):
     def expect_some_stripes(self, start, end):
         """Checks that at least four stripes were taken, if any."""
         k = self.stripes(*end[:2])
-        if not is_same(k, self.stripes(*start[:2])) and not is_natural(minus(k, 4)):
+        if not is_same_number(k, self.stripes(*start[:2])) and not is_natural(minus(k, 4)):
             raise NotShown("fewer than four stripes are taken")
 
     def of_stripes(self, function, registers):
@@ -167,7 +167,7 @@ class Xxh3Streams(Proof):
         first = divided(piece.origin(at)[1], STRIPE)[0]
         secret, place = registers["%secret"]
         position = divided(minus(place, self.at["inside"] if self.place == "inside" else 0), 8)[0]
-        is_whole = is_same(plus(position, count), self.q)
+        is_whole = is_same_number(plus(position, count), self.q)
         return xxh3_loop(self.after, "stripes", minus(count, int(is_whole)), cells_at(registers["%acc"]),
                          lambda k: plus(first, k))
 
@@ -219,7 +219,7 @@ class Xxh3Streams(Proof):
     def rest_in_buffer(self, start, facts, b, j):
         """Proves updates that take the buffer's stripes, and store the rest of the chunk in the buffer."""
         R = variable("R")
-        if not is_same(start[2], 0):
+        if not is_same_number(start[2], 0):
             self.update(start, (b, j, R), self.buffered(*start), self.ends(b, j, R),
                         [*facts, minus(R, 1), at_most(R, BUFFER)])
 
@@ -274,7 +274,7 @@ class Xxh3Streams(Proof):
             first = self.stripes(b, j)
             for times_more, of_more in ((0, []), (M, [minus(M, 1)]))[:1 + goes_on]:
                 end = plus(b, 1), plus(4 - c, times(4, times_more)), h
-                behind = None if is_same(times_more, 0) else self.loop(
+                behind = None if is_same_number(times_more, 0) else self.loop(
                     "four stripes behind", minus(M, 1), lambda k: plus(times(self.q, plus(b, 1)), 4 - c, times(4, k)))
                 say = self.loop("four stripes to the next block", K, lambda k: plus(first, times(4, k)), behind)
                 self.update(start, end, self.buffered(*start), self.ends(*end),

@@ -8,7 +8,7 @@ import os
 import tempfile
 
 from reasons import Reasons
-from symbolic_terms.refusals import Unsupported
+from symbolic_terms import Unsupported
 
 from .. import mutation
 from .objects import SIZE, Shift, listing

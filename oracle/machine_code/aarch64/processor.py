@@ -2,9 +2,7 @@
 for x86-64. A call leaves the return address in a register."""
 import operator
 
-from symbolic_terms.refusals import Undecided, Unsupported
-from symbolic_terms.words import TESTS, signed
-from symbolic_terms.polynomials import is_number, is_same, plus
+from symbolic_terms import TESTS, Undecided, Unsupported, is_number, is_same_number, plus, signed
 
 from ..flags import is_below, is_equal
 from ..memory import ENTRY, Stack, Words, copy, fill
@@ -130,7 +128,7 @@ class Processor(Runner):
         to, source, n = (self.registers[register] for register in self.ARGUMENTS[:3])
         memory, at = self.registers["sp"].place()
         memory.forget_below(at)
-        if not is_same(n, 0):
+        if not is_same_number(n, 0):
             room, first = place_of(to)
             if not isinstance(room, Words) or room is memory and not (isinstance(first, int) and first >= at):
                 raise Unsupported(f"a copy to {room.name}")

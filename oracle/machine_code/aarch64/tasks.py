@@ -2,10 +2,9 @@
 import functools
 import os
 
-from symbolic_terms import comparison
+from symbolic_terms import TOP, comparison
 from symbolic_terms.processes import Task
 from symbolic_terms.tasks import title_of
-from symbolic_terms.requests import TOP
 
 from .. import calls, cargo_whole, every_length, one_shots, planted_checks, planted_lines, planted_objects, self_tests, streams
 from .. import tasks as shared

@@ -1,8 +1,5 @@
 """Semantics of instructions on words, control flow and memory."""
-from symbolic_terms.refusals import Unsupported
-from symbolic_terms.words import rotated
-from symbolic_terms.polynomials import lifted, plus
-from symbolic_terms.rules import ones
+from symbolic_terms import Unsupported, lifted, ones, plus, rotated
 
 from ..flags import is_equal
 

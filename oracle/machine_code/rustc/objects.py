@@ -8,7 +8,7 @@ import collections
 import re
 import struct
 
-from symbolic_terms.refusals import Unsupported
+from symbolic_terms import Unsupported
 
 from .. import lanes, scalar
 from ..instructions import known

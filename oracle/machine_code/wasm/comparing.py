@@ -1,6 +1,5 @@
 """Compares the modules with the definition: for each request both must compute the same term."""
-from symbolic_terms import comparison, definition, nodes
-from symbolic_terms.requests import Request
+from symbolic_terms import Request, comparison, definition, nodes
 
 MOST_NODES = 300_000
 

@@ -6,13 +6,8 @@ secrets, of 64 + 8 q + u bytes, u < 8, J is symbolic, and q is a number below 16
 import collections
 
 import table
-from symbolic_terms import definition, nodes
-from symbolic_terms.definition import Bytes, suppositions
-from symbolic_terms.refusals import REFUSALS, NotShown
-from symbolic_terms.requests import seed_symbol
-from symbolic_terms.memory import Input, Memory
-from symbolic_terms.nodes import Node
-from symbolic_terms.polynomials import at_most, given, minus, plus, times, variable
+from symbolic_terms import (REFUSALS, Bytes, Input, Memory, Node, NotShown, at_most, definition, given, minus, nodes,
+                            plus, seed_symbol, suppositions, times, variable)
 
 from .calls import BYTES, WAYS, address, answered, export, is_plain
 from ..induction import Family

@@ -5,11 +5,8 @@ Memory consists of objects: the stack and the module's constants at concrete add
 unknown addresses (Address). Each access must be provably inside one object."""
 import operator
 
-from symbolic_terms.refusals import Unsupported
+from symbolic_terms import Memory, Node, Unsupported, is_inside, is_natural, is_same_number, minus, plus, symbol
 from symbolic_terms.machine import copy
-from symbolic_terms.memory import Memory, is_inside
-from symbolic_terms.nodes import Node, symbol
-from symbolic_terms.polynomials import is_natural, is_same, minus, plus
 
 from .semantics import PURE
 from .module import PAGE
@@ -130,7 +127,7 @@ class Machine:
         if name == "i64.eqz":
             name, operands = "i64.eq", [*operands, 0]
         a, b = operands
-        if isinstance(a, Node) and a is self.seed and is_same(b, 0) and name in ("i64.eq", "i64.ne"):
+        if isinstance(a, Node) and a is self.seed and is_same_number(b, 0) and name in ("i64.eq", "i64.ne"):
             self.has_asked = True
             return int(name == "i64.ne")
         return PURE[name](given, a, b)
@@ -232,7 +229,7 @@ def memory_copy(vm, frame, given):
         raise Unsupported(f"a copy from {other.name} to {memory.name}")
     if not (is_inside(at, n, memory.length) and is_inside(first, n, other.length)):
         raise Unsupported(f"a copy of {n} bytes, which go out of their object")
-    if not is_same(n, 0):
+    if not is_same_number(n, 0):
         copy((memory, at), (other, first), n)
 
 

@@ -12,10 +12,7 @@ import os
 import random
 
 from reasons import CRASH, UNNOTICED, WRONG_RULE, Reasons, is_fault
-from symbolic_terms import comparison, nodes
-from symbolic_terms.refusals import REFUSALS
-from symbolic_terms.requests import Request, differing_point
-from symbolic_terms.nodes import WrongRule
+from symbolic_terms import REFUSALS, Request, WrongRule, comparison, differing_point, nodes
 
 from ..xxh3_updates import TAKE_BLOCKS
 from . import calls, every_length, refusals

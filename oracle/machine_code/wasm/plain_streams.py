@@ -4,8 +4,7 @@ lengths, a digest. ../any_updates.py does this for an assembly source.
 A record represents the first N = stripe * a + r bytes of a message if it has N, the seed, the definition's accumulators
 after a stripes, the number r of buffered bytes, and these bytes. The rest of its buffer is unconstrained. Calls test if
 the record's numbers are consistent, so a record without stripes, whose accumulators are known, is a separate case."""
-from symbolic_terms.polynomials import at_most, minus, plus, times, variable
-from symbolic_terms.refusals import REFUSALS, NotShown
+from symbolic_terms import REFUSALS, NotShown, at_most, minus, plus, times, variable
 
 from ..any_updates import AnyUpdates, Layout
 from . import calls, every_length

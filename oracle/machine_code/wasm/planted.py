@@ -1,11 +1,7 @@
 """Planted faults in modules: instructions inserted at the start of an export, each of which must be refused."""
 import functools
 
-from symbolic_terms.refusals import REFUSALS
-from symbolic_terms.requests import Request
-from symbolic_terms.nodes import is_same
-from symbolic_terms.polynomials import Poly
-from symbolic_terms.polynomials import is_same as is_same_number
+from symbolic_terms import REFUSALS, Poly, Request, is_same, is_same_number
 
 from .. import coverage
 from ..xxh3_updates import TAKE, TAKE_MANY

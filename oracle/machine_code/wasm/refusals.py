@@ -1,8 +1,6 @@
 """Tests calls that the modules refuse without writing anything: with secrets of fewer than 136 bytes, or with invalid
 records. Also tests that a counter saturates at 2^64 - 1."""
-from symbolic_terms.refusals import Unsupported
-from symbolic_terms.requests import Request
-from symbolic_terms.memory import Memory
+from symbolic_terms import Memory, Request, Unsupported
 
 from . import calls
 from .calls import NOT_A_STREAM, SECRET_TOO_SHORT, Stream, answered, expect_kept

@@ -2,14 +2,10 @@
 64-bit lanes."""
 import contextlib
 
-from symbolic_terms import halves, operations
-from symbolic_terms.refusals import Undecided, Unsupported
-from symbolic_terms.words import BINARY, compare_numbers, rotated
-from symbolic_terms.memory import Memory
-from symbolic_terms.nodes import Node
-from symbolic_terms.polynomials import (Poly, at_most, divided, is_natural, is_number, is_same, made, minus, plus,
-                                        remainder, times, wrapped)
-from symbolic_terms.rules import ones, zeros_below
+from symbolic_terms import (BINARY, Memory, Node, Poly, Undecided, Unsupported, at_most, compare_numbers, divided,
+                            halves, is_natural, is_number, is_same_number, minus, ones, operations, plus, rotated,
+                            times, wrapped, zeros_below)
+from symbolic_terms.polynomials import made, remainder
 
 from .. import values as of_text
 
@@ -141,11 +137,11 @@ def binary(name, width, a, b):
         return rotation(name, width, a, decided(b, "the amount of a rotation") % width)
     if name in ("shl", "shr_u"):
         b = decided(b, "the amount of a shift") % width
-    if name == "rem_u" and is_same(b, 0):
+    if name == "rem_u" and is_same_number(b, 0):
         raise Trap("a division by 0")
     if isinstance(a, Poly) and isinstance(b, int) and name == "and":
         return masked(a, b, width)
-    if isinstance(a, Poly) and name == "xor" and is_same(b, ones(width)):
+    if isinstance(a, Poly) and name == "xor" and is_same_number(b, ones(width)):
         return minus(b, a)
     name = NAMES.get(name, name)
     answer = BINARY[name](width, a, b)

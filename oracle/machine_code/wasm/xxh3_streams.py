@@ -6,12 +6,8 @@ Each call takes the secret, of any length that fits in memory. Calls test if the
 record without stripes, whose accumulators are known, is a separate case."""
 import functools
 
-from symbolic_terms.induction import same
-from symbolic_terms.refusals import REFUSALS, NotShown
-from symbolic_terms.requests import LONGEST as MOST_BYTES, Request
-from symbolic_terms.nodes import Node, symbol
-from symbolic_terms.polynomials import at_most, given, minus, plus, times, variable
-from symbolic_terms.polynomials import is_same as is_same_number
+from symbolic_terms import (LONGEST as MOST_BYTES, REFUSALS, Node, NotShown, Request, at_most, given, is_same_number,
+                            minus, plus, same, symbol, times, variable)
 
 from ..cargo_streams import CargoUpdates
 from ..whole_blocks import BLOCKS, in_numbers, parted
