@@ -33,27 +33,27 @@ def programs():
 def choose(texts, like, is_all):
     """Returns the tasks on `texts`; `like` has c/asm's sources."""
     made = tasks.makers(texts)
-    out = [*with_begin(long_input_tasks(texts, is_all)), *with_begin(piece_tasks(tasks.before_v4(made), is_all, SOME_UPDATES)),
-           *with_begin(xxh3_tasks(made, is_all)), *with_begin(every_length_tasks(made, is_all)), *call_tasks(texts, like, is_all)]
+    out = [*with_begin(long_input_tasks(made, is_all)), *with_begin(piece_tasks(tasks.before_v4(made), is_all, SOME_UPDATES)),
+           *with_begin(xxh3_tasks(made, is_all)), *with_begin(every_length_tasks(made, is_all)), *call_tasks(texts, made, like)]
     out.insert(0, tasks.counted(f"{BEGIN}each export has its task", EXPORTS * len(texts),
                                lambda: exports_left_out(texts, [task.title for task in out])))
     return out
 
 
-def with_begin(found):
+def with_begin(found, begin=BEGIN):
     for task in found:
-        task.title = BEGIN + task.title
+        task.title = begin + task.title
         yield task
 
 
-def long_input_tasks(texts, is_all):
+def long_input_tasks(made, is_all, some=LENGTHS):
     """Yields the tasks of single lengths. With a secret of 136 bytes x86-64-v4 runs the code of x86-64-v3."""
     for hash_name in cargo_calls.HASHES:
         for size in SECRETS:
             kind = hash_name, "secret", size
-            lengths = MORE_LENGTHS if is_all else [*LENGTHS, *(tasks.EDGES_OF_BLOCKS if size == SECRETS[1] else ())]
-            asked = texts if is_all or size == SECRETS[1] else tasks.before_v4(texts)
-            yield tasks.compared(asked, tasks.title_of(*kind), comparison.requests(*kind, lengths))
+            lengths = MORE_LENGTHS if is_all else [*some, *(tasks.EDGES_OF_BLOCKS if size == SECRETS[1] else ())]
+            asked = made if is_all or size == SECRETS[1] else tasks.before_v4(made)
+            yield tasks.compared(asked, comparison.title_of(*kind), comparison.requests(*kind, lengths))
 
 
 def piece_tasks(made, is_all, some=tasks.SOME_UPDATES):
@@ -93,9 +93,8 @@ def every_length_tasks(made, is_all):
                                functools.partial(tasks.any_secrets, make, kind, is_all))
         if is_all:
             title = f"{title} 192 to 199 bytes: every length from 241 on"
-            of_v4 = {name: make for name, make in made.items() if name.endswith(V4)}
             yield from tasks.of_every_length(tasks.before_v4(made), kind, title, every_length.of_secret())
-            yield from tasks.of_every_length(of_v4, kind, title, every_length.of_secret_by_turns())
+            yield from tasks.of_every_length(tasks.only_v4(made), kind, title, every_length.of_secret_by_turns())
 
 
 def expect_shared(program, other):
@@ -122,10 +121,10 @@ def refusal_tasks(of):
     yield of("streams of XXH3: secrets that are too short", calls.SHORTEST, cargo_calls.secrets_of_streams)
 
 
-def call_tasks(texts, like, is_all):
+def call_tasks(texts, made, like):
     return [*(tasks.counted(f"{BEGIN}functions of {name} that are c/asm's, byte for byte", LEAST_SHARED,
                            functools.partial(expect_shared, texts[f"cargo's {name}"], like[name])) for name in LIKE),
             tasks.counted(f"{BEGIN}exports of {V4} that have the code of {V3}", EXPORTS - len(WIDENED),
                          lambda: expect_code_of_v3(texts[f"cargo's {V4}"], texts[f"cargo's {V3}"])),
-            *with_begin(refusal_tasks(functools.partial(tasks.of_each, texts))),
+            *with_begin(refusal_tasks(functools.partial(tasks.of_each, made))),
             *with_begin([tasks.frames_task(texts, FRAMED), tasks.assembler_task([(f"{FOLDER}/{name}.s", V1) for name in NAMES])])]

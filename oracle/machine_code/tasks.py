@@ -47,10 +47,6 @@ def makers(texts):
             functools.partial(Processor, program, name) for name, program in texts.items()}
 
 
-def processors(texts):
-    return {name: make() for name, make in makers(texts).items()}
-
-
 def counted(title, least, ask):
     """Returns a task with a minimum number of cases: `ask` returns the number that passed, and the failures."""
     def outcome():
@@ -62,8 +58,9 @@ def counted(title, least, ask):
 
 def choose(options, texts):
     """Returns the tasks on c/asm."""
-    tasks = one_shot_tasks(texts, options.all) + secret_tasks(texts, options.all) + every_length_tasks(texts, options.all)
-    tasks += stream_tasks(texts, options.all) + call_tasks(texts, options.all)
+    made, is_all = makers(texts), options.all
+    tasks = one_shot_tasks(made, is_all) + secret_tasks(made, is_all) + every_length_tasks(made, is_all)
+    tasks += stream_tasks(made, is_all) + call_tasks(texts, made, is_all)
     tasks += [assembler_task([(f"{FOLDER}/{name}.s", V1) for name in texts])]
     tasks.insert(0, export_task(texts, [task.title for task in tasks]))
     return tasks
@@ -74,67 +71,62 @@ def export_task(texts, titles):
                    lambda: (sum(exports.expect_all(program, titles) for program in texts.values()), []))
 
 
-def before_v4(texts):
-    return {name: program for name, program in texts.items() if not name.endswith(V4)}
+def before_v4(made):
+    return {name: make for name, make in made.items() if not name.endswith(V4)}
 
 
-def texts_of(texts, hash_name):
-    """Returns the sources with separate tasks of a hash. For XXH32 and XXH64 x86-64-v4's code equals x86-64-v3's."""
-    return before_v4(texts) if one_shots.is_plain(hash_name) else texts
+def only_v4(made):
+    return {name: make for name, make in made.items() if name.endswith(V4)}
 
 
 # ---- one-shots and streams, compared with the definition's terms
 
-def title_of(hash_name, kind, secret):
-    return f"XXH{hash_name}, {kind}" + (f" of {secret} bytes" if secret else "")
-
-
-def compared(texts, title, requests, side=one_shots):
-    """Returns a task of requests, each for all sources: the definition's term is computed once."""
+def compared(made, title, requests, side=one_shots):
+    """Returns a task of requests, each for all sources: the definition's term is computed once. For XXH32 and XXH64
+    x86-64-v4's code equals x86-64-v3's."""
     requests = list(requests)
-    texts = texts_of(texts, requests[0].hash_name)
+    made = before_v4(made) if one_shots.is_plain(requests[0].hash_name) else made
     lengths = [request.length for request in requests]
 
     def ask():
-        sides = {name: functools.partial(side.of_text, cpu) for name, cpu in processors(texts).items()}
-        return comparison.compare(sides, requests)
-    return counted(f"{title}: {min(lengths)} to {max(lengths)} bytes", len(requests) * len(texts), ask)
+        return comparison.compare({name: functools.partial(side.of_text, make()) for name, make in made.items()}, requests)
+    return counted(f"{title}: {min(lengths)} to {max(lengths)} bytes", len(requests) * len(made), ask)
 
 
-def one_by_one(texts, kind, lengths, more=""):
-    return compared(texts, title_of(*kind) + more, comparison.requests(*kind, lengths))
+def one_by_one(made, kind, lengths, more=""):
+    return compared(made, comparison.title_of(*kind) + more, comparison.requests(*kind, lengths))
 
 
-def one_shot_tasks(texts, is_all):
+def one_shot_tasks(made, is_all):
     """Returns the tasks of one-shots. With a secret of 136 bytes x86-64-v4 runs x86-64-v3's code."""
-    out = [one_by_one(texts if is_all or kind[2] is None else before_v4(texts), kind, ONE_BY_ONE)
+    out = [one_by_one(made if is_all or kind[2] is None else before_v4(made), kind, ONE_BY_ONE)
            for kind in comparison.kinds(SECRETS)]
     for kind in [("3-64", "default", None), ("3-128", "seed", None), ("3-64", "secret", 192)]:
-        out.append(one_by_one({V4: texts[V4]}, kind, EDGES_OF_BLOCKS, f", at the edges of blocks, {V4}"))
+        out.append(one_by_one(only_v4(made), kind, EDGES_OF_BLOCKS, f", at the edges of blocks, {V4}"))
     for kind in comparison.kinds(SECRETS) if is_all else ():
-        out.append(one_by_one(texts, kind, comparison.edges(kind[2]), ", at edges"))
+        out.append(one_by_one(made, kind, comparison.edges(kind[2]), ", at edges"))
         if kind[2] is None and kind[0].startswith("3-"):
-            out += [one_by_one(texts, kind, MORE), one_by_one(texts, kind, [every_length.PREFETCHED])]
+            out += [one_by_one(made, kind, MORE), one_by_one(made, kind, [every_length.PREFETCHED])]
     return out
 
 
-def secret_tasks(texts, is_all):
+def secret_tasks(made, is_all):
     """Returns the tasks of secrets that are too short, and of secrets of several lengths."""
     out, lengths = [], SMALL if is_all else [0, 17, 241]
     for hash_name in ("3-64", "3-128"):
-        out.append(of_each(texts, f"XXH{hash_name}, secrets that are too short", 2 * calls.SHORTEST * len(lengths),
+        out.append(of_each(made, f"XXH{hash_name}, secrets that are too short", 2 * calls.SHORTEST * len(lengths),
                            functools.partial(calls.short_secrets, hash_name=hash_name, lengths=lengths)))
         requests = (Request(hash_name, kind, n, size) for size in SOME_SECRETS for kind in ("secret", "both")
                     for n in (240, 700))
-        out.append(compared(texts, f"XXH{hash_name}, secrets of 136 to 1000 bytes", requests))
+        out.append(compared(made, f"XXH{hash_name}, secrets of 136 to 1000 bytes", requests))
     return out
 
 
-def stream_tasks(texts, is_all):
+def stream_tasks(made, is_all):
     out = []
     for kind in comparison.kinds(STREAM_SECRETS if is_all else SECRETS):
-        out.append(compared(texts, f"streams of {title_of(*kind)}", few_streams(*kind), streams))
-    return [*out, *plain_stream_tasks(makers(before_v4(texts)), is_all), *xxh3_tasks(makers(texts), is_all)]
+        out.append(compared(made, f"streams of {comparison.title_of(*kind)}", few_streams(*kind), streams))
+    return [*out, *plain_stream_tasks(before_v4(made), is_all), *xxh3_tasks(made, is_all)]
 
 
 def plain_stream_tasks(made, is_all, some=SOME_UPDATES):
@@ -216,16 +208,15 @@ def count_shown(proof, asked):
 
 # ---- every length
 
-def every_length_tasks(texts, is_all):
-    made = makers(texts)
+def every_length_tasks(made, is_all):
     out = [counted("every length of XXH32 and XXH64 has its task", 2, plain_left_out)]
     out += [counted("every length of XXH3 has its task", 2, xxh3_left_out)] if is_all else []
     for kind in every_length.UNROLLED:
-        out += of_every_length(makers(before_v4(texts)), kind, f"XXH{kind}: every length to 2^64 - 1", every_length.cases(kind))
+        out += of_every_length(before_v4(made), kind, f"XXH{kind}: every length to 2^64 - 1", every_length.cases(kind))
     if not is_all:
-        out += of_every_length({V4: made[V4]}, "3-64:seed", "XXH3-64, seed: one case of every length",
+        out += of_every_length(only_v4(made), "3-64:seed", "XXH3-64, seed: one case of every length",
                                every_length.cases("3-64:seed")[:1])
-    return out + long_tasks(made, is_all) + (short_rows_of_v4(texts) if is_all else [])
+    return out + long_tasks(made, is_all) + (short_tasks_of_v4(made) if is_all else [])
 
 
 def long_tasks(made, is_all):
@@ -246,14 +237,13 @@ def long_tasks(made, is_all):
                             functools.partial(up_to_240, make, kind)) for name, make in made.items()]
             title = f"{title} 192 to 199 bytes: every length from 241 on"
             out += of_every_length(before_v4(made), kind, title, every_length.of_secret())
-            of_v4 = {name: make for name, make in made.items() if name.endswith(V4)}
-            out += of_every_length(of_v4, kind, title, every_length.of_secret_by_turns())
+            out += of_every_length(only_v4(made), kind, title, every_length.of_secret_by_turns())
     return out
 
 
-def short_rows_of_v4(texts):
+def short_tasks_of_v4(made):
     """Returns tasks of secrets of 192 bytes for x86-64-v4: the lengths missing in its tasks of every length."""
-    return [one_by_one({V4: texts[V4]}, (*kind.split(":"), 192), [*range(241, MORE.stop), every_length.PREFETCHED], f", {V4}")
+    return [one_by_one(only_v4(made), (*kind.split(":"), 192), [*range(241, MORE.stop), every_length.PREFETCHED], f", {V4}")
             for kind in ANY_SECRET]
 
 
@@ -305,17 +295,17 @@ def up_to_240(make, kind):
 
 # ---- the other calls
 
-def of_each(texts, title, least, call):
+def of_each(made, title, least, call):
     """Returns a task that calls a function on each processor. The function returns its number of cases, or raises."""
-    return counted(title, least * len(texts), lambda: (sum(call(cpu) for cpu in processors(texts).values()), []))
+    return counted(title, least * len(made), lambda: (sum(call(make()) for make in made.values()), []))
 
 
-def call_tasks(texts, is_all):
+def call_tasks(texts, processors, is_all):
     sizes = [0, 1, 135, 136, 137, 143, 144, 191, 192, 256, 1000] if not is_all else [*range(0, 301), 1000]
     seeds = [0, 1, 17, 136, 241, 300] if is_all else [0, 3, 241]
     made = [(size, length) for size in sizes for length in seeds]
-    of = functools.partial(of_each, before_v4(texts))
-    return [*(of(*call) for call in calls.WITHOUT_MESSAGE), *(of_each(texts, *call) for call in calls.OF_MESSAGES),
+    of = functools.partial(of_each, before_v4(processors))
+    return [*(of(*call) for call in calls.WITHOUT_MESSAGE), *(of_each(processors, *call) for call in calls.OF_MESSAGES),
             of("made secrets", len(made) + len(OF_LONG_SEEDS), functools.partial(made_secrets, asked=made)),
             counted(f"exports of {V4} that have the code of {V3}", 24,
                     lambda: (exports.expect_code_of_v3(texts[V4], texts[V3]), [])),

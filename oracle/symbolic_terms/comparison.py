@@ -24,6 +24,10 @@ def kinds(secrets):
     return PLAIN + [(name, *way) for name in ("3-64", "3-128") for way in ways]
 
 
+def title_of(hash_name, kind, secret):
+    return f"XXH{hash_name}, {kind}" + (f" of {secret} bytes" if secret else "")
+
+
 def edges(secret_length):
     """Returns lengths above 1,100 at the edges of blocks."""
     block = 64 * ((secret_length or 192) - 64) // 8

@@ -9,7 +9,7 @@ import mutants
 from reasons import Reasons, is_fault
 
 from . import header_mutants, mutation, comparison, every_length, self_tests, plain_streams, processes, xxh3_streams
-from .comparison import SECRETS
+from .comparison import SECRETS, title_of
 from .machine import Module
 from .reference import HEADERS, VECTORS, llvm_text, of_reference
 
@@ -37,10 +37,6 @@ def choose(given):
 
 
 # ---- single lengths
-
-def title_of(hash_name, kind, secret):
-    return f"XXH{hash_name}, {kind}" + (f" of {secret} bytes" if secret else "")
-
 
 def lengths(is_all, vector):
     out = []

@@ -4,10 +4,10 @@ import os
 
 from symbolic_terms import TOP, comparison
 from symbolic_terms.processes import Task
-from symbolic_terms.tasks import title_of
 
-from .. import calls, cargo_whole, every_length, one_shots, planted_checks, planted_lines, planted_objects, self_tests, streams
+from .. import calls, cargo_tasks, every_length, planted_checks, planted_lines, planted_objects, self_tests, streams
 from .. import tasks as shared
+from ..cargo_exports import BEGIN, exports_left_out
 from ..sources import assembled
 from . import cargo, mutation, on_qemu
 from .objects import Program
@@ -16,6 +16,7 @@ from .table import TABLE, Processor
 TEXT = os.path.join(TOP, "c", "asm", "aarch64.s")
 SECRETS = 136, 192
 STREAMED = (5, 33, 70, 257, 300, 513, 700)
+LONG_INPUTS = [*range(241, 301), 1024, 1025, 1089]      # lengths tested one by one, without --all
 
 
 def program():
@@ -23,20 +24,20 @@ def program():
 
 
 def choose(given, found):
-    out = []
+    out, made = [], {cargo.NAME: functools.partial(Processor, found)}
     for kind in comparison.kinds(SECRETS):
         lengths = range(301) if given.all or kind[2] != SECRETS[1] else range(0, 301, 20)
-        out.append(compared(f"{title_of(*kind)}, one-shots of 0 to 300 bytes", found, kind, lengths))
+        out.append(shared.one_by_one(made, kind, lengths, ", one-shots"))
         if given.all and kind[2] is None and kind[0].startswith("3-"):
             asked = [*shared.MORE, every_length.PREFETCHED]
-            out.append(compared(f"{title_of(*kind)}, one-shots of 301 to 1100 bytes, and 31744", found, kind, asked))
+            out.append(shared.one_by_one(made, kind, asked, ", one-shots"))
         if kind[2] != SECRETS[1]:
-            asked = comparison.STREAMED if given.all else STREAMED
-            out.append(compared(f"{title_of(*kind)}, streams of 5 to 700 bytes", found, kind, asked, True))
+            asked = comparison.requests(*kind, comparison.STREAMED if given.all else STREAMED, True)
+            out.append(shared.compared(made, f"{comparison.title_of(*kind)}, streams", asked, streams))
     for name in ("3-64", "3-128"):
-        out.append(Task(f"XXH{name}, secrets of 0 to 135 bytes", functools.partial(short_secrets, found, name)))
-    made = {cargo.NAME: functools.partial(Processor, found)}
-    out += [shared.counted(title, least, functools.partial(other, found, ask)) for title, least, ask in calls.OTHERS]
+        out.append(shared.of_each(made, f"XXH{name}, secrets of 0 to 135 bytes", 4 * calls.SHORTEST, functools.partial(
+            calls.short_secrets, hash_name=name, lengths=(240, 241))))
+    out += [shared.of_each(made, *call) for call in calls.OTHERS]
     out += [shared.twin_task({cargo.NAME: found}), shared.frames_task({cargo.NAME: found})]
     out += every_length_tasks(made, given.all)
     out.append(Task("the table of instructions beside qemu", on_qemu.tell))
@@ -53,9 +54,16 @@ def choose(given, found):
 
 
 def cargo_text_tasks(is_all):
-    """Returns the tasks on the cargo crate's source."""
-    made = functools.partial(cargo.CargoProcessor, cargo.program())
-    return cargo_whole.named(f"cargo's {cargo.NAME}", cargo_whole.choose(cargo.NAME, made, is_all))
+    """Returns the tasks on the cargo crate's source, which shares no function with another one."""
+    programs = {cargo.NAME: cargo.program()}
+    made = {name: functools.partial(cargo.CargoProcessor, program) for name, program in programs.items()}
+    out = [*cargo_tasks.long_input_tasks(made, is_all, LONG_INPUTS), *cargo_tasks.piece_tasks(made, is_all),
+           *cargo_tasks.xxh3_tasks(made, is_all, like=()), *cargo_tasks.every_length_tasks(made, is_all),
+           *cargo_tasks.refusal_tasks(functools.partial(shared.of_each, made)), shared.frames_task(programs, cargo_tasks.FRAMED)]
+    titles = [BEGIN + task.title for task in out]
+    out.insert(0, shared.counted("each export has its task", cargo_tasks.EXPORTS, functools.partial(
+        exports_left_out, programs, titles)))
+    return cargo_tasks.with_begin(out, f"cargo's {cargo.NAME}: ")
 
 
 def every_length_tasks(made, is_all):
@@ -66,25 +74,8 @@ def every_length_tasks(made, is_all):
             *shared.xxh3_tasks(made, is_all)]
 
 
-def compared(title, found, kind, lengths, is_stream=False):
-    def ask():
-        cpu, answer = Processor(found), streams.of_text if is_stream else one_shots.of_text
-        asked = comparison.requests(*kind, lengths, is_stream)
-        equal, bad = comparison.compare({"the text": lambda request: answer(cpu, request)}, asked)
-        return f"{equal} requests, each one term", bad
-    return Task(title, ask)
-
-
 def in_table(programs):
     """Returns the number of instructions in the table, and the first missing ones."""
     code = [x for program in programs for section in program.sections.values() for x in section.values()]
     bad = [f"{x.section} {x.at:#x}: {x.mnemonic} {x.form}" for x in code if (x.mnemonic, x.form) not in TABLE]
     return len(code) - len(bad), bad[:5]
-
-
-def short_secrets(found, name):
-    return f"{calls.short_secrets(Processor(found), name, (240, 241))} requests", []
-
-
-def other(found, ask):
-    return ask(Processor(found)), []

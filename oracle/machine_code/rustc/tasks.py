@@ -5,10 +5,11 @@ import shutil
 import tempfile
 
 from symbolic_terms import comparison
+from symbolic_terms.comparison import title_of
 from symbolic_terms.processes import Task
-from symbolic_terms.tasks import title_of
 
 from .. import one_shots, streams
+from ..tasks import compared
 from .compilers import SOURCE
 
 SECRETS = (136, 192)
@@ -28,34 +29,24 @@ WRONG = (
 def choose(given, compilers):
     out = []
     for compiler in compilers:
-        cpu = compiler.processor, compiler.program_of()
-        out += [*one_shot_tasks(compiler.name, cpu, given.all), *stream_tasks(compiler.name, cpu, given.all)]
+        made = {"rustc's code": functools.partial(compiler.processor, compiler.program_of())}
+        out += [*one_shot_tasks(compiler.name, made, given.all), *stream_tasks(compiler.name, made, given.all)]
     out += [Task(f"a wrong {file}: {old}", functools.partial(is_noticed, compilers[0], *wrong)) for wrong in WRONG for file, old, *_ in [wrong]]
     return [task for task in out if given.only in task.title]
 
 
-def one_shot_tasks(name, cpu, is_all):
+def one_shot_tasks(name, made, is_all):
     for kind in comparison.kinds(SECRETS):
         lengths = [*ONE_BY_ONE, *(LONGER[kind[0]] if is_all else ())] if kind[2] is None or is_all else SOME
-        yield compared(f"{name}: {title_of(*kind)}, one-shots", cpu, kind, lengths)
+        yield compared(made, f"{name}: {title_of(*kind)}, one-shots", comparison.requests(*kind, lengths))
 
 
-def stream_tasks(name, cpu, is_all):
+def stream_tasks(name, made, is_all):
     """Yields the tasks of streams. An XXH3 stream has a seed, and a custom secret or one derived from the seed."""
     for kind in comparison.kinds(SECRETS):
         if kind[1] != "secret":
-            yield compared(f"{name}: {title_of(*kind)}, streams", cpu, kind, comparison.STREAMED if is_all else STREAMED, True)
-
-
-def compared(title, of, kind, lengths, is_stream=False):
-    processor, program = of
-
-    def ask():
-        cpu, answer = processor(program), streams.of_text if is_stream else one_shots.of_text
-        asked = comparison.requests(*kind, lengths, is_stream)
-        equal, bad = comparison.compare({"rustc's code": lambda request: answer(cpu, request)}, asked)
-        return f"{equal} requests, each one term", bad
-    return Task(title, ask)
+            asked = comparison.requests(*kind, comparison.STREAMED if is_all else STREAMED, True)
+            yield compared(made, f"{name}: {title_of(*kind)}, streams", asked, streams)
 
 
 def is_noticed(compiler, file, old, new, kind, lengths):

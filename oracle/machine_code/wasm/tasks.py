@@ -5,7 +5,8 @@ import os
 
 from symbolic_terms import comparison
 from symbolic_terms.processes import Task
-from symbolic_terms.tasks import STREAM_SECRETS, title_of
+from symbolic_terms.comparison import title_of
+from symbolic_terms.tasks import STREAM_SECRETS
 
 from .. import coverage
 from .. import tasks as of_texts
