@@ -7,13 +7,13 @@ bytes are unconstrained. A reset creates a state that represents 0 bytes. An upd
 bytes to one that represents N plus its length. Its r, its tail and its stripes modulo the unrolled loop's are numbers;
 all else is symbolic. A digest returns the definition's value and leaves the state unchanged."""
 import collections
+import functools
 
-from symbolic_terms import (LONGEST, REFUSALS, Bytes, Input, NotShown, Piece, Request, at_most, definition, given,
-                            is_same, is_same_number, lifted, minus, nodes, plus, same, seed_symbol, suppositions, times,
-                            variable)
+from symbolic_terms import (LONGEST, Bytes, Input, NotShown, Piece, Request, at_most, given, is_same, is_same_number,
+                            lifted, minus, plus, same, seed_symbol, suppositions, times, variable)
 
 from . import streams
-from .every_length import LIMIT, UNROLLED
+from .every_length import UNROLLED, Cases
 from .induction import Family, Loops
 from .memory import Words
 
@@ -50,28 +50,17 @@ def left_out(hash_name):
     return sorted({(r, length) for r in range(int(hash_name) // 2) for length in range(3 * most)} - found)
 
 
-class AnyUpdates:
+class AnyUpdates(Cases):
     LAYOUTS, MARKED, longest = LAYOUTS, 4, LONGEST     # MARKED is the size of the marked word
 
     def __init__(self, cpu, hash_name):
-        self.cpu, self.hash_name, self.guesses = cpu, hash_name, {}
+        self.hash_name = hash_name
         self.width, self.stripe, self.at = int(hash_name), int(hash_name) // 2, self.LAYOUTS[hash_name]
-        self.read()
-
-    @property
-    def library(self):
-        """The library that calls the exports."""
-        return self.cpu.library
-
-    def forget(self):
-        nodes.forget()
-        self.read()
+        super().__init__(cpu)
 
     def read(self):
-        """Runs the definition's program on symbols."""
-        suppositions.clear()
+        super().read()
         self.seed = seed_symbol(self.hash_name)
-        self.texts = definition.program().run(traced=suppositions)
 
     # ---- states
 
@@ -113,15 +102,9 @@ class AnyUpdates:
 
     def call(self, what, state, *rest, family=None):
         """Calls a function of the library that resets, updates or digests `state`. Proves the loops of a family."""
-        cpu, limit = self.cpu, self.cpu.limit
-        cpu.not_zero, cpu.live, cpu.limit = [], [state], LIMIT
-        cpu.loops = Loops(cpu.program, family, guesses=self.guesses) if family else None
-        try:
-            return what(cpu, *rest)
-        except REFUSALS as error:
-            raise NotShown("; ".join([str(error), *(cpu.loops.refused if family else ())])) from error
-        finally:
-            cpu.loops, cpu.limit = None, limit
+        self.cpu.not_zero, self.cpu.live = [], [state]
+        ask = functools.partial(what, self.cpu, *rest)
+        return self.with_loops(Loops(self.cpu.program, family, guesses=self.guesses), ask) if family else ask()
 
     # ---- the three steps of the induction
 

@@ -128,13 +128,17 @@ def left_out(found, first, period):
 
 # ---- proof of a case
 
-class EveryLength:
-    """Proves the cases of one call of a source, one by one: XXH32, XXH64, or XXH3 as in 3-64:seed."""
+class Cases:
+    """Proofs of the cases of some calls, one by one."""
 
-    def __init__(self, cpu, kind):
-        self.cpu, self.guesses, self.kind = cpu, {}, kind
-        self.hash_name, _, self.way = kind.partition(":")
+    def __init__(self, cpu):
+        self.cpu, self.guesses = cpu, {}
         self.read()
+
+    @property
+    def library(self):
+        """The library that calls the exports."""
+        return self.cpu.library
 
     def forget(self):
         nodes.forget()
@@ -144,6 +148,25 @@ class EveryLength:
         """Runs the definition's program on symbols."""
         suppositions.clear()
         self.texts = definition.program().run(traced=suppositions)
+
+    def with_loops(self, loops, ask):
+        """Returns the result of a call, during which loops are proved."""
+        cpu, limit = self.cpu, self.cpu.limit
+        cpu.loops, cpu.limit = loops, min(limit, LIMIT)
+        try:
+            return ask()
+        except REFUSALS as error:
+            raise NotShown("; ".join([str(error), *loops.refused])) from error
+        finally:
+            cpu.loops, cpu.limit = None, limit
+
+
+class EveryLength(Cases):
+    """Proves the cases of one call of a source: XXH32, XXH64, or XXH3 as in 3-64:seed."""
+
+    def __init__(self, cpu, kind):
+        super().__init__(cpu)
+        self.kind, (self.hash_name, _, self.way) = kind, kind.partition(":")
 
     def show(self, case, seed=None):
         """Proves a case, with the given seed or a symbolic nonzero one."""
@@ -161,7 +184,7 @@ class EveryLength:
         self.cpu.not_zero = []
         with given(at_most(secret.length, LONGEST_SECRET)):
             arguments = [address(source), n, address(secret), secret.length, *([seed] if self.way == "both" else [])]
-            ours = self.cpu.library.one_shot(self.cpu, self.hash_name, self.way, *arguments)
+            ours = self.library.one_shot(self.cpu, self.hash_name, self.way, *arguments)
             theirs = definition.value(self.texts, self.hash_name, self.way, seed, Bytes(secret, 0, secret.length),
                                       Bytes(source, 0, n))
         if not nodes.is_same(ours, theirs):
@@ -191,21 +214,13 @@ class EveryLength:
         return ours, self.texts[table.HASHES[self.hash_name]](seed[0] if seed else 0, secret, message)
 
     def call(self, case, stripe, count, after, *arguments):
-        ask = functools.partial(self.cpu.library.one_shot, self.cpu, self.hash_name, self.way, *arguments)
-        return self.with_loops(ask, case, stripe, count, after)
+        ask = functools.partial(self.library.one_shot, self.cpu, self.hash_name, self.way, *arguments)
+        return self.proved(ask, case, stripe, count, after)
 
-    def with_loops(self, ask, case, stripe, count, after):
+    def proved(self, ask, case, stripe, count, after):
         """Calls the source, and proves its loops for a case's length."""
-        name, limit = f"XXH{self.kind} of {case.length} bytes", self.cpu.limit
-        family = Family(name, stripe, case.stripes, count, after,
+        family = Family(f"XXH{self.kind} of {case.length} bytes", stripe, case.stripes, count, after,
                         lambda k, values: suppositions.suppose(after(k), values),
                         self.cpu.TOGETHER if stripe == 16 else 1)
         loops = Loops(self.cpu.program, family, guesses=self.guesses)
-        if isinstance(case.length, Poly):
-            self.cpu.loops, self.cpu.limit = loops, LIMIT
-        try:
-            return ask()
-        except REFUSALS as error:
-            raise NotShown("; ".join([str(error), *loops.refused])) from error
-        finally:
-            self.cpu.loops, self.cpu.limit = None, limit
+        return self.with_loops(loops, ask) if isinstance(case.length, Poly) else ask()

@@ -31,8 +31,8 @@ class LongSeeds(EveryLength):
             after = self.texts["Long.accumulator_after"]
             room = Words("secret", size, [(k, 1, self.cpu.fresh("a byte", 8)) for k in range(size)], alignment=1)
             self.cpu.not_zero, self.cpu.live = [], [room]
-            answer = self.with_loops(lambda: self.cpu.call(MAKE, address(room), size, address(source), case.length),
-                                     case, 64, 8, lambda k: lambda i: after(default, message, i, k))
+            answer = self.proved(lambda: self.cpu.call(MAKE, address(room), size, address(source), case.length),
+                                 case, 64, 8, lambda k: lambda i: after(default, message, i, k))
             expect_answer(answer, OK)
             made = self.texts["generated_secret"](message, size)
             if not all(is_same(room.load(k, 1), byte) for k, byte in zip(range(size), made, strict=True)):

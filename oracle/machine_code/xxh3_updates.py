@@ -13,12 +13,11 @@ import collections
 import functools
 import itertools
 
-from symbolic_terms import (LONGEST, LONGEST_SECRET, REFUSALS, RUNS, Bytes, NotShown, Piece, at_most, definition, given,
-                            is_natural, is_same, is_same_number, minus, nodes, plus, same, suppositions, times,
-                            variable)
+from symbolic_terms import (LONGEST, LONGEST_SECRET, RUNS, Bytes, NotShown, Piece, at_most, given, is_natural, is_same,
+                            is_same_number, minus, nodes, plus, same, suppositions, times, variable)
 
 from . import exports, streams
-from .every_length import FAR, LIMIT
+from .every_length import FAR, Cases
 from .induction import Loops
 from .memory import ENTRY, Words
 from .stream_state import Source, State
@@ -87,20 +86,15 @@ def ends_of_blocks(g, r, facts):
 EMPTY = Start((0, 0), 0, 0, (0, 0), [])
 
 
-class Xxh3Updates:
+class Xxh3Updates(Cases):
     CORE = 0                      # offset of the accumulators in a state, and of the fields except `own`
     HAS_SEED = 0, 1               # whether a stream was created with a seed
     KINDS = UPDATES, DIGESTS, STRIPES                 # the kinds of tasks of a source
     longest_secret, longest_piece = LONGEST_KEPT, LONGEST
 
     def __init__(self, cpu):
-        self.cpu, self.refused = cpu, []
+        self.cpu = cpu
         self.use(variable("q"))
-
-    @property
-    def library(self):
-        """The library that calls the exports."""
-        return self.cpu.library
 
     def use(self, q, u=None):
         """Sets q stripes per block, and a secret u bytes, u < 8, longer than these need."""
@@ -113,14 +107,9 @@ class Xxh3Updates:
         """Returns the same facts for a secret that no state stores."""
         return [*self.facts[:2], at_most(self.secret_length, LONGEST_SECRET)]
 
-    def forget(self):
-        nodes.forget()
-        self.read()
-
     def read(self):
         """Runs the definition's program on symbols, with a symbolic secret."""
-        suppositions.clear()
-        self.texts = definition.program().run(traced=suppositions)
+        super().read()
         self.secret_source = Source("s", self.secret_length)
         self.secret = Bytes(self.secret_source, 0, self.secret_length)
 
@@ -241,17 +230,15 @@ class Xxh3Updates:
     def run(self, live, what, parts, *arguments, summaries=(), not_zero=(), **more):
         """Calls a function by its name, or `what`, with the proofs of loops over stripes, and with summaries of other
         functions."""
-        cpu, family, limit = self.cpu, self.family(*parts), self.cpu.limit
-        cpu.not_zero, cpu.live, cpu.loops, cpu.limit = not_zero, live, Loops(cpu.program, family, StripesProof), LIMIT
+        cpu, family = self.cpu, self.family(*parts)
+        cpu.not_zero, cpu.live = not_zero, live
         for summary in summaries:
             summary.put_into(cpu, family, self.source, self.secret_source)
+        what = what if callable(what) else functools.partial(cpu.call, what)
         try:
-            return (what if callable(what) else functools.partial(cpu.call, what))(*arguments, **more)
-        except REFUSALS as error:
-            raise NotShown("; ".join([str(error), *cpu.loops.refused])) from error
+            return self.with_loops(Loops(cpu.program, family, StripesProof), functools.partial(what, *arguments, **more))
         finally:
-            self.refused = cpu.loops.refused
-            cpu.loops, cpu.limit, cpu.replaced = None, limit, {}
+            cpu.replaced = {}
 
     def small_pieces(self):
         """Yields chunks that fit in the buffer, as arguments of `update`."""

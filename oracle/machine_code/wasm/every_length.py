@@ -6,13 +6,14 @@ secrets, of 64 + 8 q + u bytes, u < 8, J is symbolic, and q is a number below 16
 import collections
 
 import table
-from symbolic_terms import (REFUSALS, Bytes, Input, Memory, Node, NotShown, at_most, definition, given, minus, nodes,
-                            plus, seed_symbol, suppositions, times, variable)
+from symbolic_terms import (Bytes, Input, Memory, Node, NotShown, at_most, definition, given, minus, nodes, plus,
+                            seed_symbol, suppositions, times, variable)
 
 from .calls import BYTES, WAYS, address, answered, export, is_plain
+from ..every_length import Cases
 from ..induction import Family
 from ..stripes import Part, Stripes
-from .induction import Loops
+from .induction import proved
 from .values import LEAST_PLACE, SPACE
 
 LONGEST = SPACE - 1 - LEAST_PLACE
@@ -89,18 +90,17 @@ def facts_of(case, q, B, J):
     return out
 
 
-class Proof:
+class Proof(Cases):
     """Proves one-shots of a module by induction. Keeps a report on the loops, and the number of cases."""
 
     def __init__(self, vm):
         nodes.forget()
-        suppositions.clear()
-        self.vm, self.told, self.cases = vm, [], 0
-        self.texts = definition.program().run(traced=suppositions)
+        super().__init__(vm)
+        self.told, self.cases = [], 0
 
     def call(self, family, hash_name, way, seed, message, secret=None):
         """Returns the result of a one-shot. Proves the loops of a family by induction."""
-        vm, plain = self.vm, is_plain(hash_name)
+        vm, plain = self.cpu, is_plain(hash_name)
         vm.seed, vm.has_asked = seed if isinstance(seed, Node) else None, False
         size = BYTES[hash_name]
         out = Memory("the value", size) if secret or size == 16 else None
@@ -108,26 +108,10 @@ class Proof:
         arguments += [address(secret), secret.length] if secret else []
         arguments += [address(message), message.length] + ([address(out)] if out else [])
         name = export(hash_name) + ("" if plain else WAYS[way])
-        results = self.with_loops(name, arguments, family, [out] if out else [])
+        results = proved(self, family, [out] if out else [], lambda: vm.call(name, arguments))
         if secret:
             answered(results)
         return out.load(0, size) if out else results[0]
-
-    def with_loops(self, name, arguments, family, live):
-        """Returns an export's results. Proves the loops of the family, if any. The call may write to `live`."""
-        loops = self.vm.loops = Loops(family, live)
-        try:
-            results = self.vm.call(name, arguments)
-        except REFUSALS as error:
-            raise NotShown("; ".join([str(error), *loops.refused])) from error
-        finally:
-            self.vm.loops = None
-        if family and not loops.told:
-            raise NotShown(f"{family.name}: no such loop was met")
-        if self.vm.has_asked:
-            raise NotShown("whether the seed is 0 was asked, which is another case")
-        self.told += loops.told
-        return results
 
     def expect(self, what, ours, theirs):
         self.cases += 1

@@ -29,6 +29,18 @@ class Loops:
             self.is_busy = False
 
 
+def proved(proof, family, live, ask):
+    """Returns a call's result. Proves the loops of the family, if any. The call may write to `live`."""
+    loops = Loops(family, live)
+    result = proof.with_loops(loops, ask)
+    if family and not loops.told:
+        raise NotShown(f"{family.name}: no such loop was met")
+    if proof.cpu.has_asked:
+        raise NotShown("whether the seed is 0 was asked, which is another case")
+    proof.told += loops.told
+    return result
+
+
 class AtHead:
     """The state at a loop head that a call has reached, and the paths from it, for a subclass of a proof."""
 

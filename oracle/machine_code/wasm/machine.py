@@ -63,7 +63,7 @@ class Machine:
         self.constants = [(place, Constants(content)) for place, content in module.segments]
         self.end_of_stack = module.globals[STACK_POINTER].value
         self.seed, self.has_asked, self.used, self.loops, self.made, self.replaced = None, False, None, None, 0, {}
-        self.most_steps, self.steps, self.stack, self.globals, self.objects = MOST_STEPS, 0, None, [], []
+        self.limit, self.steps, self.stack, self.globals, self.objects = MOST_STEPS, 0, None, [], []
 
     def new_name(self, prefix):
         """Returns a symbol name not used before."""
@@ -106,7 +106,7 @@ class Machine:
         if self.used is not None:
             self.used.add((frame.function.index, frame.pc))
         self.steps += 1
-        if self.steps > self.most_steps:
+        if self.steps > self.limit:
             raise TooLong("a call of too many instructions")
         frame.pc += 1
         does(self, frame, given)

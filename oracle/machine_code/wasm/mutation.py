@@ -186,7 +186,7 @@ def with_change(vm, function, whole):
     changed.branches[function.index] = Validator(module, other).check()
     changed.ends = [ends_of(other.code) if k == function.index else ends for k, ends in enumerate(vm.ends)]
     changed.code.pop(function.index, None)
-    changed.most_steps = STEPS
+    changed.limit = STEPS
     return changed
 
 

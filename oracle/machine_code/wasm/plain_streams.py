@@ -4,11 +4,13 @@ lengths, a digest. ../any_updates.py does this for an assembly source.
 A record represents the first N = stripe * a + r bytes of a message if it has N, the seed, the definition's accumulators
 after a stripes, the number r of buffered bytes, and these bytes. The rest of its buffer is unconstrained. Calls test if
 the record's numbers are consistent, so a record without stripes, whose accumulators are known, is a separate case."""
-from symbolic_terms import REFUSALS, NotShown, at_most, minus, plus, times, variable
+import functools
+
+from symbolic_terms import at_most, minus, plus, times, variable
 
 from ..any_updates import AnyUpdates, Layout
 from . import calls, every_length
-from .induction import Loops
+from .induction import proved
 
 
 class PlainStreams(AnyUpdates):
@@ -21,20 +23,8 @@ class PlainStreams(AnyUpdates):
         self.told, self.cases = [], 0
 
     def call(self, what, state, *rest, family=None):
-        vm = self.cpu
-        vm.seed, vm.has_asked, vm.loops = None, False, Loops(family, [state])
-        try:
-            value = what(vm, *rest)
-        except REFUSALS as error:
-            raise NotShown("; ".join([str(error), *vm.loops.refused])) from error
-        finally:
-            loops, vm.loops = vm.loops, None
-        if family and not loops.told:
-            raise NotShown(f"{family.name}: no such loop was met")
-        if vm.has_asked:
-            raise NotShown("whether the seed is 0 was asked, which is another case")
-        self.cases, self.told = self.cases + 1, [*self.told, *loops.told]
-        return value
+        self.cpu.seed, self.cpu.has_asked, self.cases = None, False, self.cases + 1
+        return proved(self, family, [state], functools.partial(what, self.cpu, *rest))
 
     def updates(self, each):
         """Proves updates from stripe * a + r bytes, for every `each`-th r, by chunks that complete no stripe, one, or

@@ -6,8 +6,8 @@ Each call takes the secret, of any length that fits in memory. Calls test if the
 record without stripes, whose accumulators are known, is a separate case."""
 import functools
 
-from symbolic_terms import (LONGEST as MOST_BYTES, REFUSALS, Node, NotShown, Request, at_most, given, is_same_number,
-                            minus, plus, same, symbol, times, variable)
+from symbolic_terms import (LONGEST as MOST_BYTES, Node, NotShown, Request, at_most, given, is_same_number, minus, plus,
+                            same, symbol, times, variable)
 
 from ..cargo_streams import CargoUpdates
 from ..whole_blocks import BLOCKS, in_numbers, parted
@@ -125,15 +125,12 @@ class ModuleUpdates(CargoUpdates):
 
     def run(self, live, what, parts, *arguments, summaries=()):
         vm, family = self.cpu, self.family(*parts)
-        vm.seed, vm.has_asked, vm.loops = None, False, Loops(family, list(live))
+        vm.seed, vm.has_asked = None, False
         vm.replaced = self.takers.replaced(summaries, family, self.source, self.secret_source)
         try:
-            return what(*arguments)
-        except REFUSALS as error:
-            raise NotShown("; ".join([str(error), *vm.loops.refused])) from error
+            return self.with_loops(Loops(family, live), functools.partial(what, *arguments))
         finally:
-            self.refused = vm.loops.refused
-            vm.loops, vm.replaced = None, {}
+            vm.replaced = {}
 
     def expect_stack(self, summary):
         self.takers.expect_stack(summary.name)
