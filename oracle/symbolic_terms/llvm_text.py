@@ -284,7 +284,13 @@ def place_of(t, address, *steps):
 # ---- instructions
 
 BINARY = {"add", "sub", "mul", "xor", "or", "and", "shl", "lshr", "udiv", "urem", "sdiv"}
-CASTS = {"zext", "sext", "trunc", "bitcast", "ptrtoint"}
+# What follows an operation: `typed` is a type and an operand, `operand` one of the type before.
+PATTERNS = {
+    **dict.fromkeys(BINARY, "typed , operand"), **dict.fromkeys(("zext", "sext", "trunc", "bitcast", "ptrtoint"), "typed to type"),
+    "icmp": "word typed , operand", "load": "type rest", "store": "typed rest", "getelementptr": "type rest",
+    "extractvalue": "typed , number", "insertvalue": "typed , typed , number", "insertelement": "typed rest",
+    "shufflevector": "typed rest", "select": "typed rest", "unreachable": "",
+}
 
 
 def instruction(module, line):
@@ -294,17 +300,27 @@ def instruction(module, line):
         target = reader.next()
         reader.next()
     word = reader.next()
-    if word in BINARY:
-        t, a = reader.typed()
-        reader.expect(",")
-        return target, "lanes" if isinstance(t, Vector) else "binary", (word, t, a, reader.operand(t))
-    if word in CASTS:
-        t, a = reader.typed()
-        reader.expect("to")
-        return target, word, (t, a, reader.type())
-    if word not in READERS:
+    if word in READERS:
+        return target, word, READERS[word](reader, target)
+    if word not in PATTERNS:
         raise Unsupported(line)
-    return target, word, READERS[word](reader, target)
+    parts = read(reader, PATTERNS[word])
+    if word in BINARY:
+        return target, "lanes" if isinstance(parts[0], Vector) else "binary", (word, *parts)
+    return target, word, parts
+
+
+def read(reader, pattern):
+    """Returns the parts of an instruction, as a pattern lists them."""
+    out, kinds = [], {"type": reader.type, "word": reader.next, "rest": reader.rest, "number": lambda: int(reader.next())}
+    for item in pattern.split():
+        if item in (",", "to"):
+            reader.expect(item)
+        elif item == "typed":
+            out += reader.typed()
+        else:
+            out.append(reader.operand(out[-2]) if item == "operand" else kinds[item]())
+    return tuple(out)
 
 
 def read_br(reader, _):
@@ -321,30 +337,6 @@ def read_br(reader, _):
 def read_ret(reader, _):
     t = reader.type()
     return None if t == VOID else reader.operand(t),
-
-
-def read_icmp(reader, _):
-    test = reader.next()
-    t, a = reader.typed()
-    reader.expect(",")
-    return test, t, a, reader.operand(t)
-
-
-def read_load(reader, _):
-    t = reader.type()
-    (_, address), = reader.rest()
-    return t, address
-
-
-def read_store(reader, _):
-    t, a = reader.typed()
-    (_, address), = reader.rest()
-    return t, a, address
-
-
-def read_getelementptr(reader, _):
-    t = reader.type()
-    return t, reader.rest()
 
 
 def read_call(reader, _):
@@ -365,32 +357,6 @@ def alignment_said(reader):
     return int(rest[rest.index("align") + 1]) if "align" in rest else 1
 
 
-def read_extractvalue(reader, _):
-    _, a = reader.typed()
-    reader.expect(",")
-    return a, int(reader.next())
-
-
-def read_insertvalue(reader, _):
-    t, a = reader.typed()
-    reader.expect(",")
-    _, b = reader.typed()
-    reader.expect(",")
-    return len(t.parts), a, b, int(reader.next())
-
-
-def read_insertelement(reader, _):
-    t, a = reader.typed()
-    (_, b), (_, k) = reader.rest()
-    return t, a, b, k
-
-
-def read_shufflevector(reader, _):
-    t, a = reader.typed()
-    _, (to, order) = reader.rest()
-    return t, a, to, order
-
-
 def read_phi(reader, _):
     t, out = reader.type(), {}
     while not out or reader.take(","):
@@ -402,16 +368,4 @@ def read_phi(reader, _):
     return out,
 
 
-def read_select(reader, _):
-    _, condition = reader.typed()
-    (_, a), (_, b) = reader.rest()
-    return condition, a, b
-
-
-READERS = {
-    "br": read_br, "ret": read_ret, "icmp": read_icmp, "load": read_load, "store": read_store,
-    "alloca": read_alloca, "getelementptr": read_getelementptr,
-    "call": read_call, "extractvalue": read_extractvalue, "insertvalue": read_insertvalue,
-    "insertelement": read_insertelement, "shufflevector": read_shufflevector, "phi": read_phi, "select": read_select,
-    "unreachable": lambda reader, target: (),
-}
+READERS = {"br": read_br, "ret": read_ret, "alloca": read_alloca, "call": read_call, "phi": read_phi}

@@ -14,8 +14,7 @@ WORD = 64
 HALF = 1 << WORD - 1
 
 
-def binary(module, parts, value, before):
-    word, t, a, b = parts
+def binary(module, value, word, t, a, b):
     a, b = value(a), value(b)
     if word == "sub" and is_address(a) and is_address(b):   # the difference of two addresses in one object
         if a[0] is not b[0]:
@@ -40,29 +39,27 @@ def vector(lanes, width):
     return side_by_side(*((lane, width) for lane in lanes))
 
 
-def on_lanes(module, parts, value, before):
-    word, t, a, b = parts
+def on_lanes(module, value, word, t, a, b):
     pairs = zip(lanes_of(value(a), t), lanes_of(value(b), t))
     return vector([BINARY[word](t.bits, x, y) for x, y in pairs], t.bits)
 
 
-def insert_lane(module, parts, value, before):
-    t, a, b, k = parts
+def insert_lane(module, value, t, a, operands):
+    (_, b), (_, k) = operands
     out = lanes_of(value(a), t)
     out[value(k)] = value(b)
     return vector(out, t.bits)
 
 
-def shuffle(module, parts, value, before):
-    t, a, to, order = parts
+def shuffle(module, value, t, a, operands):
+    _, (to, order) = operands
     out = lanes_of(value(a), t)
     return vector([out[k] for k in lanes_of(value(order), to)], t.bits)
 
 
 # ---- comparisons
 
-def compare(module, parts, value, before):
-    test, t, a, b = parts
+def compare(module, value, test, t, a, b):
     a, b = value(a), value(b)
     try:
         if isinstance(t, Pointer):
@@ -107,16 +104,16 @@ def compare_terms(module, test, a, b):
 
 # ---- loads, stores, calls
 
-def load(module, parts, value, before):
-    t, address = parts
+def load(module, value, t, operands):
+    (_, address), = operands
     memory, at = value(address)
     if isinstance(t, Struct):
         return tuple(memory.load(at + t.offset(k), part.size()) for k, part in enumerate(t.parts))
     return memory.load(at, t.size())
 
 
-def store(module, parts, value, before):
-    t, a, address = parts
+def store(module, value, t, a, operands):
+    (_, address), = operands
     (memory, at), a = value(address), value(a)
     if isinstance(t, Struct):
         for k, part in enumerate(t.parts):
@@ -125,8 +122,8 @@ def store(module, parts, value, before):
         memory.store(at, t.size(), a)
 
 
-def address(module, parts, value, before):
-    t, ((_, base), *steps) = parts
+def address(module, value, t, operands):
+    (_, base), *steps = operands
     numbers = [signed(x, u.bits) if isinstance(x, int) else x for u, x in ((u, value(x)) for u, x in steps)]
     if not all(is_number(x) for x in numbers):
         raise Undecided("an address")
@@ -136,15 +133,14 @@ def address(module, parts, value, before):
     return memory, at
 
 
-def call(module, parts, value, before):
-    callee, arguments = value(parts[0]), parts[1]
+def call(module, value, callee, arguments):
+    callee = value(callee)
     if not isinstance(callee, FunctionName):
         raise Unsupported("a call of no function")
     return module.call(callee.name, [value(x) for x in arguments])
 
 
-def allocate(module, parts, value, before):
-    name, size, alignment = parts
+def allocate(module, value, name, size, alignment):
     memory = Memory(name, size, alignment=alignment)
     module.live.append(memory)
     return memory, 0
@@ -202,27 +198,20 @@ def copy_word(memory, at, source, first, n):
 
 # ---- all operations
 
-def cast(module, parts, value, before):
-    return value(parts[1])
-
-
-def truncate(module, parts, value, before):
-    _, a, to = parts
+def truncate(module, value, _, a, to):
     a = value(a)
     return a % (1 << to.bits) if isinstance(a, Poly) else bits(a, 0, to.bits)
 
 
-def extend_sign(module, parts, value, before):
-    t, a, to = parts
+def extend_sign(module, value, t, a, to):
     a = value(a)
     if not isinstance(a, int):
         raise Undecided("a sign")
     return signed(a, t.bits) % (1 << to.bits)
 
 
-def insert_part(module, parts, value, before):
-    n, a, b, k = parts
-    a = value(a)
+def insert_part(module, value, t, a, _, b, k):
+    n, a = len(t.parts), value(a)
     out = [None] * n if a is None else list(a)
     if not 0 <= k < n:
         raise Unsupported(f"part {k} of {n}")
@@ -230,26 +219,25 @@ def insert_part(module, parts, value, before):
     return tuple(out)
 
 
-def extract_part(module, parts, value, before):
-    a, k = value(parts[0]), parts[1]
+def extract_part(module, value, _, a, k):
+    a = value(a)
     if not 0 <= k < len(a):
         raise Unsupported(f"part {k} of {len(a)}")
     return a[k]
 
 
-def select(module, parts, value, before):
-    condition = value(parts[0])
+def select(module, value, _, condition, operands):
+    condition, ((_, a), (_, b)) = value(condition), operands
     if not isinstance(condition, int):
         raise Undecided("a select")
-    return value(parts[1] if condition else parts[2])
+    return value(a if condition else b)
 
 
 OPERATIONS = {
     "binary": binary, "lanes": on_lanes, "insertelement": insert_lane, "shufflevector": shuffle, "icmp": compare,
     "load": load, "store": store, "getelementptr": address, "call": call, "alloca": allocate, "select": select,
-    "zext": cast, "bitcast": cast, "ptrtoint": cast, "trunc": truncate, "sext": extend_sign, "insertvalue": insert_part,
-    "extractvalue": extract_part,
-    "phi": lambda module, parts, value, before: value(parts[0][before]),
+    **dict.fromkeys(("zext", "bitcast", "ptrtoint"), lambda module, value, t, a, to: value(a)), "trunc": truncate,
+    "sext": extend_sign, "insertvalue": insert_part, "extractvalue": extract_part,
 }
 
 
@@ -309,7 +297,7 @@ class Function:
                 return parts[1] if condition else parts[2], None
             if operation == "ret":
                 return None, None if parts[0] is None else value(parts[0])
-            result = OPERATIONS[operation](self.module, parts, value, before)
+            result = value(parts[0][before]) if operation == "phi" else OPERATIONS[operation](self.module, value, *parts)
             if target is not None:
                 registers[target] = result
         raise Unsupported(f"{block} of {self.name} has no end")
