@@ -21,27 +21,25 @@ SHORTEST = 136                    # bytes of a secret
 LONGEST_WITHOUT = 240             # bytes of a message that needs no secret if there is a seed
 
 
-class CargoProgram(Program):
-    """The assembly source of an instruction set, read from the file of that name."""
+class OfCargo:
+    """Overrides for the reader of a source, for either processor."""
 
     EXPORT = WEAK, HIDDEN         # versions of the crate with the same interface share one copy of the code
-
-    def __init__(self, name, path):
-        self.name = name
-        super().__init__(path)
 
     def all_names(self):
         """Returns all symbol names in the source."""
         return {symbol.name for symbol in self.object.symbols}
 
     def names(self):
-        functions, exports = super().names()
-        return self.named(functions), {plain(name): place for name, place in exports.items()}
+        return ({plain(name): place for name, place in found.items()} for found in super().names())
 
-    @staticmethod
-    def named(functions):
-        """Maps the functions by their names here."""
-        return {plain(name): place for name, place in functions.items()}
+
+class CargoProgram(OfCargo, Program):
+    """The assembly source of an instruction set, read from the file of that name."""
+
+    def __init__(self, name, path):
+        self.name = name
+        super().__init__(path)
 
     @staticmethod
     def title_of(section):

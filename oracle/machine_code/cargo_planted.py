@@ -11,7 +11,7 @@ from .cargo import FOLDER, CargoProcessor, CargoProgram
 from .cargo_exports import exports_left_out, shared, shown_by
 from .cargo_streams import CargoUpdates
 from .instructions import V1
-from .planted import Asked, Wrong, begun, ended, function, request
+from .planted import Asked, Wrong, begun, ended, function, proving, request, small_update
 
 SOURCE = os.path.join(FOLDER, f"{V1}.s")
 TAKER, LEADS = "twox_core.xxhash3.stripes.take_stripes", "twox_core.width_64.oneshot_long_of_any_length"
@@ -35,15 +35,9 @@ def not_hidden(text):
 
 # ---- test cases
 
-def any_update(cpu):
-    """Proves an update that fits in the buffer."""
-    proof = CargoUpdates(cpu)
-    proof.update(*list(proof.small_pieces())[-1])
-
-
-def piece_of_32(cpu):
-    """Proves a chunk that takes a stripe."""
-    any_updates.AnyUpdates(cpu, "32").update(any_updates.Update(0, 3, False, 1, False))
+any_update = proving(CargoUpdates, small_update)
+# A chunk that takes a stripe.
+piece_of_32 = proving(any_updates.AnyUpdates, lambda proof: proof.update(any_updates.Update(0, 3, False, 1, False)), "32")
 
 
 def exported(cpu):

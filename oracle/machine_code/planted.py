@@ -89,23 +89,26 @@ def raising_limit(cpu):
     calls.version(cpu)
 
 
-def of_every_length(kind, seed=None):
-    return lambda cpu: every_length.EveryLength(cpu, kind).show(every_length.cases(kind)[0], seed)
+def proving(kind, prove, *words):
+    """Returns a test that makes a proof of this kind, and proves a case with it."""
+    return lambda cpu: prove(kind(cpu, *words))
+
+
+def of_every_length(kind, seed=None, case=0):
+    return proving(every_length.EveryLength, lambda proof: proof.show(every_length.cases(kind)[case], seed), kind)
 
 
 def exported(cpu):
     exports.expect_all(cpu.program, exports.shown_by().values())
 
 
-def far_case(cpu):
-    """Proves a case of one-shots whose whole blocks have a separate function, from 31,744 bytes on."""
-    every_length.EveryLength(cpu, "3-64:seed").show(every_length.cases("3-64:seed")[1])
-
-
-def any_update(cpu):
+def small_update(proof):
     """Proves an update of an XXH3 stream that fits in the buffer."""
-    proof = xxh3_updates.Xxh3Updates(cpu)
     proof.update(*list(proof.small_pieces())[-1])
+
+
+far_case = of_every_length("3-64:seed", case=1)      # whole blocks have a separate function, from 31,744 bytes on
+any_update = proving(xxh3_updates.Xxh3Updates, small_update)
 
 
 def adds_where(word, register):

@@ -10,7 +10,8 @@ from .aarch64.cargo import NAME as ARM
 from .cargo import CargoProcessor, CargoProgram
 from .instructions import V1, V2, V3, V4
 from .objects import Program
-from .planted import (END, FUNCTION, SOURCE, VERSION, Asked, Wrong, begun, ended, of_every_length, raising_limit, request)
+from .planted import (END, FUNCTION, SOURCE, VERSION, Asked, Wrong, begun, ended, of_every_length, proving, raising_limit,
+                      request)
 from .planted_objects import ARM_SOURCE, in_section, local, of_object, of_twins
 from .processor import Processor
 from .sources import assembled
@@ -38,50 +39,24 @@ def with_names(pattern, new):
 
 # ---- tests
 
-def plain_update(cpu):
-    any_updates.AnyUpdates(cpu, "64").update(next(one for one in any_updates.updates("64") if one.more))
+def of_plain(prove):
+    return proving(any_updates.AnyUpdates, prove, "64")
 
 
-def small_update(cpu):
-    any_updates.AnyUpdates(cpu, "64").update(any_updates.Update(3, 9, False, 0, False))
+def of_xxh3(prove):
+    return proving(xxh3_updates.Xxh3Updates, prove)
 
 
-def plain_digest(cpu):
-    any_updates.AnyUpdates(cpu, "64").digest(variable("a"), 3)
-
-
-def plain_reset(cpu):
-    any_updates.AnyUpdates(cpu, "64").reset()
-
-
-def xxh3_digest(cpu):
-    proof = xxh3_updates.Xxh3Updates(cpu)
-    proof.digest(*list(proof.digests())[-1], False, 64)
-
-
-def xxh3_reset(cpu):
-    proof = xxh3_updates.Xxh3Updates(cpu)
-    for one in proof.resets():
-        proof.reset(*one)
-
-
-def xxh3_update(cpu):
-    proof = xxh3_updates.Xxh3Updates(cpu)
-    proof.update(*next(iter(proof.small_pieces())))
-
-
-def two_widths(cpu):
-    xxh3_updates.Xxh3Updates(cpu).one_update()
-
-
-def many_stripes(cpu):
-    """Proves one case of a function that takes many stripes."""
-    proof = xxh3_updates.Xxh3Updates(cpu)
-    proof.taken_of(*next(x for x in proof.all_taken() if x[1][0].name == xxh3_updates.TAKE_MANY.name))
-
-
-def short_with_secret(cpu):
-    every_length.EveryLength(cpu, "3-64:secret").show_short(5)
+plain_update = of_plain(lambda proof: proof.update(next(one for one in any_updates.updates("64") if one.more)))
+small_update = of_plain(lambda proof: proof.update(any_updates.Update(3, 9, False, 0, False)))
+plain_digest = of_plain(lambda proof: proof.digest(variable("a"), 3))
+xxh3_digest = of_xxh3(lambda proof: proof.digest(*list(proof.digests())[-1], False, 64))
+xxh3_reset = of_xxh3(lambda proof: [proof.reset(*one) for one in proof.resets()])
+xxh3_update = of_xxh3(lambda proof: proof.update(*next(iter(proof.small_pieces()))))
+two_widths = of_xxh3(xxh3_updates.Xxh3Updates.one_update)
+many_stripes = of_xxh3(lambda proof: proof.taken_of(*next(
+    x for x in proof.all_taken() if x[1][0].name == xxh3_updates.TAKE_MANY.name)))
+short_with_secret = proving(every_length.EveryLength, lambda proof: proof.show_short(5), "3-64:secret")
 
 
 def code_of_v3(cpu):

@@ -1,8 +1,7 @@
 """Reads the assembly source of the cargo crate for 64-bit ARM."""
 import os
 
-from ..cargo import FOLDER, ForCargo, plain
-from ..object_contents import HIDDEN, WEAK
+from ..cargo import FOLDER, ForCargo, OfCargo
 from ..sources import assembled
 from . import objects
 from .table import Processor
@@ -16,17 +15,8 @@ def program():
     return assembled(SOURCE, NAME, CargoProgram)
 
 
-class CargoProgram(objects.Program):
-    """The program of the source. Its names here omit the interface's number."""
-
-    EXPORT = WEAK, HIDDEN
-
-    def names(self):
-        return ({plain(name): place for name, place in found.items()} for found in super().names())
-
-    def all_names(self):
-        """Returns all symbol names in the source."""
-        return {symbol.name for symbol in self.object.symbols}
+class CargoProgram(OfCargo, objects.Program):
+    pass
 
 
 class CargoProcessor(Processor):
