@@ -9,9 +9,11 @@ import functools
 import itertools
 
 import table
-from symbolic_terms import (LONGEST, LONGEST_SECRET, REFUSALS, Bytes, Input, NotShown, Poly, at_most, definition, given,
-                            minus, nodes, parts_of, plus, seed_symbol, suppositions, times, value_at, variable)
+from symbolic_terms import (LONGEST, LONGEST_SECRET, REFUSALS, Bytes, Input, NotShown, Poly, Request, at_most,
+                            definition, given, minus, nodes, parts_of, plus, seed_symbol, suppositions, times, value_at,
+                            variable)
 
+from . import one_shots
 from .induction import Family, Loops
 from .values import address
 
@@ -179,14 +181,9 @@ class EveryLength(Cases):
 
     def show_short(self, n):
         """Proves the hash of n bytes, at most 240, with a secret of any length from 136 bytes on."""
-        source, secret = Input("m", n), Input("s", plus(SHORTEST, variable("more")))
-        seed = seed_symbol(self.hash_name) if self.way == "both" else 0
-        self.cpu.not_zero = []
-        with given(at_most(secret.length, LONGEST_SECRET)):
-            arguments = [address(source), n, address(secret), secret.length, *([seed] if self.way == "both" else [])]
-            ours = self.library.one_shot(self.cpu, self.hash_name, self.way, *arguments)
-            theirs = definition.value(self.texts, self.hash_name, self.way, seed, Bytes(secret, 0, secret.length),
-                                      Bytes(source, 0, n))
+        request = Request(self.hash_name, self.way, n, plus(SHORTEST, variable("more")))
+        with given(at_most(request.secret_length, LONGEST_SECRET)):
+            ours, theirs = one_shots.of_text(self.cpu, request), request.of_definition(self.texts)
         if not nodes.is_same(ours, theirs):
             raise NotShown(f"XXH{self.kind} of {n} bytes: another value")
 

@@ -201,6 +201,10 @@ TEXTS = [
 ]
 
 
+def unchanged(text):
+    return text
+
+
 class Asked:
     """Tests a planted fault in a source, without checking the grammar; `read` makes a processor of an object."""
 
@@ -208,13 +212,18 @@ class Asked:
         self.title, self.words, self.wrong, self.source, self.read, self.kind = wrong.what, wrong.words, wrong, source, read, kind
 
     def ask(self):
-        """Applies the change and runs the test. Raises the refusal."""
+        """Applies the change and runs the test. Raises the refusal, or NotShown if the change changes nothing."""
         with open(self.source, encoding="utf-8") as file:
-            text = self.wrong.change(file.read())
+            right = file.read()
         with tempfile.TemporaryDirectory(prefix="machine-text-") as room:
             with open(f"{room}/wrong.s", "w", encoding="utf-8") as file:
-                file.write(text)
-            self.wrong.ask(self.read(by_gnu(f"{room}/wrong.s", self.kind, room)))
+                file.write(self.wrong.change(right))
+            if self.wrong.change(right) == right and self.wrong.change is not unchanged:
+                raise NotShown("no other text")
+            self.run(f"{room}/wrong.s", room)
+
+    def run(self, path, room):
+        self.wrong.ask(self.read(by_gnu(path, self.kind, room)))
 
 
 def complaints(asked):

@@ -11,7 +11,7 @@ from .cargo import CargoProcessor, CargoProgram
 from .instructions import V1, V2, V3, V4
 from .objects import Program
 from .planted import (END, FUNCTION, SOURCE, VERSION, Asked, Wrong, begun, ended, of_every_length, proving, raising_limit,
-                      request)
+                      request, unchanged)
 from .planted_objects import ARM_SOURCE, in_section, local, of_object, of_twins
 from .processor import Processor
 from .sources import assembled
@@ -165,7 +165,7 @@ OF_ARM = [
     Wrong("the rest of an address where none belongs", begun(VERSION, "ldr w9, [x0, #:lo12:XXH32]"), of_object,
           "a relocation of kind"),
 ]
-OTHER_MACHINE = Wrong("a text for another processor", lambda text: text, of_object, "an object of another processor")
+OTHER_MACHINE = Wrong("a text for another processor", unchanged, of_object, "an object of another processor")
 
 
 def by_x86(name):

@@ -1,11 +1,11 @@
 """Planted faults that only the grammar refuses: each is a committed source with other lines that GNU as assembles."""
 import os
 import re
-import tempfile
 
-from symbolic_terms import TOP, NotShown
+from symbolic_terms import TOP
 
 from .grammar import expect_grammar
+from .planted import Asked, Wrong
 from .sources import by_gnu, expect_alike
 
 C, CARGO, ARM = (os.path.join(TOP, *path) for path in (("c", "asm", "x86-64-v2.s"), ("rust", "asm", "x86-64.s"),
@@ -96,29 +96,21 @@ OTHERWISE = [("what other assemblers refuse", put(".nolist", ".list")),
 NOT_ASSEMBLED = {"an instruction behind a sign of another system", "a way by the table of the linker"}
 
 
-class AskedLines:
+class AskedLines(Asked):
     """Tests a planted fault that the grammar must refuse, or with `is_alike` the comparison of objects."""
 
     def __init__(self, source, kind, what, change, is_alike=False):
-        self.title, self.source, self.kind, self.change, self.is_alike = what, source, kind, change, is_alike
-        self.words = "by GNU as and by|refuses the text" if is_alike else r"^wrong\.s:\d+: not of the grammar"
+        words = "by GNU as and by|refuses the text" if is_alike else r"^wrong\.s:\d+: not of the grammar"
+        super().__init__(Wrong(what, change, None, words), source, None, kind)
+        self.is_alike = is_alike
 
-    def ask(self):
-        """Applies the change and runs the test. Raises the refusal, or NotShown if the change changes nothing."""
-        with open(self.source, encoding="utf-8") as file:
-            text = file.read()
-        with tempfile.TemporaryDirectory(prefix="machine-text-") as room:
-            path = os.path.join(room, "wrong.s")
-            with open(path, "w", encoding="utf-8") as file:
-                file.write(self.change(text))
-            if self.change(text) == text:
-                raise NotShown("no other text")
-            if self.title not in NOT_ASSEMBLED:
-                by_gnu(path, self.kind, room)
-            if self.is_alike:
-                expect_alike([(path, self.kind)])
-            else:
-                expect_grammar(path, self.kind)
+    def run(self, path, room):
+        if self.title not in NOT_ASSEMBLED:
+            by_gnu(path, self.kind, room)
+        if self.is_alike:
+            expect_alike([(path, self.kind)])
+        else:
+            expect_grammar(path, self.kind)
 
 
 X86_ASKED = [*(AskedLines(C, "x86-64", *wrong) for wrong in IN_X86), *(AskedLines(CARGO, "x86-64", *wrong) for wrong in IN_CARGO)]

@@ -22,9 +22,9 @@ from reasons import CRASH, UNNOTICED, WRONG_RULE
 
 from . import definition, every_length, nodes, reference
 from .refusals import REFUSALS, Undecided
-from .requests import Request, differing_point, differing_point_of_numbers
+from .requests import Request, differing_point, differing_point_of_numbers, differs
 from .machine import Function
-from .nodes import Node, WrongRule
+from .nodes import WrongRule
 
 SECONDS = 4              # time limit, after which a change counts as not ending
 EQUAL_LINES = os.path.join(os.path.dirname(os.path.abspath(__file__)), "equivalent_lines.txt")
@@ -74,11 +74,6 @@ def asked():
     return sorted([r for request in out for r in [request, *request.with_seed_0()]], key=lambda request: request.length)
 
 
-def difference(request, a, b):
-    values = [x.values if isinstance(x, Node) else (x,) * nodes.POINTS for x in (a, b)]
-    return NOTICED if values[0] != values[1] or differing_point(request, a, b) else REFUSED
-
-
 # ---- changes of the definition
 
 class Asked:
@@ -94,7 +89,7 @@ class Asked:
             with Limited():
                 value = self.request.of_definition(entries)
                 is_same = nodes.is_same(value, self.answer)
-                self.outcome = None if is_same else difference(self.request, value, self.answer)
+                self.outcome = None if is_same else NOTICED if differs(self.request, value, self.answer) else REFUSED
         except Undecided:
             self.outcome = self.by_numbers(entries)
         except Slow:
@@ -238,7 +233,7 @@ def changed_outcome(module, change, requests, answers):
             with Limited():
                 value = reference.of_reference(request, module)
                 if not nodes.is_same(value, answers[id(request)]):
-                    what = difference(request, value, answers[id(request)])
+                    what = NOTICED if differs(request, value, answers[id(request)]) else REFUSED
             if what == NOTICED:
                 break
     except REFUSALS as error:

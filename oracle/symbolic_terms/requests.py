@@ -2,10 +2,10 @@
 import os
 import random
 
-from . import definition
+from . import definition, nodes
 from .definition import Bytes
 from .memory import Input
-from .nodes import symbol, values_at
+from .nodes import Node, symbol, values_at
 
 TOP = os.path.dirname(os.path.dirname(os.path.dirname(os.path.abspath(__file__))))
 LONGEST, LONGEST_SECRET = (1 << 64) - 1, 1 << 60        # maximum bytes of a message and of a secret
@@ -79,6 +79,12 @@ def differing_point(request, a, b, count=20):
         if x != y:
             return point, x, y
     return None
+
+
+def differs(request, a, b):
+    """True if two values differ at one of the points."""
+    first, second = (x.values if isinstance(x, Node) else (x,) * nodes.POINTS for x in (a, b))
+    return first != second or differing_point(request, a, b) is not None
 
 
 def differing_point_of_numbers(request, entries, b, count=3):

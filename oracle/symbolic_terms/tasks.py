@@ -105,27 +105,23 @@ def of_changes(is_all, vector, headers):
     out += [Task(f"changes of LLVM's text, part {part + 1} of {of}",
                 functools.partial(line_changes, sample=sample, part=part, parts=of), vector,
                 is_deep=False) for part in parts]
-    out.append(Task("changes of the definitions that differ from 2^31 bytes on alone, asked by induction",
-                   large_changes, vector))
-    out.append(Task("changes by hand of the definitions, that differ on rare inputs alone", hand_changes, vector))
+    out += [Task("changes of the definitions that differ from 2^31 bytes on alone, asked by induction",
+                 judged(mutation.by_induction, "changes, each refused"), vector),
+            Task("changes by hand of the definitions, that differ on rare inputs alone", judged(mutation.by_hand), vector)]
     if headers != HEADERS:      # the changes fit only Debian's header
         return out
-    asked = header_mutants.CHANGES if is_all else header_mutants.CHANGES[::4]
-    out.append(Task("changes of the header 0.8.1, asked by induction", functools.partial(header_changes, changed=asked)))
-    if is_all:
-        out.append(Task("changes of the header 0.8.1, streams of XXH3",
-                       functools.partial(header_changes, changed=header_mutants.DEAR)))
-    return out
+    asked = {"asked by induction": header_mutants.CHANGES if is_all else header_mutants.CHANGES[::4],
+             **({"streams of XXH3": header_mutants.DEAR} if is_all else {})}
+    return [*out, *(Task(f"changes of the header 0.8.1, {how}", judged(
+        lambda module, changed=changed: header_mutants.tell(changed), "queries")) for how, changed in asked.items())]
 
 
-def header_changes(module, changed):
-    found = list(header_mutants.tell(changed))
-    return f"{len(found)} queries", [line for is_good, line in found if not is_good]
-
-
-def large_changes(module):
-    found = mutation.by_induction(module)
-    return f"{len(found)} changes, each refused", [line for is_good, line in found if not is_good]
+def judged(find, what="changes"):
+    """Returns a task's function: `find` yields for each change whether its result is the expected one, and a line."""
+    def ask(module):
+        found = list(find(module))
+        return f"{len(found)} {what}", [line for is_good, line in found if not is_good]
+    return ask
 
 
 def text_changes(module, part, parts):
@@ -146,11 +142,6 @@ def faults(found, reasons_of):
 
 def told(found):
     return ", ".join(f"{count} {what}" for what, count in collections.Counter(what for what, _ in found).most_common())
-
-
-def hand_changes(module):
-    found = mutation.by_hand(module)
-    return f"{len(found)} changes", [line for is_good, line in found if not is_good]
 
 
 def header_is_the_one_named(headers, vector, _module):

@@ -53,16 +53,23 @@ def call_one_shot(vm, request, out):
     return vm.call(name_of_one_shot(request), arguments + ([address(out)] if out else []))
 
 
+def new_value(vm, hash_name):
+    """Returns memory for a hash, which a call may write to."""
+    out = Memory("the value", BYTES[hash_name])
+    if vm.loops:
+        vm.loops.live.append(out)
+    return out
+
+
 def one_shot(vm, request):
     """Returns the hash of a one-shot. With a secret, and for 128 bits, the call writes it to memory."""
-    size = BYTES[request.hash_name]
-    out = Memory("the value", size) if request.secret or size == 16 else None
+    out = new_value(vm, request.hash_name) if request.secret or request.hash_name == "3-128" else None
     results = call_one_shot(vm, request, out)
     if out is None:
         return results[0]
     if request.secret:
         answered(results)
-    return out.load(0, size)
+    return out.load(0, out.length)
 
 
 def refused_one_shot(vm, request):
@@ -102,8 +109,7 @@ class Page:
 
     @classmethod
     def digest(cls, vm, hash_name, state):
-        out = Memory("the value", BYTES[hash_name])
-        vm.loops.live.append(out)
+        out = new_value(vm, hash_name)
         answered(vm.call(export(hash_name) + "_digest", [*cls.of_stream(state), address(out)]))
         return out.load(0, out.length)
 

@@ -6,10 +6,11 @@ secrets, of 64 + 8 q + u bytes, u < 8, J is symbolic, and q is a number below 16
 import collections
 
 import table
-from symbolic_terms import (Bytes, Input, Memory, Node, NotShown, at_most, definition, given, minus, nodes, plus,
-                            seed_symbol, suppositions, times, variable)
+from symbolic_terms import (Bytes, NotShown, Request, at_most, given, minus, nodes, plus, seed_symbol, suppositions,
+                            times, variable)
 
-from .calls import BYTES, WAYS, address, answered, export, is_plain
+from . import calls
+from .calls import WAYS, is_plain
 from ..every_length import Cases
 from ..induction import Family
 from ..stripes import Part, Stripes
@@ -98,20 +99,9 @@ class Proof(Cases):
         super().__init__(vm)
         self.told, self.cases = [], 0
 
-    def call(self, family, hash_name, way, seed, message, secret=None):
+    def call(self, family, request):
         """Returns the result of a one-shot. Proves the loops of a family by induction."""
-        vm, plain = self.cpu, is_plain(hash_name)
-        vm.seed, vm.has_asked = seed if isinstance(seed, Node) else None, False
-        size = BYTES[hash_name]
-        out = Memory("the value", size) if secret or size == 16 else None
-        arguments = [seed] if plain or way in ("seed", "both") else []
-        arguments += [address(secret), secret.length] if secret else []
-        arguments += [address(message), message.length] + ([address(out)] if out else [])
-        name = export(hash_name) + ("" if plain else WAYS[way])
-        results = proved(self, family, [out] if out else [], lambda: vm.call(name, arguments))
-        if secret:
-            answered(results)
-        return out.load(0, size) if out else results[0]
+        return proved(self, family, [], lambda: calls.one_shot(self.cpu, request))
 
     def expect(self, what, ours, theirs):
         self.cases += 1
@@ -126,15 +116,14 @@ class Proof(Cases):
         n = plus(times(stripe, turns), r)
         accumulator = self.texts[f"Xxh{width}.accumulator"]
         with given(minus(turns, 1), at_most(n, LONGEST)):
-            source = Input("m", n)
-            message = Bytes(source, 0, n)
+            request = Request(hash_name, "seed", n)
+            message = Bytes(request.message, 0, n)
 
             def after(k):
                 return lambda j: accumulator(seed, message, j, k)
             family = Family(f"XXH{width} of {n} bytes", stripe, turns, 4, after,
                             lambda k, values: suppositions.suppose(after(k), values))
-            ours = self.call(family, hash_name, "seed", seed, source)
-            self.expect(family.name, ours, self.texts[f"xxh{width}"](seed, message))
+            self.expect(family.name, self.call(family, request), self.texts[f"xxh{width}"](seed, message))
 
     # ---- XXH3
 
@@ -162,10 +151,9 @@ class Proof(Cases):
 
     def of_blocks(self, hash_name, way, n, size, family):
         """Proves n > 240 bytes, with a custom secret of `size` bytes, or none. `family` makes the loops' family."""
-        seed = seed_symbol(hash_name) if way in ("seed", "both") else 0
-        source, own = Input("m", n), Input("s", size) if way in OWN_SECRET else None
-        message = Bytes(source, 0, n)
-        secret = Bytes(own, 0, size) if own else self.texts["derived_secret"](seed)
+        request = Request(hash_name, way, n, size if way in OWN_SECRET else None)
+        seed, message = request.seed(), Bytes(request.message, 0, n)
+        secret = Bytes(request.secret, 0, size) if request.secret else self.texts["derived_secret"](seed)
         secret = secret if way == "secret" else self.texts["effective_secret"](secret, message)
         accumulator = self.texts["Long.accumulator_after"]
 
@@ -173,18 +161,15 @@ class Proof(Cases):
             return lambda i: accumulator(secret, message, i, k)
         name = f"XXH{hash_name}, {way}, of {n} bytes"
         loops = family(name, after, lambda k, values: suppositions.suppose(after(k), values))
-        ours = self.call(loops, hash_name, way, seed, source, own)
-        self.expect(name, ours, self.texts[table.HASHES[hash_name]](seed, secret, message))
+        self.expect(name, self.call(loops, request), self.texts[table.HASHES[hash_name]](seed, secret, message))
 
     def short(self, hash_name, way, n):
         """Proves n bytes, n <= 240, with a secret of any length."""
-        q, u, seed = variable("q"), variable("u"), seed_symbol(hash_name) if way == "both" else 0
+        q, u = variable("q"), variable("u")
         size = plus(64, times(8, q), u)
         with given(minus(q, LEAST_STRIPES), at_most(u, 7), at_most(size, LONGEST)):
-            source, own = Input("m", n), Input("s", size)
-            ours = self.call(None, hash_name, way, seed, source, own)
-            theirs = definition.value(self.texts, hash_name, way, seed, Bytes(own, 0, size), Bytes(source, 0, n))
-            self.expect(f"XXH{hash_name}, {way}, of {n} bytes", ours, theirs)
+            request = Request(hash_name, way, n, size)
+            self.expect(f"XXH{hash_name}, {way}, of {n} bytes", self.call(None, request), request.of_definition(self.texts))
 
     def own_secret(self, hash_name, way, case):
         """Proves 64 q B + 64 J + t + 1 bytes, with a secret of 64 + 8 q + u bytes, u < 8, q not 16."""

@@ -12,7 +12,7 @@ import os
 import random
 
 from reasons import CRASH, UNNOTICED, WRONG_RULE, Reasons, is_fault
-from symbolic_terms import REFUSALS, Request, WrongRule, comparison, differing_point, nodes
+from symbolic_terms import REFUSALS, Request, WrongRule, comparison, differs, nodes
 
 from ..xxh3_updates import TAKE_BLOCKS
 from . import calls, every_length, refusals
@@ -220,11 +220,6 @@ def of_request(vm, texts, request, answer):
     if nodes.is_same(said, ours):
         return UNNOTICED
     return NOTICED if differs(request, said, ours) else REFUSED
-
-
-def differs(request, a, b):
-    values = [x.values if isinstance(x, nodes.Node) else (x,) * nodes.POINTS for x in (a, b)]
-    return values[0] != values[1] or differing_point(request, a, b) is not None
 
 
 def more(queries):
