@@ -11,7 +11,7 @@ from .cargo import FOLDER, CargoProcessor, CargoProgram
 from .cargo_exports import exports_left_out, shared, shown_by
 from .cargo_streams import CargoUpdates
 from .instructions import V1
-from .planted import Asked, Wrong, begun, ended, function, proving, request, small_update
+from .planted import Asked, Wrong, begun, ended, function, proving, request, small_update, substituted
 
 SOURCE = os.path.join(FOLDER, f"{V1}.s")
 TAKER, LEADS = "twox_core.xxhash3.stripes.take_stripes", "twox_core.width_64.oneshot_long_of_any_length"
@@ -27,10 +27,6 @@ def export(name, *lines):
 def local(name, *lines):
     """The same for a function that isn't exported."""
     return lambda text: begun(re.search(rf"^{re.escape(name)}\.i\d+(?=:$)", text, re.M)[0], *lines)(text)
-
-
-def not_hidden(text):
-    return re.sub(r"^\t\.hidden .*_interface\n", "", text, flags=re.M)
 
 
 # ---- test cases
@@ -79,7 +75,7 @@ WRONG = [
     Wrong("the number of another interface", export("interface", "xor %eax,%eax", "ret"), cargo_calls.interface,
           "the code 0"),
     Wrong("an instruction of x86-64-v2", export("xxh3_64_long", "pmulld %xmm0,%xmm0"), LONG, "hasn't here"),
-    Wrong("a name that isn't hidden", not_hidden, exported, "visibility 0"),
+    Wrong("a name that isn't hidden", substituted(r"^\t\.hidden .*_interface\n", "", 0), exported, "visibility 0"),
     Wrong("an export that no task shows", ended(*function("twox_rust_5_more", *(
         f"{word} twox_rust_5_more" for word in (".weak", ".hidden")))), exported, "more"),
     Wrong("a function that isn't the other text's", local(TAKER, "nop"), same_code, f"other code: {LEADS}, {TAKER}"),

@@ -24,7 +24,7 @@ FOLDER = os.path.join(os.path.dirname(os.path.abspath(__file__)), "equivalent_mu
 LIMIT = 40_000                   # instructions of a changed source's call
 MOST, NEAR, FEWEST = 200, 40, 10  # shortest requests; generated requests near them; requests tested on symbols
 DRAWS = 10                        # random seeds with --all; one otherwise
-TASKS = 4                          # tasks into which the changes of the sources for ARM and RISC-V are split, with --all
+TASKS = 4                          # tasks into which the changes of the sources for ARM are split, with --all
 IDLE = "nop", "prefetcht0", "vzeroupper", "ud2"
 ALIKE = [("je", "jne"), ("jb", "jbe"), ("ja", "jae"), ("jb", "jae"), ("sete", "setne"), ("cmovb", "cmovae"),
          ("add", "sub"), ("xor", "or"), ("and", "or"), ("inc", "dec"), ("neg", "not"), ("shl", "shr"), ("mul", "div"),

@@ -39,12 +39,9 @@ class Program(Loaded):
         self.sections = {name: self.read(name, lines) for name, lines in self.listing.items()}
         if set(self.sections) != {name for name, head in self.heads.items() if head.flags == CODE}:
             raise Unsupported("a section that objdump doesn't list")
-        self.expect_decoded()
+        expect_bytes(self)
         self.labels = {symbol.name: self.place_of(symbol) for symbol in self.object.symbols
                        if symbol.section and symbol.section < len(self.object.heads)}
-
-    def expect_decoded(self):
-        expect_bytes(self)
 
     @staticmethod
     def title_of(section):

@@ -56,9 +56,9 @@ def hidden_register(text):
     return text[:function] + text[function:].replace(old, f"{old}\txor %r11,%r8\n", 1)
 
 
-def other_constant(text):
-    """Replaces the address of a constant by the address 16 bytes behind it."""
-    return re.sub(r"(\.L\w+)\(%rip\)", r"\1+16(%rip)", text, count=1)
+def substituted(pattern, new, count=1):
+    """Returns a change of the first matches of a pattern, or of all if `count` is 0."""
+    return lambda text: re.sub(pattern, new, text, count=count, flags=re.M)
 
 
 def ended(*lines):
@@ -156,7 +156,7 @@ TEXTS = [
     Wrong("a function that goes on behind its end", begun(VERSION, "jmp 1f", *FUNCTION, "1: nop", *END,
                                                           ".section .text.XXH_versionNumber"), calls.version,
           "no instruction at"),
-    Wrong("another place of a mergeable constant", other_constant, calls.version, "a linker may move"),
+    Wrong("another place of a mergeable constant", substituted(r"(\.L\w+)\(%rip\)", r"\1+16(%rip)"), calls.version, "a linker may move"),
     Wrong("two sections of one name", ended('.section .text.XXH32,"ax",@progbits,unique,7', "ret"), calls.version,
           "two sections"),
     Wrong("an address in the constants", ended('.section .rodata.more,"a",@progbits', ".quad XXH32"), calls.version,

@@ -1,6 +1,5 @@
 """Planted faults for checks that no other planted fault reaches: one for each, of x86-64 and of 64-bit ARM."""
 import os
-import re
 
 from symbolic_terms import TOP, variable
 
@@ -11,7 +10,7 @@ from .cargo import CargoProcessor, CargoProgram
 from .instructions import V1, V2, V3, V4
 from .objects import Program
 from .planted import (END, FUNCTION, SOURCE, VERSION, Asked, Wrong, begun, ended, of_every_length, proving, raising_limit,
-                      request, unchanged)
+                      request, substituted, unchanged)
 from .planted_objects import ARM_SOURCE, in_section, local, of_object, of_twins
 from .processor import Processor
 from .sources import assembled
@@ -31,10 +30,6 @@ def in_function(name, old, new):
         at = text.rindex(old, first, end)
         return text[:at] + new + text[at + len(old):]
     return change
-
-
-def with_names(pattern, new):
-    return lambda text: re.sub(pattern, new, text)
 
 
 # ---- tests
@@ -134,8 +129,8 @@ X86 = [
                                      "add $0x3000,%rsp"), many_stripes, "bytes of stack"),
 ]
 OF_V4 = [Wrong("an export that isn't x86-64-v3's", begun("XXH32_digest", "nop"), code_of_v3, "XXH32_digest: .* has other code")]
-OF_CARGO = [Wrong("names without the interface's number", with_names(r"\.i\d+\b", ""), cargo_planted.LONG, "the name twox_"),
-            Wrong("an export that isn't there", with_names(r"(twox_rust_\d+)_xxh3_64_long\b", r"\1_more"), cargo_planted.LONG,
+OF_CARGO = [Wrong("names without the interface's number", substituted(r"\.i\d+\b", "", 0), cargo_planted.LONG, "the name twox_"),
+            Wrong("an export that isn't there", substituted(r"(twox_rust_\d+)_xxh3_64_long\b", r"\1_more", 0), cargo_planted.LONG,
                   "the text has no xxh3_64_long")]
 OF_ARM = [
     Wrong("a register that the caller wants back", begun(VERSION, "mov x19, #0"), of_object, "x19 isn't"),

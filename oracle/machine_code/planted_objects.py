@@ -1,7 +1,6 @@
 """Planted faults that only the list of an object's contents (object_contents.py) refuses, or the tasks of exports, twins and
 frames: each is a committed source with other lines, and its executed instructions are unchanged."""
 import os
-import re
 
 from symbolic_terms import TOP, NotShown
 
@@ -9,7 +8,7 @@ from . import calls, exports
 from .aarch64 import objects, table
 from .instructions import V1, V3
 from .objects import Program
-from .planted import VERSION, Asked, Wrong, begun, ended, function, request
+from .planted import VERSION, Asked, Wrong, begun, ended, function, request, substituted
 from .processor import Processor
 from .unwinding import expect_frames
 
@@ -39,11 +38,6 @@ def with_property(length, *words):
     """Returns a change that gives the note other properties of `length` bytes."""
     return lambda text: exchanged(PROPERTY[1], "".join(f"\t.long {word}\n" for word in words))(
         exchanged(PROPERTY[0], f"\t.long 4,{length},5\n")(text))
-
-
-def with_frame(pattern, new):
-    """Returns a change of the first line that matches a pattern."""
-    return lambda text: re.sub(pattern, new, text, count=1, flags=re.M)
 
 
 # ---- tests
@@ -98,10 +92,10 @@ OF_X86 = [
 OF_ARM = [
     ("a note of jumps that the text doesn't mark", in_section(
         '.note.gnu.property,"a",@note', ".p2align 3", ".long 4,16,5", '.asciz "GNU"', ".long 0xc0000000,4,1,0"), "other notes"),
-    ("another place of a mergeable constant", with_frame(
+    ("another place of a mergeable constant", substituted(
         r"(?s)(adrp (x\d+), \.L\d+_)10\n(.*?:lo12:\.L\d+_)10\]", r"\g<1>0+16\n\g<3>0+16]"), "a linker may move"),
 ]
-OF_ARM.append(("a constant at no multiple of its size", lambda text: with_frame(
+OF_ARM.append(("a constant at no multiple of its size", lambda text: substituted(
     r"(?s)(adrp (x\d+), )(\.L\d+_0)\n(.*?:lo12:)\3\]", r"\1.L999_3\n\4.L999_3]")(in_section(
         '.rodata.more,"a",@progbits', ".p2align 4", ".byte 1,2,3", ".L999_3: .quad 1,2")(text)), "may be no multiple of 16"))
 WITH_BYTES = [
@@ -115,13 +109,13 @@ SHARED = [
     *((what, change, of_object, words) for what, change, words in LISTED),
     ("an export that is missing", local("XXH64_update"), of_exports, "XXH64_update isn't exported"),
     ("an export that no header names", ended(*function("malloc", ".globl malloc")), of_exports, "malloc is exported"),
-    ("a frame of another depth", with_frame(r"^\t\.cfi_def_cfa_offset \d+$", "\t.cfi_def_cfa_offset 8000"), of_frames,
+    ("a frame of another depth", substituted(r"^\t\.cfi_def_cfa_offset \d+$", "\t.cfi_def_cfa_offset 8000"), of_frames,
      "another frame"),
-    ("a frame that lacks a register", with_frame(r"^\t\.cfi_offset .*\n", ""), of_frames, "another frame"),
-    ("a register that stays away", with_frame(r"^\t\.cfi_restore .*\n", ""), of_frames, "another frame"),
-    ("a function without frames", with_frame(r"^\t\.cfi_startproc\n((?:\t[^.].*\n)*)\t\.cfi_endproc\n", r"\1"), of_frames,
+    ("a frame that lacks a register", substituted(r"^\t\.cfi_offset .*\n", ""), of_frames, "another frame"),
+    ("a register that stays away", substituted(r"^\t\.cfi_restore .*\n", ""), of_frames, "another frame"),
+    ("a function without frames", substituted(r"^\t\.cfi_startproc\n((?:\t[^.].*\n)*)\t\.cfi_endproc\n", r"\1"), of_frames,
      "or none of"),
-    ("who is called where a stack is unwound", with_frame(r"(?<=^\t\.cfi_startproc\n)", "\t.cfi_personality 0x1b,memcpy\n"),
+    ("who is called where a stack is unwound", substituted(r"(?<=^\t\.cfi_startproc\n)", "\t.cfi_personality 0x1b,memcpy\n"),
      of_frames, "the table of frames"),
 ]
 TEXTS = [*SHARED, *((what, change, of_object, words) for what, change, words in [*OF_X86, *WITH_BYTES]),

@@ -84,14 +84,6 @@ def arm_operands(kind, a):
     processor.Processor.signed_operands(types.SimpleNamespace(flags=(kind, 64, a, 2, 3)))
 
 
-def loop_again():
-    made(induction.Loops, stop=None, running={("section", 3): 5}).pass_by(None, ("section", 3))
-
-
-def stored_to_run():
-    made(induction.Proof, runs={MEMORY: []}, name="a loop").compare(0)
-
-
 ASKED = [Direct(*one) for one in (
     ("a place in a sum of two addresses", "as an address", Address(((MEMORY, 1), (OTHER, 1)), 0).place),
     ("a number as an address", "as an address", lambda: values.place_of(5)),
@@ -112,7 +104,8 @@ ASKED = [Direct(*one) for one in (
     ("a test for 0 without flags", "flags that aren't set", lambda: condition("e")),
     ("a one-shot with a seed of the cargo crate", "no export hashes", lambda: cargo.ForCargo.one_shot(None, "3-64", "seed")),
     ("a loop that changes another cell later", "kept is 8 and not 7", lambda: Counter().show()),
-    ("a loop that is entered again", "isn't left", loop_again),
-    ("a loop that stores to a run", "stores to a run", stored_to_run),
+    ("a loop that is entered again", "isn't left",
+     lambda: made(induction.Loops, stop=None, running={("section", 3): 5}).pass_by(None, ("section", 3))),
+    ("a loop that stores to a run", "stores to a run", lambda: made(induction.Proof, runs={MEMORY: []}, name="a loop").compare(0)),
     ("a call that passes something else", "a call of f: the piece", lambda: made(stripes.Summary, name="f").expect("the piece", False)),
 )]

@@ -62,16 +62,12 @@ def each_piece(cpu):
     for k, _ in enumerate(cargo_streams.CargoUpdates(cpu).all_updates()):
         yield functools.partial(xxh3_piece, k)
     for one in any_updates.updates("32"):
-        yield functools.partial(plain_piece, one)
+        yield lambda cpu, one=one: any_updates.AnyUpdates(cpu, "32").update(one)
 
 
 def xxh3_piece(k, cpu):
     proof = cargo_streams.CargoUpdates(cpu)
     proof.update(*next(itertools.islice(proof.all_updates(), k, None)))
-
-
-def plain_piece(one, cpu):
-    any_updates.AnyUpdates(cpu, "32").update(one)
 
 
 def is_widened(section):

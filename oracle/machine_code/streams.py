@@ -48,16 +48,14 @@ def expect_answer(answer, code):
         raise Unsupported(f"an answer of {answer[0]}")
 
 
-def reset_name(hash_name, kind):
-    """Returns the name of a reset. For XXH3 it is the function behind c/guards.c, which tests for null."""
-    return f"{NAMES[hash_name]}_reset" if is_plain(hash_name) else f"proved_{NAMES[hash_name]}_reset{WAYS[kind]}"
-
-
 def reset(cpu, request, state):
+    """Resets a state. For XXH3 this calls the function behind c/guards.c, which tests for null."""
+    name = f"{NAMES[request.hash_name]}_reset"
+    name = name if is_plain(request.hash_name) else f"proved_{name}{WAYS[request.kind]}"
     arguments = [address(state)]
     if request.secret:
         arguments += [address(request.secret), request.secret_length]
-    return cpu.call(reset_name(request.hash_name, request.kind), *arguments, *of_seed(request))
+    return cpu.call(name, *arguments, *of_seed(request))
 
 
 def update(cpu, hash_name, state, piece):

@@ -275,7 +275,8 @@ class Function:
             if body is None or not is_first:
                 if body and (block == stop or block not in body):
                     return before, block
-                behind = self.module.at_block(self, registers, before, block)
+                loops = self.module.loops
+                behind = loops.pass_by(self, registers, before, block) if loops else (before, block)
                 if behind != (before, block):
                     before, block = behind
                     continue
@@ -352,9 +353,6 @@ class Module:
         """Returns a symbol name not used before."""
         self.made += 1
         return f"{prefix}#{self.made}"
-
-    def at_block(self, function, registers, before, block):
-        return self.loops.pass_by(function, registers, before, block) if self.loops else (before, block)
 
     def call(self, name, arguments):
         if name == NOTHING or name.startswith("@llvm."):

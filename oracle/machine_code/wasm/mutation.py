@@ -323,8 +323,9 @@ def shown(given):
     return given.hex() if isinstance(given, bytes) else "" if given is None else str(given)
 
 
-def tell(name, vm, count, seed, is_all):
-    """Tests `count` random changes and those by hand. Returns the counts of outcomes, and the failures."""
+def tell(machines, name, count, seed, is_all):
+    """Tests `count` random changes of a module and those by hand. Returns the counts of outcomes, and the failures."""
+    vm = machines[name]
     covered, texts, known = Covered(vm, is_all), Texts(), Reasons(EQUAL)
     counts, bad = collections.Counter(), []
     for text, changed, queries in (*drawn_by_hand(vm, covered), *drawn(vm, covered, count, seed)):

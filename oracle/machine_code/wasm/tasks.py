@@ -58,7 +58,10 @@ def checksums():
 def choose(given, machines):
     """Returns the tasks. The machines are made once; each task has its own copies, since it runs as a process."""
     out = lengths(given.all) + of_refusals() + induction(given.all) + streams_by_induction(given.all)
-    out += xxh3_streams_by_induction(given.all) + of_engine(given.all) + of_changes(given.all)
+    out += xxh3_streams_by_induction(given.all) + of_changes(given.all)
+    out += [("the table of instructions beside Node", engine.compare_instructions),
+            ("changed modules, which Node too accepts or refuses",
+             functools.partial(engine.compare_validity, count=300 if given.all else 5))]
     titles = [title for title, _ in out]
     out.insert(0, ("the exports are those of the table, each with its task", functools.partial(exports, titles=titles)))
     return [Task(title, functools.partial(ask, machines)) for title, ask in out if given.only in title]
@@ -196,13 +199,7 @@ def shown(machines, module, hash_name, way, each):
     return f"{proof.cases} cases; {proof.told[0]}", []
 
 
-# ---- the table, and changes
-
-def of_engine(is_all):
-    return [("the table of instructions beside Node", engine.compare_instructions),
-            ("changed modules, which Node too accepts or refuses",
-                functools.partial(engine.compare_validity, count=300 if is_all else 5))]
-
+# ---- changes
 
 def of_changes(is_all):
     out, parts = [], PARTS if is_all else 1
@@ -210,9 +207,5 @@ def of_changes(is_all):
         for part in range(parts):
             title = f"changes in the bytes of {module}" + (f", part {part + 1} of {parts}" if is_all else "")
             count = CHANGES // parts if is_all else GATE_CHANGES
-            out.append((title, functools.partial(of_changed_bytes, module=module, count=count, seed=part, is_all=is_all)))
+            out.append((title, functools.partial(mutation.tell, name=module, count=count, seed=part, is_all=is_all)))
     return out
-
-
-def of_changed_bytes(machines, module, count, seed, is_all):
-    return mutation.tell(module, machines[module], count, seed, is_all)
