@@ -5,8 +5,8 @@ everything below the stack pointer: there is no red zone across a call."""
 import collections
 import contextlib
 
-from symbolic_terms import (Input, Memory, Node, Poly, Undecided, Unset, Unsupported, divided, is_inside, is_natural,
-                            is_same_number, lifted, minus, ones, plus)
+from symbolic_terms import (Input, Memory, Node, Poly, Undecided, Unsupported, divided, is_inside, is_natural,
+                            is_same_number, lifted, minus, ones, plus, taken)
 from symbolic_terms.nodes import memo
 from symbolic_terms.operations import bits
 from symbolic_terms.polynomials import WORD
@@ -172,15 +172,3 @@ def fill(to, byte, n):
 
 def is_apart(a, b, n):
     return is_natural(minus(a, plus(b, n))) or is_natural(minus(b, plus(a, n)))
-
-
-def taken(source, first, n):
-    """Yields the bytes by 8, or by 1 if some of 8 are unset: (offset, size, value). Omits bytes never stored."""
-    for k in range(0, n, 8):
-        size = min(8, n - k)
-        try:
-            yield k, size, source.load(plus(first, k), size)
-        except Unset:
-            for at in range(k, k + size):
-                if source.has(plus(first, at)):
-                    yield at, 1, source.load(plus(first, at), 1)

@@ -105,15 +105,16 @@ class Program(Loaded):
         return Instruction(section, at, end, mnemonic, found, target)
 
 
-def listing(path):
-    """Maps each section to (address, bytes, text) of each instruction, as printed by objdump."""
-    out = subprocess.run(["objdump", "-d", "-z", "-w", path], check=True, capture_output=True, text=True).stdout
+def listing(path, objdump="objdump", options=(), pattern=LINE, order=1):
+    """Maps each section to (address, bytes, text) of each instruction, as printed by objdump. `order` is -1 if it prints
+    the last byte first."""
+    words = [objdump, "-d", "-z", "-w", *options, path]
     found, lines = {}, None
-    for line in out.splitlines():
+    for line in subprocess.run(words, check=True, capture_output=True, text=True).stdout.splitlines():
         if line.startswith("Disassembly of section "):
             lines = found.setdefault(line[len("Disassembly of section "):-1], [])
-        elif match := LINE.fullmatch(line):
-            lines.append((int(match[1], 16), bytes.fromhex(match[2]), match[3] or "no instruction"))
+        elif match := pattern.fullmatch(line):
+            lines.append((int(match[1], 16), bytes.fromhex(match[2])[::order], match[3] or "no instruction"))
     return found
 
 

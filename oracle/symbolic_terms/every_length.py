@@ -41,6 +41,14 @@ class Proof:
         self.module.loops = Loops(said, self.told)
         self.module.live[:] = [*self.module.globals.values(), *memories]
 
+    def call_keeping(self, what, memory, name, *arguments):
+        """Returns the value of a call that must not change a state."""
+        kept = dict(memory.cells)
+        value = self.module.call(name, [(memory, 0), *arguments])
+        if kept != memory.cells:
+            raise NotShown(f"{what} changes the state")
+        return value
+
     def lines(self):
         """Returns the report on the loops, without repeated lines."""
         return list(dict.fromkeys(self.told))

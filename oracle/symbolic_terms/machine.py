@@ -2,7 +2,7 @@
 decide; bytes of an input are terms. A vector is one number, with its first lane in the lowest bits."""
 from . import operations
 from .llvm_text import (NOTHING, FunctionName, Pointer, Reader, Register, Struct, alignment_said, instruction, place_of)
-from .memory import Input, Memory, Unset, is_address
+from .memory import Input, Memory, is_address, taken
 from .nodes import Node, symbol
 from .operations import bits, side_by_side
 from .polynomials import Poly, constant_of, is_natural, is_number, lifted, minus, plus
@@ -181,19 +181,11 @@ def copy(to, source, n):
                 raise Unsupported(f"{n} bytes at {first} of {source.name}, which has {source.length}")
             return memory.put_run(at, n, *source.origin(first))
         return memory.put_run(at, n, *source.origin(first, n))
-    for k in range(0, n, 8):
-        copy_word(memory, at + k, source, plus(first, k), min(8, n - k))
+    parts = list(taken(source, first, n))
+    memory.clear(at, n)
+    for k, size, x in parts:
+        memory.store(at + k, size, x)
     return None
-
-
-def copy_word(memory, at, source, first, n):
-    try:
-        memory.store(at, n, source.load(first, n))
-    except Unset:   # only some of the bytes were stored, as at the end of a buffer
-        memory.clear(at, n)
-        for k in range(n):
-            if source.has(first + k):
-                memory.store(at + k, 1, source.load(first + k, 1))
 
 
 # ---- all operations

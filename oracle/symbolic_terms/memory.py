@@ -214,3 +214,15 @@ def outside(run, at, end):
 
 def is_address(x):
     return isinstance(x, tuple) and len(x) == 2 and isinstance(x[0], (Input, Memory)) and is_number(x[1])
+
+
+def taken(source, first, n):
+    """Yields the bytes by 8, or by 1 if some of 8 are unset: (offset, size, value). Omits bytes never stored."""
+    for k in range(0, n, 8):
+        size = min(8, n - k)
+        try:
+            yield k, size, source.load(plus(first, k), size)
+        except Unset:
+            for at in range(k, k + size):
+                if source.has(plus(first, at)):
+                    yield at, 1, source.load(plus(first, at), 1)

@@ -47,7 +47,7 @@ class Changed:
     def listed(self, section, at):
         words = f"--section={section}", f"--start-address={at}", f"--stop-address={at + SIZE}"
         try:
-            (_, _, text), = listing(self.path, "aarch64-linux-gnu-objdump", *words)[section]
+            (_, _, text), = listing(self.path, *words)[section]
             x = self.program.instruction(section, at, text, self.relocations_of(section).get(at))
         except (Unsupported, ValueError):
             return None

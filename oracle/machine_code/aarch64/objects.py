@@ -2,10 +2,10 @@
 import collections
 import re
 import struct
-import subprocess
 
 from symbolic_terms import Unsupported
 
+from .. import objects
 from ..disassembly import expect_bytes
 from ..object_contents import AARCH64, CODE, RELA, Loaded
 
@@ -31,9 +31,9 @@ class Program(Loaded):
 
     MACHINE = AARCH64
 
-    def __init__(self, path, objdump="aarch64-linux-gnu-objdump"):
+    def __init__(self, path):
         super().__init__(path)
-        self.listing, self.relocated = listing(path, objdump), {}
+        self.listing, self.relocated = listing(path), {}
         self.sections = {name: dict(self.read(name, lines)) for name, lines in self.listing.items()}
         if set(self.sections) != {name for name, head in self.heads.items() if head.flags == CODE}:
             raise Unsupported("a section that objdump doesn't list")
@@ -106,16 +106,9 @@ def without_offset(found):
     raise Unsupported(f"a relocation over {last}")
 
 
-def listing(path, objdump, *words):
-    """Maps each section to (address, bytes, text) of the instructions that objdump prints; `words` are its options."""
-    out = subprocess.run([objdump, "-d", "-z", "-w", *words, path], check=True, capture_output=True, text=True).stdout
-    found, lines = {}, None
-    for line in out.splitlines():
-        if line.startswith("Disassembly of section "):
-            lines = found.setdefault(line[len("Disassembly of section "):-1], [])
-        elif match := LINE.fullmatch(line):
-            lines.append((int(match[1], 16), bytes.fromhex(match[2])[::-1], match[3]))
-    return found
+def listing(path, *options):
+    """Maps each section to (address, bytes, text) of the instructions that objdump prints."""
+    return objects.listing(path, "aarch64-linux-gnu-objdump", options, LINE, -1)
 
 
 def split(text):
