@@ -4,7 +4,7 @@ import functools
 
 from symbolic_terms import comparison
 
-from . import any_updates, calls, cargo_calls, cargo_streams, every_length, tasks, xxh3_updates
+from . import calls, cargo_calls, cargo_streams, every_length, tasks, xxh3_updates
 from .cargo import FOLDER, CargoProgram, export_name
 from .cargo_exports import BEGIN, exports_left_out, shared
 from .instructions import V1, V3, V4
@@ -22,6 +22,7 @@ SOME_UPDATES = 389                # step between tested cases of updates, withou
 TAKING = [summary.name for summary in (xxh3_updates.TAKE, xxh3_updates.TAKE_MANY, xxh3_updates.TAKE_BLOCKS,
                                        xxh3_updates.TAKE_WIDENED)]
 SECRETS = 136, 192
+ANY_SECRET = [f"{name}:secret" for name in cargo_calls.HASHES]
 
 
 def programs():
@@ -34,7 +35,7 @@ def choose(texts, like, is_all):
     """Returns the tasks on `texts`; `like` has c/asm's sources."""
     made = tasks.makers(texts)
     out = [*with_begin(long_input_tasks(made, is_all)), *with_begin(piece_tasks(tasks.before_v4(made), is_all, SOME_UPDATES)),
-           *with_begin(xxh3_tasks(made, is_all)), *with_begin(every_length_tasks(made, is_all)), *call_tasks(texts, made, like)]
+           *with_begin(xxh3_tasks(made, is_all)), *with_begin(tasks.any_secret_tasks(made, is_all, ANY_SECRET)), *call_tasks(texts, made, like)]
     out.insert(0, tasks.counted(f"{BEGIN}each export has its task", EXPORTS * len(texts),
                                lambda: exports_left_out(texts, [task.title for task in out])))
     return out
@@ -57,20 +58,8 @@ def long_input_tasks(made, is_all, some=LENGTHS):
 
 
 def piece_tasks(made, is_all, some=tasks.SOME_UPDATES):
-    """Yields the tasks of XXH32 chunks of any length: all cases, in parts, or a sample."""
-    count = len(list(any_updates.updates("32")))
-    yield tasks.counted("each update of XXH32 and XXH64 has its task", 2, tasks.updates_left_out)
-    for name, make in made.items():
-        for part in range(tasks.UPDATE_PARTS) if is_all else [None]:
-            words = f"part {part + 1} of {tasks.UPDATE_PARTS}" if is_all else f"each {some}th case"
-            yield tasks.counted(f"pieces of XXH32, to 2^64 - 1 bytes, {name}, {words}",
-                               count // (tasks.UPDATE_PARTS if is_all else some), functools.partial(pieces, make, part, some))
-
-
-def pieces(make, part, some):
-    proof, cases = any_updates.AnyUpdates(make(), "32"), list(any_updates.updates("32"))
-    chosen = cases[::some] if part is None else cases[part::tasks.UPDATE_PARTS]
-    return tasks.count_shown(proof, [functools.partial(proof.update, one) for one in chosen])
+    """Returns the tasks of XXH32 chunks of any length: all cases, in parts, or a sample."""
+    return tasks.plain_stream_tasks(made, is_all, some, "pieces of XXH{}", ("32",))
 
 
 def xxh3_tasks(made, is_all, kind=cargo_streams.CargoUpdates, like=LIKE):
@@ -80,21 +69,6 @@ def xxh3_tasks(made, is_all, kind=cargo_streams.CargoUpdates, like=LIKE):
         task.title = task.title.replace("streams of XXH3", "pieces of XXH3")
         if xxh3_updates.STRIPES not in task.title or not any(f", {name}," in task.title for name in left_out):
             yield task
-
-
-def every_length_tasks(made, is_all):
-    """Yields the tasks of long inputs of every length, with any secret: all cases, or some."""
-    yield tasks.counted("every length with any secret has its task", tasks.COVERED[is_all],
-                       functools.partial(tasks.secrets_left_out, made, is_all))
-    for hash_name in cargo_calls.HASHES if is_all else cargo_calls.HASHES[:1]:
-        kind, title, words = f"{hash_name}:secret", f"XXH{hash_name}, secret of", "" if is_all else ", some cases"
-        for name, make in made.items():
-            yield tasks.counted(f"{title} any other length: every length from 241 on, {name}{words}", 4,
-                               functools.partial(tasks.any_secrets, make, kind, is_all))
-        if is_all:
-            title = f"{title} 192 to 199 bytes: every length from 241 on"
-            yield from tasks.of_every_length(tasks.before_v4(made), kind, title, every_length.of_secret())
-            yield from tasks.of_every_length(tasks.only_v4(made), kind, title, every_length.of_secret_by_turns())
 
 
 def expect_shared(program, other):

@@ -129,17 +129,18 @@ def stream_tasks(made, is_all):
     return [*out, *plain_stream_tasks(before_v4(made), is_all), *xxh3_tasks(made, is_all)]
 
 
-def plain_stream_tasks(made, is_all, some=SOME_UPDATES):
-    """Returns the tasks of streams of XXH32 and XXH64 with any updates: all cases, in parts, or a sample."""
+def plain_stream_tasks(made, is_all, some=SOME_UPDATES, title="streams of XXH{}: any updates", names=("32", "64")):
+    """Returns the tasks of streams of XXH32 and XXH64 with any updates: all cases, in parts, or a sample. Only those of
+    both hashes have a reset and digests."""
     out = [counted("each update of XXH32 and XXH64 has its task", 2, updates_left_out)]
-    for hash_name in any_updates.LAYOUTS:
+    for hash_name in names:
         count = len(list(any_updates.updates(hash_name)))
         for name, make in made.items():
             for part in range(UPDATE_PARTS) if is_all else [None]:
                 words = f"part {part + 1} of {UPDATE_PARTS}" if is_all else f"each {some}th case"
                 least = count // (UPDATE_PARTS if is_all else some)
-                out.append(counted(f"streams of XXH{hash_name}: any updates, to 2^64 - 1 bytes, {name}, {words}", least,
-                                   functools.partial(any_streams, make, hash_name, part, some)))
+                out.append(counted(f"{title.format(hash_name)}, to 2^64 - 1 bytes, {name}, {words}", least, functools.partial(
+                    any_streams, make, hash_name, part, some, len(names) > 1)))
     return out
 
 
@@ -182,14 +183,14 @@ def updates_left_out():
     return len(any_updates.LAYOUTS) - len(bad), bad
 
 
-def any_streams(make, hash_name, part, some):
-    """Proves updates: a part, or a sample. The sample and the first part include the reset and digests."""
+def any_streams(make, hash_name, part, some, has_ends):
+    """Proves updates: a part, or a sample. The sample and the first part include the reset and digests, if any."""
     proof = any_updates.AnyUpdates(make(), hash_name)
     cases = list(any_updates.updates(hash_name))
     asked = [functools.partial(proof.update, one) for one in
              (cases[::some] if part is None else cases[part::UPDATE_PARTS])]
     asked += [proof.reset, *(functools.partial(proof.digest, a, r) for r in range(int(hash_name) // 2)
-                             for a in (0, variable("a")))] if not part else []
+                             for a in (0, variable("a")))] if has_ends and not part else []
     return count_shown(proof, asked)
 
 
@@ -221,20 +222,25 @@ def every_length_tasks(made, is_all):
 
 def long_tasks(made, is_all):
     """Returns the tasks of XXH3 of every length: all cases, or some with a secret."""
-    out = [counted("every length with any secret has its task", COVERED[is_all],
-                   functools.partial(secrets_left_out, made, is_all))]
+    out = any_secret_tasks(made, is_all, ANY_SECRET)
     for hash_name, way in itertools.product(("3-64", "3-128"), ("default", "seed")) if is_all else ():
         kind = f"{hash_name}:{way}"
         for seed in (None, 0) if way == "seed" else (None,):
             title = f"XXH{hash_name}, {way}{' 0' if seed == 0 else ''}: every length to 2^64 - 1"
             out += of_every_length(made, kind, title, every_length.cases(kind), seed)
-    for kind in ANY_SECRET if is_all else ANY_SECRET[:1]:
+    return out + [counted(f"XXH{kind.replace(':', ', ')} of any length: 0 to 240 bytes, {name}", 241, functools.partial(
+        up_to_240, make, kind)) for kind in (ANY_SECRET if is_all else ()) for name, make in made.items()]
+
+
+def any_secret_tasks(made, is_all, kinds):
+    """Returns the tasks of XXH3 from 241 bytes on with any secret: all cases, or some."""
+    out = [counted("every length with any secret has its task", COVERED[is_all],
+                   functools.partial(secrets_left_out, made, is_all))]
+    for kind in kinds if is_all else kinds[:1]:
         title, words = f"XXH{kind.replace(':', ', ')} of", "" if is_all else ", some cases"
         out += [counted(f"{title} any other length: every length from 241 on, {name}{words}", 4,
                         functools.partial(any_secrets, make, kind, is_all)) for name, make in made.items()]
         if is_all:
-            out += [counted(f"{title} any length: 0 to 240 bytes, {name}", 241,
-                            functools.partial(up_to_240, make, kind)) for name, make in made.items()]
             title = f"{title} 192 to 199 bytes: every length from 241 on"
             out += of_every_length(before_v4(made), kind, title, every_length.of_secret())
             out += of_every_length(only_v4(made), kind, title, every_length.of_secret_by_turns())

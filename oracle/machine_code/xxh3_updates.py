@@ -309,7 +309,6 @@ class Xxh3Updates(Cases):
         """Yields the states before updates that take stripes."""
         return starts(is_split, gs)
 
-
     # ---- reset
 
     def resets(self):
@@ -496,7 +495,6 @@ class Xxh3Updates(Cases):
             end = plus(at[0], 1, D), 0
             yield [Part(start, turns, at), Part(at, plus(16, times(16, D)), end),
                    Part(end, e, (end[0], e))], [*facts, at_most(e, 15)]
-
 
     @staticmethod
     def widened():

@@ -101,7 +101,7 @@ class Page:
 
     @staticmethod
     def reset(vm, request, state):
-        vm.call(f"twox_{family(request.hash_name)}_start", [address(state), request.seed()])
+        vm.call(f"twox_{family(request.hash_name)}_start", [address(state), begin(vm, request)])
 
     @classmethod
     def update(cls, vm, hash_name, state, piece):
@@ -133,23 +133,24 @@ class Stream:
         self.secret = of_secret(request)
 
     def start(self):
-        seed, record = begin(self.vm, self.request), address(self.record)
-        name = f"twox_{self.family}_start"
         if self.request.secret:
-            seeds = [seed] if self.request.kind == "both" else []
-            answered(self.vm.call(name + WAYS[self.request.kind], [record, *seeds, *self.secret]))
+            answered(self.start_with_secret())
         elif self.family == "xxh3":
             self.derived = anything(self.vm, "the derived secret", DERIVED)
-            self.secret = [address(self.derived), DERIVED]
-            self.vm.call(f"{name}_with_seed", [record, self.secret[0], seed])
+            self.secret, seed = [address(self.derived), DERIVED], begin(self.vm, self.request)
+            self.vm.call("twox_xxh3_start_with_seed", [address(self.record), self.secret[0], seed])
         else:
-            self.vm.call(name, [record, seed])
+            Page.reset(self.vm, self.request, self.record)
+
+    def start_with_secret(self):
+        seed, name = begin(self.vm, self.request), "twox_xxh3_start" + WAYS[self.request.kind]
+        seeds = [seed] if self.request.kind == "both" else []
+        return self.vm.call(name, [address(self.record), *seeds, *self.secret])
 
     def refused_start(self):
         """Tests a start whose secret is too short."""
-        before, seeds = dict(self.record.cells), [begin(self.vm, self.request)] if self.request.kind == "both" else []
-        name = "twox_xxh3_start" + WAYS[self.request.kind]
-        answered(self.vm.call(name, [address(self.record), *seeds, *self.secret]), SECRET_TOO_SHORT)
+        before = dict(self.record.cells)
+        answered(self.start_with_secret(), SECRET_TOO_SHORT)
         expect_kept("the record", self.record, before)
 
     def update(self, first, end):
