@@ -213,12 +213,12 @@ def by_induction(program, asked, section, updates):
     for one in (query.request for query in asked):
         if one_shots.is_plain(one.hash_name):
             found.setdefault((one.hash_name, one.cuts is None), functools.partial(
-                plain_length if one.cuts is None else plain_update, one.hash_name))
+                one_shot if one.cuts is None else plain_update, one.hash_name))
         elif one.cuts is not None:
             found.update({ask: functools.partial(ask, updates) for ask in (xxh3_reset, xxh3_update, xxh3_digest)})
         elif one.length > 240:
-            for ask in (long_one_shot,) if one.secret_length is None else (own_secret, any_secret_of):
-                found.setdefault(ask, functools.partial(ask, one.hash_name, one.kind))
+            for ask in (one_shot,) if one.secret_length is None else (own_secret, any_secret_of):
+                found.setdefault(ask, functools.partial(ask, f"{one.hash_name}:{one.kind}"))
     for summary in TAKING:
         if program.functions.get(summary.name, (None,))[0] == section:
             found[summary.name] = functools.partial(stripes_taken, updates, summary.name)
@@ -245,24 +245,20 @@ def plain_update(name, k, cpu):
     any_updates.AnyUpdates(cpu, name).update(case_of(any_updates.updates(name), k))
 
 
-def plain_length(name, k, cpu):
-    every_length.EveryLength(cpu, name).show(case_of(every_length.cases(name), k))
-
-
-def long_one_shot(name, way, k, cpu):
-    kind = f"{name}:{way}"
+def one_shot(kind, k, cpu):
     every_length.EveryLength(cpu, kind).show(case_of(every_length.cases(kind), k))
 
 
-def any_secret_of(name, way, k, cpu):
+def any_secret_of(kind, k, cpu):
+    name, way = kind.split(":")
     case_of(any_secret.AnySecret(cpu).queries(way, name[2:]), k)()
 
 
-def own_secret(name, way, k, cpu):
+def own_secret(kind, k, cpu):
     """Proves a case with a secret of 192 to 199 bytes; for x86-64-v4 one of the cases in its task."""
     is_widened = xxh3_updates.TAKE_WIDENED.name in cpu.program.functions
     cases = every_length.of_secret_by_turns() if is_widened else every_length.of_secret()
-    every_length.EveryLength(cpu, f"{name}:{way}").show(case_of(cases, k))
+    every_length.EveryLength(cpu, kind).show(case_of(cases, k))
 
 
 def xxh3_reset(updates, k, cpu):

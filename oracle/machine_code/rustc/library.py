@@ -3,8 +3,8 @@
 Each call of an XXH3 stream takes the secret: the default one, one of 192 bytes derived from a seed, or a custom one."""
 from ..cargo import DONE, LONGEST_WITHOUT, SHORTEST, TOO_SHORT, call_into, expect_code, export_name
 from ..memory import OnlyRead, Words
-from ..one_shots import is_plain
-from ..values import address, joined, low
+from ..one_shots import is_plain, value_of
+from ..values import address, low
 
 WAYS = {"default": "", "seed": "_with_seed", "secret": "_with_secret", "both": "_with_seed_and_secret"}
 DERIVED = 192                     # bytes of a secret derived from a seed
@@ -18,10 +18,7 @@ class ForRust:
         """Returns the hash, or 0 if the secret is too short and the call refuses it."""
         name = export_name(hash_name) + ("" if is_plain(hash_name) else WAYS[kind])
         if kind not in ("secret", "both"):
-            rax, rdx = cpu.call(name, *arguments)
-            if hash_name == "3-128":
-                return joined((rax, 64), (rdx, 64))
-            return low(rax, 32) if hash_name == "32" else rax
+            return value_of(hash_name, cpu.call(name, *arguments))
         length, secret_length = arguments[1], arguments[3]
         is_short = isinstance(secret_length, int) and secret_length < SHORTEST
         is_refused = is_short and (kind == "secret" or length > LONGEST_WITHOUT)
