@@ -51,8 +51,8 @@ def has(point, facts, said):
 
 
 def without_update(cases, proof, count):
-    """Returns the points that no update contains."""
-    cases, out = list(cases), []
+    """Yields the points that no update contains."""
+    cases = list(cases)
     for q, u, b, j, f, L in points(count, proof):
         point = variables(q, u, b, j, f, L)
         K, total = q * b + j, 64 * (q * b + j) + f + L
@@ -61,19 +61,17 @@ def without_update(cases, proof, count):
         if not any(has(point, [*of_case, *proof.facts], [(x, n) for x, n in zip(
                 (*start[0], start[1], length, *to[0], to[1]), (b, j, f, L, end[0] // q, end[0] % q, end[1]))])
                 for start, to, length, of_case, *_ in cases):
-            out.append((q, u, b, j, f, L))
-    return out
+            yield q, u, b, j, f, L
 
 
 def without_digest(cases, proof, count):
-    cases, out = list(cases), []
+    cases = list(cases)
     for q, u, b, j, f in states(count, proof):
         g = max(0, f - 1) // 64
         point = {**variables(q, u, b, j, f), "g": g, "h": f - 1 - 64 * g, "y": g - (q - j)}
         if not any(has(point, [*of_case, *proof.facts], [(place[0], b), (place[1], j), (x, f)])
                    for place, x, of_case, _ in cases):
-            out.append((q, u, b, j, f))
-    return out
+            yield q, u, b, j, f
 
 
 def of_stripes(b, j, n):
@@ -85,8 +83,8 @@ def of_stripes(b, j, n):
 
 
 def without_taken(cases, proof, names, count):
-    """Returns the points of taken stripes that no case contains, for any number of stripes and for many."""
-    cases, out = list(cases), []
+    """Yields the points of taken stripes that no case contains, for any number of stripes and for many."""
+    cases = list(cases)
     for q, u, b, j, f, L in points(count, proof):
         for name, least in names:
             if name == xxh3_updates.TAKE_WIDENED.name:
@@ -99,13 +97,12 @@ def without_taken(cases, proof, names, count):
                            [(parts[0].start[0], b), (parts[0].start[1], j), (sum_of(parts), n)])
                        for (own, more), (summary, parts, of_case, *_) in cases
                        if summary.name == name and own in (None, q) and more in (None, u) for way in ways):
-                out.append((name, q, u, b, j, n))
-    return out
+                yield name, q, u, b, j, n
 
 
 def without_one_shot(cases, facts, count):
-    """Returns lengths (q, n) that no case contains, for blocks of q stripes, q not 16."""
-    cases, out, draw = list(cases), [], random.Random(6)
+    """Yields lengths (q, n) that no case contains, for blocks of q stripes, q not 16."""
+    cases, draw = list(cases), random.Random(6)
     while count:
         q = draw.choice((*STRIPES, draw.randrange(9, 600), draw.randrange(9, 1 << 33)))
         n = draw.choice((*EDGES, *FAR_OFF, draw.randrange(1 << 16), 1 << 38, draw.randrange(1 << 63),
@@ -116,8 +113,7 @@ def without_one_shot(cases, facts, count):
             B, J = divmod(K, q)
             point = {"q": q, "u": draw.randrange(8), "B": B, "J": J, "t": t}
             if not any(has(point, [*case.facts, *facts], [(case.blocks, B), (case.more, J)]) for case in cases):
-                out.append((q, n))
-    return out
+                yield q, n
 
 
 def sum_of(parts):

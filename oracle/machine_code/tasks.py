@@ -59,8 +59,8 @@ def counted(title, least, ask):
 def choose(options, texts):
     """Returns the tasks on c/asm."""
     made, is_all = makers(texts), options.all
-    tasks = one_shot_tasks(made, is_all) + secret_tasks(made, is_all) + every_length_tasks(made, is_all)
-    tasks += stream_tasks(made, is_all) + call_tasks(texts, made, is_all)
+    tasks = [*one_shot_tasks(made, is_all), *secret_tasks(made, is_all), *every_length_tasks(made, is_all),
+             *stream_tasks(made, is_all), *call_tasks(texts, made, is_all)]
     tasks += [assembler_task([(f"{FOLDER}/{name}.s", V1) for name in texts])]
     tasks.insert(0, export_task(texts, [task.title for task in tasks]))
     return tasks
@@ -98,64 +98,60 @@ def one_by_one(made, kind, lengths, more=""):
 
 
 def one_shot_tasks(made, is_all):
-    """Returns the tasks of one-shots. With a secret of 136 bytes x86-64-v4 runs x86-64-v3's code."""
-    out = [one_by_one(made if is_all or kind[2] is None else before_v4(made), kind, ONE_BY_ONE)
-           for kind in comparison.kinds(SECRETS)]
+    """Yields the tasks of one-shots. With a secret of 136 bytes x86-64-v4 runs x86-64-v3's code."""
+    yield from [one_by_one(made if is_all or kind[2] is None else before_v4(made), kind, ONE_BY_ONE)
+                for kind in comparison.kinds(SECRETS)]
     for kind in [("3-64", "default", None), ("3-128", "seed", None), ("3-64", "secret", 192)]:
-        out.append(one_by_one(only_v4(made), kind, EDGES_OF_BLOCKS, f", at the edges of blocks, {V4}"))
+        yield one_by_one(only_v4(made), kind, EDGES_OF_BLOCKS, f", at the edges of blocks, {V4}")
     for kind in comparison.kinds(SECRETS) if is_all else ():
-        out.append(one_by_one(made, kind, comparison.edges(kind[2]), ", at edges"))
+        yield one_by_one(made, kind, comparison.edges(kind[2]), ", at edges")
         if kind[2] is None and kind[0].startswith("3-"):
-            out += [one_by_one(made, kind, MORE), one_by_one(made, kind, [every_length.PREFETCHED])]
-    return out
+            yield from [one_by_one(made, kind, MORE), one_by_one(made, kind, [every_length.PREFETCHED])]
 
 
 def secret_tasks(made, is_all):
-    """Returns the tasks of secrets that are too short, and of secrets of several lengths."""
-    out, lengths = [], SMALL if is_all else [0, 17, 241]
+    """Yields the tasks of secrets that are too short, and of secrets of several lengths."""
+    lengths = SMALL if is_all else [0, 17, 241]
     for hash_name in ("3-64", "3-128"):
-        out.append(of_each(made, f"XXH{hash_name}, secrets that are too short", 2 * calls.SHORTEST * len(lengths),
-                           functools.partial(calls.short_secrets, hash_name=hash_name, lengths=lengths)))
+        yield of_each(made, f"XXH{hash_name}, secrets that are too short", 2 * calls.SHORTEST * len(lengths),
+                      functools.partial(calls.short_secrets, hash_name=hash_name, lengths=lengths))
         requests = (Request(hash_name, kind, n, size) for size in SOME_SECRETS for kind in ("secret", "both")
                     for n in (240, 700))
-        out.append(compared(made, f"XXH{hash_name}, secrets of 136 to 1000 bytes", requests))
-    return out
+        yield compared(made, f"XXH{hash_name}, secrets of 136 to 1000 bytes", requests)
 
 
 def stream_tasks(made, is_all):
-    out = []
     for kind in comparison.kinds(STREAM_SECRETS if is_all else SECRETS):
-        out.append(compared(made, f"streams of {comparison.title_of(*kind)}", few_streams(*kind), streams))
-    return [*out, *plain_stream_tasks(before_v4(made), is_all), *xxh3_tasks(made, is_all)]
+        yield compared(made, f"streams of {comparison.title_of(*kind)}", few_streams(*kind), streams)
+    yield from plain_stream_tasks(before_v4(made), is_all)
+    yield from xxh3_tasks(made, is_all)
 
 
 def plain_stream_tasks(made, is_all, some=SOME_UPDATES, title="streams of XXH{}: any updates", names=("32", "64")):
-    """Returns the tasks of streams of XXH32 and XXH64 with any updates: all cases, in parts, or a sample. Only those of
+    """Yields the tasks of streams of XXH32 and XXH64 with any updates: all cases, in parts, or a sample. Only those of
     both hashes have a reset and digests."""
-    out = [counted("each update of XXH32 and XXH64 has its task", 2, updates_left_out)]
+    yield counted("each update of XXH32 and XXH64 has its task", 2, updates_left_out)
     for hash_name in names:
         count = len(list(any_updates.updates(hash_name)))
         for name, make in made.items():
             for part in range(UPDATE_PARTS) if is_all else [None]:
                 words = f"part {part + 1} of {UPDATE_PARTS}" if is_all else f"each {some}th case"
                 least = count // (UPDATE_PARTS if is_all else some)
-                out.append(counted(f"{title.format(hash_name)}, to 2^64 - 1 bytes, {name}, {words}", least, functools.partial(
-                    any_streams, make, hash_name, part, some, len(names) > 1)))
-    return out
+                yield counted(f"{title.format(hash_name)}, to 2^64 - 1 bytes, {name}, {words}", least, functools.partial(
+                    any_streams, make, hash_name, part, some, len(names) > 1))
 
 
 def xxh3_tasks(made, is_all, kind=xxh3_updates.Xxh3Updates):
-    """Returns the tasks of streams of XXH3 with any updates: all cases, in parts, or a sample."""
-    out = [counted("each update of XXH3 has its task", COVERED[is_all] * len(made),
-                   functools.partial(points_left_out, made, is_all, kind))]
+    """Yields the tasks of streams of XXH3 with any updates: all cases, in parts, or a sample."""
+    yield counted("each update of XXH3 has its task", COVERED[is_all] * len(made),
+                  functools.partial(points_left_out, made, is_all, kind))
     for name, make in made.items():
         for what in kind.KINDS:
             some, parts = XXH3_CASES[what]
             for part in range(parts) if is_all else [None]:
                 words = f"part {part + 1} of {parts}" if is_all else "some cases"
-                out.append(counted(f"streams of XXH3: {what}, to 2^64 - 1 bytes, {name}, {words}", some,
-                                   functools.partial(any_xxh3, make, what, part, kind)))
-    return out
+                yield counted(f"streams of XXH3: {what}, to 2^64 - 1 bytes, {name}, {words}", some,
+                              functools.partial(any_xxh3, make, what, part, kind))
 
 
 def points_left_out(made, is_all, kind):
@@ -210,41 +206,41 @@ def count_shown(proof, asked):
 # ---- every length
 
 def every_length_tasks(made, is_all):
-    out = [counted("every length of XXH32 and XXH64 has its task", 2, plain_left_out)]
-    out += [counted("every length of XXH3 has its task", 2, xxh3_left_out)] if is_all else []
+    yield counted("every length of XXH32 and XXH64 has its task", 2, plain_left_out)
+    if is_all:
+        yield counted("every length of XXH3 has its task", 2, xxh3_left_out)
     for kind in every_length.UNROLLED:
-        out += of_every_length(before_v4(made), kind, f"XXH{kind}: every length to 2^64 - 1", every_length.cases(kind))
+        yield from of_every_length(before_v4(made), kind, f"XXH{kind}: every length to 2^64 - 1", every_length.cases(kind))
     if not is_all:
-        out += of_every_length(only_v4(made), "3-64:seed", "XXH3-64, seed: one case of every length",
-                               every_length.cases("3-64:seed")[:1])
-    return out + long_tasks(made, is_all) + (short_tasks_of_v4(made) if is_all else [])
+        yield from of_every_length(only_v4(made), "3-64:seed", "XXH3-64, seed: one case of every length",
+                                   every_length.cases("3-64:seed")[:1])
+    yield from [*long_tasks(made, is_all), *(short_tasks_of_v4(made) if is_all else ())]
 
 
 def long_tasks(made, is_all):
-    """Returns the tasks of XXH3 of every length: all cases, or some with a secret."""
-    out = any_secret_tasks(made, is_all, ANY_SECRET)
+    """Yields the tasks of XXH3 of every length: all cases, or some with a secret."""
+    yield from any_secret_tasks(made, is_all, ANY_SECRET)
     for hash_name, way in itertools.product(("3-64", "3-128"), ("default", "seed")) if is_all else ():
         kind = f"{hash_name}:{way}"
         for seed in (None, 0) if way == "seed" else (None,):
             title = f"XXH{hash_name}, {way}{' 0' if seed == 0 else ''}: every length to 2^64 - 1"
-            out += of_every_length(made, kind, title, every_length.cases(kind), seed)
-    return out + [counted(f"XXH{kind.replace(':', ', ')} of any length: 0 to 240 bytes, {name}", 241, functools.partial(
+            yield from of_every_length(made, kind, title, every_length.cases(kind), seed)
+    yield from [counted(f"XXH{kind.replace(':', ', ')} of any length: 0 to 240 bytes, {name}", 241, functools.partial(
         up_to_240, make, kind)) for kind in (ANY_SECRET if is_all else ()) for name, make in made.items()]
 
 
 def any_secret_tasks(made, is_all, kinds):
-    """Returns the tasks of XXH3 from 241 bytes on with any secret: all cases, or some."""
-    out = [counted("every length with any secret has its task", COVERED[is_all],
-                   functools.partial(secrets_left_out, made, is_all))]
+    """Yields the tasks of XXH3 from 241 bytes on with any secret: all cases, or some."""
+    yield counted("every length with any secret has its task", COVERED[is_all],
+                  functools.partial(secrets_left_out, made, is_all))
     for kind in kinds if is_all else kinds[:1]:
         title, words = f"XXH{kind.replace(':', ', ')} of", "" if is_all else ", some cases"
-        out += [counted(f"{title} any other length: every length from 241 on, {name}{words}", 4,
-                        functools.partial(any_secrets, make, kind, is_all)) for name, make in made.items()]
+        yield from [counted(f"{title} any other length: every length from 241 on, {name}{words}", 4,
+                            functools.partial(any_secrets, make, kind, is_all)) for name, make in made.items()]
         if is_all:
             title = f"{title} 192 to 199 bytes: every length from 241 on"
-            out += of_every_length(before_v4(made), kind, title, every_length.of_secret())
-            out += of_every_length(only_v4(made), kind, title, every_length.of_secret_by_turns())
-    return out
+            yield from of_every_length(before_v4(made), kind, title, every_length.of_secret())
+            yield from of_every_length(only_v4(made), kind, title, every_length.of_secret_by_turns())
 
 
 def short_tasks_of_v4(made):
@@ -284,7 +280,7 @@ def shown(make, kind, asked, seed):
 def secrets_left_out(made, is_all):
     """The same for lengths with secrets of any length."""
     proof = any_secret.AnySecret(next(iter(made.values()))())
-    found = coverage.without_one_shot(proof.cases(), proof.facts_of_any(), COVERED[is_all])
+    found = list(coverage.without_one_shot(proof.cases(), proof.facts_of_any(), COVERED[is_all]))
     return COVERED[is_all], [f"no case has {point}" for point in found[:5]]
 
 

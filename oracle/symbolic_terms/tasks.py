@@ -29,25 +29,24 @@ class Task(processes.Task):
 
 def choose(given):
     vectors = list(VECTORS) if given.all else [given.vector]
-    tasks = induction(vectors, given.all) + lengths(given.all, given.vector)
+    tasks = [*induction(vectors, given.all), *lengths(given.all, given.vector)]
     if given.all:
         tasks += vector_lengths([vector for vector in vectors if vector != given.vector])
-    tasks += of_changes(given.all, given.vector, given.headers) + of_machinery(given.all, given.vector, given.headers)
+    tasks += of_changes(given.all, given.vector, given.headers)
+    tasks += of_machinery(given.all, given.vector, given.headers)
     return [task for task in tasks if given.only in task.title]
 
 
 # ---- single lengths
 
 def lengths(is_all, vector):
-    out = []
     for kind in comparison.kinds(SECRETS if is_all else GATE_SECRETS):
-        out.append(compared(title_of(*kind), kind, range(301), vector))
+        yield compared(title_of(*kind), kind, range(301), vector)
         if is_all:
-            out.append(compared(title_of(*kind), kind, range(301, 1101), vector))
-            out.append(compared(f"{title_of(*kind)}, at edges", kind, comparison.edges(kind[2]), vector))
+            yield compared(title_of(*kind), kind, range(301, 1101), vector)
+            yield compared(f"{title_of(*kind)}, at edges", kind, comparison.edges(kind[2]), vector)
             if kind[2] in (None, *STREAM_SECRETS):
-                out.append(compared(f"{title_of(*kind)}, streams", kind, comparison.STREAMED, vector, True))
-    return out
+                yield compared(f"{title_of(*kind)}, streams", kind, comparison.STREAMED, vector, True)
 
 
 def vector_lengths(vectors):
@@ -69,20 +68,19 @@ def compared(title, kind, asked, vector, streams=False):
 # ---- every length
 
 def induction(vectors, is_all):
-    out = [shown(f"XXH{kind}, streams: any updates, to 2^64 - 1 bytes",
-                 functools.partial(plain_streams.show, kind=kind))
-           for kind in ("32", "64")]
+    yield from [shown(f"XXH{kind}, streams: any updates, to 2^64 - 1 bytes",
+                      functools.partial(plain_streams.show, kind=kind))
+                for kind in ("32", "64")]
     for vector in vectors:
         for kind in every_length.KINDS:
             if vector == vectors[0] or kind.startswith("3-"):
                 name, _, way = kind.partition(":")
                 called = f"XXH{name}, {way}" if way else f"XXH{name}"
                 title = f"{called}: every length from {every_length.shortest(kind)} to 2^64 - 1"
-                out.append(shown(title, functools.partial(every_length.show, kind=kind), vector))
+                yield shown(title, functools.partial(every_length.show, kind=kind), vector)
         for place in xxh3_streams.PLACES if is_all else ():
-            out.append(shown(f"XXH3, streams with a secret {place} of the state: any updates, to 2^63 - 1 bytes",
-                             functools.partial(xxh3_streams.show, place=place), vector))
-    return out
+            yield shown(f"XXH3, streams with a secret {place} of the state: any updates, to 2^63 - 1 bytes",
+                        functools.partial(xxh3_streams.show, place=place), vector)
 
 
 def shown(title, show, vector="scalar"):
@@ -95,25 +93,21 @@ def shown(title, show, vector="scalar"):
 # ---- changes and the machinery
 
 def of_changes(is_all, vector, headers):
-    parts = range(PARTS) if is_all else [0]
-    of = PARTS if is_all else SAMPLE
-    out = [Task(f"changes of one token of the definitions, part {part + 1} of {of}",
-               functools.partial(text_changes, part=part, parts=of), vector,
-               is_deep=False) for part in parts]
-    of = PARTS if is_all else 1
     sample = LINES if is_all else FEW_LINES
-    out += [Task(f"changes of LLVM's text, part {part + 1} of {of}",
-                functools.partial(line_changes, sample=sample, part=part, parts=of), vector,
-                is_deep=False) for part in parts]
-    out += [Task("changes of the definitions that differ from 2^31 bytes on alone, asked by induction",
-                 judged(mutation.by_induction, "changes, each refused"), vector),
-            Task("changes by hand of the definitions, that differ on rare inputs alone", judged(mutation.by_hand), vector)]
+    for what, ask, of in (("one token of the definitions", text_changes, PARTS if is_all else SAMPLE),
+                          ("LLVM's text", functools.partial(line_changes, sample=sample), PARTS if is_all else 1)):
+        for part in range(PARTS) if is_all else [0]:
+            yield Task(f"changes of {what}, part {part + 1} of {of}", functools.partial(ask, part=part, parts=of), vector,
+                       is_deep=False)
+    yield Task("changes of the definitions that differ from 2^31 bytes on alone, asked by induction",
+               judged(mutation.by_induction, "changes, each refused"), vector)
+    yield Task("changes by hand of the definitions, that differ on rare inputs alone", judged(mutation.by_hand), vector)
     if headers != HEADERS:      # the changes fit only Debian's header
-        return out
+        return
     asked = {"asked by induction": header_mutants.CHANGES if is_all else header_mutants.CHANGES[::4],
              **({"streams of XXH3": header_mutants.DEAR} if is_all else {})}
-    return [*out, *(Task(f"changes of the header 0.8.1, {how}", judged(
-        lambda module, changed=changed: header_mutants.tell(changed), "queries")) for how, changed in asked.items())]
+    yield from (Task(f"changes of the header 0.8.1, {how}", judged(
+        lambda module, changed=changed: header_mutants.tell(changed), "queries")) for how, changed in asked.items())
 
 
 def judged(find, what="changes"):
@@ -156,15 +150,13 @@ def header_is_the_one_named(headers, vector, _module):
 
 
 def of_machinery(is_all, vector, headers):
-    out = [Task("the header is the one that is summed",
-               functools.partial(header_is_the_one_named, headers, vector), vector),
-           Task("the rules are the proved ones", self_tests.rules_are_proved, vector),
-           Task("random operations and laws",
-               functools.partial(self_tests.random_operations, rounds=300 if is_all else 30), vector)]
+    yield Task("the header is the one that is summed", functools.partial(header_is_the_one_named, headers, vector), vector)
+    yield Task("the rules are the proved ones", self_tests.rules_are_proved, vector)
+    yield Task("random operations and laws",
+               functools.partial(self_tests.random_operations, rounds=300 if is_all else 30), vector)
     if is_all:
-        out += [Task("the reference's terms on the cases of the table", self_tests.table_cases, vector),
-                Task("a sample of the operations by z3: 0 to 16 bytes", self_tests.by_solver, vector)]
-    return out
+        yield Task("the reference's terms on the cases of the table", self_tests.table_cases, vector)
+        yield Task("a sample of the operations by z3: 0 to 16 bytes", self_tests.by_solver, vector)
 
 
 # ---- processes

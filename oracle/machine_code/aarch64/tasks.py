@@ -67,11 +67,11 @@ def cargo_text_tasks(is_all):
 
 
 def every_length_tasks(made, is_all):
-    """Returns the tasks of every length and of streams of any updates, by induction: some cases, or all."""
-    out = [task for kind in every_length.UNROLLED for task in
-           shared.of_every_length(made, kind, f"XXH{kind}: every length to 2^64 - 1", every_length.cases(kind))]
-    return [*out, *shared.long_tasks(made, is_all), *shared.plain_stream_tasks(made, is_all),
-            *shared.xxh3_tasks(made, is_all)]
+    """Yields the tasks of every length and of streams of any updates, by induction: some cases, or all."""
+    yield from [task for kind in every_length.UNROLLED for task in
+                shared.of_every_length(made, kind, f"XXH{kind}: every length to 2^64 - 1", every_length.cases(kind))]
+    yield from [*shared.long_tasks(made, is_all), *shared.plain_stream_tasks(made, is_all),
+                *shared.xxh3_tasks(made, is_all)]
 
 
 def in_table(programs):

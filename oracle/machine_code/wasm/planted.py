@@ -177,5 +177,5 @@ def lacks_a_case(proof):
     """True if a missing update, a missing digest and missing stripes are detected."""
     updates, digests, takers = map(list, (proof.all_updates(), proof.digests(), proof.all_taken()))
     del updates[687], digests[310], takers[3]
-    return all([coverage.without_update(updates, proof, POINTS), coverage.without_digest(digests, proof, POINTS),
-                coverage.without_taken(takers, proof, [(TAKE.name, 0)], POINTS)])
+    return all(map(any, (coverage.without_update(updates, proof, POINTS), coverage.without_digest(digests, proof, POINTS),
+                         coverage.without_taken(takers, proof, [(TAKE.name, 0)], POINTS))))

@@ -57,11 +57,10 @@ def checksums():
 
 def choose(given, machines):
     """Returns the tasks. The machines are made once; each task has its own copies, since it runs as a process."""
-    out = lengths(given.all) + of_refusals() + induction(given.all) + streams_by_induction(given.all)
-    out += xxh3_streams_by_induction(given.all) + of_changes(given.all)
-    out += [("the table of instructions beside Node", engine.compare_instructions),
-            ("changed modules, which Node too accepts or refuses",
-             functools.partial(engine.compare_validity, count=300 if given.all else 5))]
+    out = [*lengths(given.all), *OF_REFUSALS, *induction(given.all), *streams_by_induction(given.all),
+           *xxh3_streams_by_induction(given.all), ("the table of instructions beside Node", engine.compare_instructions),
+           ("changed modules, which Node too accepts or refuses",
+            functools.partial(engine.compare_validity, count=300 if given.all else 5)), *of_changes(given.all)]
     titles = [title for title, _ in out]
     out.insert(0, ("the exports are those of the table, each with its task", functools.partial(exports, titles=titles)))
     return [Task(title, functools.partial(ask, machines)) for title, ask in out if given.only in title]
@@ -97,13 +96,12 @@ def of_memory(vm, found):
 # ---- single lengths
 
 def lengths(is_all):
-    out, each, streamed = [], 1 if is_all else GATE_EACH, comparison.STREAMED if is_all else GATE_STREAMS
+    each, streamed = 1 if is_all else GATE_EACH, comparison.STREAMED if is_all else GATE_STREAMS
     for kind in comparison.kinds(SECRETS if is_all else GATE_SECRETS):
         of_kind = title_of(*kind)
-        out.append(compared(f"{of_kind}, one-shots of 0 to 300 bytes", kind, one_by_one(each), False))
+        yield compared(f"{of_kind}, one-shots of 0 to 300 bytes", kind, one_by_one(each), False)
         if kind[2] in (None, *STREAM_SECRETS):
-            out.append(compared(f"{of_kind}, streams of 0 to 1,088 bytes", kind, streamed, True))
-    return out
+            yield compared(f"{of_kind}, streams of 0 to 1,088 bytes", kind, streamed, True)
 
 
 def one_by_one(each):
@@ -120,37 +118,33 @@ def compared(title, kind, asked, is_stream):
     return title, ask
 
 
-def of_refusals():
-    return [("planted modules", planted.tell), ("planted modules, streams of XXH3", planted.tell_of_streams),
-            ("planted sections", planted_sections.tell),
-            ("secrets of 0 to 135 bytes, one-shots", refusals.one_shots_with_short_secrets),
-            ("secrets of 0 to 135 bytes, streams", refusals.streams_with_short_secrets),
-            ("records that are no stream's", refusals.wrong_records),
-            ("counters that stay at 2^64 - 1", refusals.counters_stay)]
+OF_REFUSALS = [("planted modules", planted.tell), ("planted modules, streams of XXH3", planted.tell_of_streams),
+               ("planted sections", planted_sections.tell),
+               ("secrets of 0 to 135 bytes, one-shots", refusals.one_shots_with_short_secrets),
+               ("secrets of 0 to 135 bytes, streams", refusals.streams_with_short_secrets),
+               ("records that are no stream's", refusals.wrong_records),
+               ("counters that stay at 2^64 - 1", refusals.counters_stay)]
 
 
 # ---- every length
 
 def induction(is_all):
-    out = [("the cases of a length are all of them, each once", cases_are_all)]
+    yield ("the cases of a length are all of them, each once", cases_are_all)
     for module in NAMES:
         for hash_name, way in every_length.KINDS if is_all else GATE_KINDS:
             is_whole = is_all or calls.is_plain(hash_name)
             first = every_length.shortest(hash_name, way)
             title = f"{title_of(hash_name, way, None)}, {module}: every length from {first} on"
-            out.append((title + ("" if is_whole else ", a sample"), functools.partial(
-                shown, module=module, hash_name=hash_name, way=way, each=1 if is_whole else GATE_CASES)))
-    return out
+            yield (title + ("" if is_whole else ", a sample"), functools.partial(
+                shown, module=module, hash_name=hash_name, way=way, each=1 if is_whole else GATE_CASES))
 
 
 def streams_by_induction(is_all):
-    out = []
     for module in NAMES:
         for width in (32, 64):
             title = f"XXH{width}, {module}: streams of any updates, to 2^64 - 2 bytes"
-            out.append((title + ("" if is_all else ", a sample"), functools.partial(
-                streams_shown, module=module, width=width, each=1 if is_all else width // 2)))
-    return out
+            yield (title + ("" if is_all else ", a sample"), functools.partial(
+                streams_shown, module=module, width=width, each=1 if is_all else width // 2))
 
 
 def streams_shown(machines, module, width, each):
@@ -159,16 +153,15 @@ def streams_shown(machines, module, width, each):
 
 
 def xxh3_streams_by_induction(is_all):
-    out = [("the cases of streams of XXH3 are all of them", functools.partial(
-        xxh3_cases_are_all, count=of_texts.COVERED[is_all] // 3))]
+    yield ("the cases of streams of XXH3 are all of them", functools.partial(
+        xxh3_cases_are_all, count=of_texts.COVERED[is_all] // 3))
     for module in NAMES:
         for what, (some, parts) in XXH3_CASES.items():
             title = f"XXH3, {module}: streams, {what}, to 2^64 - 1 bytes"
             for part in range(parts) if is_all else [None]:
                 words = ", a sample" if part is None else f", part {part + 1} of {parts}"
-                out.append((title + words, functools.partial(
-                    xxh3_streams_shown, module=module, what=what, first=part or 0, some=None if is_all else some)))
-    return out
+                yield (title + words, functools.partial(
+                    xxh3_streams_shown, module=module, what=what, first=part or 0, some=None if is_all else some))
 
 
 def xxh3_cases_are_all(machines, count):
@@ -202,10 +195,9 @@ def shown(machines, module, hash_name, way, each):
 # ---- changes
 
 def of_changes(is_all):
-    out, parts = [], PARTS if is_all else 1
+    parts = PARTS if is_all else 1
     for module in NAMES:
         for part in range(parts):
             title = f"changes in the bytes of {module}" + (f", part {part + 1} of {parts}" if is_all else "")
             count = CHANGES // parts if is_all else GATE_CHANGES
-            out.append((title, functools.partial(mutation.tell, name=module, count=count, seed=part, is_all=is_all)))
-    return out
+            yield (title, functools.partial(mutation.tell, name=module, count=count, seed=part, is_all=is_all))
