@@ -295,17 +295,15 @@ AT_LARGE_LENGTHS = [
 
 
 def by_induction(module):
-    """Returns for each of these: whether the induction refuses it, and a line."""
-    out = []
+    """Yields for each of these: whether the induction refuses it, and a line."""
     for words, path, old, new, kind in AT_LARGE_LENGTHS:
         program = definition.read()
         with_text(program, path, old, new)
         try:
             every_length.show(module, kind, program)
-            out.append((False, f"{words}: shown"))
+            yield False, f"{words}: shown"
         except REFUSALS as error:
-            out.append((True, f"{words}: {type(error).__name__}: {error}"))
-    return out
+            yield True, f"{words}: {type(error).__name__}: {error}"
 
 
 def with_text(program, path, old, new):
@@ -325,8 +323,7 @@ def with_text(program, path, old, new):
 
 
 def by_hand(module):
-    """Returns for each change by hand: whether the result is the expected one, and a line."""
-    out = []
+    """Yields for each change by hand: whether the result is the expected one, and a line."""
     for path, old, new, hashes, is_equal in BY_HAND:
         nodes.forget()
         program = definition.read()
@@ -341,5 +338,4 @@ def by_hand(module):
                     point = point or not others and differing_point(request, a, b)   # tested once
                     others += 1
         found = f"another term at {others} of {asked_lengths} lengths" + (", and a point was found" if point else "")
-        out.append(((others == 0) == is_equal, f"{old}  ->  {new}{' (equal)' if is_equal else ''}: {found}"))
-    return out
+        yield ((others == 0) == is_equal, f"{old}  ->  {new}{' (equal)' if is_equal else ''}: {found}")

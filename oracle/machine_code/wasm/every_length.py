@@ -68,15 +68,13 @@ OWN_CASES = list(own_cases())
 
 
 def missing_own(found):
-    """Returns the (q, length) that are not in exactly one case: some blocks, and lengths near FAR."""
-    out = []
+    """Yields the (q, length) that are not in exactly one case: some blocks, and lengths near FAR."""
     for q in [*range(LEAST_STRIPES, 20), 494, 495, 496, 497]:
         for n in [*range(LONG, 64 * 20 * 2), *range(FAR - 70, FAR + 70)]:
             blocks, more = divmod((n - 1) // 64, q)
             fitting = [case for case in found if case[1:] == (blocks > 0, more > 0, n >= FAR)
                        and (case.q or max(q, 17)) == q]
-            out += [(q, n)] * (len(fitting) != (q != BLOCK // 64))
-    return out
+            yield from [(q, n)] * (len(fitting) != (q != BLOCK // 64))
 
 
 def facts_of(case, q, B, J):

@@ -129,7 +129,7 @@ OF_REFUSALS = [("planted modules", planted.tell), ("planted modules, streams of 
 # ---- every length
 
 def induction(is_all):
-    yield ("the cases of a length are all of them, each once", cases_are_all)
+    yield "the cases of a length are all of them, each once", cases_are_all
     for module in NAMES:
         for hash_name, way in every_length.KINDS if is_all else GATE_KINDS:
             is_whole = is_all or calls.is_plain(hash_name)
@@ -153,8 +153,8 @@ def streams_shown(machines, module, width, each):
 
 
 def xxh3_streams_by_induction(is_all):
-    yield ("the cases of streams of XXH3 are all of them", functools.partial(
-        xxh3_cases_are_all, count=of_texts.COVERED[is_all] // 3))
+    yield "the cases of streams of XXH3 are all of them", functools.partial(
+        xxh3_cases_are_all, count=of_texts.COVERED[is_all] // 3)
     for module in NAMES:
         for what, (some, parts) in XXH3_CASES.items():
             title = f"XXH3, {module}: streams, {what}, to 2^64 - 1 bytes"
@@ -200,4 +200,4 @@ def of_changes(is_all):
         for part in range(parts):
             title = f"changes in the bytes of {module}" + (f", part {part + 1} of {parts}" if is_all else "")
             count = CHANGES // parts if is_all else GATE_CHANGES
-            yield (title, functools.partial(mutation.tell, name=module, count=count, seed=part, is_all=is_all))
+            yield title, functools.partial(mutation.tell, name=module, count=count, seed=part, is_all=is_all)
