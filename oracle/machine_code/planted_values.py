@@ -1,5 +1,6 @@
 """Planted faults for the checks of values, flags and induction that no source reaches: each calls the checked function
 with operands that it must refuse."""
+import collections
 import types
 
 from symbolic_terms import Induction, plus, symbol, variable
@@ -24,11 +25,8 @@ MEMORY, OTHER = Memory("a"), Memory("b")
 PLACE, TERM = address(MEMORY), symbol("term", 64)
 
 
-class Direct:
-    """A test of one call, like planted.Asked."""
-
-    def __init__(self, title, words, ask):
-        self.title, self.words, self.ask = title, words, ask
+# A test of one call, like planted.Asked.
+Direct = collections.namedtuple("Direct", "title words ask")
 
 
 class Counter(Induction):

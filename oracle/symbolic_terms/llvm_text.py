@@ -1,6 +1,7 @@
 """Reads LLVM code as clang 14 writes it at -O0: types, constants, and instructions as (target, operation, parts).
 
 Anything else is Unsupported: only attributes, alignments and metadata are skipped silently."""
+import collections
 import re
 from dataclasses import dataclass
 
@@ -64,27 +65,9 @@ class Struct:
         return at
 
 
-@dataclass(frozen=True)
-class Void:
-    pass
-
-
-@dataclass(frozen=True)
-class Register:
-    name: str
-
-
-@dataclass(frozen=True)
-class Constant:
-    value: object
-
-
-@dataclass(frozen=True)
-class FunctionName:
-    name: str
-
-
-POINTER, VOID = Pointer(), Void()
+Register, Constant = collections.namedtuple("Register", "name"), collections.namedtuple("Constant", "value")
+FunctionName = collections.namedtuple("FunctionName", "name")
+POINTER, VOID = Pointer(), "void"
 NOTHING = "@no.operation"   # callee of an empty `asm`
 
 

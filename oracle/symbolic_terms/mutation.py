@@ -113,23 +113,12 @@ class Asked:
         return NOTICED_BY_NUMBERS if differs else f"{CRASH}: {error!r}" if error else REFUSED_WITHOUT_TERM
 
 
-class CountedLength:
-    """Tests `counted` with a length that no request has."""
-
-    def __init__(self, case):
-        self.case, self.length, self.outcome = case, case.length, None
-
-    def agrees(self, entries):
-        self.outcome = None if self.case.agrees(entries) else "another counted length"
-        return self.outcome is None
-
-
 def of_text(module, part, parts):
     """Returns (outcome, text) for each change of one token, or for a part of them."""
     nodes.forget()
     program = definition.program()
     cases = [Asked(request, module) for request in asked()]
-    cases += [CountedLength(case) for case in proved_cases.counted_lengths()]
+    cases += proved_cases.counted_lengths()      # lengths that no request has
     by_definition = mutants.cases_by_definition(program, cases)
     known, out = nodes.mark(), []
     for change in mutants.all_changes(program)[part::parts]:
