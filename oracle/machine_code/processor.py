@@ -6,7 +6,7 @@ The flags are unset. Errors are: an address outside of the passed objects, a loa
 store to read-only memory, a branch on a symbol, and a form of an instruction that the table lacks."""
 import functools
 
-from symbolic_terms import Unsupported, is_natural, is_number, is_same_number, minus, ones, symbol
+from symbolic_terms import Unsupported, is_natural, is_number, is_same_number, minus, ones
 
 from . import flags
 from .instructions import PARTS, VECTORS, WIDE, known
@@ -14,7 +14,7 @@ from .object_contents import OUTER
 from .memory import ENTRY, RED, Constants, ReturnTo, Stack, Words, copy, fill
 from .objects import Immediate, Register
 from .streams import ForC
-from .values import WORD, Address, address, arithmetic, bits, joined, low, place_of
+from .values import WORD, Address, Names, address, arithmetic, bits, joined, low, place_of
 
 KEPT = "rbx", "rbp", "r12", "r13", "r14", "r15"          # callee-saved registers
 ARGUMENTS = "rdi", "rsi", "rdx", "rcx", "r8", "r9"
@@ -24,7 +24,7 @@ VECTORS_COUNT = 32
 NO_LIMIT = 1 << 24                # instructions of a call
 
 
-class Runner:
+class Runner(Names):
     """Runs a program on a processor, which a subclass models. `not_zero` has terms assumed to be nonzero; `loops` is
     called at each possible loop head, and `live` has the objects that calls may write to then; `used` has the executed
     instructions; `limit` is the maximum per call. `replaced` maps a function's place to a Python function that runs
@@ -37,15 +37,7 @@ class Runner:
         self.program = program
         self.constants = {key: Constants(key, *x) for key, x in program.constants.items()}
         self.not_zero, self.loops, self.live, self.replaced = [], None, [], {}
-        self.used, self.made, self.limit, self.count = set(), 0, NO_LIMIT, 0
-
-    def new_name(self, prefix):
-        self.made += 1
-        return f"{prefix}#{self.made}"
-
-    def fresh(self, prefix, width=WORD):
-        """Returns a fresh symbol. Other processors may use the same name with the same width."""
-        return symbol(f"{self.new_name(prefix)}:{width}", width)
+        self.used, self.limit, self.count = set(), NO_LIMIT, 0
 
     def run(self, place):
         """Runs from a place to the return from the first function."""

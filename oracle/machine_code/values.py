@@ -12,6 +12,19 @@ WORD = 64
 HALF, WHOLE = 1 << 63, 1 << 64
 
 
+class Names:
+    """Fresh names. Other processors may use the same name with the same width."""
+    made = 0
+
+    def new_name(self, prefix):
+        self.made += 1
+        return f"{prefix}#{self.made}"
+
+    def fresh(self, prefix, width=WORD):
+        """Returns a fresh symbol."""
+        return symbol(f"{self.new_name(prefix)}:{width}", width)
+
+
 class Address:
     __slots__ = "bases", "offset"    # bases: ((object, count), ..), sorted by name
 

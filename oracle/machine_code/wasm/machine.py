@@ -5,14 +5,15 @@ Memory consists of objects: the stack and the module's constants at concrete add
 unknown addresses (Address). Each access must be provably inside one object."""
 import operator
 
-from symbolic_terms import Memory, Node, Unsupported, is_inside, is_natural, is_same_number, minus, plus, symbol
+from symbolic_terms import Memory, Node, Unsupported, is_inside, is_natural, is_same_number, minus, plus
 from symbolic_terms.machine import copy
 
+from ..values import Names
 from .semantics import PURE
 from .module import PAGE
 from .opcodes import BY_NAME
 from .validator import ends_of, validate
-from .values import WORD, Address, Trap, condition, decided, low
+from .values import Address, Trap, condition, decided, low
 
 STACK_POINTER = 0        # index of the global
 STACK = 1 << 16          # bytes of stack that a call may use
@@ -47,7 +48,7 @@ class Frame:
         self.variables = variables + [(0, 0) if width == 128 else 0 for width in function.locals]
 
 
-class Machine:
+class Machine(Names):
     """Runs a module.
 
     seed        the symbol that is assumed to be nonzero if the module tests it for 0, or None
@@ -62,17 +63,8 @@ class Machine:
         self.ends = [ends_of(function.code) for function in module.functions]
         self.constants = [(place, Constants(content)) for place, content in module.segments]
         self.end_of_stack = module.globals[STACK_POINTER].value
-        self.seed, self.has_asked, self.used, self.loops, self.made, self.replaced = None, False, None, None, 0, {}
+        self.seed, self.has_asked, self.used, self.loops, self.replaced = None, False, None, None, {}
         self.limit, self.steps, self.stack, self.globals, self.objects = MOST_STEPS, 0, None, [], []
-
-    def new_name(self, prefix):
-        """Returns a symbol name not used before."""
-        self.made += 1
-        return f"{prefix}#{self.made}"
-
-    def fresh(self, prefix, width=WORD):
-        """Returns a symbol with a fresh name."""
-        return symbol(f"{self.new_name(prefix)}:{width}", width)
 
     # ---- calls
 
