@@ -34,8 +34,9 @@ def programs():
 def choose(texts, like, is_all):
     """Returns the tasks on `texts`; `like` has c/asm's sources."""
     made = tasks.makers(texts)
-    out = [*with_begin(long_input_tasks(made, is_all)), *with_begin(piece_tasks(tasks.before_v4(made), is_all, SOME_UPDATES)),
-           *with_begin(xxh3_tasks(made, is_all)), *with_begin(tasks.any_secret_tasks(made, is_all, ANY_SECRET)), *call_tasks(texts, made, like)]
+    out = [*with_begin([*long_input_tasks(made, is_all), *piece_tasks(tasks.before_v4(made), is_all, SOME_UPDATES),
+                        *xxh3_tasks(made, is_all), *tasks.any_secret_tasks(made, is_all, ANY_SECRET)]),
+           *call_tasks(texts, made, like)]
     out.insert(0, tasks.counted(f"{BEGIN}each export has its task", EXPORTS * len(texts),
                                lambda: exports_left_out(texts, [task.title for task in out])))
     return out

@@ -1,8 +1,8 @@
 """Reads an assembled object in the form that the verifier runs: instructions by section and address, and constants.
 
 The instructions are those that objdump decodes from the object's bytes; the assembler's input isn't used. Each byte of
-a section belongs to one instruction. object_contents.py checks the object's other contents. A relocation's target is one that no
-linker moves or takes from another library."""
+a section belongs to one instruction. object_contents.py checks the object's other contents. A relocation's target is
+one that no linker moves or takes from another library."""
 import collections
 import functools
 import re

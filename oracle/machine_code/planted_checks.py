@@ -129,9 +129,10 @@ X86 = [
                                      "add $0x3000,%rsp"), many_stripes, "bytes of stack"),
 ]
 OF_V4 = [Wrong("an export that isn't x86-64-v3's", begun("XXH32_digest", "nop"), code_of_v3, "XXH32_digest: .* has other code")]
-OF_CARGO = [Wrong("names without the interface's number", substituted(r"\.i\d+\b", "", 0), cargo_planted.LONG, "the name twox_"),
-            Wrong("an export that isn't there", substituted(r"(twox_rust_\d+)_xxh3_64_long\b", r"\1_more", 0), cargo_planted.LONG,
-                  "the text has no xxh3_64_long")]
+OF_CARGO = [Wrong("names without the interface's number", substituted(r"\.i\d+\b", "", 0), cargo_planted.LONG,
+                  "the name twox_"),
+            Wrong("an export that isn't there", substituted(r"(twox_rust_\d+)_xxh3_64_long\b", r"\1_more", 0),
+                  cargo_planted.LONG, "the text has no xxh3_64_long")]
 OF_ARM = [
     Wrong("a register that the caller wants back", begun(VERSION, "mov x19, #0"), of_object, "x19 isn't"),
     Wrong("a vector that the caller wants back", begun(VERSION, "movi v8.2d, #0x0"), of_object, "a vector isn't"),

@@ -104,6 +104,7 @@ ASKED = [Direct(*one) for one in (
     ("a loop that changes another cell later", "kept is 8 and not 7", lambda: Counter().show()),
     ("a loop that is entered again", "isn't left",
      lambda: made(induction.Loops, stop=None, running={("section", 3): 5}).pass_by(None, ("section", 3))),
-    ("a loop that stores to a run", "stores to a run", lambda: made(induction.Proof, runs={MEMORY: []}, name="a loop").compare(0)),
+    ("a loop that stores to a run", "stores to a run",
+     lambda: made(induction.Proof, runs={MEMORY: []}, name="a loop").compare(0)),
     ("a call that passes something else", "a call of f: the piece", lambda: made(stripes.Summary, name="f").expect("the piece", False)),
 )]

@@ -6,8 +6,8 @@ import os
 from symbolic_terms import REFUSALS, TOP, Request, WrongRule, comparison, nodes, variable
 from symbolic_terms.processes import Task
 
-from . import (any_secret, any_updates, calls, coverage, every_length, exports, lanes, long_seeds, one_shots, scalar, streams,
-               xxh3_updates)
+from . import (any_secret, any_updates, calls, coverage, every_length, exports, lanes, long_seeds, one_shots, scalar,
+               streams, xxh3_updates)
 from .cargo import CargoProcessor, CargoProgram
 from .instructions import V1, V2, V3, V4
 from .objects import Program

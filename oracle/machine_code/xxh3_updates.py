@@ -7,8 +7,8 @@ definition's after K stripes. It has j, K, f, N, the mark and the secret, of 64 
 the last f bytes. If K > 0 and f < 64, it also has the last stripe. All else is unconstrained. The secret's bytes are
 symbols: the default secret and derived ones are instances.
 
-Bytes written at a symbolic offset or of a symbolic length are runs (stream_state.py). The separate functions that take stripes
-are proved on their own, from any place in a block (stripes.py)."""
+Bytes written at a symbolic offset or of a symbolic length are runs (stream_state.py). The separate functions that take
+stripes are proved on their own, from any place in a block (stripes.py)."""
 import collections
 import functools
 import itertools

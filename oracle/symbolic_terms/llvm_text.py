@@ -269,7 +269,8 @@ def place_of(t, address, *steps):
 BINARY = {"add", "sub", "mul", "xor", "or", "and", "shl", "lshr", "udiv", "urem", "sdiv"}
 # What follows an operation: `typed` is a type and an operand, `operand` one of the type before.
 PATTERNS = {
-    **dict.fromkeys(BINARY, "typed , operand"), **dict.fromkeys(("zext", "sext", "trunc", "bitcast", "ptrtoint"), "typed to type"),
+    **dict.fromkeys(BINARY, "typed , operand"),
+    **dict.fromkeys(("zext", "sext", "trunc", "bitcast", "ptrtoint"), "typed to type"),
     "icmp": "word typed , operand", "load": "type rest", "store": "typed rest", "getelementptr": "type rest",
     "extractvalue": "typed , number", "insertvalue": "typed , typed , number", "insertelement": "typed rest",
     "shufflevector": "typed rest", "select": "typed rest", "unreachable": "",

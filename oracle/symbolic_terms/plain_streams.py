@@ -51,7 +51,7 @@ class PlainStreams(Proof):
     def buffered(self, a, r):
         """Returns the bytes of an incomplete stripe, as a run in the buffer."""
         first = self.at["buffer"]
-        return [(first, plus(first, r), self.source, minus(times(self.stripe, a), first))] if not is_same_number(r, 0) else []
+        return [] if is_same_number(r, 0) else [(first, plus(first, r), self.source, minus(times(self.stripe, a), first))]
 
     def state(self, a, r):
         if is_same_number(a, 0):

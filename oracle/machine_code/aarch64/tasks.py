@@ -59,7 +59,8 @@ def cargo_text_tasks(is_all):
     made = {name: functools.partial(cargo.CargoProcessor, program) for name, program in programs.items()}
     out = [*cargo_tasks.long_input_tasks(made, is_all, LONG_INPUTS), *cargo_tasks.piece_tasks(made, is_all),
            *cargo_tasks.xxh3_tasks(made, is_all, like=()), *shared.any_secret_tasks(made, is_all, cargo_tasks.ANY_SECRET),
-           *cargo_tasks.refusal_tasks(functools.partial(shared.of_each, made)), shared.frames_task(programs, cargo_tasks.FRAMED)]
+           *cargo_tasks.refusal_tasks(functools.partial(shared.of_each, made)),
+           shared.frames_task(programs, cargo_tasks.FRAMED)]
     titles = [BEGIN + task.title for task in out]
     out.insert(0, shared.counted("each export has its task", cargo_tasks.EXPORTS, functools.partial(
         exports_left_out, programs, titles)))

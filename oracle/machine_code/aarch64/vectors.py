@@ -59,9 +59,10 @@ def shift_by(width, x, k):
     return arithmetic("shl", width, x, k) if k >= 0 else arithmetic("lshr", width, x, -k)
 
 
-for mnemonic, word, forms in (("add", "add", "4s 4s 4s, 2d 2d 2d"), ("sub", "sub", "4s 4s 4s, 2d 2d 2d"),
-                              ("mul", "mul", "4s 4s 4s, 2s 2s 2s"), ("eor", "xor", "16b 16b 16b"), ("orr", "or", "16b 16b 16b"),
-                              ("shl", "shl", "4s 4s i"), ("ushr", "lshr", "2d 2d i, 4s 4s i")):
+for mnemonic, word, forms in (
+        ("add", "add", "4s 4s 4s, 2d 2d 2d"), ("sub", "sub", "4s 4s 4s, 2d 2d 2d"), ("mul", "mul", "4s 4s 4s, 2s 2s 2s"),
+        ("eor", "xor", "16b 16b 16b"), ("orr", "or", "16b 16b 16b"), ("shl", "shl", "4s 4s i"),
+        ("ushr", "lshr", "2d 2d i, 4s 4s i")):
     each(mnemonic, forms, functools.partial(arithmetic, word))
 each("neg", "2d 2d", lambda width, p: arithmetic("sub", width, 0, p))
 each("mla", "4s 4s 4s", add_product, with_to=True)

@@ -11,7 +11,8 @@ from symbolic_terms.tasks import STREAM_SECRETS
 from .. import coverage
 from .. import tasks as of_texts
 from ..xxh3_updates import DIGESTS, STRIPES, UPDATES
-from . import calls, mutation, comparing, engine, every_length, plain_streams, planted, planted_sections, refusals, xxh3_streams
+from . import (calls, comparing, engine, every_length, mutation, plain_streams, planted, planted_sections, refusals,
+               xxh3_streams)
 from .machine import STACK, Machine
 from .module import FUNCTION, GLOBAL, MEMORY, Module
 
