@@ -130,6 +130,13 @@ class Loaded:
                 for at in range(0, len(data), head.entry):
                     yield f"{name}+{at}", (data[at:at + head.entry], min(head.align, head.entry & -head.entry))
 
+    def relocations_in(self, section):
+        """Yields (place, type, symbol, addend) of each relocation in a section."""
+        for head in self.object.heads:
+            if head.kind == RELA and self.object.heads[head.info] is section:
+                for place, info, addend in struct.iter_unpack("<QQq", self.object.body(head)):
+                    yield place, info & 0xFFFFFFFF, self.object.symbols[info >> 32], addend
+
     def names(self):
         functions = [symbol for symbol in self.object.symbols if symbol.section and symbol.info & 15 == FUNCTION]
         want(len({symbol.name for symbol in functions}) == len(functions), "two functions of one name")

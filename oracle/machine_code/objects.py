@@ -6,13 +6,12 @@ one that no linker moves or takes from another library."""
 import collections
 import functools
 import re
-import struct
 import subprocess
 
 from symbolic_terms import Unsupported
 
 from .disassembly import expect_bytes
-from .object_contents import CODE, RELA, Loaded
+from .object_contents import CODE, Loaded
 
 # An instruction: `end` is the next one's address; `target` is (section or external function, offset), or None.
 Instruction = collections.namedtuple("Instruction", "section at end mnemonic operands target")
@@ -31,6 +30,8 @@ TARGET = re.compile(r"([0-9a-f]+)(?: <.*>)?")
 
 class Program(Loaded):
     """The instructions of a program: section -> address -> Instruction."""
+
+    RELOCATIONS = PC32, PLT32
 
     def __init__(self, path):
         super().__init__(path)
@@ -56,13 +57,10 @@ class Program(Loaded):
     def relocations_of(self, section):
         """Maps each place to its relocation: (symbol, addend)."""
         found = {}
-        for head in self.object.heads:
-            if head.kind != RELA or self.object.heads[head.info] is not section:
-                continue
-            for place, info, addend in struct.iter_unpack("<QQq", self.object.body(head)):
-                if info & 0xFFFFFFFF not in (PC32, PLT32) or section.flags != CODE or place in found:
-                    raise Unsupported(f"a relocation at {place:#x} of {section.name}")
-                found[place] = self.object.symbols[info >> 32], addend
+        for place, kind, symbol, addend in self.relocations_in(section):
+            if kind not in self.RELOCATIONS or section.flags != CODE or place in found:
+                raise Unsupported(f"a relocation at {place:#x} of {section.name}")
+            found[place] = symbol, addend
         return found
 
     # ---- instructions

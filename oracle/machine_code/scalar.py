@@ -98,31 +98,26 @@ def jump(cpu, x):
     return x.target
 
 
-def jump_where(name):
-    def branch(cpu, x):
-        return x.target if cpu.condition(name) else None
-    return branch
+def with_condition(prefix):
+    return " ".join(prefix + condition for condition in CONDITIONS)
 
 
-def set_where(name):
-    def put(cpu, x, to):
-        cpu.put(to, 8, int(cpu.condition(name)), x)
-    return put
+@form(V1, with_condition("j"), "")
+def jump_where(cpu, x):
+    return x.target if cpu.condition(x.mnemonic[len("j"):]) else None
 
 
-def move_where(name):
-    """Returns a conditional move. A memory operand is read in either case."""
-    def move(cpu, x, source, to):
-        width = cpu.width(x)
-        there, here = cpu.get(source, width, x), cpu.get(to, width, x)
-        cpu.put(to, width, there if cpu.condition(name) else here, x)
-    return move
+@form(V1, with_condition("set"), "b")
+def set_where(cpu, x, to):
+    cpu.put(to, 8, int(cpu.condition(x.mnemonic[len("set"):])), x)
 
 
-for condition in CONDITIONS:
-    form(V1, "j" + condition, "")(jump_where(condition))
-    form(V1, "set" + condition, "b")(set_where(condition))
-    form(V1, "cmov" + condition, "qq mq ll ml")(move_where(condition))
+@form(V1, with_condition("cmov"), "qq mq ll ml")
+def move_where(cpu, x, source, to):
+    """Moves if a condition holds. A memory operand is read in either case."""
+    width = cpu.width(x)
+    there, here = cpu.get(source, width, x), cpu.get(to, width, x)
+    cpu.put(to, width, there if cpu.condition(x.mnemonic[len("cmov"):]) else here, x)
 
 
 # ---- addition, subtraction, logic

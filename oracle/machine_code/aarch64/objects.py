@@ -1,13 +1,12 @@
 """Reads an assembled object for 64-bit ARM in the form that the verifier runs, like ../objects.py for x86-64."""
 import collections
 import re
-import struct
 
 from symbolic_terms import Unsupported
 
 from .. import objects
 from ..disassembly import expect_bytes
-from ..object_contents import AARCH64, CODE, RELA, Loaded
+from ..object_contents import AARCH64, CODE, Loaded
 
 # An instruction: `form` has a word per operand; `target` is (section or constant, offset), or None.
 Instruction = collections.namedtuple("Instruction", "section at end mnemonic form operands target")
@@ -47,13 +46,10 @@ class Program(Loaded):
     def relocations_of(self, section):
         """Maps each place to its relocation: (type, target)."""
         found = {}
-        for head in self.object.heads:
-            if head.kind == RELA and self.object.heads[head.info] is section:
-                for place, info, addend in struct.iter_unpack("<QQq", self.object.body(head)):
-                    kind = info & 0xFFFFFFFF
-                    if kind not in OF_RELOCATION or place in found:
-                        raise Unsupported(f"a relocation of kind {kind} at {place:#x} of {section.name}")
-                    found[place] = kind, self.target_of(self.object.symbols[info >> 32], addend)
+        for place, kind, symbol, addend in self.relocations_in(section):
+            if kind not in OF_RELOCATION or place in found:
+                raise Unsupported(f"a relocation of kind {kind} at {place:#x} of {section.name}")
+            found[place] = kind, self.target_of(symbol, addend)
         return found
 
     # ---- instructions

@@ -6,13 +6,12 @@
 - a place in a mergeable section is a constant, named by its section and offset, and an offset in the constant."""
 import collections
 import re
-import struct
 
 from symbolic_terms import Unsupported
 
 from .. import lanes, scalar
 from ..instructions import known
-from ..object_contents import CODE, CONSTANTS, FRAMES, FUNCTION, LOADED, MERGEABLE, NOTE, RELA, is_global
+from ..object_contents import CODE, CONSTANTS, FRAMES, FUNCTION, LOADED, MERGEABLE, NOTE, is_global
 from ..memory import ReturnTo
 from ..objects import PC32, PLT32, Instruction, Program, Register, split
 from ..processor import Processor
@@ -67,20 +66,14 @@ class OfRustc:
 
 
 class RustProgram(OfRustc, Program):
+    RELOCATIONS = PC32, PLT32, *BY_TABLE
+
     def __init__(self, name, path):
         self.name = name
         super().__init__(path)
 
     def relocations_of(self, section):
-        found = {}
-        for head in self.object.heads:
-            if head.kind != RELA or self.object.heads[head.info] is not section or section.flags != CODE:
-                continue
-            for place, info, addend in struct.iter_unpack("<QQq", self.object.body(head)):
-                if info & 0xFFFFFFFF not in (PC32, PLT32, *BY_TABLE) or place in found:
-                    raise Unsupported(f"a relocation at {place:#x} of {section.name}")
-                found[place] = self.object.symbols[info >> 32], addend
-        return found
+        return super().relocations_of(section) if section.flags == CODE else {}
 
     def instruction(self, section, at, end, text, places):
         mnemonic, rest = split(text)

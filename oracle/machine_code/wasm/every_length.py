@@ -9,11 +9,11 @@ import table
 from symbolic_terms import (Bytes, NotShown, Request, at_most, given, minus, nodes, plus, seed_symbol, suppositions,
                             times, variable)
 
-from . import calls
-from .calls import WAYS, is_plain
 from ..every_length import Cases
 from ..induction import Family
 from ..stripes import Part, Stripes
+from . import calls
+from .calls import WAYS, is_plain
 from .induction import proved
 from .values import LEAST_PLACE, SPACE
 
