@@ -41,6 +41,14 @@ class Proof:
         self.module.loops = Loops(said, self.told)
         self.module.live[:] = [*self.module.globals.values(), *memories]
 
+    def words_after(self, k, after, count, width):
+        """Returns the definition's words after(k), as symbols that are assumed to be these if k isn't 0."""
+        if is_same_number(k, 0):
+            return [after(j) for j in range(count)]
+        words = [symbol(self.module.fresh("accumulator"), width) for _ in range(count)]
+        suppositions.suppose(after, words)
+        return words
+
     def call_keeping(self, what, memory, name, *arguments):
         """Returns the value of a call that must not change a state."""
         kept = dict(memory.cells)

@@ -4,12 +4,11 @@ A state represents the first N bytes of a message if its total is N, its accumul
 stripe stripes, its memsize is N % stripe, and its buffer begins with the last memsize bytes. A reset creates a state of
 0 bytes. An update leads from a state of N = stripe * a + r bytes to one of stripe * b + s. A digest returns the
 definition's value and changes nothing."""
-from .definition import Bytes, suppositions
+from .definition import Bytes
 from .every_length import Proof, plain_loop
 from .refusals import NotShown
 from .requests import LONGEST, seed_symbol
 from .memory import Input, Memory, Piece
-from .nodes import symbol
 from .polynomials import agree, as_word, at_most, given, is_natural, is_same_number, minus, plus, times, variable
 from .reference import BESIDE
 
@@ -54,17 +53,10 @@ class PlainStreams(Proof):
         return [] if is_same_number(r, 0) else [(first, plus(first, r), self.source, minus(times(self.stripe, a), first))]
 
     def state(self, a, r):
-        if is_same_number(a, 0):
-            accumulators = [self.accumulator(j, 0) for j in range(4)]
-        else:
-            accumulators = [symbol(self.module.fresh("accumulator"), self.width) for _ in range(4)]
-            self.suppose(a, accumulators)
+        accumulators = self.words_after(a, lambda j: self.accumulator(j, a), 4, self.width)
         first = self.at["buffer"]
         return Memory("state", self.size, self.numbers(a, r, accumulators), self.buffered(a, r),
                       run_area=(first, first + self.stripe))
-
-    def suppose(self, a, accumulators):
-        suppositions.suppose(lambda j: self.accumulator(j, a), accumulators)
 
     def expect_state(self, what, memory, a, r):
         self.cases += 1

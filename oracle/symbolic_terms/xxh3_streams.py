@@ -96,11 +96,7 @@ class Xxh3Streams(Proof):
     def state(self, b, j, f, runs):
         k = self.stripes(b, j)
         suppositions.clear()
-        if is_same_number(k, 0):
-            accumulators = [self.after(i, 0) for i in range(8)]
-        else:
-            accumulators = [symbol(self.module.fresh("accumulator"), 64) for _ in range(8)]
-            suppositions.suppose(lambda i: self.after(i, k), accumulators)
+        accumulators = self.words_after(k, lambda i: self.after(i, k), 8, 64)
         cells = self.numbers(b, j, f) + [(self.at["accumulators"] + 8 * i, 8, x) for i, x in enumerate(accumulators)]
         buffer = self.at["buffer"]
         return Memory("state", self.size, cells, [*self.secret_runs(), *runs], run_area=(buffer, buffer + BUFFER),
