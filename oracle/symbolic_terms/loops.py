@@ -169,9 +169,14 @@ class Proof(Induction):
         return f"{memory.name} at {at}"
 
     def turn(self):
+        """Runs an iteration. Then each accumulator has a cell again: vectors store several in one."""
         answer = self.walk(self.head)
         if not isinstance(answer, tuple) or answer[1] != self.head:
             raise NotShown(f"{self.loop.name}: a turn goes to {answer}")
+        size = self.loop.width // 8
+        words = [memory.load(at, size) for memory, at in self.loop.cells]
+        for (memory, at), x in zip(self.loop.cells, words):
+            memory.store(at, size, x)
 
     def walk(self, until):
         return self.function.walk(self.registers, self.before, self.head, self.body, until)
