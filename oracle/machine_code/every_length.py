@@ -20,7 +20,6 @@ from .values import address
 UNROLLED = {"32": 8, "64": 2}     # multiple of the stripes that a source processes per turn
 LEAST = {"32": 2, "64": 1}        # minimum number of turns in a case: shorter lengths are tested one by one
 PREFETCHED = 31_744               # bytes from which on the sources of XXH3 have separate loops
-LIMIT = 30_000                    # instructions of a case: beyond, a loop runs that the induction should cover
 SHORTEST = 136                    # bytes of a secret
 TURNS, FAR, MANY = "turns", 496, 1 << 32      # the variable; numbers of stripes from which on a source has other paths
 DERIVED = 16                      # stripes of a block, with the default secret's length
@@ -154,7 +153,7 @@ class Cases:
     def with_loops(self, loops, ask):
         """Returns the result of a call, during which loops are proved."""
         cpu, limit = self.cpu, self.cpu.limit
-        cpu.loops, cpu.limit = loops, min(limit, LIMIT)
+        cpu.loops, cpu.limit = loops, min(limit, cpu.LIMIT_OF_CASE)
         try:
             return ask()
         except REFUSALS as error:

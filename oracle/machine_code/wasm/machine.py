@@ -58,6 +58,8 @@ class Machine(Names):
     replaced    Python functions that run instead of the module's functions, by index
     """
 
+    LIMIT_OF_CASE = MOST_STEPS
+
     def __init__(self, module):
         self.module, self.branches, self.code = module, validate(module), {}
         self.ends = [ends_of(function.code) for function in module.functions]
