@@ -122,23 +122,23 @@ def all_changes(program):
     return [change for definition in program.order for change in changes_of(program, reached, definition)]
 
 
-def rows_by_definition(program, rows):
+def cases_by_definition(program, cases):
     """Maps each definition to the test cases that reach it, the shortest first."""
     table = {}
-    for row in sorted(rows, key=lambda row: row.length):
+    for case in sorted(cases, key=lambda case: case.length):
         traced = set()
-        row.agrees(program.run(traced=traced))
+        case.agrees(program.run(traced=traced))
         for definition in traced:
-            table.setdefault(definition, []).append(row)
+            table.setdefault(definition, []).append(case)
     return table
 
 
 def reasons():
     """Returns the reasons of changes that change no value."""
-    return Reasons(os.path.join(table.FOLDER, "equal_changes.txt"))
+    return Reasons(os.path.join(table.FOLDER, "equivalent_mutants.txt"))
 
 
-def outcome(program, rows, change):
+def outcome(program, cases, change):
     """Returns `"noticed"`, `"unnoticed"` or `"unreadable"` for a change."""
     definition = program.definitions.modules[change.path].definitions[change.name]
     sides = [[word for word, _ in right] for _, right in definition.clauses]
@@ -151,9 +151,9 @@ def outcome(program, rows, change):
     if len(program.order) != known:  # it reaches a definition not reached before
         entries = program.run({definition: sides})
     sys.setrecursionlimit(8000)
-    for row in rows.get(definition, ()):
+    for case in cases.get(definition, ()):
         try:
-            if not row.agrees(entries):
+            if not case.agrees(entries):
                 return "noticed"
         except (antt.Unreadable, TypeError, AttributeError, IndexError, OverflowError, ValueError, RecursionError, NameError, MemoryError):
             return "noticed"

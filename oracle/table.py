@@ -18,8 +18,8 @@ def drawn(start, length):
     return memoryview(bytes(out))
 
 
-class Row:
-    """A request and the reference library's value. `seed` and `secret` are None if the row has none."""
+class Case:
+    """A request and the reference library's value. `seed` and `secret` are None if the case has none."""
 
     def __init__(self, line):
         self.line = line.strip()

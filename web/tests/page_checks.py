@@ -59,7 +59,7 @@ def small_files(page):
 
 
 def seed_and_secret(page):
-    rows = [table.Row(line) for line in table.lines()]
+    rows = [table.Case(line) for line in table.lines()]
     rows = [row for row in rows if not row.is_plain() and row.secret and row.length in (100, 1000, 5000)]
     tried = [(row, f"row{i}.bin") for i, row in enumerate(rows[:: max(1, len(rows) // 12)])]
     for row, name in tried:

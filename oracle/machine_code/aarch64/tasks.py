@@ -1,0 +1,82 @@
+"""Chooses the tasks of oracle/arm-text, on the sources for 64-bit ARM: the C library's and the cargo crate's."""
+import functools
+import os
+
+from symbolic_terms import TOP, comparison
+from symbolic_terms.processes import Task
+
+from .. import calls, cargo_tasks, every_length, planted_checks, planted_lines, planted_objects, self_tests, streams
+from .. import tasks as shared
+from ..cargo_exports import BEGIN, exports_left_out
+from ..sources import assembled
+from . import cargo, mutation, on_qemu
+from .objects import Program
+from .table import TABLE, Processor
+
+TEXT = os.path.join(TOP, "c", "asm", "aarch64.s")
+SECRETS = 136, 192
+STREAMED = (5, 33, 70, 257, 300, 513, 700)
+LONG_INPUTS = [*range(241, 301), 1024, 1025, 1089]      # lengths tested one by one, without --all
+
+
+def program():
+    return assembled(TEXT, cargo.NAME, Program)
+
+
+def choose(given, found):
+    out, made = [], {cargo.NAME: functools.partial(Processor, found)}
+    for kind in comparison.kinds(SECRETS):
+        lengths = range(301) if given.all or kind[2] != SECRETS[1] else range(0, 301, 20)
+        out.append(shared.one_by_one(made, kind, lengths, ", one-shots"))
+        if given.all and kind[2] is None and kind[0].startswith("3-"):
+            asked = [*shared.MORE, every_length.PREFETCHED]
+            out.append(shared.one_by_one(made, kind, asked, ", one-shots"))
+        if kind[2] != SECRETS[1]:
+            asked = comparison.requests(*kind, comparison.STREAMED if given.all else STREAMED, True)
+            out.append(shared.compared(made, f"{comparison.title_of(*kind)}, streams", asked, streams))
+    for name in ("3-64", "3-128"):
+        out.append(shared.of_each(made, f"XXH{name}, secrets of 0 to 135 bytes", 4 * calls.SHORTEST, functools.partial(
+            calls.short_secrets, hash_name=name, lengths=(240, 241))))
+    out += [shared.of_each(made, *call) for call in calls.OTHERS]
+    out += [shared.twin_task({cargo.NAME: found}), shared.frames_task({cargo.NAME: found})]
+    out += every_length_tasks(made, given.all)
+    out.append(Task("the table of instructions beside qemu", on_qemu.tell))
+    out.append(shared.counted("each instruction is of the table", 15_000, functools.partial(in_table, [found, cargo.program()])))
+    out += self_tests.parts_of_changes("changes of one bit", mutation, found, given.all)
+    out += [shared.assembler_task([(source, cargo.NAME) for source in (TEXT, cargo.SOURCE)]),
+            self_tests.planted_task("wrong lines are refused", planted_lines.ARM_ASKED),
+            self_tests.planted_task("texts that assemblers read otherwise are refused", planted_lines.ARM_ALIKE)]
+    out += [self_tests.planted_task("wrong objects are refused", planted_objects.ARM_ASKED),
+            self_tests.planted_task("wrong texts, one for each check, are refused", planted_checks.ARM_ASKED)]
+    out.insert(0, shared.export_task({cargo.NAME: found}, [task.title for task in out]))
+    out += cargo_text_tasks(given.all)
+    return [task for task in out if given.only in task.title]
+
+
+def cargo_text_tasks(is_all):
+    """Returns the tasks on the cargo crate's source, which shares no function with another one."""
+    programs = {cargo.NAME: cargo.program()}
+    made = {name: functools.partial(cargo.CargoProcessor, program) for name, program in programs.items()}
+    out = [*cargo_tasks.long_input_tasks(made, is_all, LONG_INPUTS), *cargo_tasks.piece_tasks(made, is_all),
+           *cargo_tasks.xxh3_tasks(made, is_all, like=()), *shared.any_secret_tasks(made, is_all, cargo_tasks.ANY_SECRET),
+           *cargo_tasks.refusal_tasks(functools.partial(shared.of_each, made)),
+           shared.frames_task(programs, cargo_tasks.FRAMED)]
+    titles = [BEGIN + task.title for task in out]
+    out.insert(0, shared.counted("each export has its task", cargo_tasks.EXPORTS, functools.partial(
+        exports_left_out, programs, titles)))
+    return cargo_tasks.with_begin(out, f"cargo's {cargo.NAME}: ")
+
+
+def every_length_tasks(made, is_all):
+    """Yields the tasks of every length and of streams of any updates, by induction: some cases, or all."""
+    yield from [task for kind in every_length.UNROLLED for task in
+                shared.of_every_length(made, kind, f"XXH{kind}: every length to 2^64 - 1", every_length.cases(kind))]
+    yield from [*shared.long_tasks(made, is_all), *shared.plain_stream_tasks(made, is_all),
+                *shared.xxh3_tasks(made, is_all)]
+
+
+def in_table(programs):
+    """Returns the number of instructions in the table, and the first missing ones."""
+    code = [x for program in programs for section in program.sections.values() for x in section.values()]
+    bad = [f"{x.section} {x.at:#x}: {x.mnemonic} {x.form}" for x in code if (x.mnemonic, x.form) not in TABLE]
+    return len(code) - len(bad), bad[:5]

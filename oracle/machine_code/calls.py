@@ -1,0 +1,332 @@
+"""Tests the exports other than one-shots and streams: canonical forms, comparisons, copies, generated secrets,
+refusals. Each function runs a processor, returns its number of cases, and raises an exception on any mismatch."""
+import itertools
+import random
+
+from symbolic_terms import (Bytes, Input, NotShown, Request, at_most, definition, given, is_same, nodes, plus, symbol,
+                            times, variable)
+
+from . import one_shots, streams
+from .memory import Numbers, OnlyRead, Words
+from .streams import ERROR, OK, contents, digest, expect_answer, expect_same, new_state, reset, update
+from .values import address, arithmetic, bits, low
+
+WIDTHS = {"XXH32": 32, "XXH64": 64, "XXH128": 128}
+SHORTEST, LONGEST_KEPT = 136, 256       # bytes of a secret: the minimum, and the longest that a state stores
+# Offsets in a state of XXH3, and the size of its buffer.
+PLACE, COUNTED, WAITING, TOTAL, SECRET_LENGTH, BUFFERED = 0x40, 0x88, 0x290, 0x298, 0x2b8, 512
+# A message and a secret in one memory object: the offset and length of each.
+ONE_PLACE = [(0, 136, 0, 136), (0, 300, 0, 192), (64, 240, 0, 136), (0, 1100, 8, 200), (1, 17, 0, 136), (130, 16, 0, 136),
+             (100, 700, 36, 143), (0, 129, 128, 136)]
+MOST_NODES = 500_000                    # between two cases
+LIMITS = {32: (1 << 32) - 1, 64: (1 << 64) - 1}
+
+
+def expect(what, ours, theirs):
+    if not is_same(ours, theirs):
+        raise NotShown(f"{what}: another value")
+
+
+# ---- canonical forms and comparisons
+
+def words_of(width, name):
+    """Returns a symbolic hash as the registers that pass it: one of up to 64 bits, or two."""
+    return [(symbol(f"{name}{k} of {width}", min(width, 64)), min(width, 64)) for k in range(max(1, width // 64))]
+
+
+def canonical_forms(cpu):
+    """Tests the conversion of a hash to big-endian bytes and back. The bytes are unaligned."""
+    for name, width in WIDTHS.items():
+        words, size = words_of(width, "hash"), width // 8
+        of_hash = Words("canonical", size, alignment=1)
+        cpu.call(f"{name}_canonicalFromHash", address(of_hash), *words)
+        for k in range(size):
+            at = 8 * (size - 1 - k)
+            expect(f"{name}_canonicalFromHash", of_hash.load(k, 1), bits(words[at // 64][0], at % 64, 8))
+        source = Input("canonical", size)
+        rax, rdx = cpu.call(f"{name}_hashFromCanonical", address(source))
+        for k in range(size):
+            at = 8 * (size - 1 - k)
+            expect(f"{name}_hashFromCanonical", bits((rax, rdx)[at // 64], at % 64, 8), source.load(k, 1))
+    return 2 * len(WIDTHS)
+
+
+def is_equal(cpu):
+    """Tests equal hashes, and hashes that differ in the low word, in the high word, or in both."""
+    low_word, high_word = symbol("low", 64), symbol("high", 64)
+    for differs in ((), (0,), (1,), (0, 1)):
+        cpu.not_zero = [symbol(f"difference{k}", 64) for k in differs]
+        other = [arithmetic("xor", 64, word, symbol(f"difference{k}", 64)) if k in differs else word
+                 for k, word in enumerate((low_word, high_word))]
+        rax, _ = cpu.call("XXH128_isEqual", low_word, high_word, *other)
+        expect("XXH128_isEqual", low(rax, 32), int(not differs))
+    return 4
+
+
+def compare(cpu):
+    """Tests each word of the first hash above, equal to, and below the second hash's word."""
+    order = {1: 1, 0: 0, -1: LIMITS[32]}
+    for high in order:
+        for under in order:
+            a, b, more = (variable(name) for name in ("a", "b", "more"))
+            rest = variable("less")
+            with given(at_most(plus(a, more, 1), LIMITS[64]), at_most(plus(b, rest, 1), LIMITS[64])):
+                words = [(plus(x, d, 1) if side > 0 else x, plus(x, d, 1) if side < 0 else x)
+                         for x, d, side in ((b, rest, under), (a, more, high))]
+                first, second = (OnlyRead(name, 16, [(8 * k, 8, words[k][j]) for k in (0, 1)], alignment=8)
+                                 for j, name in enumerate(("first", "second")))
+                rax, _ = cpu.call("XXH128_cmp", address(first), address(second))
+            expect("XXH128_cmp", low(rax, 32), order[high or under])
+    return len(order) ** 2
+
+
+def compare_in_one_place(cpu):
+    """Tests a hash against itself, and two hashes that overlap in one word: the order of three words, in two steps."""
+    order, count = {1: 1, 0: 0, -1: LIMITS[32]}, 0
+    for above, below in itertools.product(order, order):
+        a, d, e = (variable(name) for name in ("a", "d", "e"))
+        first = plus(a, plus(e, 1) if below < 0 else 0, plus(d, 1) if above < 0 else 0)
+        second = plus(first, times(plus(e, 1), below))
+        third = plus(second, times(plus(d, 1), above))
+        with given(at_most(plus(a, d, e, 2), LIMITS[64])):
+            words = OnlyRead("hashes", 24, [(0, 8, first), (8, 8, second), (16, 8, third)], alignment=8)
+            for at, other, sign in ((8, 0, 1), (0, 8, -1), (0, 0, 0), (8, 8, 0)):
+                rax, _ = cpu.call("XXH128_cmp", address(words, at), address(words, other))
+                expect("XXH128_cmp of hashes in one place", low(rax, 32), order[sign * (above or below)])
+                count += 1
+    return count
+
+
+def version(cpu):
+    rax, _ = cpu.call("XXH_versionNumber")
+    expect("XXH_versionNumber", low(rax, 32), 801)
+    return 1
+
+
+# ---- states
+
+def copies(cpu):
+    """Tests that a copy has all bytes of its original, and that the original is unchanged."""
+    for hash_name in ("32", "64", "3-64"):
+        original, other = new_state(cpu, hash_name), new_state(cpu, hash_name)
+        other.name, before = "copy", contents(original)
+        cpu.call(f"XXH{streams.state_name(hash_name)}_copyState", address(other), address(original))
+        expect_same("a copy", before, original)
+        expect_same("a copy of another value", before, other)
+    return 3
+
+
+def marked(cpu, hash_name):
+    """Returns a state whose mark `forget` has removed, the offsets of the removed words, and their values."""
+    state = new_state(cpu, hash_name)
+    expect_answer(reset(cpu, Request(hash_name, "seed" if one_shots.is_plain(hash_name) else "default", 0), state), OK)
+    before = contents(state, 4)
+    cpu.call(f"twox_c_forget_xxh{streams.state_name(hash_name)}", address(state))
+    places = [4 * k for k, (x, y) in enumerate(zip(before, contents(state, 4))) if not is_same(x, y)]
+    if not places:
+        raise NotShown("forget changes nothing")
+    return state, places, [before[place // 4] for place in places]
+
+
+def forgotten(cpu):
+    """Tests that a freed state is refused, and that `forget` changes only the mark."""
+    for hash_name in ("32", "64", "3-64", "3-128"):
+        state, places, _ = marked(cpu, hash_name)
+        if len(places) > 2 or len(places) == 2 and (places[1] - places[0] != 4 or places[0] % 8):
+            raise NotShown(f"forget changes more than a word: {places}")
+        refused(cpu, hash_name, state)
+    return 4
+
+
+def refused(cpu, hash_name, state):
+    """Tests that an update and a digest of memory without a valid state return an error and 0, and change nothing."""
+    before = contents(state)
+    for piece in (Input("m", 5), Input("m", 700), None):
+        expect_answer(update(cpu, hash_name, state, piece), ERROR)
+        expect_same("a refused update", before, state)
+    expect("a refused digest", digest(cpu, hash_name, state), 0)
+
+
+def without_mark(cpu):
+    """Tests memory with any content, and any word in the mark's place that isn't a mark: all below the first mark, and
+    all above the last."""
+    count = 0
+    for hash_name, marks in (("32", 16), ("64", 32), ("3-64", 1), ("3-128", 1)):
+        _, places, values = marked(cpu, hash_name)
+        width = 32 * len(places)
+        mark = sum(value << 32 * k for k, value in enumerate(values))
+        v = variable("v")
+        for word, most in ((v, mark - 1), (plus(v, mark, marks), LIMITS[width] - mark - marks)):
+            with given(at_most(v, most)):
+                state = new_state(cpu, hash_name)
+                state.store(places[0], width // 8, word)
+                refused(cpu, hash_name, state)
+                count += 1
+    return count
+
+
+def out_of_range(cpu):
+    """Tests states of XXH3 with a mark and a field that no call leaves: a secret that is too short or too long, more
+    buffered bytes than the buffer holds, none although the total isn't 0, a position behind the secret's end."""
+    v, count = variable("v"), 0
+    for hash_name in ("3-64", "3-128"):
+        for at, low_end, most in ((SECRET_LENGTH, 0, SHORTEST - 1), (SECRET_LENGTH, LONGEST_KEPT + 1, LIMITS[64]),
+                                  (WAITING, BUFFERED + 1, LIMITS[64]), (TOTAL, 1, LIMITS[64]), (PLACE, 16, LIMITS[64])):
+            with given(at_most(v, most - low_end)):
+                state = new_state(cpu, hash_name)
+                expect_answer(reset(cpu, Request(hash_name, "default", 0), state), OK)
+                state.store(at, 8, plus(v, low_end))
+                refused(cpu, hash_name, state)
+                count += 1
+    return count
+
+
+def counters_stay(cpu):
+    """Tests that a counter of bytes or of stripes saturates at 2 ^ 64 - 1."""
+    count, most = 0, LIMITS[64]
+    for hash_name, places in (("32", [0x14]), ("64", [0x18]), ("3-64", [TOTAL, COUNTED]), ("3-128", [TOTAL, COUNTED])):
+        for n in (5, 40, 200, 600, 3000):
+            state = new_state(cpu, hash_name)
+            request = Request(hash_name, "seed" if one_shots.is_plain(hash_name) else "default", 0)
+            expect_answer(reset(cpu, request, state), OK)
+            expect_answer(update(cpu, hash_name, state, Input("m", 5)), OK)
+            for at in places:
+                state.store(at, 8, most)
+            expect_answer(update(cpu, hash_name, state, Input("m", n)), OK)
+            for at in places:
+                expect(f"XXH{hash_name}, a counter after {n} bytes", state.load(at, 8), most)
+            count += 1
+    return count
+
+
+def refused_resets(cpu):
+    """Tests that a reset refuses a secret of an invalid length. The state stays unchanged."""
+    count = 0
+    for hash_name in ("3-64", "3-128"):
+        for kind in ("secret", "both"):
+            for length in [*range(0, SHORTEST, 9), SHORTEST - 1, LONGEST_KEPT + 1, 300, 1000, LIMITS[64]]:
+                state, request = new_state(cpu, hash_name), Request(hash_name, kind, 0, length)
+                before = contents(state)
+                expect_answer(reset(cpu, request, state), ERROR)
+                expect_same("a refused reset", before, state)
+                count += 1
+    return count
+
+
+# ---- secrets
+
+def short_secrets(cpu, hash_name, lengths):
+    """Tests one-shots with a secret that is too short. The result is 0 if the secret is needed: always without a seed,
+    and above 240 bytes with a seed. Otherwise it is the seed's hash."""
+    entries, count = definition.program().run(), 0
+    for n in lengths:
+        if len(nodes.NODES) > MOST_NODES:
+            nodes.forget()
+            entries = definition.program().run()
+        for size in range(SHORTEST):
+            for kind in ("secret", "both"):
+                request = Request(hash_name, kind, n, size)
+                is_refused = kind == "secret" or n > 240
+                theirs = 0 if is_refused else request.of_definition(entries)
+                expect(f"{request}", one_shots.of_text(cpu, request), theirs)
+                count += 1
+    return count
+
+
+def null_pointers(cpu):
+    """Tests that an input and a secret of length 0 may be null."""
+    entries, count = definition.program().run(), 0
+    for hash_name, kind in (("32", "seed"), ("64", "seed"), *((name, kind) for name in ("3-64", "3-128")
+                                                                for kind in one_shots.WAYS)):
+        for size in [0, SHORTEST] if kind in ("secret", "both") else [None]:
+            request = Request(hash_name, kind, 0, size)
+            secret = [] if size is None else [address(request.secret) if size else 0, size]
+            theirs = 0 if kind == "secret" and not size else request.of_definition(entries)
+            cpu.not_zero = []
+            ours = cpu.library.one_shot(cpu, hash_name, kind, 0, 0, *secret, *one_shots.of_seed(request))
+            expect(f"{request} at null", ours, theirs)
+            count += 1
+    return count
+
+
+def in_one_place(cpu):
+    """Tests one-shots of concrete messages and secrets that overlap or are equal. The tasks with symbols show that no
+    branch depends on their addresses."""
+    entries, count, draw = definition.program().run(), 0, random.Random(3)
+    cpu.not_zero = []
+    for hash_name, kind, (first, n, own, size) in itertools.product(("3-64", "3-128"), ("secret", "both"), ONE_PLACE):
+        if not cpu.library.has(Request(hash_name, kind, n, size)):
+            continue
+        data = draw.randbytes(max(first + n, own + size))
+        whole, seed = Numbers("m", data), draw.getrandbits(64) if kind == "both" else 0
+        ours = cpu.library.one_shot(cpu, hash_name, kind, address(whole, first), n, address(whole, own), size,
+                                    *([seed] if kind == "both" else []))
+        theirs = definition.value(entries, hash_name, kind, seed, memoryview(data)[own:own + size],
+                                  memoryview(data)[first:first + n])
+        expect(f"XXH{hash_name}, {kind}: {n} bytes from {first}, secret of {size} from {own}", ours, theirs)
+        count += 1
+    return count
+
+
+def updates_of_nothing(cpu):
+    """Tests that a null chunk of length 0, before, between and after other chunks, leaves the digest unchanged."""
+    entries, count = definition.program().run(), 0
+    for hash_name, kind in (("32", "seed"), ("64", "seed"), ("3-64", "default"), ("3-128", "default")):
+        for n in (0, 5, 33, 300, 700):
+            request = Request(hash_name, kind, n)
+            state = new_state(cpu, hash_name)
+            expect_answer(reset(cpu, request, state), OK)
+            for piece in (None, request.message, None):
+                expect_answer(update(cpu, hash_name, state, piece), OK)
+            expect(f"{request} beside null pieces", digest(cpu, hash_name, state), request.of_definition(entries))
+            count += 1
+    return count
+
+
+def derived_secret(cpu):
+    """Tests the 192 bytes of the secret derived from a seed."""
+    entries = definition.program().run()
+    for seed in (symbol("seed64", 64), 0):
+        cpu.not_zero = []
+        room = Words("secret", 192, alignment=1)
+        cpu.call("XXH3_generateSecret_fromSeed", address(room), seed)
+        for k, byte in enumerate(entries["derived_secret"](seed)):
+            expect("XXH3_generateSecret_fromSeed", room.load(k, 1), byte)
+    return 2
+
+
+def made_secrets(cpu, asked):
+    """Tests secrets of given sizes, generated from seeds of given lengths. A refusal of a small size writes nothing."""
+    program = definition.program(("twox_c",), ("generated_secret",))
+    entries = program.run()
+    for size, length in asked:
+        if len(nodes.NODES) > MOST_NODES:
+            nodes.forget()
+            entries = program.run()
+        room = Words("secret", size, [(k, 1, cpu.fresh("a byte", 8)) for k in range(size)], alignment=1)
+        before, source = [room.load(k, 1) for k in range(size)], Input("m", length)
+        answer = cpu.call("proved_XXH3_generateSecret", address(room), size, address(source) if length else 0, length)
+        expect_answer(answer, OK if size >= SHORTEST else ERROR)
+        made = entries["generated_secret"](Bytes(source, 0, length), size) if size >= SHORTEST else before
+        for k, byte in zip(range(size), made, strict=True):
+            expect(f"a secret of {size} bytes of {length}", room.load(k, 1), byte)
+    return len(asked)
+
+
+def some_secrets(cpu):
+    return made_secrets(cpu, [(SHORTEST - 1, 3), (SHORTEST, 0), (143, 3), (200, 17), (256, 241)])
+
+
+# Titles, minimum numbers of cases, and test functions: of calls that take no message, and of calls that take one.
+WITHOUT_MESSAGE = [("canonical forms and back", 6, canonical_forms), ("equal hashes", 4, is_equal),
+                   ("the order of hashes", 9, compare), ("the order of hashes in one place", 36, compare_in_one_place),
+                   ("the version", 1, version), ("copies of states", 3, copies),
+                   ("freed states are refused", 4, forgotten), ("the derived secret", 2, derived_secret)]
+OF_MESSAGES = [("streams: memory without the mark of a reset", 8, without_mark),
+               ("streams: states of XXH3 that no call leaves", 10, out_of_range),
+               ("streams: counters that stay at 2^64 - 1", 20, counters_stay),
+               ("streams: secrets that a state doesn't keep", 80, refused_resets),
+               ("streams: null pieces of no bytes", 20, updates_of_nothing),
+               ("null inputs and secrets of no bytes", 14, null_pointers),
+               ("a message and a secret in one place", 32, in_one_place)]
+OTHERS = [*WITHOUT_MESSAGE, *OF_MESSAGES, ("made secrets", 5, some_secrets)]

@@ -1,0 +1,102 @@
+"""Lists the exports of the sources for C with the beginnings of the titles of tasks that prove them. A source with
+another name, or without one of these, fails."""
+from symbolic_terms import NotShown
+
+from .one_shots import NAMES, WAYS, is_plain
+
+SAME = "names of another's code"
+STREAMS, FORGET = "streams", "freed states"
+
+
+def shown_by():
+    """Maps each name to the beginning of a task's title."""
+    out = {"XXH_versionNumber": "the version", "XXH128_isEqual": "equal hashes", "XXH128_cmp": "the order of hashes",
+           "proved_XXH3_generateSecret": "made secrets", "XXH3_generateSecret_fromSeed": "the derived secret"}
+    for name in ("XXH32", "XXH64", "XXH128"):
+        out.update({f"{name}_canonicalFromHash": "canonical forms", f"{name}_hashFromCanonical": "canonical forms"})
+    for name in ("32", "64", "3"):
+        out.update({f"XXH{name}_copyState": "copies of states", f"twox_c_forget_xxh{name}": FORGET})
+    for hash_name, name in NAMES.items():
+        kinds = ["seed"] if is_plain(hash_name) else WAYS
+        prefix = "" if is_plain(hash_name) else "proved_"
+        for kind in kinds:
+            way = "" if is_plain(hash_name) else WAYS[kind]
+            out[name + way] = f"XXH{hash_name}, {kind}"
+            out[f"{prefix}{name}_reset{way}"] = STREAMS
+        out.update({f"{name}_update": STREAMS, f"{name}_digest": STREAMS})
+    return {**out, **dict.fromkeys(twins(), SAME)}
+
+
+def twins():
+    """Maps names to the name with the same code: calls with two names, and `_dispatch` variants."""
+    out = {"XXH128": "XXH3_128bits_withSeed"}
+    for name in ("XXH3_64bits", "XXH3_128bits"):
+        for way in ("", "_withSeed", "_withSecret", "_update"):
+            out[f"{name}{way}_dispatch"] = name + way
+    return out
+
+
+def expect_all(program, titles):
+    """Checks that the source exports exactly the names of the table, and that each has its task."""
+    known = shown_by()
+    for name in sorted({*known, *program.exports}):
+        if name not in known:
+            raise NotShown(f"{name} is exported, and no task shows it")
+        if name not in program.exports:
+            raise NotShown(f"{name} isn't exported")
+        if not any(title.startswith(known[name]) for title in titles):
+            raise NotShown(f"there is no task {known[name]} for {name}")
+    return len(known)
+
+
+def expect_twins(program):
+    """Checks that each twin has the same instructions as the other name."""
+    for name, other in twins().items():
+        if code_of(program, name) != code_of(program, other):
+            raise NotShown(f"{name} has other code than {other}")
+    return len(twins())
+
+
+# ---- the exports of x86-64-v4 that have the code of x86-64-v3
+
+def is_of_v3(name):
+    """True for all exports of XXH32 and XXH64, and for calls without a message."""
+    task = {**shown_by(), **dict.fromkeys(twins(), STREAMS)}[name]
+    return name.startswith(("XXH32_", "XXH64_")) or task.startswith(("XXH32,", "XXH64,", *OTHERS))
+
+
+OTHERS = ("the version", "equal hashes", "the order of hashes", "canonical forms", "copies of states", FORGET,
+          "the derived secret")
+
+
+def expect_code_of_v3(program, other):
+    """Checks that these exports, with all that they reach, have the other source's instructions and constants."""
+    found = [name for name in program.exports if is_of_v3(name)]
+    for name in found:
+        left, known = [program.exports[name]], set()
+        while left:
+            section, first = left.pop()
+            if first or section in known:
+                continue
+            known.add(section)
+            if led(program, section) != led(other, section):
+                raise NotShown(f"{name}: {section} has other code")
+            left += [x.target for x in program.sections[section].values() if x.target and x.target[0] in program.sections]
+    return len(found)
+
+
+def led(program, section):
+    """Returns the instructions of a section, with constants' values instead of their names."""
+    code = program.sections.get(section, {})
+    return [x._replace(target=(program.constants[x.target[0]], x.target[1])) if x.target and x.target[0] in program.constants
+            else x for _, x in sorted(code.items())]
+
+
+def code_of(program, name):
+    """Returns the instructions of a function's section, with their offsets."""
+    if name not in program.exports:
+        raise NotShown(f"{name} isn't exported")
+    section, _ = program.exports[name]
+    code = program.sections[section]
+    return [(at, x.end, x.mnemonic, x.operands, ("here", x.target[1]) if x.target and x.target[0] == section
+             else x.target) for at, x in sorted(code.items())]

@@ -1,0 +1,221 @@
+"""Tests that single-instruction changes of an assembly source are detected: another register, operand, number,
+condition or shift, an instruction left out, or two neighbours swapped.
+
+A change is tested by requests that run the instruction (queries.py). It is detected if the source's term differs from
+the definition's, or if the source does something that no call may do. Undetected changes are listed in equivalent_mutants
+with their reasons, in one file per source. A listed change that is detected fails. With --all an unneeded reason fails
+too. A crash of this program doesn't count as detection."""
+import collections
+import functools
+import hashlib
+import itertools
+import os
+import random
+
+from reasons import CRASH, UNNOTICED, Reasons, is_fault
+from symbolic_terms import definition, nodes
+
+from .instructions import PARTS, SETS, TABLE, VECTORS, letters
+from .objects import TEXT, Immediate, Place, Register
+from .one_shots import is_plain
+from .queries import FOR_C, Call, are_long, by_induction, further, near, queries, reaching, takes_stripes
+
+FOLDER = os.path.join(os.path.dirname(os.path.abspath(__file__)), "equivalent_mutants")
+LIMIT = 40_000                   # instructions of a changed source's call
+MOST, NEAR, FEWEST = 200, 40, 10  # shortest requests; generated requests near them; requests tested on symbols
+DRAWS = 10                        # random seeds with --all; one otherwise
+TASKS = 4                          # tasks into which the changes of the sources for ARM are split, with --all
+IDLE = "nop", "prefetcht0", "vzeroupper", "ud2"
+ALIKE = [("je", "jne"), ("jb", "jbe"), ("ja", "jae"), ("jb", "jae"), ("sete", "setne"), ("cmovb", "cmovae"),
+         ("add", "sub"), ("xor", "or"), ("and", "or"), ("inc", "dec"), ("neg", "not"), ("shl", "shr"), ("mul", "div"),
+         ("movzbl", "movsbl"), ("imul", "add"), ("movq", "movl"), ("paddq", "psubq"), ("paddq", "pxor"),
+         ("pxorq", "porq"), ("psrlq", "psllq"), ("punpcklqdq", "punpckhqdq"), ("pmuludq", "paddq"), ("pmulld", "paddd"),
+         ("pslldq", "psrldq")]
+
+
+# ---- outcome of a change
+
+def outcome(cpu, instructions, asked, draw, near_to, more):
+    """Returns the outcome of changed instructions: tests the requests that run them, requests near those, a few on
+    symbols, and `more` queries. If only long requests run them, `more` comes first. A query that detects a change
+    must accept the unchanged source: otherwise its result says nothing about the change."""
+    before = [cpu.program.sections[x.section][x.at] for x in instructions]
+    requests = [query for query in asked if query.request]
+    few = draw.sample(requests[:MOST], min(FEWEST, len(requests[:MOST])))
+    with_near = itertools.chain(requests, near_to(requests, draw=draw))
+    by_requests = itertools.chain((query.twice for query in with_near), (query.over_symbols for query in few))
+    ways = itertools.chain(*((more, by_requests) if are_long(requests) else (by_requests, more)))
+    try:
+        for x in instructions:
+            cpu.change(x)
+        told, ask = next(((told, ask) for ask in ways if (told := ask(cpu))), (UNNOTICED, None))
+    finally:
+        for x in before:
+            cpu.change(x)
+    refused = ask and ask(cpu)
+    return f"{CRASH}: {ask.__self__.title} refuses the text as it is: {refused}" if refused else told
+
+
+# ---- changes
+
+def other_register(name, draw):
+    if name in VECTORS:
+        return f"{name[:3]}{(VECTORS[name] + draw.randrange(1, 16)) % 16}"
+    whole, first, width = PARTS[name]
+    return draw.choice([other for other, (to, at, n) in PARTS.items() if (at, n) == (first, width) and
+                        to not in (whole, "rsp")] or [name])
+
+
+def with_operand(x, k, operand):
+    return x._replace(operands=(*x.operands[:k], operand, *x.operands[k + 1:]))
+
+
+def of_operand(x, k, draw):
+    """Yields replacements of one operand: (description, instruction)."""
+    operand = x.operands[k]
+    if isinstance(operand, Register):
+        yield "register", with_operand(x, k, Register(other_register(operand.name, draw)))
+    elif isinstance(operand, Immediate):
+        yield "number", with_operand(x, k, Immediate(operand.value + draw.choice((1, -1))))
+        if operand.value > 255:
+            bit = 1 << draw.randrange(operand.value.bit_length())
+            yield "number", with_operand(x, k, Immediate(operand.value ^ bit))
+    elif operand.base == "rip":
+        yield "constant", x._replace(target=(x.target[0], x.target[1] + 8))
+    else:
+        further = operand.displacement + draw.choice((1, -1, 8, -8, 16))
+        yield "displacement", with_operand(x, k, operand._replace(displacement=further))
+        if operand.base:
+            yield "base", with_operand(x, k, operand._replace(base=other_register(operand.base, draw)))
+        if operand.index:
+            yield "scale", with_operand(x, k, operand._replace(scale=operand.scale % 8 * 2 or 1))
+
+
+def of_instruction(x, draw):
+    """Yields all changes of one instruction: (description, instructions)."""
+    yield "left out", [x._replace(mnemonic="nop", operands=(), target=None)]
+    for pair in ALIKE:
+        for name, other in (pair, pair[::-1]):
+            for prefix in ("", "v"):
+                if x.mnemonic == prefix + name:
+                    yield f"{prefix}{other}", [x._replace(mnemonic=prefix + other)]
+    for k in range(len(x.operands)):
+        yield from ((what, [changed]) for what, changed in of_operand(x, k, draw))
+
+
+def swapped(x, y):
+    """Yields the swap of two neighbours, if the second uses the result of the first."""
+    is_plain = all(z.target is None and z.operands and z.mnemonic not in ("push", "pop") for z in (x, y))
+    made = x.operands[-1] if is_plain else None
+    if isinstance(made, Register) and made in y.operands[:-1] and made != y.operands[-1]:
+        yield "after the next", [y._replace(at=x.at, end=x.end), x._replace(at=y.at, end=y.end)]
+
+
+def is_form(x, name):
+    return TABLE.get((x.mnemonic, letters(x)), (None,))[0] in SETS[name]
+
+
+def anywhere(_):
+    return True
+
+
+def drawn(cpu, is_drawn, places, draw):
+    """Yields (place, text, instructions) of random changes in some sections. The order depends only on functions and
+    instructions: an unchanged function gets the same changes, whatever happens to the others."""
+    salt, kept = draw.getrandbits(32), {place for place in places if is_drawn(place[0])}
+    for key, place in sorted((key, place) for key, place in keys(cpu, kept, salt) if place in kept):
+        yield from changed_at(cpu, place, random.Random(key))
+
+
+def keys(cpu, places, salt):
+    """Yields (hash, place) of each instruction of the places' functions."""
+    seen = collections.Counter()
+    for section, at, x in ((section, at, x) for section in sorted({section for section, _ in places})
+                           for at, x in sorted(cpu.program.sections[section].items())):
+        what = f"{cpu.program.title_of(section)} {written(x)}"
+        seen[what] += 1
+        yield hashlib.sha256(f"{salt} {what} {seen[what]}".encode()).hexdigest(), (section, at)
+
+
+def changed_at(cpu, place, draw):
+    """Yields a random change at a place, or nothing. Instructions that compute nothing aren't changed."""
+    section, at = place
+    x = cpu.program.sections[section][at]
+    if x.mnemonic in IDLE:
+        return
+    ways = list(of_instruction(x, draw))
+    if x.end in cpu.program.sections[section]:
+        ways += swapped(x, cpu.program.sections[section][x.end])
+    what, instructions = draw.choice(ways)
+    if all(is_form(y, cpu.name) for y in instructions) and instructions != [x]:
+        title = cpu.program.title_of(section)[len(TEXT):]
+        text = f"{title} {written(x)}: {what} {'; '.join(map(written, instructions))} (at {at:#x})"
+        yield place, text, instructions
+
+
+def written(x):
+    """Returns an instruction as objdump prints it, without its address."""
+    parts = []
+    for y in x.operands:
+        if isinstance(y, Place):
+            index = f",%{y.index},{y.scale}" if y.index else ""
+            parts.append(f"{y.displacement:#x}({'%' + y.base if y.base else ''}{index})")
+        else:
+            parts.append(f"%{y.name}" if isinstance(y, Register) else f"${y.value:#x}")
+    parts += [f"{x.target[1]:#x}" if x.target[0] == x.section else x.target[0]] if x.target and not parts else []
+    return f"{x.mnemonic} {','.join(parts)}".strip()
+
+
+# ---- the task
+
+def more_ways(cpu, reached, asked, entries, is_all, section, beside):
+    """Yields further queries about a change in a section: calls without a request, inductions with --all, and further
+    requests. A function that takes many stripes always gets inductions: its requests take long. If no request reaches
+    the change, those of XXH32's and XXH64's streams are used."""
+    requests = [query for query in reached if query.request] or [
+        query for query in asked if query.request and query.request.cuts and is_plain(query.request.hash_name)]
+    yield from (query.over_symbols for query in reached if not query.request)
+    if beside.updates and (is_all or takes_stripes(cpu.program, section)):
+        yield from (query.over_symbols for query in by_induction(cpu.program, requests, section, beside.updates))
+    yield from (query.twice for query in further(requests, entries, beside.shortest))
+    yield from (Call(call).over_symbols for call in beside.more(cpu))
+
+
+def noticed(name, make, count, is_all, is_drawn=anywhere, beside=FOR_C):
+    """Returns the number of tested changes of a source, and the failures. `is_drawn` selects the sections."""
+    cpu, known = make(), Reasons(os.path.join(FOLDER, f"{name}.txt"))
+    some = of_draws(functools.partial(drawn, cpu, is_drawn), count, DRAWS if is_all else 1)
+    texts, bad = noticed_of(cpu, some, known, is_all, beside)
+    return len(texts), bad + [f"no change needs the reason of {words}" for words in (known.unused(texts) if is_all else ())]
+
+
+def of_draws(one, count, draws=1):
+    """Returns a function of places, as `noticed_of` takes it: `count` changes of each of `draws` random seeds."""
+    return lambda places: itertools.chain.from_iterable(
+        itertools.islice(one(places, random.Random(1 + number)), count) for number in range(draws))
+
+
+def part_of(changes, part):
+    """Returns a function of places that yields every TASKS-th change, starting at `part`."""
+    return lambda places: itertools.islice(changes(places), part, None, TASKS)
+
+
+def noticed_of(cpu, changes, known, is_all, beside=FOR_C):
+    """Returns the texts of the tested changes, and the messages for undetected ones. `changes` draws from a source's
+    places; `known` has the reasons. The queries about a change don't depend on other changes."""
+    nodes.forget()
+    cpu.limit = LIMIT
+    entries = definition.program().run()
+    asked = queries(entries, is_all, beside.calls, cpu.library)
+    found = reaching(cpu, asked)
+    bad, texts = [], []
+    near_to = functools.partial(near, entries=entries, count=NEAR, shortest=beside.shortest)
+    for place, text, instructions in changes(sorted(found)):
+        texts.append(text)
+        reached = [query for k, query in enumerate(asked) if found[place] >> k & 1]
+        has_reason = bool(known.of(text))
+        more = () if has_reason else more_ways(cpu, reached, asked, entries, is_all, place[0], beside)
+        what = outcome(cpu, instructions, reached, random.Random(text), near_to, more)
+        if is_fault(what, has_reason):
+            bad.append(f"{what}{', and has a reason' if has_reason else ''}: {text}")
+    return texts, bad

@@ -1,0 +1,131 @@
+"""Planted faults that only the list of an object's contents (object_contents.py) refuses, or the tasks of exports, twins and
+frames: each is a committed source with other lines, and its executed instructions are unchanged."""
+import os
+
+from symbolic_terms import TOP, NotShown
+
+from . import calls, exports
+from .aarch64 import objects, table
+from .instructions import V1, V3
+from .objects import Program
+from .planted import VERSION, Asked, Wrong, begun, ended, function, request, substituted
+from .processor import Processor
+from .unwinding import expect_frames
+
+ARM = "aarch64"
+X86_SOURCE, ARM_SOURCE = (os.path.join(TOP, "c", "asm", f"{name}.s") for name in (V3, ARM))
+PROPERTY = "\t.long 4,16,5\n", "\t.long 0xc0000002,4,2,0\n"
+
+
+def exchanged(old, new):
+    """Returns a change that replaces all matches of a text, which must occur."""
+    def change(text):
+        if old not in text:
+            raise NotShown(f"the text has no {old}")
+        return text.replace(old, new)
+    return change
+
+
+def in_section(name, *lines):
+    return ended(f".section {name}", *lines)
+
+
+def local(name):
+    return exchanged(f"\t.globl {name}\n", "")
+
+
+def with_property(length, *words):
+    """Returns a change that gives the note other properties of `length` bytes."""
+    return lambda text: exchanged(PROPERTY[1], "".join(f"\t.long {word}\n" for word in words))(
+        exchanged(PROPERTY[0], f"\t.long 4,{length},5\n")(text))
+
+
+# ---- tests
+
+def of_object(cpu):
+    """Reads the object, as every task does first, and runs the version's call."""
+    calls.version(cpu)
+
+
+def of_exports(cpu):
+    exports.expect_all(cpu.program, exports.shown_by().values())
+
+
+def of_twins(cpu):
+    exports.expect_twins(cpu.program)
+
+
+def of_frames(cpu):
+    expect_frames(cpu.program)
+
+
+LISTED = [
+    ("code that runs before a program", in_section('.init,"ax",@progbits', "nop"), "the section .init"),
+    ("code that runs behind a program", in_section('.fini,"ax",@progbits', "nop"), "the section .fini"),
+    ("places of what runs before a program", in_section('.ctors,"a",@progbits', ".quad 0x401000"), "the section .ctors"),
+    ("places that are called before all else", in_section('.preinit_array,"a",@progbits', ".quad 0x401000"),
+     "the section .preinit_array"),
+    ("a stack that may be run", exchanged('.note.GNU-stack,""', '.note.GNU-stack,"x"'), "the section .note.GNU-stack"),
+    ("a text that says nothing of its stack", exchanged('\t.section .note.GNU-stack,"",@progbits\n', ""), "no note"),
+    ("another note", in_section('.note.more,"a",@note', ".long 4,4,1", '.asciz "GNU"', ".long 0"), "the section .note.more"),
+    ("an export that is hidden", ended(".hidden XXH32"), "XXH32 of the binding 1 and visibility 2"),
+    ("an export that stays within its library", ended(".protected XXH32"), "visibility 3"),
+    ("an export that is weak", exchanged(".globl XXH32\n", ".weak XXH32\n"), "XXH32 of the binding 2"),
+    ("a function of another library that is hidden", ended(".hidden memcpy"), "memcpy, which isn't here, or is weak"),
+    ("a function that the loader asks where it is", exchanged(
+        "\t.type twox_plain.xxhash64.rounds.impl_long,@function\n",
+        "\t.type twox_plain.xxhash64.rounds.impl_long,@gnu_indirect_function\n"), "another system|of kind 10"),
+    ("a function of another size", exchanged(".size XXH32,.-XXH32", ".size XXH32,1"), "isn't all of"),
+    ("two functions in a section", begun(VERSION, "nop", "ret", ".type second,@function", "second:", "ret", ".size second,1"),
+     "isn't all of .text.XXH_versionNumber"),
+    ("code that is no function", in_section('.text.more,"ax",@progbits', "nop"), "which is no function"),
+    ("constants at another multiple than their size", exchanged(
+        '.section .rodata.cst16,"aM",@progbits,16\n\t.p2align 4', '.section .rodata.cst16,"aM",@progbits,16\n\t.p2align 5'),
+     "entries of .rodata.cst16"),
+    ("a number as a name", ended("number = 7", ".type number,@function"), "a place in no section"),
+]
+OF_X86 = [
+    ("a note that asks for another processor", with_property(32, "0xc0000002,4,2,0", "0xc0008002,4,15,0"), "a property beyond"),
+    ("a note of jumps that the text doesn't mark", with_property(16, "0xc0000002,4,3,0"), "a property beyond"),
+    ("a text that says nothing of shadow stacks", exchanged(PROPERTY[1], "\t.long 0xc0010001,4,1,0\n"), "a property beyond"),
+]
+OF_ARM = [
+    ("a note of jumps that the text doesn't mark", in_section(
+        '.note.gnu.property,"a",@note', ".p2align 3", ".long 4,16,5", '.asciz "GNU"', ".long 0xc0000000,4,1,0"), "other notes"),
+    ("another place of a mergeable constant", substituted(
+        r"(?s)(adrp (x\d+), \.L\d+_)10\n(.*?:lo12:\.L\d+_)10\]", r"\g<1>0+16\n\g<3>0+16]"), "a linker may move"),
+]
+OF_ARM.append(("a constant at no multiple of its size", lambda text: substituted(
+    r"(?s)(adrp (x\d+), )(\.L\d+_0)\n(.*?:lo12:)\3\]", r"\1.L999_3\n\4.L999_3]")(in_section(
+        '.rodata.more,"a",@progbits', ".p2align 4", ".byte 1,2,3", ".L999_3: .quad 1,2")(text)), "may be no multiple of 16"))
+WITH_BYTES = [
+    ("vzeroupper in bytes that a processor refuses", begun(VERSION, ".byte 0xc5,0xfa,0x77"), "c5fa77, which aren't its own"),
+    ("vzeroupper in other such bytes", begun(VERSION, ".byte 0xc5,0xf9,0x77"), "c5f977, which aren't its own"),
+    ("a move in the bytes of another assembler", begun(VERSION, ".byte 0x48,0x8b,0xc7"), "488bc7, which aren't its own"),
+    ("nothing to do in bytes that are kept for other uses", begun(VERSION, ".byte 0x0f,0x19,0xc0"), "which aren't its own"),
+]
+ARM_BYTES = [("a product whose fixed bits are others", begun(VERSION, ".inst 0x9bc10009"), "which aren't its own")]
+SHARED = [
+    *((what, change, of_object, words) for what, change, words in LISTED),
+    ("an export that is missing", local("XXH64_update"), of_exports, "XXH64_update isn't exported"),
+    ("an export that no header names", ended(*function("malloc", ".globl malloc")), of_exports, "malloc is exported"),
+    ("a frame of another depth", substituted(r"^\t\.cfi_def_cfa_offset \d+$", "\t.cfi_def_cfa_offset 8000"), of_frames,
+     "another frame"),
+    ("a frame that lacks a register", substituted(r"^\t\.cfi_offset .*\n", ""), of_frames, "another frame"),
+    ("a register that stays away", substituted(r"^\t\.cfi_restore .*\n", ""), of_frames, "another frame"),
+    ("a function without frames", substituted(r"^\t\.cfi_startproc\n((?:\t[^.].*\n)*)\t\.cfi_endproc\n", r"\1"), of_frames,
+     "or none of"),
+    ("who is called where a stack is unwound", substituted(r"(?<=^\t\.cfi_startproc\n)", "\t.cfi_personality 0x1b,memcpy\n"),
+     of_frames, "the table of frames"),
+]
+TEXTS = [*SHARED, *((what, change, of_object, words) for what, change, words in [*OF_X86, *WITH_BYTES]),
+         ("another value under a second name", begun("XXH128", "xor %eax,%eax", "xor %edx,%edx", "ret"), of_twins,
+          "XXH128 has other code")]
+ARM_TEXTS = [*SHARED, ("a value by where the secret lies beside the message", begun(
+    "XXH3_64bits_withSecret", "sub x9, x0, x2", "cmp x9, #8", "b.cs 1f", "mov x0, #0", "ret", "1:"), request("3-64", "secret", 40, 136), "< 8"), *((what, change, of_object, words) for what, change, words in [*OF_ARM, *ARM_BYTES]),
+             ("another value under a second name", begun("XXH128", "mov x0, #0", "mov x1, #0", "ret"), of_twins,
+              "XXH128 has other code")]
+
+
+X86_ASKED = [Asked(Wrong(*wrong), X86_SOURCE, lambda path: Processor(Program(path), V3), V1) for wrong in TEXTS]
+ARM_ASKED = [Asked(Wrong(*wrong), ARM_SOURCE, lambda path: table.Processor(objects.Program(path)), ARM) for wrong in ARM_TEXTS]

@@ -1,0 +1,95 @@
+"""Chooses the tasks on the verifier itself: planted faults, disabled checks, changes of instructions, and the table
+compared with the processor. They can only fail: no proof of a source depends on them."""
+import functools
+import itertools
+import tempfile
+
+from . import (any_updates, cargo_calls, cargo_planted, cargo_streams, mutation, on_processor, planted, planted_checks,
+               planted_lines, planted_objects, planted_values, disabled_checks)
+from .cargo_exports import BEGIN
+from .instructions import SETS, TABLE, V1, V4
+from .queries import CASES, Beside, plain_update, xxh3_update
+from .tasks import counted, makers
+
+SOME_CHECKS, SWITCHED_OFF = 9, (4, 100)      # step of planted faults without --all; minimum of disabled checks
+
+
+def planted_task(title, asked):
+    return counted(title, len(asked), functools.partial(planted.refused, asked))
+
+
+def choose(texts, others, is_all):
+    """Returns the tasks on c/asm's sources and on cargo's, which are `others`."""
+    forms = sum(kind in SETS[on_processor.processor_here()] for kind, _ in TABLE.values())
+    without = "" if on_processor.is_v4() else ", without what it lacks of x86-64-v4"
+    return [counted(f"the table of instructions beside the processor{without}", forms - 40,
+                    functools.partial(beside_processor, [*texts.values(), *others.values()], is_all)),
+            planted_task("wrong lines are refused", planted_lines.X86_ASKED),
+            planted_task("texts that assemblers read otherwise are refused", planted_lines.X86_ALIKE),
+            planted_task("wrong objects are refused", planted_objects.X86_ASKED),
+            planted_task("wrong texts of each kind are refused", planted.ASKED),
+            planted_task("wrong texts, one for each check, are refused", planted_checks.X86_ASKED[::1 if is_all else SOME_CHECKS]),
+            planted_task("calls with wrong operands are refused", planted_values.ASKED),
+            counted("checks that are switched off are noticed", SWITCHED_OFF[is_all], functools.partial(disabled_checks.tell, is_all)),
+            counted("faults of the check itself are noticed", len(planted.CHECKS), planted.noticed),
+            planted_task(f"{BEGIN}wrong texts are refused", cargo_planted.ASKED), *change_tasks(texts, others, is_all)]
+
+
+def change_tasks(texts, others, is_all):
+    """Yields tasks of single-instruction changes: for x86-64-v4 in its own functions, and of cargo's sources only for
+    the one that shares no function with c/asm."""
+    for name, make in makers(texts).items():
+        if name == V4:
+            yield change_task(f"in the widened functions of {name}", (20, 100), is_all, name, make, is_drawn=is_widened)
+        else:
+            yield change_task(name, (40, 100), is_all, name, make)
+    name = f"cargo's {V1}"
+    task = change_task(name, (30, 30), is_all, f"cargo-{V1}", makers(others)[name],
+                     beside=Beside([*cargo_calls.ALL, *pieces()], cargo_streams.CargoUpdates, each_piece, 241))
+    task.title = BEGIN + task.title
+    yield task
+
+
+def pieces():
+    """Yields queries that prove cases of chunks: a changed cargo source has no requests of whole streams."""
+    for k in range(CASES):
+        yield functools.partial(plain_update, "32", k)
+        yield functools.partial(xxh3_update, cargo_streams.CargoUpdates, k)
+
+
+def each_piece(cpu):
+    """Yields calls that prove each case of chunks, of which `pieces` has some."""
+    for k, _ in enumerate(cargo_streams.CargoUpdates(cpu).all_updates()):
+        yield functools.partial(xxh3_piece, k)
+    for one in any_updates.updates("32"):
+        yield lambda cpu, one=one: any_updates.AnyUpdates(cpu, "32").update(one)
+
+
+def xxh3_piece(k, cpu):
+    proof = cargo_streams.CargoUpdates(cpu)
+    proof.update(*next(itertools.islice(proof.all_updates(), k, None)))
+
+
+def is_widened(section):
+    return "widened" in section
+
+
+def change_task(where, counts, is_all, *asked, **more):
+    """Returns a task of `count` changes of one random seed, or with --all of each seed."""
+    count, draws = counts[is_all], mutation.DRAWS if is_all else 1
+    return counted(f"changes of one instruction, {where}", count * draws,
+                   functools.partial(mutation.noticed, *asked, count, is_all, **more))
+
+
+def parts_of_changes(title, asked, program, is_all):
+    """Yields a task with a few of a module's changes, or with --all a task for each part of them."""
+    for part in range(mutation.TASKS) if is_all else [None]:
+        words = f", part {part + 1} of {mutation.TASKS}" if is_all else ""
+        yield counted(title + words, asked.MANY // mutation.TASKS if is_all else asked.FEW,
+                      functools.partial(asked.noticed, program, part))
+
+
+def beside_processor(programs, is_all):
+    on_processor.expect_processor()
+    with tempfile.TemporaryDirectory(prefix="machine-text-") as room:
+        return on_processor.compare(on_processor.asked(programs, is_all), room, on_processor.own_bytes(programs))

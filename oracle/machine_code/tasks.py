@@ -1,0 +1,334 @@
+"""Chooses the tasks of oracle/machine-text on c/asm: their requests and their minimum numbers of cases."""
+import functools
+import itertools
+import os
+
+from symbolic_terms import REFUSALS, TOP, Request, WrongRule, comparison, nodes, variable
+from symbolic_terms.processes import Task
+
+from . import (any_secret, any_updates, calls, coverage, every_length, exports, lanes, long_seeds, one_shots, scalar,
+               streams, xxh3_updates)
+from .cargo import CargoProcessor, CargoProgram
+from .instructions import V1, V2, V3, V4
+from .objects import Program
+from .processor import Processor
+from .sources import assembled, expect_alike
+from .unwinding import expect_frames
+
+NAMES = V2, V3, V4
+FOLDER = os.path.join(TOP, "c", "asm")
+ONE_BY_ONE, MORE = range(301), range(301, 1101)     # lengths tested one by one: always, and with --all
+EDGES_OF_BLOCKS = [1023, 1024, 1025, 1088, 1089, 2048, 2049, 2112]
+SECRETS, STREAM_SECRETS = (136,), (136, 193, 256)
+# Streams: the length, and the offsets at which the input is cut.
+FEW_STREAMS = [(0,), (5, 2), (33, 1), (70, 33, 64), (200, 31, 160), (240, 239), (257, 256), (300, 64, 192),
+               (600, 512, 599), (1100, 64), (1500, 40, 1100)]
+SOME_UPDATES, UPDATE_PARTS = 97, 4                  # step of the sample of updates, and the number of parts of all
+# Cases of XXH3's streams: size of a sample, and the number of parts of all.
+XXH3_CASES = {xxh3_updates.UPDATES: (4, 6), xxh3_updates.DIGESTS: (4, 1), xxh3_updates.STRIPES: (2, 2)}
+COVERED = 300, 3000                                 # points tested for completeness of XXH3's cases, and with --all
+SOME_SECRETS = [*range(136, 144), *range(190, 202), 256, 257, 576, 999, 1000]
+ANY_SECRET = [f"{name}:{way}" for name in ("3-64", "3-128") for way in ("secret", "both")]
+MOST_NODES = 400_000                                # terms kept between the cases of a proof
+SOME_LENGTHS = 5                                   # step between cases of a secret of any length, without --all
+OF_LONG_SEEDS = 137,                                # bytes of secrets generated from 2^32 bytes and more
+FEWEST_FRAMED = 9000                                # minimum number of instructions of a source
+SMALL = [0, 1, 3, 4, 8, 9, 16, 17, 128, 129, 240, 241, 1000]
+assert scalar and lanes                             # imported because they fill the table
+
+
+def programs():
+    return {name: assembled(f"{FOLDER}/{name}.s", V1, Program) for name in NAMES}
+
+
+def makers(texts):
+    """Maps each name to a function that makes a processor of its source."""
+    return {name: functools.partial(CargoProcessor, program) if isinstance(program, CargoProgram) else
+            functools.partial(Processor, program, name) for name, program in texts.items()}
+
+
+def counted(title, least, ask):
+    """Returns a task with a minimum number of cases: `ask` returns the number that passed, and the failures."""
+    def outcome():
+        count, bad = ask()
+        few = [f"{count} cases, and {least} at least are wanted"] if count < least and not bad else []
+        return f"{count} cases", bad + few
+    return Task(title, outcome)
+
+
+def choose(options, texts):
+    """Returns the tasks on c/asm."""
+    made, is_all = makers(texts), options.all
+    tasks = [*one_shot_tasks(made, is_all), *secret_tasks(made, is_all), *every_length_tasks(made, is_all),
+             *stream_tasks(made, is_all), *call_tasks(texts, made, is_all)]
+    tasks += [assembler_task([(f"{FOLDER}/{name}.s", V1) for name in texts])]
+    tasks.insert(0, export_task(texts, [task.title for task in tasks]))
+    return tasks
+
+
+def export_task(texts, titles):
+    return counted("each export has its task", 54 * len(texts),
+                   lambda: (sum(exports.expect_all(program, titles) for program in texts.values()), []))
+
+
+def before_v4(made):
+    return {name: make for name, make in made.items() if not name.endswith(V4)}
+
+
+def only_v4(made):
+    return {name: make for name, make in made.items() if name.endswith(V4)}
+
+
+# ---- one-shots and streams, compared with the definition's terms
+
+def compared(made, title, requests, side=one_shots):
+    """Returns a task of requests, each for all sources: the definition's term is computed once. For XXH32 and XXH64
+    x86-64-v4's code equals x86-64-v3's."""
+    requests = list(requests)
+    made = before_v4(made) if one_shots.is_plain(requests[0].hash_name) else made
+    lengths = [request.length for request in requests]
+
+    def ask():
+        return comparison.compare({name: functools.partial(side.of_text, make()) for name, make in made.items()}, requests)
+    return counted(f"{title}: {min(lengths)} to {max(lengths)} bytes", len(requests) * len(made), ask)
+
+
+def one_by_one(made, kind, lengths, more=""):
+    return compared(made, comparison.title_of(*kind) + more, comparison.requests(*kind, lengths))
+
+
+def one_shot_tasks(made, is_all):
+    """Yields the tasks of one-shots. With a secret of 136 bytes x86-64-v4 runs x86-64-v3's code."""
+    yield from [one_by_one(made if is_all or kind[2] is None else before_v4(made), kind, ONE_BY_ONE)
+                for kind in comparison.kinds(SECRETS)]
+    for kind in [("3-64", "default", None), ("3-128", "seed", None), ("3-64", "secret", 192)]:
+        yield one_by_one(only_v4(made), kind, EDGES_OF_BLOCKS, f", at the edges of blocks, {V4}")
+    for kind in comparison.kinds(SECRETS) if is_all else ():
+        yield one_by_one(made, kind, comparison.edges(kind[2]), ", at edges")
+        if kind[2] is None and kind[0].startswith("3-"):
+            yield from [one_by_one(made, kind, MORE), one_by_one(made, kind, [every_length.PREFETCHED])]
+
+
+def secret_tasks(made, is_all):
+    """Yields the tasks of secrets that are too short, and of secrets of several lengths."""
+    lengths = SMALL if is_all else [0, 17, 241]
+    for hash_name in ("3-64", "3-128"):
+        yield of_each(made, f"XXH{hash_name}, secrets that are too short", 2 * calls.SHORTEST * len(lengths),
+                      functools.partial(calls.short_secrets, hash_name=hash_name, lengths=lengths))
+        requests = (Request(hash_name, kind, n, size) for size in SOME_SECRETS for kind in ("secret", "both")
+                    for n in (240, 700))
+        yield compared(made, f"XXH{hash_name}, secrets of 136 to 1000 bytes", requests)
+
+
+def stream_tasks(made, is_all):
+    for kind in comparison.kinds(STREAM_SECRETS if is_all else SECRETS):
+        yield compared(made, f"streams of {comparison.title_of(*kind)}", few_streams(*kind), streams)
+    yield from plain_stream_tasks(before_v4(made), is_all)
+    yield from xxh3_tasks(made, is_all)
+
+
+def plain_stream_tasks(made, is_all, some=SOME_UPDATES, title="streams of XXH{}: any updates", names=("32", "64")):
+    """Yields the tasks of streams of XXH32 and XXH64 with any updates: all cases, in parts, or a sample. Only those of
+    both hashes have a reset and digests."""
+    yield counted("each update of XXH32 and XXH64 has its task", 2, updates_left_out)
+    for hash_name in names:
+        count = len(list(any_updates.updates(hash_name)))
+        for name, make in made.items():
+            for part in range(UPDATE_PARTS) if is_all else [None]:
+                words = f"part {part + 1} of {UPDATE_PARTS}" if is_all else f"each {some}th case"
+                least = count // (UPDATE_PARTS if is_all else some)
+                yield counted(f"{title.format(hash_name)}, to 2^64 - 1 bytes, {name}, {words}", least, functools.partial(
+                    any_streams, make, hash_name, part, some, len(names) > 1))
+
+
+def xxh3_tasks(made, is_all, kind=xxh3_updates.Xxh3Updates):
+    """Yields the tasks of streams of XXH3 with any updates: all cases, in parts, or a sample."""
+    yield counted("each update of XXH3 has its task", COVERED[is_all] * len(made),
+                  functools.partial(points_left_out, made, is_all, kind))
+    for name, make in made.items():
+        for what in kind.KINDS:
+            some, parts = XXH3_CASES[what]
+            for part in range(parts) if is_all else [None]:
+                words = f"part {part + 1} of {parts}" if is_all else "some cases"
+                yield counted(f"streams of XXH3: {what}, to 2^64 - 1 bytes, {name}, {words}", some,
+                              functools.partial(any_xxh3, make, what, part, kind))
+
+
+def points_left_out(made, is_all, kind):
+    """Returns the number of points, and messages for those that no case contains."""
+    count = COVERED[is_all] // 3
+    bad = [f"{name}: no case has {point}" for name, make in made.items()
+           for point in coverage.left_out(kind(make()), count)]
+    return 3 * count * len(made), bad[:5]
+
+
+def any_xxh3(make, what, part, kind):
+    proof = kind(make())
+    asked, (some, parts) = proof.queries(what), XXH3_CASES[what]
+    return count_shown(proof, asked[::len(asked) // some] if part is None else asked[part::parts])
+
+
+def few_streams(hash_name, kind, secret):
+    for n, *cuts in FEW_STREAMS:
+        request = Request(hash_name, kind, n, secret, cuts=cuts)
+        yield from [request, *request.with_seed_0()]
+
+
+def updates_left_out():
+    bad = [f"XXH{name}: no case has {left[:5]}" for name in any_updates.LAYOUTS if (left := any_updates.left_out(name))]
+    return len(any_updates.LAYOUTS) - len(bad), bad
+
+
+def any_streams(make, hash_name, part, some, has_ends):
+    """Proves updates: a part, or a sample. The sample and the first part include the reset and digests, if any."""
+    proof = any_updates.AnyUpdates(make(), hash_name)
+    cases = list(any_updates.updates(hash_name))
+    asked = [functools.partial(proof.update, one) for one in
+             (cases[::some] if part is None else cases[part::UPDATE_PARTS])]
+    asked += [proof.reset, *(functools.partial(proof.digest, a, r) for r in range(int(hash_name) // 2)
+                             for a in (0, variable("a")))] if has_ends and not part else []
+    return count_shown(proof, asked)
+
+
+def count_shown(proof, asked):
+    """Returns the number of proved cases, and the messages on the others."""
+    bad = []
+    for ask in asked:
+        if len(nodes.NODES) > MOST_NODES:
+            proof.forget()
+        try:
+            ask()
+        except (*REFUSALS, WrongRule) as error:
+            bad.append(f"{type(error).__name__}: {error}")
+    return len(asked) - len(bad), bad
+
+
+# ---- every length
+
+def every_length_tasks(made, is_all):
+    yield counted("every length of XXH32 and XXH64 has its task", 2, plain_left_out)
+    if is_all:
+        yield counted("every length of XXH3 has its task", 2, xxh3_left_out)
+    for kind in every_length.UNROLLED:
+        yield from of_every_length(before_v4(made), kind, f"XXH{kind}: every length to 2^64 - 1", every_length.cases(kind))
+    if not is_all:
+        yield from of_every_length(only_v4(made), "3-64:seed", "XXH3-64, seed: one case of every length",
+                                   every_length.cases("3-64:seed")[:1])
+    yield from [*long_tasks(made, is_all), *(short_tasks_of_v4(made) if is_all else ())]
+
+
+def long_tasks(made, is_all):
+    """Yields the tasks of XXH3 of every length: all cases, or some with a secret."""
+    yield from any_secret_tasks(made, is_all, ANY_SECRET)
+    for hash_name, way in itertools.product(("3-64", "3-128"), ("default", "seed")) if is_all else ():
+        kind = f"{hash_name}:{way}"
+        for seed in (None, 0) if way == "seed" else (None,):
+            title = f"XXH{hash_name}, {way}{' 0' if seed == 0 else ''}: every length to 2^64 - 1"
+            yield from of_every_length(made, kind, title, every_length.cases(kind), seed)
+    yield from [counted(f"XXH{kind.replace(':', ', ')} of any length: 0 to 240 bytes, {name}", 241, functools.partial(
+        up_to_240, make, kind)) for kind in (ANY_SECRET if is_all else ()) for name, make in made.items()]
+
+
+def any_secret_tasks(made, is_all, kinds):
+    """Yields the tasks of XXH3 from 241 bytes on with any secret: all cases, or some."""
+    yield counted("every length with any secret has its task", COVERED[is_all],
+                  functools.partial(secrets_left_out, made, is_all))
+    for kind in kinds if is_all else kinds[:1]:
+        title, words = f"XXH{kind.replace(':', ', ')} of", "" if is_all else ", some cases"
+        yield from [counted(f"{title} any other length: every length from 241 on, {name}{words}", 4,
+                            functools.partial(any_secrets, make, kind, is_all)) for name, make in made.items()]
+        if is_all:
+            title = f"{title} 192 to 199 bytes: every length from 241 on"
+            yield from of_every_length(before_v4(made), kind, title, every_length.of_secret())
+            yield from of_every_length(only_v4(made), kind, title, every_length.of_secret_by_turns())
+
+
+def short_tasks_of_v4(made):
+    """Returns tasks of secrets of 192 bytes for x86-64-v4: the lengths missing in its tasks of every length."""
+    return [one_by_one(only_v4(made), (*kind.split(":"), 192), [*range(241, MORE.stop), every_length.PREFETCHED], f", {V4}")
+            for kind in ANY_SECRET]
+
+
+def of_every_length(made, kind, title, asked, seed=None):
+    return [counted(f"{title}, {name}", len(asked), functools.partial(shown, make, kind, asked, seed))
+            for name, make in made.items()]
+
+
+def plain_left_out():
+    return told_left_out({f"XXH{name}": every_length.left_out(every_length.cases(name), ONE_BY_ONE.stop,
+                                                              int(name) // 2 * every_length.UNROLLED[name])
+                          for name in every_length.UNROLLED})
+
+
+def xxh3_left_out():
+    """Returns the lengths without a case. The length PREFETCHED of a default or derived secret has a separate task."""
+    derived = every_length.left_out(every_length.cases("3-64:seed"), MORE.stop, 64 * every_length.DERIVED)
+    own = every_length.left_out(every_length.of_secret(), 241, 64 * every_length.DERIVED)
+    return told_left_out({"a secret of 192 bytes": own,
+                          "a derived secret": sorted({*derived} - {every_length.PREFETCHED})})
+
+
+def told_left_out(found):
+    return len(found), [f"{name}: no task has {left[:5]}" for name, left in found.items() if left]
+
+
+def shown(make, kind, asked, seed):
+    proof = every_length.EveryLength(make(), kind)
+    return count_shown(proof, [functools.partial(proof.show, case, seed) for case in asked])
+
+
+def secrets_left_out(made, is_all):
+    """The same for lengths with secrets of any length."""
+    proof = any_secret.AnySecret(next(iter(made.values()))())
+    found = list(coverage.without_one_shot(proof.cases(), proof.facts_of_any(), COVERED[is_all]))
+    return COVERED[is_all], [f"no case has {point}" for point in found[:5]]
+
+
+def any_secrets(make, kind, is_all):
+    hash_name, _, way = kind.partition(":")
+    proof = any_secret.AnySecret(make())
+    return count_shown(proof, proof.queries(way, hash_name[2:])[::1 if is_all else SOME_LENGTHS])
+
+
+def up_to_240(make, kind):
+    proof = every_length.EveryLength(make(), kind)
+    return count_shown(proof, [functools.partial(proof.show_short, n) for n in range(241)])
+
+
+# ---- the other calls
+
+def of_each(made, title, least, call):
+    """Returns a task that calls a function on each processor. The function returns its number of cases, or raises."""
+    return counted(title, least * len(made), lambda: (sum(call(make()) for make in made.values()), []))
+
+
+def call_tasks(texts, processors, is_all):
+    sizes = [0, 1, 135, 136, 137, 143, 144, 191, 192, 256, 1000] if not is_all else [*range(0, 301), 1000]
+    seeds = [0, 1, 17, 136, 241, 300] if is_all else [0, 3, 241]
+    made = [(size, length) for size in sizes for length in seeds]
+    of = functools.partial(of_each, before_v4(processors))
+    return [*(of(*call) for call in calls.WITHOUT_MESSAGE), *(of_each(processors, *call) for call in calls.OF_MESSAGES),
+            of("made secrets", len(made) + len(OF_LONG_SEEDS), functools.partial(made_secrets, asked=made)),
+            counted(f"exports of {V4} that have the code of {V3}", 24,
+                    lambda: (exports.expect_code_of_v3(texts[V4], texts[V3]), [])),
+            twin_task(texts), frames_task(texts)]
+
+
+def twin_task(texts):
+    return counted("names of another's code", 9 * len(texts),
+                   lambda: (sum(exports.expect_twins(program) for program in texts.values()), []))
+
+
+def frames_task(texts, least=FEWEST_FRAMED):
+    """Returns the task of unwinding tables: a minimum number of instructions per source."""
+    return counted("the frame at each instruction", least * len(texts),
+                   lambda: (sum(map(expect_frames, texts.values())), []))
+
+
+def made_secrets(cpu, asked):
+    return calls.made_secrets(cpu, asked) + long_seeds.made_secrets(cpu, OF_LONG_SEEDS)
+
+
+def assembler_task(sources):
+    """Returns the task that compares each source's objects by three assemblers."""
+    return counted("one object by GNU as, clang and rustc", 2 * len(sources), lambda: (expect_alike(sources), []))

@@ -1,0 +1,58 @@
+"""Compares the modules with the definition: for each request both must compute the same term."""
+from symbolic_terms import Request, comparison, definition, nodes
+
+MOST_NODES = 300_000
+
+
+class Texts:
+    """The definition's value of requests, each computed once, from a table that is cleared when it grows."""
+
+    def __init__(self):
+        self.forget()
+
+    def forget(self):
+        nodes.forget()
+        self.entries, self.known = definition.program().run(), {}
+
+    def make_room(self):
+        if len(nodes.NODES) > MOST_NODES:
+            self.forget()
+
+    def value(self, request):
+        key = request.hash_name, request.kind, request.length, request.secret_length, request.fixed_seed
+        if key not in self.known:
+            self.known[key] = request.of_definition(self.entries)
+        return self.known[key]
+
+
+def requests(kind, lengths, is_stream):
+    """Yields the requests of a kind, (hash, function, length of the secret). A symbolic seed is nonzero if a module
+    tests it."""
+    for length in lengths:
+        for cuts in comparison.cuts_of(length) if is_stream else [None]:
+            yield Request(*kind[:2], length, kind[2], cuts=cuts)
+
+
+def with_seed_0(request):
+    return Request(request.hash_name, request.kind, request.length, request.secret_length, 0, request.cuts)
+
+
+def compare(machines, asked, answer):
+    """Compares each machine's values with the definition. Returns the number of equal terms, and the messages on the
+    others. If a module tests the seed for 0, the request is repeated with the seed 0."""
+    texts, equal, complaints = Texts(), 0, []
+    for request in asked:
+        texts.make_room()
+        for name, vm in machines.items():
+            vm.has_asked = False
+            told = [told_of(texts, name, vm, request, answer)]
+            if vm.has_asked:
+                told.append(told_of(texts, name, vm, with_seed_0(request), answer))
+            equal += told.count(None)
+            complaints += [line for line in told if line]
+    return equal, complaints
+
+
+def told_of(texts, name, vm, request, answer):
+    """Returns the message on a machine's value, or None."""
+    return comparison.difference(request, name, texts.value(request), lambda asked: answer(vm, asked))

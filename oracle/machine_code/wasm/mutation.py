@@ -1,0 +1,341 @@
+"""Tests that changes in the bytes of a module are detected: otherwise a passing comparison would prove nothing.
+
+A change is one instruction replaced by another of the same types, or one inverted bit of an instruction. Changes that
+the reader or the validator refuses are counted separately. The others are tested by requests that run the instruction.
+A change is detected if a value differs at a point, or there is no value. If the terms differ but no such point is
+found, it counts as refused. Changes that break no guarantee are in equivalent_mutants.txt, each with its reason. A crash of
+this program counts as neither."""
+import collections
+import copy
+import itertools
+import os
+import random
+
+from reasons import CRASH, UNNOTICED, WRONG_RULE, Reasons, is_fault
+from symbolic_terms import REFUSALS, Request, WrongRule, comparison, differs, nodes
+
+from ..xxh3_updates import TAKE_BLOCKS
+from . import calls, every_length, refusals
+from .comparing import Texts, with_seed_0
+from .module import Malformed, Reader
+from .opcodes import OPCODES
+from .validator import Validator, ends_of
+from .xxh3_streams import ModuleUpdates
+
+EQUAL = os.path.join(os.path.dirname(os.path.abspath(__file__)), "equivalent_mutants.txt")
+LENGTHS = [*range(10), *range(14, 36, 3), 63, 64, 65, 96, 97, 120, 128, 129, 145, 200, 240, 241, 256, 257, 300, 1030]
+# If those detect nothing: edges first, then each length, or for streams each ninth.
+EDGES = [16, 17, 8, 9, 3, 4, 5, 128, 129, 240, 241, 31, 32, 33, 64, 65, 96, 97, 256, 257, 0, 1, 512, 513, 576, 1024,
+         1025, 1088, 1089]
+EACH_STREAM = 9
+KEPT = 2
+MORE_CUTS = 1, 31, 500, 33, 65, 256, 257
+MORE_PIECES = [(70, 30), (1500, 300, 1000), (1100, 600, 900), (1100, 500, 1090), (520, 500), (513, 512), (514, 500),
+               (700, 505), (970, 500, 520)]
+# Streams whose last chunk completes a buffered stripe with each of FILLS bytes, the edges of the copies; in the last two
+# a block ends within the buffer. For plain hashes, each number of buffered bytes. Then short chunks after one byte.
+FILLS = 1, 2, 3, 4, 5, 7, 8, 9, 15, 16, 17, 31, 32, 33, 63
+FILLED = [*((n, 64 - fill) for n in (1000, 2300) for fill in FILLS), (2020, 600, 1020), (3120, 600, 1020)]
+PLAIN_FILLED = [(80, waiting) for waiting in range(1, 32)]
+SHORT_PIECES = [(1 + n, 1) for n in range(1, 65)]
+STREAM_LENGTHS = 3, 0, 5, 33, 70, 12, 257, 1500, 520, 700, 200, 600
+STREAM_CUTS = [], [1], [33], [64, 65], [255, 256], [300, 1000], [500]
+STEPS = 100_000               # maximum number of instructions of a changed module's call
+SECRETS = 136, 192
+TOO_SHORT = 0, 135
+NOTICED, NO_VALUE, REFUSED = "another value", "no value", "another term, no point found"
+NOT_VALID, BY_INDUCTION = "not valid", "not shown by induction"
+# Changes by hand: title, instruction, its immediate and the next instruction (None: any), the byte to change, counted
+# from its end if negative, and the inverted bits.
+BY_HAND = [
+    ("a prime of XXH64, another bit 62", "i64.const", 0xC2B2AE3D27D4EB4F, None, 9, 0x40),
+    ("a prime of XXH32, another bit 27", "i32.const", 0x85EBCA77, None, 4, 0x40),
+    ("a shift by 33, as by 32", "i64.const", 33, "i64.shr_u", 1, 1),
+    ("a rotation by 27, as by 26", "i64.const", 27, "i64.rotl", 1, 1),
+    ("a length of 240, as 241", "i64.const", 240, "i64.gt_u", 1, 1), ("xor, as or", "i64.xor", None, None, 0, 1),
+    ("a load, as of bytes 8 further", "i64.load", None, None, -1, 8),
+    ("a store, as of bytes 8 further", "i64.store", None, None, -1, 8),
+]
+EACH_BY_HAND = 3              # number of places for each
+# Streams whose chunks separate functions take, and the step between cases of these functions.
+LONG_STREAMS, EACH_TAKEN = [(2300,), *((2300, 64 - r) for r in (1, 2, 5, 9, 20, 40)), (5300, 129)], 25
+CRASHES = AttributeError, IndexError, KeyError, TypeError, ValueError, RecursionError
+
+
+class Taken:
+    """A case of functions that take the stripes of long chunks (xxh3_streams.py), in the form of a request."""
+    hash_name, kind, secret_length, what = "3-64", "seed", None, "stripes of long pieces"
+
+    def __init__(self, case):
+        self.case = case
+
+
+def take(vm, request):
+    """Proves a case, or raises."""
+    ModuleUpdates(vm).taken_of(*request.case)
+
+
+# Tests without a value: of a refused call, or the proof of a case.
+REFUSING = (calls.refused_one_shot, calls.refused_start, refusals.refuse_short_secret, refusals.refuse_record,
+            refusals.keep_counters, take)
+
+
+def long_pieces(vm, is_all):
+    """Yields the requests that run the functions for long chunks of streams."""
+    for n, *cuts in LONG_STREAMS if is_all else LONG_STREAMS[:2]:
+        yield Request("3-64", "seed", n, cuts=cuts), calls.stream
+        yield Request("3-128", "both", n, SECRETS[0], cuts=cuts), calls.stream
+    if not is_all:
+        return
+    cases = list(ModuleUpdates(vm).all_taken())
+    blocks = [case for case in cases if TAKE_BLOCKS in (case[1][0], *itertools.chain(*case[1][3:]))]
+    yield from ((Taken(case), take) for case in (*cases[::EACH_TAKEN], *blocks))
+
+
+def asked(is_all=True):
+    """Yields the requests that cover the modules: (request, function that runs it)."""
+    for kind in comparison.kinds(SECRETS if is_all else SECRETS[:1]):
+        for n in LENGTHS[::1 if is_all else 3]:
+            yield Request(*kind[:2], n, kind[2]), calls.one_shot
+        for n in STREAM_LENGTHS if is_all else STREAM_LENGTHS[::3]:
+            for cuts in STREAM_CUTS:
+                if all(cut <= n for cut in cuts):
+                    yield Request(*kind[:2], n, kind[2], cuts=cuts), calls.stream
+    yield from refused()
+
+
+def refused():
+    """Yields calls whose secret is too short, and calls with invalid records."""
+    for hash_name, way, size in itertools.product(("3-64", "3-128"), ("secret", "both"), TOO_SHORT):
+        for answer in (calls.refused_one_shot, calls.refused_start, refusals.refuse_short_secret):
+            yield Request(hash_name, way, 300, size), answer
+    for wrong in refusals.WRONG_RECORDS:
+        yield refusals.WrongRecord(*wrong), refusals.refuse_record
+    yield from ((request, refusals.keep_counters) for request in refusals.of_counters())
+
+
+def kind_of(query):
+    request, answer = query
+    return request.hash_name, request.kind, request.secret_length, answer, getattr(request, "what", None)
+
+
+class Covered:
+    """Maps (function, index in its code) to KEPT random requests per kind of call that run the instruction."""
+
+    def __init__(self, vm, is_all):
+        by_kind, seen, draw = collections.defaultdict(dict), collections.Counter(), random.Random(5)
+        texts = Texts()
+        for query in (*asked(is_all), *long_pieces(vm, is_all)):
+            texts.make_room()
+            vm.used, kind = set(), kind_of(query)
+            query[1](vm, query[0])
+            for place in sorted(vm.used):
+                seen[place, kind] += 1
+                for number in range(KEPT):
+                    if draw.randrange(seen[place, kind]) == 0:
+                        by_kind[place][kind, number] = query
+        vm.used = None
+        self.by_place = {place: draw.sample([*found.values()], len(found)) for place, found in sorted(by_kind.items())}
+        self.places = sorted(self.by_place)
+
+    def told(self, vm):
+        total = sum(len(function.code) for function in vm.module.functions)
+        return f"{len(self.places)} of {total} instructions are run"
+
+
+# ---- changes
+
+def same_types(opcode):
+    """Returns the instructions that may replace one: same types, same number of bytes."""
+    return [x for x in OPCODES if x is not opcode and x.takes is not None and x[3:] == opcode[3:]
+            and x.prefix == opcode.prefix and (x.code < 128) == (opcode.code < 128)]
+
+
+def change_of(x, whole, draw):
+    """Returns (description, changed bytes) of a random change of an instruction."""
+    out, others = bytearray(whole), same_types(x.opcode)
+    if others and draw.random() < 0.5:
+        other = draw.choice(others)
+        place = x.at + (x.opcode.prefix is not None)
+        out[place] = other.code & 127 | (out[place] & 128)
+        if other.prefix is not None and other.code > 127:
+            out[place + 1] = other.code >> 7
+        return f"-> {other.name}", bytes(out)
+    place, bit = draw.choice(places_of(x)), draw.randrange(8)
+    out[place] ^= 1 << bit
+    return f"bit {bit} of byte {place - x.at}", bytes(out)
+
+
+def places_of(x):
+    """Returns the bytes of an instruction without its alignment, which is only a hint."""
+    has_alignment = x.opcode.behind.startswith("bytes")
+    alignment = x.at + 1 + (x.opcode.prefix is not None)
+    return [place for place in range(x.at, x.end) if not (has_alignment and place == alignment)]
+
+
+def with_change(vm, function, whole):
+    """Returns the machine of a module with one function's bytes replaced. Raises if it isn't valid."""
+    module = copy.copy(vm.module)
+    module.whole, module.functions = whole, list(module.functions)
+    other = module.read_function(Reader(whole, function.at), function.index)
+    if other.end - function.end != len(whole) - len(vm.module.whole):
+        raise Malformed("a function of another length")
+    module.functions[function.index] = other
+    changed = copy.copy(vm)
+    changed.module, changed.branches, changed.code = module, list(vm.branches), dict(vm.code)
+    changed.branches[function.index] = Validator(module, other).check()
+    changed.ends = [ends_of(other.code) if k == function.index else ends for k, ends in enumerate(vm.ends)]
+    changed.code.pop(function.index, None)
+    changed.limit = STEPS
+    return changed
+
+
+# ---- detection
+
+def outcome(vm, texts, queries):
+    """Returns the outcome of some requests on a changed module."""
+    found = UNNOTICED
+    for request, answer in queries:
+        texts.make_room()
+        vm.has_asked = False
+        what = of_request(vm, texts, request, answer)
+        if what == UNNOTICED and vm.has_asked:
+            what = of_request(vm, texts, with_seed_0(request), answer)
+        if what not in (UNNOTICED, REFUSED):
+            return what
+        found = what if what == REFUSED else found
+    return found
+
+
+def of_request(vm, texts, request, answer):
+    said = None if answer in REFUSING else texts.value(request)
+    try:
+        ours = answer(vm, request)
+    except REFUSALS:
+        return NO_VALUE
+    except WrongRule as error:
+        return f"{WRONG_RULE}: {error}"
+    except CRASHES as error:
+        return f"{CRASH}: {error!r}"
+    if nodes.is_same(said, ours):
+        return UNNOTICED
+    return NOTICED if differs(request, said, ours) else REFUSED
+
+
+def more(queries):
+    """Yields requests of the same kinds with EDGES, for one one-shot and one stream with many short lengths, for one
+    stream of each family with more chunks, and for XXH3 more invalid records."""
+    found = dict.fromkeys(kind_of(query)[:4] for query in queries)
+    # Instructions that only refused calls run are tested by streams too.
+    kinds = [kind for kind in found if kind[3] not in REFUSING] or [(*kind[:3], calls.stream) for kind in found][:1]
+    for kind in kinds:
+        yield from of_lengths(kind, EDGES)
+    for answer, each in ((calls.one_shot, 1), (calls.stream, EACH_STREAM)):
+        for kind in [kind for kind in kinds if kind[3] is answer][:1]:
+            yield from of_lengths(kind, range(0, 301, each))
+    for hash_name, way, secret, answer in kinds:
+        for n, *cuts in MORE_PIECES if answer is calls.stream else ():
+            yield Request(hash_name, way, n, secret, cuts=cuts), answer
+    streams = {calls.family(kind[0]): kind for kind in kinds if kind[3] is calls.stream}
+    for family, (hash_name, way, secret, answer) in streams.items():
+        for n, *cuts in [*(FILLED if family == "xxh3" else PLAIN_FILLED), *SHORT_PIECES]:
+            yield Request(hash_name, way, n, secret, cuts=cuts), answer
+    for wrong in refusals.more_wrong_records() if "xxh3" in streams else ():
+        yield wrong, refusals.refuse_record
+
+
+def of_lengths(kind, lengths):
+    hash_name, way, secret, answer = kind
+    for number, n in enumerate(lengths):
+        cut = MORE_CUTS[number % len(MORE_CUTS)]
+        cuts = [min(cut, n)] if answer is calls.stream else None
+        yield Request(hash_name, way, n, secret, cuts=cuts), answer
+
+
+def of_many_bytes(vm):
+    """Proves some one-shots of XXH3 of long inputs and with custom secrets, by induction."""
+    own = every_length.OWN_CASES
+    try:
+        for hash_name in ("3-64", "3-128"):
+            proof = every_length.Proof(vm)
+            for case in every_length.CASES[:2]:
+                proof.long(hash_name, "seed", case)
+            for case in (own[0], *own[-6:]):
+                proof.own_secret(hash_name, "both", case)
+    except (*REFUSALS, *CRASHES):
+        return BY_INDUCTION
+    return UNNOTICED
+
+
+def drawn(vm, covered, count, seed):
+    """Yields `count` valid random changes of executed instructions, and the invalid ones between: (text, machine or
+    None if invalid, requests). The changes don't depend on the requests."""
+    places, valid = [(f.index, pc) for f in vm.module.functions for pc in range(len(f.code))], 0
+    for number in itertools.count():
+        draw = random.Random(f"{seed} {number}")
+        place = draw.choice(places)
+        if valid == count:
+            return
+        if place not in covered.by_place:
+            continue
+        function = vm.module.functions[place[0]]
+        x = function.code[place[1]]
+        what, whole = change_of(x, vm.module.whole, draw)
+        try:
+            changed = with_change(vm, function, whole)
+        except Malformed:
+            changed = None
+        if changed and is_same_amount(function, changed.module.functions[place[0]], place[1]):
+            continue
+        valid += changed is not None
+        text = f"function {place[0]}, instruction {place[1]}: {x.opcode.name} {shown(x.given)}: {what}"
+        yield text, changed, covered.by_place[place]
+
+
+def is_same_amount(function, other, pc):
+    """True if the change replaces the amount of a shift or rotation by an equal one modulo the width."""
+    x, y, then = function.code[pc], other.code[pc], function.code[pc + 1:pc + 2]
+    word, _, name = then[0].opcode.name.partition(".") if then else ("", "", "")
+    if x.opcode is not y.opcode or x.opcode.name not in ("i32.const", "i64.const"):
+        return False
+    return name in ("shl", "shr_u", "rotl", "rotr") and (x.given - y.given) % (64 if "64" in word else 32) == 0
+
+
+def drawn_by_hand(vm, covered):
+    """Yields the changes by hand, each at some executed places, in the form of `drawn`."""
+    draw = random.Random(7)
+    for what, *where, byte, bits in BY_HAND:
+        places = [place for place in covered.places if is_there(vm.module.functions[place[0]].code, place[1], *where)]
+        for place in draw.sample(places, min(EACH_BY_HAND, len(places))):
+            function = vm.module.functions[place[0]]
+            x, whole = function.code[place[1]], bytearray(vm.module.whole)
+            whole[(x.at if byte >= 0 else x.end) + byte] ^= bits
+            changed = with_change(vm, function, bytes(whole))
+            yield f"function {place[0]}, instruction {place[1]}: {what}", changed, covered.by_place[place]
+
+
+def is_there(code, pc, name, given, then):
+    return code[pc].opcode.name == name and given in (None, code[pc].given) and (
+        then is None or code[pc + 1].opcode.name == then)
+
+
+def shown(given):
+    return given.hex() if isinstance(given, bytes) else "" if given is None else str(given)
+
+
+def tell(machines, name, count, seed, is_all):
+    """Tests `count` random changes of a module and those by hand. Returns the counts of outcomes, and the failures."""
+    vm = machines[name]
+    covered, texts, known = Covered(vm, is_all), Texts(), Reasons(EQUAL)
+    counts, bad = collections.Counter(), []
+    for text, changed, queries in (*drawn_by_hand(vm, covered), *drawn(vm, covered, count, seed)):
+        what = NOT_VALID if changed is None else outcome(changed, texts, queries)
+        has_reason = what == UNNOTICED and bool(known.of(f"{name}, {text}"))
+        if what == UNNOTICED and not has_reason:
+            what = outcome(changed, texts, more(queries))
+            what = of_many_bytes(changed) if what == UNNOTICED else what
+            texts.forget()
+        counts["unnoticed, with a reason" if has_reason else what.partition(":")[0]] += 1
+        if is_fault(what, has_reason):
+            bad.append(f"{what}: {text}")
+    return f"{covered.told(vm)}; " + ", ".join(f"{n} {what}" for what, n in counts.most_common()), bad

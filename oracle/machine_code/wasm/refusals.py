@@ -1,0 +1,164 @@
+"""Tests calls that the modules refuse without writing anything: with secrets of fewer than 136 bytes, or with invalid
+records. Also tests that a counter saturates at 2^64 - 1."""
+from symbolic_terms import Memory, Request, Unsupported
+
+from . import calls
+from .calls import NOT_A_STREAM, SECRET_TOO_SHORT, Stream, answered, expect_kept
+from .comparing import compare
+
+LEAST_SECRET = 136
+SHORT, LONG = (240,), (241,)      # message lengths at which a seeded call needs no secret, and needs it
+XXH3 = "3-64", "3-128"
+# Invalid records: hash, bytes of the stream, title, and fields that don't fit these: (offset, size, value), ..
+MOST = 2 ** 64 - 1
+LOST = 0, 8, MOST             # the saturated length
+# Offsets of a record's counters, of bytes and of stripes.
+COUNTERS = {"32": [0], "64": [0], "3-64": [680, 152], "3-128": [680, 152]}
+PIECES = 5, 40, 200, 600, 3000
+WRONG_RECORDS = [
+    ("32", 5, "fewer bytes wait", (48, 8, 4)), ("32", 5, "more bytes wait", (48, 8, 6)),
+    ("32", 5, "a whole stripe waits", (48, 8, 16)), ("32", 5, "2^32 bytes more wait", (48, 8, 5 + 2 ** 32)),
+    ("32", 5, "another length", (0, 8, 4)), ("32", 5, "an accumulator, with no stripe", (12, 4, 1)),
+    ("32", 5, "the last accumulator, with no stripe", (24, 4, 1)), ("32", 5, "another seed", (8, 4, 8)),
+    ("32", 15, "an accumulator, just below a stripe", (12, 4, 1)),
+    ("64", 31, "an accumulator, just below a stripe", (16, 8, 1)),
+    ("32", 5, "a length that is lost, and a whole stripe waits", (48, 8, 16), LOST),
+    ("32", 5, "a length that is lost, and 2^63 bytes wait", (48, 8, 2 ** 63), LOST),
+    ("64", 5, "a length that is lost, and a whole stripe waits", (80, 8, 32), LOST),
+    ("64", 5, "a length that is lost, and 2^63 bytes wait", (80, 8, 2 ** 63), LOST),
+    ("64", 5, "fewer bytes wait", (80, 8, 4)), ("64", 5, "more bytes wait", (80, 8, 6)),
+    ("64", 5, "a whole stripe waits", (80, 8, 32)), ("64", 5, "another length", (0, 8, 2 ** 63 + 4)),
+    ("64", 5, "an accumulator, with no stripe", (16, 8, 1)), ("64", 5, "the last accumulator, with no stripe", (40, 8, 1)),
+    ("64", 5, "another seed", (8, 8, 8)), ("64", 40, "fewer bytes wait", (80, 8, 7)),
+    ("3-64", 5, "no byte waits", (672, 8, 0)), ("3-64", 5, "more bytes wait than there is room", (672, 8, 513)),
+    ("3-64", 5, "another length", (680, 8, 6)), ("3-64", 5, "2^63 bytes more", (680, 8, 5 + 2 ** 63)),
+    ("3-64", 5, "a stripe more", (152, 8, 1)), ("3-64", 5, "an accumulator, with no stripe", (16, 8, 1)),
+    ("3-64", 5, "the last accumulator, with no stripe", (72, 8, 1)), ("3-64", 5, "a place in the block", (80, 8, 1)),
+    ("3-64", 700, "a place behind the secret", (80, 8, 16)), ("3-64", 700, "no byte waits", (672, 8, 0)),
+    ("3-64", 700, "another length", (680, 8, 699)), ("3-64", 700, "a stripe fewer", (152, 8, 6)),
+    ("3-64", 5, "513 bytes are said to wait and to have been taken", (672, 8, 513), (680, 8, 513)),
+]
+# More, each after the length of its secret, or None. Only changes that nothing else detects are tested with these.
+NO_BYTE_WAITS = "3-64", 700, "no byte waits, and the length is that of the stripes", (672, 8, 0), (680, 8, 576)
+OWN_SECRET = 140
+MORE_WRONG_RECORDS = [(None, *NO_BYTE_WAITS), (OWN_SECRET, *NO_BYTE_WAITS),
+                      (OWN_SECRET, "3-64", 700, "a place behind a secret of 4 bytes more than stripes", (80, 8, 9))]
+
+
+def one_shots_with_short_secrets(machines):
+    """Tests each length of a secret that is too short: a call that needs the secret is refused, others ignore it."""
+    asked = [Request(name, way, n, size) for name in XXH3 for way in ("secret", "both") for n in (*SHORT, *LONG)
+             for size in range(LEAST_SECRET)]
+    is_served = [x for x in asked if x.kind == "both" and x.length in SHORT]
+    refused = [x for x in asked if x not in is_served]
+    served, complaints = compare(machines, is_served, calls.one_shot)
+    for vm in machines.values():
+        for request in refused:
+            calls.refused_one_shot(vm, request)
+            expect_not_asked(vm)
+    return f"{served} answered, {len(refused) * len(machines)} refused", complaints
+
+
+def streams_with_short_secrets(machines):
+    """Tests that a start with such a secret leaves the record unchanged, and an update and a digest of a started stream
+    do so too."""
+    count = 0
+    for vm in machines.values():
+        for size in range(LEAST_SECRET):
+            for way in ("secret", "both"):
+                calls.refused_start(vm, Request("3-64", way, 300, size))
+                expect_not_asked(vm)
+            refuse_short_secret(vm, Request("3-64", "secret", 300, size))
+            count += 2 + 6
+    return f"{count} refused", []
+
+
+def refuse_short_secret(vm, request):
+    """Tests that an update and a digest of a started stream refuse a secret that is too short, also with an invalid
+    record, since the secret is tested first."""
+    it = started(vm, Request(request.hash_name, request.kind, request.length, LEAST_SECRET), request.length)
+    it.secret = calls.of_secret(request)
+    expect_refused(it, SECRET_TOO_SHORT)
+    it.record.store(COUNTERS[request.hash_name][0], 8, request.length - 1)
+    expect_refused(it, SECRET_TOO_SHORT)
+
+
+def expect_not_asked(vm):
+    """Checks that the call didn't test the seed for 0, which would be a separate case."""
+    if vm.has_asked:
+        raise Unsupported("whether the seed is 0 was asked")
+
+
+def started(vm, request, taken):
+    it = Stream(vm, request)
+    it.start()
+    answered(it.update(0, taken))
+    return it
+
+
+def names_of(it):
+    """Returns the hashes of a stream's family."""
+    return XXH3 if it.family == "xxh3" else [it.request.hash_name]
+
+
+def expect_refused(it, code):
+    """Checks that an update and a digest are refused, for both hashes of the family."""
+    before = dict(it.record.cells)
+    answered(it.update(0, it.request.length), code)
+    for name in names_of(it):
+        out = Memory("the value", calls.BYTES[name])
+        answered(it.digest(out, name), code)
+        expect_kept("the value", out, {})
+    expect_kept("the record", it.record, before)
+
+
+class WrongRecord(Request):
+    """A stream of `taken` bytes with some fields changed afterwards."""
+
+    def __init__(self, hash_name, taken, what, *fields, secret_length=None):
+        super().__init__(hash_name, "both" if secret_length else "seed", taken, secret_length, seed=7)
+        self.what, self.fields = what, fields
+
+
+def refuse_record(vm, wrong):
+    it = started(vm, wrong, wrong.length)
+    for field in wrong.fields:
+        it.record.store(*field)
+    expect_refused(it, NOT_A_STREAM)
+
+
+def more_wrong_records():
+    return [WrongRecord(*wrong, secret_length=length) for length, *wrong in MORE_WRONG_RECORDS]
+
+
+def wrong_records(machines):
+    asked = [*(WrongRecord(*wrong) for wrong in WRONG_RECORDS), *more_wrong_records()]
+    for vm in machines.values():
+        for wrong in asked:
+            refuse_record(vm, wrong)
+    return f"{len(asked) * len(machines)} refused", []
+
+
+# ---- counters
+
+def of_counters():
+    return [Request(name, "seed", n, seed=7) for name in ("32", "64", "3-64") for n in PIECES]
+
+
+def keep_counters(vm, request):
+    """Tests an update of a stream whose counters are 2^64 - 1. They must stay so, and a digest must succeed."""
+    it, places = started(vm, request, PIECES[0]), COUNTERS[request.hash_name]
+    for at in places:
+        it.record.store(at, 8, MOST)
+    answered(it.update(0, request.length))
+    if any(it.record.load(at, 8) != MOST for at in places):
+        raise Unsupported("a counter that isn't 2^64 - 1")
+    for name in names_of(it):
+        answered(it.digest(Memory("the value", calls.BYTES[name]), name))
+
+
+def counters_stay(machines):
+    for vm in machines.values():
+        for request in of_counters():
+            keep_counters(vm, request)
+    return f"{len(of_counters()) * len(machines)} updates", []

@@ -1,0 +1,514 @@
+"""Proves the streams of XXH3 of an assembly source by induction over the updates: reset, any number of updates of any
+lengths, digests of 64 and 128 bits. symbolic_terms/xxh3_streams.py does this for the reference.
+
+A state represents the first N = 64 K + f bytes of a message, K = q b + j stripes, j < q. q is the number of stripes in
+a block, f <= 512 the number of buffered bytes, f = 0 only if N = 0, and K is 0 or at least 4. Its accumulators are the
+definition's after K stripes. It has j, K, f, N, the mark and the secret, of 64 + 8 q + u bytes. Its buffer begins with
+the last f bytes. If K > 0 and f < 64, it also has the last stripe. All else is unconstrained. The secret's bytes are
+symbols: the default secret and derived ones are instances.
+
+Bytes written at a symbolic offset or of a symbolic length are runs (stream_state.py). The separate functions that take
+stripes are proved on their own, from any place in a block (stripes.py)."""
+import collections
+import functools
+import itertools
+
+from symbolic_terms import (LONGEST, LONGEST_SECRET, RUNS, Bytes, NotShown, Piece, at_most, given, is_natural, is_same,
+                            is_same_number, minus, nodes, plus, same, suppositions, times, variable)
+
+from . import exports, streams
+from .every_length import FAR, Cases
+from .induction import Loops
+from .memory import ENTRY, Words
+from .stream_state import Source, State
+from .stripes import DEEP, Part, Stripes, StripesProof, Summary
+from .values import address
+
+# Offsets in a state, and its mark.
+ACCUMULATORS, PLACE, LAST, COUNT, BUFFER, WAITING, TOTAL = 0, 64, 72, 136, 144, 656, 664
+MARKED, HAS_SEED, SEED, SECRET_LENGTH, SECRET = 672, 680, 688, 696, 704
+ROOM, DERIVED, MARK = 512, 192, int.from_bytes(b"twoxXXH3", "little")
+LONG_PIECE = 2048                 # bytes from which on a separate function takes the stripes
+FIRST = 7                         # minimum number of stripes taken if a chunk doesn't fit in the buffer
+BLOCK = 16                        # stripes of a block with separate paths
+MANY = 29                         # minimum number of stripes of a long chunk, between the first ones and the last
+WIDTHS, LEAST, LONGEST_KEPT = ("64", "128"), 9, 256    # stripes of a block, at least; bytes of a stored secret, at most
+UPDATES, DIGESTS, STRIPES = "any updates", "resets and digests", "functions that take stripes"
+# The functions that take stripes.
+TAKE = Summary("twox_core.xxhash3.stripes.take_stripes")
+TAKE_MANY = Summary("twox_core.xxhash3.stripes.take_many_stripes", least=MANY, is_in_place=True)
+TAKE_BLOCKS = Summary("twox_core.xxhash3.stripes.blocks.take_many_blocks", has_place=False, least=1)
+# x86-64-v4's, compiled without a trusted compiler, for a secret of the default length.
+TAKE_WIDENED = Summary("twox_core.xxhash3.stripes.take_widened", least=BLOCK, has_length=False, is_in_place=True)
+
+# The stripes of a block, and the bytes of the secret beyond those that they need.
+ANY, OF_16, OF_DEFAULT = (None, None), (BLOCK, None), (BLOCK, 0)
+
+# State before an update that takes stripes: r bytes complete the buffer's g stripes, which end at `behind`.
+Start = collections.namedtuple("Start", "place g r behind facts")
+# Lengths (from, to) for which a source has separate code to copy.
+SHORT_COPIES = (1, 1), (2, 3), (4, 7), (8, 16), (17, 32), (33, 63)
+
+
+def lengths(name, spans):
+    """Yields (length, facts) for each span: a variable, or a number if the span has one length."""
+    for low, high in spans:
+        x = variable(name)
+        yield (low, []) if low == high else (x, [minus(x, low), at_most(x, high)])
+
+
+def starts(is_split, gs=None):
+    """Yields the nonempty states: g stripes in the buffer that end within the block, at its end, or behind it."""
+    b, j, i, y, q = (variable(name) for name in "bjiyq")
+    for r, of_r in [(0, []), *lengths("r", SHORT_COPIES)]:
+        for g in gs or [variable("g")]:
+            of_g = [] if isinstance(g, int) else [minus(g, 1), at_most(g, 8)]
+            for k in (1, None) if is_split else (None,):
+                at, of_k = (minus(q, plus(g, 1)), []) if k else (j, [minus(minus(q, 1 + is_split), plus(j, g))])
+                yield Start((b, at), g, r, (b, plus(at, g)), [*of_r, *of_g, *of_k])
+            yield from ends_of_blocks(g, r, [*of_r, *of_g])
+
+
+def ends_of_blocks(g, r, facts):
+    b, i, y, q = (variable(name) for name in "biyq")
+    if not isinstance(g, int):
+        yield Start((b, minus(q, 1)), 1, r, (plus(b, 1), 0), facts[:-2])
+        yield Start((b, minus(q, g)), g, r, (plus(b, 1), 0), [*facts, minus(g, 2)])
+        yield Start((b, minus(q, 1)), plus(1, y), r, (plus(b, 1), y), [*facts[:-2], minus(y, 1), at_most(y, 7)])
+        yield Start((b, minus(q, i)), plus(i, y), r, (plus(b, 1), y),
+                    [*facts[:-2], minus(i, 2), minus(y, 1), at_most(plus(i, y), 8)])
+        return
+    yield Start((b, minus(q, g)), g, r, (plus(b, 1), 0), facts)
+    yield Start((b, minus(q, 1)), g, r, (plus(b, 1), g - 1), facts)
+    yield Start((b, minus(q, minus(g, y))), g, r, (plus(b, 1), y), [*facts, minus(y, 1), at_most(y, g - 2)])
+
+
+EMPTY = Start((0, 0), 0, 0, (0, 0), [])
+
+
+class Xxh3Updates(Cases):
+    CORE = 0                      # offset of the accumulators in a state, and of the fields except `own`
+    HAS_SEED = 0, 1               # whether a stream was created with a seed
+    KINDS = UPDATES, DIGESTS, STRIPES                 # the kinds of tasks of a source
+    longest_secret, longest_piece = LONGEST_KEPT, LONGEST
+
+    def __init__(self, cpu):
+        self.cpu = cpu
+        self.use(variable("q"))
+
+    def use(self, q, u=None):
+        """Sets q stripes per block, and a secret u bytes, u < 8, longer than these need."""
+        u = variable("u") if u is None else u
+        self.q, self.secret_length = q, plus(64, times(8, q), u)
+        self.facts = [minus(7, u), minus(q, LEAST), at_most(self.secret_length, self.longest_secret)]
+        self.read()
+
+    def facts_of_any(self):
+        """Returns the same facts for a secret that no state stores."""
+        return [*self.facts[:2], at_most(self.secret_length, LONGEST_SECRET)]
+
+    def read(self):
+        """Runs the definition's program on symbols, with a symbolic secret."""
+        super().read()
+        self.secret_source = Source("s", self.secret_length)
+        self.secret = Bytes(self.secret_source, 0, self.secret_length)
+
+    def queries(self, what):
+        """Returns all proofs of a task, by its title."""
+        if what == UPDATES:
+            return [functools.partial(self.update, *case) for case in self.all_updates()]
+        if what == DIGESTS:
+            return [*(functools.partial(self.reset, *case) for case in self.resets()),
+                    *(functools.partial(self.digest, *case, has_seed, width) for case in self.digests()
+                      for has_seed in self.HAS_SEED for width in WIDTHS)]
+        return [self.one_update, *(functools.partial(self.taken_of, *case) for case in self.all_taken())]
+
+    def one_update(self):
+        """Checks that an update has the same code for both widths."""
+        names = [f"XXH3_{width}bits_update" for width in WIDTHS]
+        if len({str(exports.code_of(self.cpu.program, name)) for name in names}) > 1:
+            raise NotShown("two updates")
+
+    # ---- the definition
+
+    def begin(self, n):
+        """Sets a symbolic message of n bytes."""
+        suppositions.clear()
+        self.source = Source("m", n)
+        self.message = Bytes(self.source, 0, n)
+
+    def after(self, k):
+        return lambda i: self.texts["Long.accumulator_after"](self.secret, self.message, i, k)
+
+    def stripes(self, place):
+        return plus(times(self.q, place[0]), place[1])
+
+    def family(self, *parts):
+        return Stripes("XXH3", self.q, parts, self.after, lambda k, values: suppositions.suppose(self.after(k), values))
+
+    def accumulators(self, place):
+        """Returns the words after the stripes before a place, as symbols."""
+        k = self.stripes(place)
+        if is_same_number(k, 0):
+            return [self.after(0)(i) for i in range(8)]
+        values = [self.cpu.fresh("accumulator") for _ in range(8)]
+        suppositions.suppose(self.after(k), values)
+        return values
+
+    # ---- states
+
+    def numbers(self, place, f):
+        """Returns the numbers in a state, except accumulators, last stripe and buffer: (offset, value) of 8 bytes."""
+        k = self.stripes(place)
+        core = (PLACE, place[1]), (COUNT, k), (WAITING, f), (TOTAL, plus(times(64, k), f))
+        return [*((self.CORE + at, x) for at, x in core), *self.own()]
+
+    def own(self):
+        """Returns the fields that only a state of the C library has."""
+        return [(MARKED, MARK), (SECRET_LENGTH, self.secret_length)]
+
+    def seeds(self):
+        """Returns the fields for the seed: whether there is one, and its value."""
+        return [(HAS_SEED, self.has_seed), (SEED, self.seed)]
+
+    def buffered(self, place, f):
+        at = self.CORE + BUFFER
+        return [] if is_same_number(f, 0) else [(at, plus(at, f), self.source,
+                                                 minus(times(64, self.stripes(place)), at))]
+
+    def secret_runs(self):
+        """Returns the runs of the secret, if a state stores it."""
+        return [(SECRET, plus(SECRET, self.secret_length), self.secret_source, -SECRET)]
+
+    def words(self, at, values):
+        """Returns consecutive cells of eight bytes: (offset, value)."""
+        return [(self.CORE + at + 8 * k, x) for k, x in enumerate(values)]
+
+    def last_stripe(self, place):
+        at = minus(times(64, self.stripes(place)), 64)
+        return [self.source.load(plus(at, 8 * k), 8) for k in range(8)]
+
+    def state(self, place, f, last=None, has_seed=None, seed=None):
+        self.last = last or [self.cpu.fresh("last") for _ in range(8)]
+        self.has_seed = self.cpu.fresh("has a seed") if has_seed is None else has_seed
+        self.seed = self.cpu.fresh("seed") if seed is None else seed
+        cells = [*self.words(ACCUMULATORS, self.accumulators(place)), *self.numbers(place, f),
+                 *self.words(LAST, self.last), *self.seeds()]
+        at = self.CORE + BUFFER
+        state = State("state", self.library.SIZES["3"], [(at, 8, x) for at, x in cells],
+                      [*self.buffered(place, f), *self.secret_runs()], (at, at + ROOM))
+        state.secret = self.secret_source
+        return state
+
+    def expect_state(self, what, state, place, f, last):
+        words = map(self.after(self.stripes(place)), range(8))
+        cells = [*self.words(ACCUMULATORS, words), *self.numbers(place, f), *self.seeds(), *self.words(LAST, last)]
+        for at, x in cells:
+            found = state.load(at, 8)
+            if not (is_same(found, x) or is_same_number(found, x)):
+                raise NotShown(f"{what}: the state at {at} is {found} and not {x}")
+        for run in [*self.buffered(place, f), *self.secret_runs()]:
+            if not state.has_run(run):
+                raise NotShown(f"{what}: the state isn't {run}, but has {state.runs()}")
+
+    # ---- updates
+
+    def update(self, start, end, length, facts, parts=(), last=None, summaries=()):
+        """Proves an update of a state (place, f) by a chunk. `last` returns the new last stripe; None keeps it."""
+        begun, ended = (plus(times(64, self.stripes(place)), f) for place, f in (start, end))
+        self.begin(plus(ended, variable("rest")))
+        with given(*self.facts, *facts, at_most(self.source.length, LONGEST)):
+            state = self.state(*start)
+            piece = Piece(self.source, begun, length)
+            if not is_same_number(plus(begun, length), ended):
+                raise NotShown("the case's piece has another length")
+            self.run([state], self.library.update, parts, self.cpu, "3-64", state, piece, summaries=summaries)
+            self.expect_state("an update", state, *end, self.last if last is None else last())
+            if parts and not is_natural(minus(self.stripes(end[0]), 4)):
+                raise NotShown("fewer than four stripes are taken")
+
+    def run(self, live, what, parts, *arguments, summaries=(), not_zero=(), **more):
+        """Calls a function by its name, or `what`, with the proofs of loops over stripes, and with summaries of other
+        functions."""
+        cpu, family = self.cpu, self.family(*parts)
+        cpu.not_zero, cpu.live = not_zero, live
+        for summary in summaries:
+            summary.put_into(cpu, family, self.source, self.secret_source)
+        what = what if callable(what) else functools.partial(cpu.call, what)
+        try:
+            return self.with_loops(Loops(cpu.program, family, StripesProof), functools.partial(what, *arguments, **more))
+        finally:
+            cpu.replaced = {}
+
+    def small_pieces(self):
+        """Yields chunks that fit in the buffer, as arguments of `update`."""
+        b, j, f, more = (variable(name) for name in ("b", "j", "f", "more"))
+        sizes = [*((n, []) for n in range(33)), *((plus(33, more), facts) for facts in self.ways_from_33(more))]
+        for place, of_place, buffered in (((0, 0), [], 0), ((b, j), [minus(minus(self.q, 1), j), minus(f, 1)], f)):
+            for n, of_n in sizes:
+                yield (place, buffered), (place, plus(buffered, n)), n, [*of_place, *of_n,
+                                                                         at_most(plus(buffered, n), ROOM)]
+
+    @staticmethod
+    def ways_from_33(more):
+        """Yields facts for chunks of 33 + more bytes, one list for each separate path of a source."""
+        yield []
+
+    def end_of(self, place, to, least):
+        """Yields the ways to take at least `least` stripes from a place: (stripes, place behind them, facts)."""
+        n, D, e = (variable(name) for name in "nDe")
+        b, j = place
+        if to == "none":
+            yield 0, place, []
+        if to == "some" and not is_same_number(plus(j, 1), self.q):
+            yield n, (b, plus(j, n)), [minus(n, least), minus(minus(self.q, 1), plus(j, n))]
+        if to == "some":
+            left = minus(self.q, j)
+            yield plus(left, times(self.q, D)), (plus(b, 1, D), 0), []
+            yield plus(left, times(self.q, D), e), (plus(b, 1, D), e), [minus(e, 1), minus(minus(self.q, 1), e)]
+        if to == "many":
+            yield plus(minus(self.q, j), times(self.q, D), e), (plus(b, 1, D), e), [
+                minus(minus(self.q, 1), e), minus(plus(minus(self.q, j), times(self.q, D), e), MANY)]
+        if to == "many" and self.has_long_blocks():
+            yield self.within_block(place)
+
+    def has_long_blocks(self):
+        """True if a block may contain many stripes."""
+        return self.longest_secret >= 64 + 8 * (MANY + 1)
+
+    def within_block(self, place):
+        """Returns many stripes within a block: (stripes, place behind them, facts)."""
+        n, (b, j) = variable("n"), place
+        return n, (b, plus(j, n)), [minus(n, MANY), minus(minus(self.q, 1), plus(j, n))]
+
+    def pieces(self, to, begin, lefts):
+        """Yields chunks that don't fit in the buffer, as arguments of `update`."""
+        for start in begin:
+            for left, of_left in lefts:
+                for n, place, of_n in self.end_of(start.behind, to, FIRST - start.g if isinstance(start.g, int) else 1):
+                    f = minus(times(64, start.g), start.r)
+                    length = plus(start.r, times(64, n), left)
+                    facts = [*start.facts, *of_left, *of_n, minus(plus(f, length), ROOM + 1),
+                             minus(plus(start.g, n), FIRST)]
+                    facts.append(minus(length, LONG_PIECE) if to == "many" else at_most(length, LONG_PIECE - 1))
+                    parts = Part(start.place, start.g, start.behind), Part(start.behind, n, place)
+                    last = functools.partial(self.last_stripe, place)
+                    more = [TAKE_MANY] if to == "many" else []
+                    yield (start.place, f), (place, left), length, facts, parts, last, more
+
+    def all_updates(self):
+        """Yields all cases of updates, as arguments of `update`."""
+        yield from self.small_pieces()
+        whole = [(64, []), *lengths("left", [(65, 127)])]
+        yield from self.pieces("none", self.starts(False, [8]), [*lengths("left", SHORT_COPIES), *whole])
+        yield from self.pieces("none", self.starts(False, [7]), whole[1:])
+        yield from self.pieces("some", [EMPTY, *self.starts(True)], whole)
+        yield from self.pieces("many", [EMPTY, *self.starts(False)], whole)
+
+    def starts(self, is_split, gs=None):
+        """Yields the states before updates that take stripes."""
+        return starts(is_split, gs)
+
+    # ---- reset
+
+    def resets(self):
+        """Yields the resets of both widths, as arguments of `reset`."""
+        for width in WIDTHS:
+            name = f"proved_XXH3_{width}bits_reset"
+            yield from ((name, False, 0), (f"{name}_withSecret", True, None))
+            for seed in ("seed", 0):
+                yield from ((f"{name}_withSeed", False, seed), (f"{name}_withSecretandSeed", True, seed))
+
+    def reset(self, name, is_own, seed):
+        """Proves a reset of memory with any content: it becomes an empty state, with the given secret or one derived
+        from the seed. Before a derivation the sources test if the seed is 0."""
+        seed = nodes.symbol("seed64", 64) if seed == "seed" else seed
+        arguments = [address(self.secret_source), self.secret_length] if is_own else []
+        arguments += [seed] if "Seed" in name else []
+        self.begin(0)
+        size = self.library.SIZES["3"]
+        with given(*self.facts):
+            cells = [(at, 8, self.cpu.fresh("a state's word")) for at in range(0, size, 8)]
+            state = State("state", size, cells, [], (0, 0))
+            answer = self.run([state], name, [], address(state), *arguments,
+                              not_zero=[seed] if isinstance(seed, nodes.Node) and not is_own else [])
+            streams.expect_answer(answer, streams.OK)
+            length = self.secret_length if is_own else DERIVED
+            expected = [(8 * i, self.after(0)(i)) for i in range(8)]
+            expected += [(at, length if at == SECRET_LENGTH else x) for at, x in self.numbers((0, 0), 0)]
+            expected += [(HAS_SEED, int(seed is not None))] + [(SEED, seed)] * (seed is not None)
+            if not is_own:
+                secret = self.texts["derived_secret"](seed)
+                expected += [(SECRET + k, self.texts["word64"](secret, k)) for k in range(0, DERIVED, 8)]
+            elif not all(map(state.has_run, self.secret_runs())):
+                raise NotShown(f"{name}: the secret isn't there")
+            for at, x in expected:
+                if not same(state.load(at, 8), x):
+                    raise NotShown(f"{name}: the state at {at} is {state.load(at, 8)} and not {x}")
+
+    # ---- digest
+
+    def digests(self):
+        """Yields arguments of `digest`, without `has_seed` and `width`."""
+        for f in range(241):
+            yield (0, 0), f, [], ()
+        g, h, b, j = (variable(name) for name in "ghbj")
+        few = [minus(g, 3), at_most(g, 7), at_most(h, 63), minus(plus(times(64, g), h), 240)]
+        yield (0, 0), plus(times(64, g), h, 1), few, [Part((0, 0), g, (0, g))]
+        some = [minus(plus(times(self.q, b), j), 4), minus(minus(self.q, 1), j)]
+        for f in range(1, 65):
+            yield (b, j), f, some, ()
+        for start in starts(True):
+            if is_same_number(start.r, 0):
+                more = [minus(self.stripes(start.place), 4), at_most(start.g, 7), at_most(h, 63)]
+                yield (start.place, plus(times(64, start.g), h, 1), [*start.facts, *more],
+                       [Part(start.place, start.g, start.behind)])
+
+    def digest(self, place, f, facts, parts, has_seed, width):
+        """Proves the digest of a state, whose stream has a seed or none. The state stays unchanged."""
+        n = plus(times(64, self.stripes(place)), f)
+        self.begin(n)
+        seed = nodes.symbol("seed64", 64)
+        with given(*self.facts, *facts, at_most(n, LONGEST)):
+            needs_last = isinstance(f, int) and f < 64 and not is_same_number(self.stripes(place), 0)
+            state = self.state(place, f, self.last_stripe(place) if needs_last else None, has_seed, seed)
+            before = dict(state.cells)
+            value = self.run([state], self.library.digest, parts, self.cpu, f"3-{width}", state)
+            if state.cells.keys() != before.keys() or any(state.cells[at] is not x and not (
+                    at != RUNS and same(state.cells[at][1], x[1])) for at, x in before.items()):
+                raise NotShown("a digest changes the state")
+            secret = self.texts["effective_secret"](self.secret, self.message) if has_seed else self.secret
+            said = self.texts[f"xxh3_{width}"](seed if has_seed else 0, secret, self.message)
+            if not is_same(value, said):
+                raise NotShown(f"a digest of {n} bytes: another value")
+
+    # ---- the functions that take stripes
+
+    def taken_of(self, secret, case):
+        """Proves a case of `taken`, with q stripes per block and u further bytes of the secret. None is any number."""
+        q, u = secret
+        self.use(variable("q") if q is None else q, u)
+        try:
+            self.taken(*case)
+        finally:
+            self.use(variable("q"))
+
+    def taken(self, summary, parts, facts, summaries=()):
+        """Proves that a function has its summary's effect on the stripes of some consecutive parts."""
+        place, turns, end = parts[0].start, plus(*(part.turns for part in parts)), parts[-1].end
+        self.begin(plus(times(64, self.stripes(end)), variable("rest")))
+        with given(*self.facts_of_any(), *facts, at_most(self.source.length, LONGEST)):
+            words = self.accumulators(place)
+            cells = [(8 * i, 8, x) for i, x in enumerate(words)]
+            cells += [(PLACE, 8, place[1])] if summary.has_place else []
+            taken = Words("taken", summary.size, cells, alignment=8)
+            to = Words("to", summary.size, [(at, 8, self.cpu.fresh("a word")) for at in range(0, summary.size, 8)],
+                       alignment=8)
+            piece = Piece(self.source, times(64, self.stripes(place)), times(64, turns))
+            records = [taken] if summary.is_in_place else [to, taken]
+            self.run(records, self.taker(summary), parts, *map(address, records), address(piece), piece.length,
+                     address(self.secret_source), *([self.secret_length] * summary.has_length), summaries=summaries)
+            expected = [self.after(self.stripes(end))(i) for i in range(8)] + [end[1]] * summary.has_place
+            for memory, cells in zip(records, [expected, [x for *_, x in cells]]):
+                for k, x in enumerate(cells):
+                    if not same(memory.load(8 * k, 8), x):
+                        raise NotShown(f"{summary.name}: {memory.name} at {8 * k} is {memory.load(8 * k, 8)} and not {x}")
+            self.expect_stack(summary)
+
+    def taker(self, summary):
+        """Returns a function that calls a function which takes stripes."""
+        return functools.partial(self.cpu.call, summary.name, into=summary.registers(self.cpu))
+
+    def expect_stack(self, summary):
+        """Checks that a function used no more stack than its summary claims."""
+        if self.cpu.stack.lowest < ENTRY - DEEP:
+            raise NotShown(f"{summary.name}: more than {DEEP} bytes of stack")
+
+    def all_taken(self):
+        """Yields the stripes of a block and the secret's further bytes, or None for any number, and arguments of
+        `taken`."""
+        for part, facts in self.of_any_blocks():
+            yield ANY, (TAKE, [part], facts)
+        for of_q in (at_most(self.q, BLOCK - 1), minus(self.q, BLOCK + 1)):
+            part, facts = self.to_another_block(self.q)
+            yield ANY, (TAKE_MANY, [part], [*facts, of_q], [TAKE])
+        b, D = variable("b"), variable("D")
+        turns, end, facts = self.within_block((b, variable("j")))
+        yield ANY, (TAKE_MANY, [Part((b, variable("j")), turns, end)], facts, [TAKE])
+        yield OF_16, (TAKE_BLOCKS, [Part((b, 0), plus(BLOCK, times(BLOCK, D)), (plus(b, 1, D), 0))], [])
+        longer = [minus(variable("u"), 1)] if self.is_widened() else []
+        for parts, facts in self.by_fours():
+            yield OF_16, (TAKE_MANY, parts, [*facts, *longer, *of_many(parts)])
+        for parts, facts in self.by_blocks():
+            yield OF_16, (TAKE_MANY, parts, [*facts, *longer, *of_many(parts, FAR)], [TAKE, TAKE_BLOCKS])
+        if self.is_widened():
+            part, facts = self.to_another_block(BLOCK)
+            yield OF_DEFAULT, (TAKE_MANY, [part], facts, [TAKE_WIDENED])
+            yield from ((OF_DEFAULT, (TAKE_WIDENED, *case)) for case in self.widened())
+
+    def is_widened(self):
+        return TAKE_WIDENED.name in self.cpu.program.functions
+
+    @staticmethod
+    def to_another_block(q):
+        """Returns a part of many stripes, from any place to any place of a later block, and its facts."""
+        b, j, D, e = (variable(name) for name in "bjDe")
+        turns = plus(minus(q, j), times(q, D), e)
+        return Part((b, j), turns, (plus(b, 1, D), e)), [minus(minus(q, 1), j), minus(minus(q, 1), e), minus(turns, MANY)]
+
+    def of_any_blocks(self):
+        """Yields parts of any number of stripes from any place, with facts."""
+        b, j, n, D, e, last = *(variable(name) for name in "bjnDe"), minus(self.q, 1)
+        yield Part((b, j), 0, (b, j)), [minus(last, j)]
+        yield Part((b, j), n, (b, plus(j, n))), [minus(n, 1), minus(last, plus(j, n))]
+        for at, of_at in ((j, [minus(minus(last, 1), j)]), (last, [])):
+            turns = plus(minus(self.q, at), times(self.q, D))
+            yield Part((b, at), turns, (plus(b, 1, D), 0)), of_at
+            yield Part((b, at), plus(turns, e), (plus(b, 1, D), e)), [*of_at, minus(e, 1), minus(last, e)]
+
+    @staticmethod
+    def by_fours():
+        """Yields parts for blocks of 16 stripes: stripes up to a multiple of four, fours, and the remaining ones."""
+        b, a, D, e = (variable(name) for name in "baDe")
+        for c in range(4):
+            front = -c % 4
+            fourths = [((b, times(4, a)), [minus(a, int(c > 0)), at_most(a, 2)]), ((b, 12), [])]
+            fourths += [((plus(b, 1), 0), [])] * (c > 0)
+            for at, of_a in fourths:
+                start = (b, 16 - front) if is_same_number(at[1], 0) else (b, minus(at[1], front))
+                for last, of_e in ((0, []), (e, [minus(e, 1), at_most(e, 3)])):
+                    turns = plus(16, times(-1, at[1]), times(16, D), times(4, last))
+                    end = plus(at[0], 1, D), times(4, last)
+                    for rest in range(4):
+                        parts = [Part(start, front, at), Part(at, turns, end),
+                                 Part(end, rest, (end[0], plus(end[1], rest)))]
+                        least = front + rest + 16 - (at[1] if isinstance(at[1], int) else 8) + 4 * bool(of_e)
+                        yield parts, [*of_a, *of_e, at_most(D, (FAR - 1 - least) // 16)]
+
+    @staticmethod
+    def by_blocks():
+        """Yields parts of FAR stripes and more: to a block's end, whole blocks, and the stripes of a last block. From a
+        block's beginning there are FAR / BLOCK whole blocks at least."""
+        b, j, D, e = (variable(name) for name in "bjDe")
+        for start, turns, at, facts in (((b, 0), 0, (b, 0), [minus(D, FAR // BLOCK - 1)]),
+                                        ((b, j), minus(16, j), (plus(b, 1), 0), [minus(j, 1), at_most(j, 15)])):
+            end = plus(at[0], 1, D), 0
+            yield [Part(start, turns, at), Part(at, plus(16, times(16, D)), end),
+                   Part(end, e, (end[0], e))], [*facts, at_most(e, 15)]
+
+    @staticmethod
+    def widened():
+        """Yields parts from each place in a block to each: to its end, whole blocks or none, a last block."""
+        b, D = variable("b"), variable("D")
+        for start, rest in itertools.product(range(BLOCK), range(BLOCK)):
+            front, at = -start % BLOCK, (plus(b, int(start > 0)), 0)
+            whole = Part(at, plus(BLOCK, times(BLOCK, D)), (plus(at[0], 1, D), 0))
+            for middle in [whole, Part(at, 0, at)] if front + rest >= BLOCK else [whole]:
+                end = middle.end
+                yield [Part((b, start), front, at), middle, Part(end, rest, (end[0], rest))], []
+
+
+def of_many(parts, least=None):
+    """Returns the facts for the number of stripes: `least` or more, or from MANY to FAR - 1."""
+    turns = plus(*(part.turns for part in parts))
+    return [minus(turns, least)] if least else [minus(turns, MANY), at_most(turns, FAR - 1)]

@@ -1,0 +1,91 @@
+"""Compares both sides for one length after another: for all bytes, all seeds and all bytes of a secret."""
+import random
+
+from . import definition, nodes
+from .refusals import REFUSALS
+from .requests import Request, differing_point
+from .nodes import WrongRule
+
+MOST_NODES = 1_500_000
+SECRETS = 136, 137, 143, 144, 192, 256
+PLAIN = [("32", "seed", None), ("64", "seed", None)]
+EDGES_FROM, LONGEST = 1101, 10_241
+STREAMED = [*range(17), 31, 32, 33, 63, 64, 65, 70, 127, 128, 129, 200, 239, 240, 241, 242, 255, 256, 257, 258, 300,
+            321, 513, 700, 1088]
+CUTS = [1, 31, 32, 33, 63, 64, 65, 127, 128, 129, 192, 239, 240, 241, 255, 256, 257, 258, 319, 320, 321, 511, 512,
+        513, 576, 1024, 1025]
+PAIRS = 6
+
+
+def kinds(secrets):
+    """Returns the kinds of calls: (hash, function, length of the secret)."""
+    of_secret = [(way, n) for way in ("secret", "both") for n in secrets]
+    ways = [("default", None), ("seed", None), *of_secret]
+    return PLAIN + [(name, *way) for name in ("3-64", "3-128") for way in ways]
+
+
+def title_of(hash_name, kind, secret):
+    return f"XXH{hash_name}, {kind}" + (f" of {secret} bytes" if secret else "")
+
+
+def edges(secret_length):
+    """Returns lengths above 1,100 at the edges of blocks."""
+    block = 64 * ((secret_length or 192) - 64) // 8
+    ends = [b * block + d for b in range(1, LONGEST // block + 1) for d in (0, 1)]
+    return sorted({n for n in [*ends, 2048, 2049, 4096, 4097, LONGEST - 1, LONGEST] if EDGES_FROM <= n <= LONGEST})
+
+
+def cuts_of(length):
+    """Returns the cuts for streams of a length: none, one or two of the edges, counted from the start and from the
+    end."""
+    ends = sorted({end for end in [*CUTS, *(length - end for end in CUTS), 0, length] if 0 <= end <= length})
+    draw = random.Random(length)
+    pairs = [sorted(draw.sample(ends, 2)) for _ in range(PAIRS)] if len(ends) > 2 else []
+    return [[], *([end] for end in ends), *pairs]
+
+
+def requests(hash_name, kind, secret_length, lengths, streams=False):
+    for length in lengths:
+        for cuts in cuts_of(length) if streams else [None]:
+            request = Request(hash_name, kind, length, secret_length, cuts=cuts)
+            yield from [request, *request.with_seed_0()]
+
+
+def complaint(request, name, ours, theirs):
+    """Returns the message if the definition's term differs from another side's."""
+    found = differing_point(request, ours, theirs)
+    if not found:
+        return f"{request}: {name} gives another term, though no point was found at which they differ"
+    point, x, y = found
+    shown = ", ".join(f"{name} {value.hex()[:80] if isinstance(value, bytes) else hex(value)}" for name,
+                      value in point.items())
+    return f"{request}: {x:#x} by the definition and {y:#x} by {name}, where {shown}"
+
+
+def compare(sides, asked):
+    """Compares requests. `sides` maps a name to a function of a request. Returns how many values equal the definition's
+    term, and the messages on the others."""
+    texts, equal, complaints = {}, 0, []
+    nodes.forget()
+    entries = definition.program().run()
+    for request in asked:
+        if len(nodes.NODES) > MOST_NODES:
+            nodes.forget()
+            texts.clear()
+            entries = definition.program().run()
+        key = request.hash_name, request.kind, request.length, request.secret_length, request.fixed_seed
+        if key not in texts:          # a stream has the term of the whole message
+            texts = {key: request.of_definition(entries)}
+        told = [found for name, ask in sides.items() if (found := difference(request, name, texts[key], ask))]
+        equal += len(sides) - len(told)
+        complaints += told
+    return equal, complaints
+
+
+def difference(request, name, ours, ask):
+    """Returns the message on a side's value, or None if it equals the definition's term."""
+    try:
+        theirs = ask(request)
+    except (*REFUSALS, WrongRule) as error:
+        return f"{request}: {name}: {type(error).__name__}: {error}"
+    return None if nodes.is_same(ours, theirs) else complaint(request, name, ours, theirs)

@@ -1,0 +1,90 @@
+"""Runs the tasks of a check, each in its own process and several at once, prints their results, and parses the check's
+options."""
+import argparse
+import concurrent.futures
+import multiprocessing
+import resource
+import threading
+import time
+import traceback
+
+import antt
+
+from . import mutation
+from .refusals import REFUSALS
+from .nodes import WrongRule
+
+SHOWN = 30                   # printed failures of a task
+OWN = resource.RUSAGE_SELF, resource.RUSAGE_CHILDREN       # of a task's process
+FORK, STARTING = multiprocessing.get_context("fork"), threading.Lock()
+
+
+class Task:
+    """A task: its title, and a function that returns the counts, and the failures as lines."""
+
+    def __init__(self, title, ask, is_deep=True):
+        self.title, self.ask = title, ask
+        self.is_deep = is_deep     # deep recursions need a thread with a large stack; time limits need the main thread
+
+
+def options(usage, jobs=2):
+    """Returns a parser of a check's options: --all, --only WORD and --jobs NUMBER."""
+    out = argparse.ArgumentParser(usage=usage)
+    out.add_argument("--all", action="store_true")
+    out.add_argument("--only", default="")
+    out.add_argument("--jobs", type=int, default=jobs)
+    return out
+
+
+def run(tasks, jobs):
+    """Runs the tasks and prints their results. Returns the exit status."""
+    began, passed = time.monotonic(), 0
+    with concurrent.futures.ThreadPoolExecutor(jobs) as pool:
+        for line, is_good in pool.map(in_process, tasks):
+            passed += is_good
+            print(line, flush=True)
+    print(f"in {time.monotonic() - began:.0f} s, {processor_time(resource.RUSAGE_CHILDREN):.0f} s of processor time")
+    print(f"{passed} passed, {len(tasks) - passed} failed")
+    return 1 if passed < len(tasks) or not tasks else 0
+
+
+def processor_time(of):
+    used = resource.getrusage(of)
+    return used.ru_utime + used.ru_stime
+
+
+def in_process(task):
+    """Runs a task. Returns its output, and whether it passed. A process that is killed fails."""
+    with STARTING:     # so that no other process inherits the pipe's end
+        ours, theirs = FORK.Pipe(duplex=False)
+        process = FORK.Process(target=answer, args=(task, theirs))
+        process.start()
+        theirs.close()
+    try:
+        return ours.recv()
+    except EOFError:
+        return f"FAILED {task.title}: its process ended", False
+    finally:
+        process.join()
+
+
+def answer(task, pipe):
+    began = time.monotonic()
+    if task.is_deep:
+        what, bad = antt.with_deep_recursion(outcome, task)
+    else:
+        with mutation.limits():
+            what, bad = outcome(task)
+    used = f"{time.monotonic() - began:.1f} s, {sum(map(processor_time, OWN)):.1f} s of processor time, " \
+           f"{resource.getrusage(resource.RUSAGE_SELF).ru_maxrss // 1024} MB"
+    lines = [f"{'FAILED' if bad else 'ok'} {task.title}: {what}; {used}", *(f"    {line}" for line in bad[:SHOWN])]
+    pipe.send(("\n".join(lines), not bad))
+
+
+def outcome(task):
+    try:
+        return task.ask()
+    except (*REFUSALS, WrongRule) as error:
+        return "", [f"{type(error).__name__}: {error}"]
+    except Exception:
+        return "", traceback.format_exc().splitlines()
