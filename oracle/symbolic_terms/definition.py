@@ -35,10 +35,15 @@ class Bytes:
         if not isinstance(at, slice):
             if isinstance(at, int) and isinstance(self.length(), int) and not 0 <= at < self.length():
                 raise IndexError(at)
-            return self.source.load(plus(self.first, at), 1)
-        first = self.first if at.start is None else smaller(plus(self.first, at.start), self.end)
-        end = self.end if at.stop is None else smaller(plus(self.first, at.stop), self.end)
+            return self.source.load(self.place(at), 1)
+        first = self.first if at.start is None else smaller(self.place(at.start), self.end)
+        end = self.end if at.stop is None else smaller(self.place(at.stop), self.end)
         return Bytes(self.source, first, end if is_natural(minus(end, first)) else first)
+
+    def place(self, at):
+        if not is_number(at):
+            raise Undecided("a place that depends on a byte or the seed")
+        return plus(self.first, at)
 
 
 def length(xs):
