@@ -2,7 +2,7 @@
 
 use std::alloc::Global;
 use std::boxed::BoxedSlice;
-use theorems::Stream;
+use theorems::StreamingHasher;
 use twox_hash::xxhash3::{FixedBuffer, SecretBuffer};
 use twox_hash::{XxHash3_64, XxHash3_128, xxhash3_64, xxhash3_128};
 
@@ -32,15 +32,19 @@ pub(crate) struct Values {
 }
 
 // True if the stream was made, and has this value after the input.
-pub(crate) fn has<S: Stream + Drop>(made: Option<S>, input: Pieces<'_>, value: S::Value) -> bool {
+pub(crate) fn has<S: StreamingHasher + Drop>(
+    made: Option<S>,
+    input: Pieces<'_>,
+    value: S::Value,
+) -> bool {
     let Some(mut stream) = made else {
         return false;
     };
-    stream.take(input.head);
+    stream.update(input.head);
     for piece in input.tail.chunks(input.size.max(1)) {
-        stream.take(piece);
+        stream.update(piece);
     }
-    stream.answer() == value
+    stream.digest() == value
 }
 
 // Raw streams over a buffer, if there is one.

@@ -8,7 +8,7 @@ use crate::kinds::{
 };
 use crate::rows::{SEED, first, gen_10240, rows, seeded_rows};
 use std::alloc::Global;
-use theorems::Stream;
+use theorems::StreamingHasher;
 use twox_hash::xxhash3::{DEFAULT_SECRET_RAW, SecretBuffer};
 use twox_hash::{XxHash3_64, XxHash3_128};
 
@@ -174,14 +174,18 @@ fn secrets_of_zeros_beside_a_seed(rt: HostRuntime) {
 }
 
 // True if a stream that grows byte by byte has these values, one before each byte.
-fn grows<S: Stream + Drop>(made: Option<S>, bytes: &[u8; 10240], values: &[S::Value]) -> bool {
+fn grows<S: StreamingHasher + Drop>(
+    made: Option<S>,
+    bytes: &[u8; 10240],
+    values: &[S::Value],
+) -> bool {
     let Some(mut stream) = made else {
         return false;
     };
     let mut agree = true;
     for (byte, value) in bytes.iter().zip(values) {
-        agree &= stream.answer() == *value;
-        stream.take(&[*byte]);
+        agree &= stream.digest() == *value;
+        stream.update(&[*byte]);
     }
     agree
 }
@@ -220,14 +224,14 @@ fn seeded_array() -> Option<SecretBuffer<[u8; 192]>> {
 }
 
 // True if the stream was made, and has this value after the bytes, one per chunk.
-fn has_bytewise<S: Stream + Drop>(made: Option<S>, input: &[u8], value: S::Value) -> bool {
+fn has_bytewise<S: StreamingHasher + Drop>(made: Option<S>, input: &[u8], value: S::Value) -> bool {
     let Some(mut stream) = made else {
         return false;
     };
     for piece in input.chunks(1) {
-        stream.take(piece);
+        stream.update(piece);
     }
-    stream.answer() == value
+    stream.digest() == value
 }
 
 fn arrays_have(input: &[u8], value: u64, wide_value: u128) -> bool {

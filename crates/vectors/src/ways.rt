@@ -4,7 +4,7 @@ use crate::kernels;
 use crate::rows::{Kind, Recipe, Row, next_number};
 use std::alloc::{AllocError, Global};
 use std::boxed::BoxedSlice;
-use theorems::Stream;
+use theorems::StreamingHasher;
 use twox_hash::{XxHash3_64, XxHash3_128, XxHash32, XxHash64};
 
 /// True if every way to compute the test case's hash returns its value.
@@ -94,12 +94,12 @@ fn in_pieces(
 }
 
 // Returns a hasher's value after the chunks.
-fn after<H: Stream + Drop>(hasher: H, pieces: &[&[u8]]) -> H::Value {
+fn after<H: StreamingHasher + Drop>(hasher: H, pieces: &[&[u8]]) -> H::Value {
     let mut hasher = hasher;
     for piece in pieces.iter() {
-        hasher.take(piece);
+        hasher.update(piece);
     }
-    hasher.answer()
+    hasher.digest()
 }
 
 fn plain_32(seed: u64, pieces: &[&[u8]]) -> Option<u128> {
