@@ -24,7 +24,6 @@ import os
 import random
 import re
 import shutil
-import subprocess
 import sys
 import tempfile
 
@@ -40,6 +39,7 @@ import wide
 from report import Fault, Report, want
 from same_bytes import compare, compare_sums
 from library import sets_here
+from tools import ran, text_of, write
 
 BUILDS = {'c': 'c/build', 'rust': 'rust/build-library'}
 SETS = {('c', 'x86-64'): ('x86-64-v2', 'x86-64-v3', 'x86-64-v4'), ('rust', 'x86-64'): ('x86-64', 'x86-64-v3', 'x86-64-v4'),
@@ -49,7 +49,7 @@ WRONG_TEXTS = 18
 
 
 def run(words, **more):
-    done = subprocess.run(words, stdout=subprocess.PIPE, stderr=subprocess.STDOUT, text=True, **more)
+    done = ran(words, **more)
     want(done.returncode == 0, f'{" ".join(words[:3])}: {done.stdout.strip()[-300:]}')
     return done.stdout
 
@@ -90,19 +90,15 @@ class Rustc(As):
         if not super().is_there():
             return False
         with tempfile.TemporaryDirectory() as room:
-            empty = os.path.join(room, 'empty.s')
-            open(empty, 'w').close()
             try:
-                self.assemble(empty, os.path.join(room, 'empty.o'))
+                self.assemble(write(os.path.join(room, 'empty.s'), ''), os.path.join(room, 'empty.o'))
             except Fault:
                 return False
         return True
 
     def assemble(self, text, out):
-        source = os.path.splitext(out)[0] + '.rs'
-        with open(source, 'w') as file:
-            file.write(f'#![no_std]\ncore::arch::global_asm!(include_str!("{text}"), options({self.options}));\n')
-        run([*self.words, source, '-o', out])
+        source = f'#![no_std]\ncore::arch::global_asm!(include_str!("{text}"), options({self.options}));\n'
+        run([*self.words, write(os.path.splitext(out)[0] + '.rs', source), '-o', out])
 
 
 def assemblers_for(target, sysroot):
@@ -172,13 +168,9 @@ def wrong_texts(lines, target, count):
 
 
 def wrong_texts_are_noticed(text, proved, target, room):
-    with open(text) as file:
-        lines = file.read().splitlines()
-    path, out = os.path.join(room, 'wrong.s'), os.path.join(room, 'wrong.o')
-    for what, section, wrong in wrong_texts(lines, target, WRONG_TEXTS):
-        with open(path, 'w') as file:
-            file.write('\n'.join(wrong) + '\n')
-        As(target, None).assemble(path, out)
+    out = os.path.join(room, 'wrong.o')
+    for what, section, wrong in wrong_texts(text_of(text).splitlines(), target, WRONG_TEXTS):
+        As(target, None).assemble(write(os.path.join(room, 'wrong.s'), '\n'.join(wrong) + '\n'), out)
         for found in (compare(proved, out), compare_sums(sums_beside(text), out)):
             want(any(line.startswith(f'{section}:') for line in found), f'{what}: it was not noticed in {section}')
     return f'{WRONG_TEXTS} of {WRONG_TEXTS}'
@@ -209,8 +201,7 @@ def has_prefetches(library, name):
 
 def other_modules_are_refused(library, name):
     module, annotated = module_of(library, name)
-    with open(os.path.join(TOP, library, 'out', 'module', name, 'words')) as file:
-        words = file.read().splitlines()
+    words = text_of(f'{library}/out/module/{name}/words').splitlines()
     is_wide = name == WIDE
     module = wide.narrow(module) if is_wide else module
     for what, pattern, new in (('a number', r'(\n  %\w+ = add i64 %\w+, )\d+', r'\g<1>77'),
@@ -250,8 +241,8 @@ def is_built(library, target, of_ci):
 
 def is_made_anew(text, made):
     for path in (text, sums_beside(text)):
-        with open(path) as committed, open(os.path.join(made, os.path.basename(path))) as anew:
-            want(committed.read() == anew.read(), f'{os.path.relpath(path, TOP)} is another: {made} has it anew')
+        want(text_of(path) == text_of(os.path.join(made, os.path.basename(path))),
+             f'{os.path.relpath(path, TOP)} is another: {made} has it anew')
 
 
 def are_all_made_anew(library, target):
@@ -295,8 +286,7 @@ def check_texts(report, library, target, sysroot=None):
 def other_instructions_are_noticed(text, room):
     """The source itself has none; an instruction that the list lacks is detected in each wide function, and a wide
     vector in another."""
-    with open(text) as file:
-        right = file.read()
+    right = text_of(text)
     want(not faults_of(right, room), 'it has others')
     for name, line in (*((re.escape(wide.plain(name)) + r'(?:\.i\w+)?', 'vpcmpeqb %zmm0,%zmm1,%k1') for name in wide.WIDE),
                        (r'(?:XXH64|twox_rust_\d+_xxh32_write_v4)', 'vpaddq %zmm0,%zmm1,%zmm2')):
@@ -306,10 +296,8 @@ def other_instructions_are_noticed(text, room):
 
 
 def faults_of(text, room):
-    path, out = os.path.join(room, 'wide.s'), os.path.join(room, 'wide.o')
-    with open(path, 'w') as file:
-        file.write(text)
-    As('x86-64', None).assemble(path, out)
+    out = os.path.join(room, 'wide.o')
+    As('x86-64', None).assemble(write(os.path.join(room, 'wide.s'), text), out)
     return list(wide.faults(out, wide.mnemonics()))
 
 

@@ -13,7 +13,7 @@ from check import check_texts
 from library import C, Built
 from report import Fault, want
 from sides import EmulatedSide, run
-from tools import TOP, install_packages, must
+from tools import TOP, bytes_of, install_packages, must, text_of, write
 
 HEADER = '/usr/include/xxhash.h'
 PACKAGES = {TOOLS + 'gcc': 'gcc-aarch64-linux-gnu', TOOLS + 'objcopy': 'binutils-aarch64-linux-gnu',
@@ -28,16 +28,12 @@ RIGHT, WRONG = '#define XXH_PRIME32_1  0x9E3779B1U', '#define XXH_PRIME32_1  0x9
 def reference(built, name, change=('', ''), flags=('-O2',)):
     """Builds only the reference's header as a shared library, with one change."""
     folder = os.path.join(built.room, name)
-    os.mkdir(folder)
-    with open(HEADER) as file:
-        text = file.read()
+    text = text_of(HEADER)
     if change[0] and text.count(change[0]) != 1:
         raise Fault(f'{HEADER} does not have {change[0]} once')
-    with open(os.path.join(folder, 'xxhash.h'), 'w') as file:
-        file.write(text.replace(*change) if change[0] else text)
-    source, path = os.path.join(folder, 'reference.c'), os.path.join(folder, 'reference.so')
-    with open(source, 'w') as file:
-        file.write('#define XXH_STATIC_LINKING_ONLY\n#define XXH_IMPLEMENTATION\n#include "xxhash.h"\n')
+    write(os.path.join(folder, 'xxhash.h'), text.replace(*change) if change[0] else text)
+    path = os.path.join(folder, 'reference.so')
+    source = write(os.path.join(folder, 'reference.c'), '#define XXH_STATIC_LINKING_ONLY\n#define XXH_IMPLEMENTATION\n#include "xxhash.h"\n')
     built.tool('gcc', *flags, '-shared', '-fPIC', '-Wl,-Bsymbolic-functions', source, '-o', path)
     return path
 
@@ -52,8 +48,7 @@ def table_agrees(built, qemu):
     """The oracle's table, with our static library."""
     program = built.program('table', os.path.join(TOP, 'oracle', 'vectors.c'), built.archive, '-static')
     done = subprocess.run([*qemu, program], stdout=subprocess.PIPE, timeout=300)
-    with open(os.path.join(TOP, 'oracle', 'vectors.txt'), 'rb') as file:
-        table = file.read()
+    table = bytes_of('oracle/vectors.txt')
     want(done.returncode == 0 and done.stdout == table, 'the table is another')
     return f'{len(table.splitlines()) - 1} rows'
 

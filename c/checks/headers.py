@@ -1,9 +1,8 @@
 """Programs that are built with the installed files: the headers, pkg-config with -static, CMake."""
 import os
-import subprocess
 
 from report import want
-from tools import TOP, must
+from tools import TOP, must, ran
 
 STATE_ON_THE_STACK = '#include <xxhash.h>\nint main(void) { XXH3_state_t s; return XXH3_64bits_reset(&s); }\n'
 DISPATCHED = ('#include <xxh_x86dispatch.h>\n'
@@ -21,7 +20,7 @@ def compiled(built, text, compiler, *flags):
     """Compiles a source, and returns the status, the lines with an error, and the whole output."""
     language = 'c++' if compiler == 'g++' else 'c'
     words = [built.tools + compiler, *flags, '-I', built.include, '-fsyntax-only', '-x', language, '-']
-    done = subprocess.run(words, input=text, stdout=subprocess.PIPE, stderr=subprocess.STDOUT, text=True)
+    done = ran(words, input=text)
     return done.returncode, [line for line in done.stdout.splitlines() if 'error: ' in line], done.stdout
 
 

@@ -17,7 +17,7 @@ from collections import namedtuple
 
 from report import want
 from library import C, Built
-from tools import TOP, clean_copy, install_packages, must
+from tools import TOP, clean_copy, install_packages, must, text_of
 
 sys.path.append(os.path.join(TOP, 'release', 'parts'))
 from roots import TAKEN, new_base, new_root
@@ -33,8 +33,7 @@ Script = namedtuple('Script', 'name releases packages source')
 def scripts():
     """The scripts, by their first lines."""
     for path in sorted(glob.glob(os.path.join(CHECKS, 'programs', '*.sh'))):
-        with open(path) as file:
-            said = dict(re.findall(r'^# (Debian|packages|source): *(.*)$', file.read(), re.M))
+        said = dict(re.findall(r'^# (Debian|packages|source): *(.*)$', text_of(path), re.M))
         yield Script(os.path.basename(path).removesuffix('.sh'), said['Debian'].split(), said.get('packages', '').split(),
                      said.get('source'))
 

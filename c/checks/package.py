@@ -12,7 +12,7 @@ from launcher import OLD, SETS
 from report import tail, want
 from sides import THEIRS, Side, others, run
 from library import C, sets_here, sets_of_library
-from tools import TOP, must
+from tools import TOP, bytes_of, must, ran, write
 
 NAME = 'twox-hash'
 PREFIX = '/usr/lib/twox-hash'
@@ -45,8 +45,7 @@ def library(instructions):
 
 def their_state():
     """Debian's library: its bytes, what dpkg finds changed in its package, and what the loader has under its name."""
-    with open(THEIRS, 'rb') as file:
-        digest = hashlib.sha256(file.read()).hexdigest()
+    digest = hashlib.sha256(bytes_of(THEIRS)).hexdigest()
     known = [line for line in must(['ldconfig', '-p']).splitlines() if 'libxxhash' in line]
     return digest, must(['dpkg', '-V', 'libxxhash0']), known
 
@@ -130,8 +129,7 @@ def copied_root(package):
 
 def library_in(root):
     """The libxxhash that rsync loads in this root."""
-    done = subprocess.run(['chroot', root, '/usr/bin/rsync', '--version'], stdout=subprocess.PIPE,
-                          stderr=subprocess.STDOUT, text=True, env={**others(), 'LD_DEBUG': 'libs'})
+    done = ran(['chroot', root, '/usr/bin/rsync', '--version'], env={**others(), 'LD_DEBUG': 'libs'})
     want(done.returncode == 0, tail(done.stdout))
     return os.path.normpath(' '.join(re.findall(r'calling init: (\S*libxxhash\S*)', done.stdout)) or 'none')
 
@@ -144,8 +142,7 @@ def serves_a_machine(package):
     must(['ldconfig', '-r', root])
     theirs = library_in(root)
     want(not theirs.startswith(PREFIX), f'the package alone changes what is loaded: {theirs}')
-    with open(os.path.join(root, 'etc/ld.so.conf.d/00-twox-hash.conf'), 'w') as file:
-        file.write(FOLDER + '\n')
+    write(os.path.join(root, 'etc/ld.so.conf.d/00-twox-hash.conf'), FOLDER + '\n')
     must(['ldconfig', '-r', root])
     want(library_in(root) == package.ours, f'{library_in(root)} is loaded')
     shutil.rmtree(root + PREFIX)
@@ -169,8 +166,7 @@ def both_builds_run(package, v3):
     for words, build in (([], SETS[v3]), (OLD, SETS[0])):
         path = os.path.join(PREFIX, 'libexec', NAME, build, 'xxhsum')
         os.rename(path, path + '.away')
-        done = subprocess.run([*words, os.path.join(PREFIX, 'bin', 'xxhsum'), EXAMPLE], stdout=subprocess.PIPE,
-                              stderr=subprocess.PIPE, text=True)
+        done = subprocess.run([*words, os.path.join(PREFIX, 'bin', 'xxhsum'), EXAMPLE], capture_output=True, text=True)
         os.rename(path + '.away', path)
         want((done.returncode, done.stdout) == (127, '') and path in done.stderr, f'{build} is not what runs')
         want(must([*words, os.path.join(PREFIX, 'bin', 'xxhsum'), '-q', EXAMPLE]) == must(['xxhsum', '-q', EXAMPLE]),

@@ -1,10 +1,9 @@
 """The library's names and values, compared with another's: Debian's, or the reference's header."""
 import os
-import subprocess
 
 from report import want
 from library import C
-from tools import must
+from tools import must, ran
 
 # What release 0.8.3 has in addition to the names of 0.8.1, on x86-64, and the name by which a program requires this
 # library.
@@ -29,8 +28,7 @@ def calls_program(built, name, *flags):
 
 
 def calls(program, their_path, path, count, *words, **variables):
-    done = subprocess.run([*program, their_path, path, str(count), *words], stdout=subprocess.PIPE,
-                          stderr=subprocess.STDOUT, text=True, timeout=1200, env={**os.environ, **variables})
+    done = ran([*program, their_path, path, str(count), *words], timeout=1200, env={**os.environ, **variables})
     return done.returncode, done.stdout
 
 

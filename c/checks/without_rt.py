@@ -16,7 +16,7 @@ import values
 from report import Fault, tail, want
 from sides import THEIRS, Side
 from library import Built
-from tools import clean_copy, hide_rt, install_packages, must, path_without
+from tools import bytes_of, clean_copy, hide_rt, install_packages, must, path_without, ran, text_of, write
 
 PACKAGES = {'gcc': 'gcc', 'g++': 'g++', '/usr/include/stdio.h': 'libc6-dev', 'nm': 'binutils', 'make': 'make',
             'python3': 'python3', 'pkg-config': 'pkg-config', 'cmake': 'cmake', 'clang': 'clang',
@@ -52,8 +52,7 @@ class Made(Built):
 
 
 def run_make(copy, *words, **variables):
-    return subprocess.run(['make', '-s', '-C', os.path.join(copy, 'c'), *words], stdout=subprocess.PIPE,
-                          stderr=subprocess.STDOUT, text=True, env={**os.environ, **variables})
+    return ran(['make', '-s', '-C', os.path.join(copy, 'c'), *words], env={**os.environ, **variables})
 
 
 def make(copy, *words):
@@ -97,19 +96,14 @@ class Changed:
 
     def __init__(self, copy, name, change):
         self.path = os.path.join(copy, 'c', name)
-        with open(self.path) as file:
-            self.right = file.read()
+        self.right = text_of(self.path)
         self.wrong = change(self.right)
 
     def __enter__(self):
-        self.write(self.wrong)
+        write(self.path, self.wrong)
 
     def __exit__(self, *_):
-        self.write(self.right)
-
-    def write(self, text):
-        with open(self.path, 'w') as file:
-            file.write(text)
+        write(self.path, self.right)
 
 
 def wrong_text_is_noticed(copy, function, right, wrong, goal, word):
@@ -148,11 +142,7 @@ def uncalled_name_is_noticed(copy):
 
 def foreign_compiler(room, machine):
     """A compiler for another machine, which reports that machine."""
-    path = os.path.join(room, 'cc-' + machine)
-    with open(path, 'w') as file:
-        file.write(f'#!/bin/sh\necho {machine}\n')
-    os.chmod(path, 0o755)
-    return path
+    return write(os.path.join(room, 'cc-' + machine), f'#!/bin/sh\necho {machine}\n', 0o755)
 
 
 def check_refusals(report, copy, room):
@@ -245,8 +235,7 @@ def static_table_agrees(copy, room, compiler, out, run=()):
     headers = must(['readelf', '-lW', program])
     want('INTERP' not in headers, 'the program asks for a loader')
     done = subprocess.run([*run, program], stdout=subprocess.PIPE, timeout=300)
-    with open(os.path.join(copy, 'oracle', 'vectors.txt'), 'rb') as file:
-        table = file.read()
+    table = bytes_of(os.path.join(copy, 'oracle', 'vectors.txt'))
     want(done.returncode == 0 and done.stdout == table, 'the table is another')
     return f'{len(table.splitlines()) - 1} rows'
 

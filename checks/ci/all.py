@@ -19,7 +19,7 @@ import time
 
 import command
 from report import Report
-from tools import TOP, ran
+from tools import TOP, ran, text_of
 
 from .parts import Part
 
@@ -31,8 +31,7 @@ FOR_ALL_BYTES = [("the definitions beside the reference's code", 32, "oracle/sym
 
 
 def memory_in_use():
-    with open("/proc/meminfo") as file:
-        kib = dict(re.findall(r"^(\w+): +(\d+)", file.read(), re.M))
+    kib = dict(re.findall(r"^(\w+): +(\d+)", text_of("/proc/meminfo"), re.M))
     return (int(kib["MemTotal"]) - int(kib["MemAvailable"])) / 2 ** 20
 
 

@@ -20,6 +20,11 @@ def text_of(path):
         return file.read()
 
 
+def bytes_of(path):
+    with open(os.path.join(TOP, path), 'rb') as file:
+        return file.read()
+
+
 def write(path, data, mode=None):
     """Writes a file of bytes or text, in a folder that is created if it is missing. Returns the path."""
     if folder := os.path.dirname(path):
@@ -29,6 +34,20 @@ def write(path, data, mode=None):
     if mode:
         os.chmod(path, mode)
     return path
+
+
+def replace(path, *change):
+    """Replaces each place of a text in a file by another one."""
+    write(path, text_of(path).replace(*change))
+
+
+def flip_bit(path, at=0):
+    """Changes one bit of the byte at a place of a file. A second call reverts it."""
+    with open(path, 'r+b') as file:
+        file.seek(at)
+        byte, = file.read(1)
+        file.seek(at)
+        file.write(bytes([byte ^ 1]))
 
 
 def free_port():

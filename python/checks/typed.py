@@ -3,6 +3,7 @@ import os
 import re
 
 from report import want
+from tools import write
 from room import PYTHON, must, run
 
 MYPY = [PYTHON, '-m', 'mypy', '--strict', '--cache-dir=/dev/null']
@@ -34,10 +35,7 @@ WRONG = ["xxhash.xxh64_digest(5)", "xxhash.xxh64_digest()", "xxhash.xxh64_digest
 
 
 def program(built, name, text):
-    path = os.path.join(built.room, f'{name}.py')
-    with open(path, 'w') as file:
-        file.write(text)
-    return path
+    return write(os.path.join(built.room, f'{name}.py'), text)
 
 
 def package_is_typed(built):

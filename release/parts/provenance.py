@@ -6,7 +6,7 @@ import re
 import shutil
 import time
 
-from tools import must
+from tools import must, text_of
 
 VERDICT = re.compile(r'^logic=')
 CRATE = re.compile(r'^== (\w+)$')
@@ -51,8 +51,7 @@ def verdicts(lines):
 
 
 def machine():
-    with open('/proc/cpuinfo') as file:
-        model = re.search(r'^model name\s*: (.*)$', file.read(), re.M)
+    model = re.search(r'^model name\s*: (.*)$', text_of('/proc/cpuinfo'), re.M)
     return f'{model[1] if model else platform.machine()}, {os.cpu_count()} processors'
 
 

@@ -9,6 +9,7 @@ import reader
 from erasers import Eraser
 from planted_sources import CHANGED_CRATES, PLANTED, PLANTED_IN_PROGRAMS
 from report import tail, want
+from tools import text_of, write
 from room import Room, install_packages
 
 RUST = os.path.dirname(os.path.dirname(os.path.abspath(__file__)))
@@ -95,11 +96,9 @@ def wrong_parts(room, number, file, old, new):
     shutil.copytree(PARTS, folder)
     shutil.copy(os.path.join(RUST, 'erase'), os.path.join(os.path.dirname(folder), 'erase'))
     path = os.path.join(folder, file)
-    with open(path, encoding='utf-8') as text:
-        right = text.read()
+    right = text_of(path)
     want(right.count(old) == 1, f'{file} has the line {right.count(old)} times')
-    with open(path, 'w', encoding='utf-8') as text:
-        text.write(right.replace(old, new))
+    write(path, right.replace(old, new))
     return folder
 
 
@@ -114,11 +113,9 @@ def changed_crates(room, number, file, old, new):
     for crate in reader.PROGRAMS.crates:
         shutil.copytree(os.path.join(CRATES, crate, 'src'), os.path.join(folder, crate, 'src'), dirs_exist_ok=True)
     path = os.path.join(folder, file)
-    with open(path, encoding='utf-8') as text:
-        right = text.read()
+    right = text_of(path)
     want(right.count(old) == 1, f'{file} has the text {right.count(old)} times')
-    with open(path, 'w', encoding='utf-8') as text:
-        text.write(right.replace(old, new))
+    write(path, right.replace(old, new))
     return folder
 
 

@@ -5,6 +5,7 @@ import time
 
 from module_checks import WEB
 from report import Fault, want
+from tools import text_of, write
 from values import SOME_BYTES, XXHSUM, line_of, reference
 
 ENDINGS = {"xxh32": "xxh32", "xxh64": "xxh64", "xxh3_64": "xxh3", "xxh3_128": "xxh128"}
@@ -160,10 +161,7 @@ def improper_lines(page):
 
 def folder_of(page, name, files):
     for path, content in files.items():
-        path = os.path.join(page.room, name, path)
-        os.makedirs(os.path.dirname(path), exist_ok=True)
-        with open(path, "wb") as file:
-            file.write(content)
+        write(os.path.join(page.room, name, path), content)
     return os.path.join(page.room, name)
 
 
@@ -279,8 +277,7 @@ def lines_saved(page):
         want(ran.returncode == 0 and ran.stdout.count(": OK") == len(names), ran.stdout + ran.stderr)
         page.browser.click("#copy-all")
         page.browser.wait("return document.getElementById('status').textContent === 'all lines copied'", seconds=10)
-        with open(saved, encoding="utf-8") as file:
-            want(page.browser.run("return navigator.clipboard.readText()") == file.read(), "other lines were copied")
+        want(page.browser.run("return navigator.clipboard.readText()") == text_of(saved), "other lines were copied")
         page.browser.run("document.getElementById('status').textContent = ''")
     page.set_key("7")
     page.browser.click("#again")

@@ -12,6 +12,7 @@ import table
 from module_checks import WEB
 from page import Page, Requests, Served, serve
 from report import want
+from tools import write
 from values import SOME_BYTES, reference
 
 MIB = 1 << 20
@@ -421,9 +422,7 @@ def served_and_no_more(folder):
               "web/outside", "web/../.git/config", "docs/%2e%2e/.git/config"]
     top, before = os.path.join(folder, "served"), serve.TOP
     for name in [*public, "README.md.orig", "docs.bak/x", "web-old/x", "LICENSE2", "oracle/vectors.txt~", "oracle/check", ".git/config"]:
-        os.makedirs(os.path.dirname(os.path.join(top, name)), exist_ok=True)
-        with open(os.path.join(top, name), "w", encoding="utf-8") as file:
-            file.write(name)
+        write(os.path.join(top, name), name)
     os.symlink("../.git/config", os.path.join(top, "web", "outside"))
     serve.TOP = os.path.realpath(top)
     try:
@@ -493,8 +492,7 @@ def take_picture(page):
     page.set_field("expected", SOME_BYTES["xxh64"] + "  some.txt")
     page.browser.wait("return document.getElementById('verdict').textContent")
     page.browser.run("document.activeElement.blur(); scrollTo(0, 0)")
-    with open(os.path.join(os.path.dirname(WEB), "docs", "page.png"), "wb") as file:
-        file.write(page.browser.picture("results"))
-    return f"docs/page.png, {os.path.getsize(file.name)} bytes"
+    path = write(os.path.join(os.path.dirname(WEB), "docs", "page.png"), page.browser.picture("results"))
+    return f"docs/page.png, {os.path.getsize(path)} bytes"
 
 
