@@ -106,23 +106,15 @@ class Many(unittest.TestCase):
 
     def test_errors(self):
         rows = Matrix(4, 8)
-        for call, error in (
-                (lambda: ours.many('abc'), TypeError), (lambda: ours.many(b'abc'), ValueError),
-                (lambda: ours.many(bytearray(8), width=3), ValueError),
-                (lambda: ours.many(b'abc', width=0), ValueError),
-                (lambda: ours.many(b'abc', width=-3), ValueError), (lambda: ours.many([b'a'], width=1), TypeError),
-                (lambda: ours.many(5), TypeError), (lambda: ours.many(None), TypeError),
-                (lambda: ours.many([b'a', 5]), TypeError), (lambda: ours.many([b'a', None]), TypeError),
-                (lambda: ours.many(['\ud800']), UnicodeEncodeError), (lambda: ours.many(rows.view[::2]), BufferError),
-                (lambda: ours.many([b'a'], 'md5'), ValueError), (lambda: ours.many([b'a'], int), TypeError),
-                (lambda: ours.many([b'a'], into=bytearray(7)), ValueError),
-                (lambda: ours.many([b'a'], into=bytes(8)), BufferError), (lambda: ours.many([b'a'], into=5), TypeError),
-                (lambda: ours.many(rows.view, into=bytearray(31)), ValueError),
-                (lambda: ours.many([b'a'], secret=b'short'), ValueError),
-                (lambda: ours.many([b'a'], 'xxh64', secret=SECRET), TypeError),
-                (lambda: ours.many([b'a'], seed=None), TypeError), (lambda: ours.many([b'a'], foo=1), TypeError)):
-            with self.assertRaises(error):
-                call()
+        for error, calls in (
+                (TypeError, ("'abc'", "[b'a'], width=1", '5', 'None', "[b'a', 5]", "[b'a', None]", "[b'a'], int", "[b'a'], into=5",
+                             "[b'a'], 'xxh64', secret=SECRET", "[b'a'], seed=None", "[b'a'], foo=1")),
+                (ValueError, ("b'abc'", 'bytearray(8), width=3', "b'abc', width=0", "b'abc', width=-3", "[b'a'], 'md5'",
+                              "[b'a'], into=bytearray(7)", 'rows.view, into=bytearray(31)', "[b'a'], secret=b'short'")),
+                (BufferError, ('rows.view[::2]', "[b'a'], into=bytes(8)")), (UnicodeEncodeError, (r"['\ud800']",))):
+            for arguments in calls:
+                with self.subTest(call=arguments), self.assertRaises(error):
+                    eval(f'ours.many({arguments})', {'ours': ours, 'rows': rows, 'SECRET': SECRET})
 
     def test_digests_over_their_own_rows(self):
         """They would overwrite rows that aren't read yet."""
@@ -244,7 +236,3 @@ class Many(unittest.TestCase):
                 rows.clear()
                 yield row
         self.assertEqual(ours.many(changing()), [ours.xxh3_64_digest(row) for row in (b'a', b'b', b'c')])
-
-
-if __name__ == '__main__':
-    unittest.main()

@@ -240,7 +240,3 @@ class Forged(unittest.TestCase):
                 hasher.update(b'b' * 700)
                 hasher.reset()
                 self.assertEqual(len(hasher.digest()), hasher.digest_size)
-
-
-if __name__ == '__main__':
-    unittest.main()
