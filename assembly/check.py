@@ -59,7 +59,7 @@ def run(words, **more):
 class As:
     name = 'GNU as'
 
-    def __init__(self, target, _):
+    def __init__(self, target):
         self.words = ['as' if target == 'x86-64' else 'aarch64-linux-gnu-as']
 
     def is_there(self):
@@ -72,18 +72,16 @@ class As:
 class Clang(As):
     name = 'clang'
 
-    def __init__(self, target, _):
+    def __init__(self, target):
         self.words = ['clang', '-c', f'--target={"x86_64" if target == "x86-64" else target}-linux-gnu']
 
 
 class Rustc(As):
     name = 'rustc'
 
-    def __init__(self, target, sysroot):
+    def __init__(self, target):
         arch, self.options = ('x86_64', 'att_syntax, raw') if target == 'x86-64' else (target, 'raw')
         self.words = ['rustc', '--crate-type=lib', '--emit=obj', f'--target={arch}-unknown-linux-gnu']
-        if sysroot:
-            self.words += ['--sysroot', sysroot]
 
     def is_there(self):
         """With the library `core` of the target."""
@@ -101,9 +99,9 @@ class Rustc(As):
         run([*self.words, write(os.path.splitext(out)[0] + '.rs', source), '-o', out])
 
 
-def assemblers_for(target, sysroot):
+def assemblers_for(target):
     """Those that are on the machine."""
-    return [it for it in (kind(target, sysroot) for kind in (As, Clang, Rustc)) if it.is_there()]
+    return [it for it in (As(target), Clang(target), Rustc(target)) if it.is_there()]
 
 
 # ---- wrong sources ----
@@ -161,8 +159,7 @@ def wrong_texts(lines, target, count):
         want(places, f'the text has no {kind}')
         at = draw.choice(places)
         found = re.match(pattern, lines[at])
-        word = change(found[1], lines)
-        line = lines[at][:found.start(1)] + word + lines[at][found.end(1):]
+        line = lines[at][:found.start(1)] + change(found[1], lines) + lines[at][found.end(1):]
         section = next(line.split()[1].split(',')[0] for line in reversed(lines[:at]) if line.startswith('\t.section'))
         yield f'{kind}, line {at + 1}', section, [*lines[:at], line, *lines[at + 1:]]
 
@@ -170,7 +167,7 @@ def wrong_texts(lines, target, count):
 def wrong_texts_are_noticed(text, proved, target, room):
     out = os.path.join(room, 'wrong.o')
     for what, section, wrong in wrong_texts(text_of(text).splitlines(), target, WRONG_TEXTS):
-        As(target, None).assemble(write(os.path.join(room, 'wrong.s'), '\n'.join(wrong) + '\n'), out)
+        As(target).assemble(write(os.path.join(room, 'wrong.s'), '\n'.join(wrong) + '\n'), out)
         for found in (compare(proved, out), compare_sums(sums_beside(text), out)):
             want(any(line.startswith(f'{section}:') for line in found), f'{what}: it was not noticed in {section}')
     return f'{WRONG_TEXTS} of {WRONG_TEXTS}'
@@ -261,10 +258,10 @@ def is_same(assembler, text, proved, room):
     want(not found, ' / '.join(line[:200] for line in found[:3]))
 
 
-def check_texts(report, library, target, sysroot=None):
+def check_texts(report, library, target):
     """The sources of a library that was proved and built."""
     out = os.path.join(TOP, library, 'out')
-    assemblers = assemblers_for(target, sysroot)
+    assemblers = assemblers_for(target)
     report.attempt(f'all that is made of {library} for {target}', are_all_made_anew, library, target)
     for name in SETS[library, target]:
         text, proved = os.path.join(TOP, library, 'asm', f'{name}.s'), os.path.join(out, 'proved', f'{name}.o')
@@ -297,12 +294,12 @@ def other_instructions_are_noticed(text, room):
 
 def faults_of(text, room):
     out = os.path.join(room, 'wide.o')
-    As('x86-64', None).assemble(write(os.path.join(room, 'wide.s'), text), out)
+    As('x86-64').assemble(write(os.path.join(room, 'wide.s'), text), out)
     return list(wide.faults(out, wide.mnemonics()))
 
 
 def check_frames(report, library, target, text, room):
-    shown, assembler = os.path.relpath(text, TOP), As(target, None)
+    shown, assembler = os.path.relpath(text, TOP), As(target)
     report.attempt(f'{shown}: the frames', unwinding.are_told, assembler, text, room)
     report.attempt(f'{shown}: wrong frames are noticed', unwinding.wrong_ones_are_noticed, assembler, text, room,
                    lambda out: unwinding.differences(out)[1])
@@ -324,7 +321,7 @@ def has_sums(assembler, text, room):
 def check_sums(report, folder, sets):
     """Sources for x86-64 against their sums, if no proved object is available."""
     with tempfile.TemporaryDirectory() as room:
-        for assembler in assemblers_for('x86-64', None):
+        for assembler in assemblers_for('x86-64'):
             for name in sets:
                 report.attempt(f'the sums of {name}.s by {assembler.name}', has_sums, assembler,
                                os.path.join(folder, f'{name}.s'), room)

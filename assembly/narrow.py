@@ -30,8 +30,7 @@ def parsed(text):
         if token == '(':
             open_lists.append([])
         elif token == ')':
-            done = open_lists.pop()
-            open_lists[-1].append(done)
+            open_lists[-2].append(open_lists.pop())
         elif not token.startswith(';;'):
             open_lists[-1].append(token)
     return open_lists[0]

@@ -1,6 +1,5 @@
 """Checks the library for C of 64-bit ARM on a machine of another processor, under qemu-aarch64."""
 import os
-import subprocess
 import tempfile
 
 import clients
@@ -11,9 +10,9 @@ import values
 from arm_roots import TOOLS, debian_root
 from check import check_texts
 from library import C, Built
-from report import Fault, want
+from report import want
 from sides import EmulatedSide, run
-from tools import TOP, bytes_of, install_packages, must, text_of, write
+from tools import TOP, install_packages, must, replace_once, text_of, write
 
 HEADER = '/usr/include/xxhash.h'
 PACKAGES = {TOOLS + 'gcc': 'gcc-aarch64-linux-gnu', TOOLS + 'objcopy': 'binutils-aarch64-linux-gnu',
@@ -25,14 +24,12 @@ THEIRS = '/usr/lib/aarch64-linux-gnu/libxxhash.so.0'
 RIGHT, WRONG = '#define XXH_PRIME32_1  0x9E3779B1U', '#define XXH_PRIME32_1  0x9E3779B3U'
 
 
-def reference(built, name, change=('', ''), flags=('-O2',)):
+def reference(built, name, change=(), flags=('-O2',)):
     """Builds only the reference's header as a shared library, with one change."""
     folder = os.path.join(built.room, name)
-    text = text_of(HEADER)
-    if change[0] and text.count(change[0]) != 1:
-        raise Fault(f'{HEADER} does not have {change[0]} once')
-    write(os.path.join(folder, 'xxhash.h'), text.replace(*change) if change[0] else text)
-    path = os.path.join(folder, 'reference.so')
+    header, path = write(os.path.join(folder, 'xxhash.h'), text_of(HEADER)), os.path.join(folder, 'reference.so')
+    if change:
+        replace_once(header, *change)
     source = write(os.path.join(folder, 'reference.c'), '#define XXH_STATIC_LINKING_ONLY\n#define XXH_IMPLEMENTATION\n#include "xxhash.h"\n')
     built.tool('gcc', *flags, '-shared', '-fPIC', '-Wl,-Bsymbolic-functions', source, '-o', path)
     return path
@@ -47,10 +44,7 @@ def wrong_reference_differs(built, qemu, program, count):
 def table_agrees(built, qemu):
     """The oracle's table, with our static library."""
     program = built.program('table', os.path.join(TOP, 'oracle', 'vectors.c'), built.archive, '-static')
-    done = subprocess.run([*qemu, program], stdout=subprocess.PIPE, timeout=300)
-    table = bytes_of('oracle/vectors.txt')
-    want(done.returncode == 0 and done.stdout == table, 'the table is another')
-    return f'{len(table.splitlines()) - 1} rows'
+    return values.table_agrees([*qemu, program])
 
 
 def loads(side):

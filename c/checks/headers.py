@@ -19,8 +19,7 @@ def package_path(built):
 def compiled(built, text, compiler, *flags):
     """Compiles a source, and returns the status, the lines with an error, and the whole output."""
     language = 'c++' if compiler == 'g++' else 'c'
-    words = [built.tools + compiler, *flags, '-I', built.include, '-fsyntax-only', '-x', language, '-']
-    done = ran(words, input=text)
+    done = ran([built.tools + compiler, *flags, '-I', built.include, '-fsyntax-only', '-x', language, '-'], input=text)
     return done.returncode, [line for line in done.stdout.splitlines() if 'error: ' in line], done.stdout
 
 

@@ -50,8 +50,7 @@ def own_states_agree(built, theirs, paths, compiler, folder, run=()):
     must([compiler, '-O2', '-Wall', '-Wextra', '-I', folder, os.path.join(C, 'checks', 'own_states.c'), '-o', program])
     found = []
     for path in paths:
-        words = [*run, program, theirs, path]
-        done = ran(words)
+        done = ran([*run, program, theirs, path])
         want(done.returncode == 0, done.stdout[-300:])
         found.append(done.stdout.split()[0])
     return f'{", ".join(found)} compared'

@@ -117,8 +117,7 @@ def copied_root(package):
     for part in ('lib', 'lib64', 'bin'):
         os.makedirs(os.path.join(root, 'usr', part))
         os.symlink('usr/' + part, os.path.join(root, part))
-    needed = re.findall(r'/\S+\.so\S*', must(['ldd', '/usr/bin/rsync']))
-    for path in ['/usr/bin/rsync', *needed]:
+    for path in ['/usr/bin/rsync', *re.findall(r'/\S+\.so\S*', must(['ldd', '/usr/bin/rsync']))]:
         os.makedirs(os.path.dirname(root + path), exist_ok=True)
         shutil.copy(path, root + path)
     os.mkdir(os.path.join(root, 'etc'))

@@ -1,9 +1,10 @@
 """The library's names and values, compared with another's: Debian's, or the reference's header."""
 import os
+import subprocess
 
 from report import want
 from library import C
-from tools import must, ran
+from tools import bytes_of, must, ran
 
 # What release 0.8.3 has in addition to the names of 0.8.1, on x86-64, and the name by which a program requires this
 # library.
@@ -20,6 +21,13 @@ def names_are_theirs(path, their_path):
     want(not theirs - ours, f'without {", ".join(sorted(theirs - ours))}')
     want(ours - theirs == newer, f'with {", ".join(sorted(ours - theirs))}')
     return f'all {len(theirs)}' + ''.join(f', and {name}' for name in sorted(newer))
+
+
+def table_agrees(words):
+    """A program that prints the oracle's table."""
+    done, table = subprocess.run(words, stdout=subprocess.PIPE, timeout=300), bytes_of('oracle/vectors.txt')
+    want(done.returncode == 0 and done.stdout == table, 'the table is another')
+    return f'{len(table.splitlines()) - 1} rows'
 
 
 def calls_program(built, name, *flags):

@@ -3,7 +3,6 @@
 import os
 import re
 import shutil
-import subprocess
 import tempfile
 import time
 
@@ -16,7 +15,7 @@ import values
 from report import Fault, tail, want
 from sides import THEIRS, Side
 from library import Built
-from tools import bytes_of, clean_copy, hide_rt, install_packages, must, path_without, ran, text_of, write
+from tools import clean_copy, hide_rt, install_packages, must, path_without, ran, text_of, write
 
 PACKAGES = {'gcc': 'gcc', 'g++': 'g++', '/usr/include/stdio.h': 'libc6-dev', 'nm': 'binutils', 'make': 'make',
             'python3': 'python3', 'pkg-config': 'pkg-config', 'cmake': 'cmake', 'clang': 'clang',
@@ -38,17 +37,6 @@ OTHER_TEXTS = {
     'a note': ('0xc0000002,4,2,0', '0xc0000002,4,3,0', 'notes'),
     'a frame': (r'\.cfi_def_cfa_offset 16\n', '.cfi_def_cfa_offset 24\n', 'frames')}
 COMPILERS = ('clang', 'g++', 'clang++', 'gcc -flto', 'clang -flto=thin', 'gcc -std=c89 -pedantic -Werror')
-
-
-class Made(Built):
-    """The library installed by make, instead of c/install."""
-
-    def __init__(self, room, copy):
-        self.room, self.tools, self.copy = room, '', copy
-        # It is moved afterwards, since an installed folder may be.
-        make(copy, 'install', f'PREFIX={room}/first')
-        os.rename(f'{room}/first', f'{room}/prefix')
-        self.set_paths(os.path.join(room, 'prefix'))
 
 
 def run_make(copy, *words, **variables):
@@ -191,8 +179,7 @@ def processors_stay_apart(copy):
 
 
 def files_below(folder):
-    return sorted(os.path.relpath(os.path.join(where, name), folder) for where, _, names in os.walk(folder)
-                  for name in names)
+    return sorted(os.path.relpath(f'{where}/{name}', folder) for where, _, names in os.walk(folder) for name in names)
 
 
 def is_taken_away(copy, room):
@@ -203,8 +190,7 @@ def is_taken_away(copy, room):
     want(f'{place}/lib and include: no program runs on it unless' in said, f'install says {tail(said)}')
     put = files_below(place)
     want(len(put) >= 10, f'it puts {put}')
-    with open(os.path.join(place, 'lib', 'other.so'), 'w'):
-        pass
+    write(os.path.join(place, 'lib', 'other.so'), '')
     make(copy, 'uninstall', 'PREFIX=/opt/twox_hash', f'DESTDIR={root}')
     want(files_below(root) == ['opt/twox_hash/lib/other.so'], f'it leaves {files_below(root)}')
     said = make(copy, 'install', 'PREFIX=/usr/local', f'DESTDIR={root}')
@@ -232,12 +218,8 @@ def static_table_agrees(copy, room, compiler, out, run=()):
     program = os.path.join(room, f'table-{os.path.basename(out)}')
     source, library = os.path.join(copy, 'oracle', 'vectors.c'), os.path.join(copy, 'c', out, 'lib', 'libtwox_hash.a')
     must([compiler, '-O2', '-static', '-w', '-I', os.path.join(copy, 'c', 'include'), source, library, '-o', program])
-    headers = must(['readelf', '-lW', program])
-    want('INTERP' not in headers, 'the program asks for a loader')
-    done = subprocess.run([*run, program], stdout=subprocess.PIPE, timeout=300)
-    table = bytes_of(os.path.join(copy, 'oracle', 'vectors.txt'))
-    want(done.returncode == 0 and done.stdout == table, 'the table is another')
-    return f'{len(table.splitlines()) - 1} rows'
+    want('INTERP' not in must(['readelf', '-lW', program]), 'the program asks for a loader')
+    return values.table_agrees([*run, program])
 
 
 def check_makefile(report, copy, room):
@@ -260,7 +242,7 @@ def check_makefile(report, copy, room):
 
 def check_x86(report, copy, room, has_v3, examples):
     check_makefile(report, copy, room)
-    built = Made(room, copy)
+    built = Built.by_make(room, copy)
     every, paths = built.libraries()
     for path in every:
         report.attempt(f'names of {os.path.relpath(path, built.folder)}', values.names_are_theirs, path, THEIRS)

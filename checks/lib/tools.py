@@ -7,6 +7,8 @@ import subprocess
 import sys
 import time
 
+from report import want
+
 TOP = os.path.dirname(os.path.dirname(os.path.dirname(os.path.abspath(__file__))))
 # So that apt-get's messages are in English.
 QUIET = {**os.environ, 'DEBIAN_FRONTEND': 'noninteractive', 'LC_ALL': 'C.UTF-8'}
@@ -36,9 +38,11 @@ def write(path, data, mode=None):
     return path
 
 
-def replace(path, *change):
-    """Replaces each place of a text in a file by another one."""
-    write(path, text_of(path).replace(*change))
+def replace_once(path, old, new):
+    """Replaces a text of a file, which must have it once."""
+    text = text_of(path)
+    want(text.count(old) == 1, f'{path} has {old!r} {text.count(old)} times')
+    write(path, text.replace(old, new))
 
 
 def flip_bit(path, at=0):

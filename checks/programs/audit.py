@@ -175,8 +175,7 @@ def main():
                 write('other', b''.join(lines))
             else:
                 write('other', b''.join(b''.join(sorted(lines)[job::3]) for job in (2, 0, 1)))
-            again = run(['--audit', '--files0-from', './other'], b''.join(names))
-            check(word, again == changed_told)
+            check(word, run(['--audit', '--files0-from', './other'], b''.join(names)) == changed_told)
         write('other', b''.join(lines))
         dotted = run(['--audit', '--files0-from', './other'], b''.join(b'./' + name for name in names))
         check('names that begin with ./', dotted[0].splitlines()[-1:] == changed_told[0].splitlines()[-1:] and dotted[1:] == (b'', 1)

@@ -197,16 +197,14 @@ def over_slow_pipe(run):
     run.check('a line before the next read', os.read(done.stdout.fileno(), 1000), PAIRS[:50])
     done.stdin.write(bytes([1, 0]))
     done.stdin.close()
-    rest = done.stdout.read()
-    run.check('the lines after it', (rest, done.wait(timeout=20)), (PAIRS[50:], 0))
+    run.check('the lines after it', (done.stdout.read(), done.wait(timeout=20)), (PAIRS[50:], 0))
 
 
 def over_a_stream(run):
     """A saved text of one part, and the digest that continues with the other."""
     for kind, want in (('32', b'92f68bd9\n'), ('64', b'eab55659a496d78b\n')):
         saved = subprocess.run(run.words(f'save {kind} 1234'), input=b'some', capture_output=True)
-        words = [b'resume', kind.encode(), saved.stdout.strip()]
-        run.row(words, b' bytes', want, b'', 0)
+        run.row([b'resume', kind.encode(), saved.stdout.strip()], b' bytes', want, b'', 0)
 
 
 def built(backend, room, is_of_ci):

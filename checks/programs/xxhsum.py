@@ -203,8 +203,7 @@ def faults_of(program, cases, answers):
     """The cases in which a program has another result than expected, each with its parts."""
     for case in cases:
         wanted = wanted_of(case, answers)
-        had = {part: as_stored(value) for part, value in found(program, case).items()}
-        parts = differences(wanted, had)
+        parts = differences(wanted, {part: as_stored(value) for part, value in found(program, case).items()})
         if parts:
             yield case, parts
 

@@ -195,5 +195,4 @@ def type_of(block):
 
 def trait_of(block):
     """The trait that a block of `impl` is of, if it is of one."""
-    text = re.sub(r'^impl(<.*?>)? (?=\S)', '', block.signature)
-    return text.rpartition(' for ')[0]
+    return re.sub(r'^impl(<.*?>)? (?=\S)', '', block.signature).rpartition(' for ')[0]

@@ -48,8 +48,7 @@ def venv(built, name):
 def pip_builds(built):
     """`pip install .` in a fresh environment, as a user types it, without a network."""
     programs = venv(built, 'fresh-source')
-    clone = copied(os.path.join(built.room, 'for-pip'))
-    must([os.path.join(programs, 'pip'), 'install', '-q', '.'], clone)
+    must([os.path.join(programs, 'pip'), 'install', '-q', '.'], copied(os.path.join(built.room, 'for-pip')))
     found = must([os.path.join(programs, 'python'), '-c', 'import twox_hash; print(twox_hash.__file__)'], '/')
     want(found.startswith(os.path.dirname(programs)), f'it is {found}')
 
@@ -112,8 +111,7 @@ def names_are_hidden(built):
     asked = [line.split()[-1] for line in must(['/usr/bin/nm', '-D', '-u', built.library]).splitlines()]
     wrong = [name for name in asked if 'XXH' in name or not re.match(r'_?Py|_Py|mem|str|getenv|pthread_mutex|__|_ITM', name)]
     want(not wrong, f'it asks for {wrong}')
-    stack = must(['/usr/bin/readelf', '-lW', built.library])
-    want(re.search(r'GNU_STACK.* RW ', stack), 'its stack is executable')
+    want(re.search(r'GNU_STACK.* RW ', must(['/usr/bin/readelf', '-lW', built.library])), 'its stack is executable')
     return f'1 name is shown, {len(asked)} are asked for'
 
 

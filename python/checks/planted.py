@@ -2,7 +2,7 @@
 import os
 
 from report import tail, want
-from tools import text_of, write
+from tools import replace_once, text_of, write
 from room import copied, packed, site
 from suite import first_failure, tests
 
@@ -44,14 +44,6 @@ PLANTED = [
 ]
 
 
-def plant(folder, path, text, other):
-    """Replaces a text that occurs exactly once."""
-    path = os.path.join(folder, path)
-    whole = text_of(path)
-    want(whole.count(text) == 1, f'{path} has {text!r} {whole.count(text)} times')
-    write(path, whole.replace(text, other))
-
-
 def noticed(done):
     """The test that failed first, if one did."""
     want(done.returncode == 1 and 'FAILED (' in done.stdout, f'no test fails: {tail(done.stdout)}')
@@ -62,7 +54,7 @@ def notices(room, number, path, text, other, name):
     """A build with another text there fails the tests of this name."""
     clone = os.path.join(room, f'planted-{number}')
     folder = copied(clone)
-    plant(clone, path, text, other)
+    replace_once(os.path.join(clone, path), text, other)
     wheel = packed(folder, CFLAGS='-Wno-unused-variable -Wno-unused-parameter')[1]
     return noticed(tests(site(room, f'planted-{number}', wheel), name, TWOX_HASH_OBJECTS='200000'))
 

@@ -110,8 +110,7 @@ class Interface(unittest.TestCase):
         """The value of an expression with a module, or the type and text of its exception."""
         try:
             words = expression.replace('MODULE', module.__name__)
-            value = eval(words, {**NAMED, 'module': module, **names})
-            return 'value', value
+            return 'value', eval(words, {**NAMED, 'module': module, **names})
         except Exception as error:
             words = '' if expression in OTHER_WORDS else str(error).replace(module.__name__ + '.', '')
             return type(error), words

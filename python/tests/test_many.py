@@ -40,8 +40,7 @@ class Many(unittest.TestCase):
             want = [getattr(ours, name + '_digest')(row) for row in rows]
             for given in (rows, tuple(rows), iter(rows), (bytearray(row) for row in rows), map(memoryview, rows)):
                 self.assertEqual(ours.many(given, name), want)
-            into = bytearray(len(want) * len(want[0]))
-            self.assertEqual(ours.many(rows, name, into=into), b''.join(want))
+            self.assertEqual(ours.many(rows, name, into=bytearray(len(want) * len(want[0]))), b''.join(want))
 
     def test_items_of_several_bytes_are_rows(self):
         words = array.array('Q', [1, 2, 1 << 60])
@@ -55,8 +54,7 @@ class Many(unittest.TestCase):
 
     def test_seeds_and_secrets(self):
         matrix = Matrix(50, 260)
-        short = [row[:20] for row in matrix.rows]
-        for rows in (matrix.rows, short):
+        for rows in (matrix.rows, [row[:20] for row in matrix.rows]):
             for name in NAMES:
                 for key in [{'seed': -3}] + [{'secret': SECRET}, {'secret': SECRET, 'seed': 4}] * (name in WITH_SECRET):
                     want = [getattr(ours, name + '_digest')(row, **key) for row in rows]
@@ -75,8 +73,7 @@ class Many(unittest.TestCase):
         except ImportError:
             self.skipTest('no numpy')
         table = numpy.arange(600, dtype='u2').reshape(100, 6)
-        want = [ours.xxh64_digest(row.tobytes()) for row in table]
-        self.assertEqual(ours.many(table, 'xxh64'), want)
+        self.assertEqual(ours.many(table, 'xxh64'), [ours.xxh64_digest(row.tobytes()) for row in table])
         into = numpy.empty(100, '>u8')
         self.assertIs(ours.many(table, 'xxh64', into=into), into)
         self.assertEqual(into.tolist(), [ours.xxh64_intdigest(row.tobytes()) for row in table])
@@ -215,8 +212,7 @@ class Many(unittest.TestCase):
                     ours.many((kind * 3)(), width=width)
         with self.assertRaisesRegex(TypeError, 'not addresses'):
             ours.many(memoryview(bytes(16)).cast('P'))
-        plain = (Plain * 2)()
-        self.assertEqual(ours.many(plain), [ours.xxh3_64_digest(bytes(ctypes.sizeof(Plain)))] * 2)
+        self.assertEqual(ours.many((Plain * 2)()), [ours.xxh3_64_digest(bytes(ctypes.sizeof(Plain)))] * 2)
 
     def test_rows_of_complex_numbers(self):
         try:

@@ -57,8 +57,7 @@ class Root:
 
     def copy(self, source, name):
         """Copies a file or a folder of this machine to the archives."""
-        copying = shutil.copytree if os.path.isdir(source) else shutil.copy
-        copying(source, self.at(f'{TAKEN}/{name}'))
+        (shutil.copytree if os.path.isdir(source) else shutil.copy)(source, self.at(f'{TAKEN}/{name}'))
 
     def files(self):
         """All files except those that an installation may leave behind."""

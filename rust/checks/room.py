@@ -103,10 +103,15 @@ class Room:
     def cargo(self, folder, command, *words, environment=None):
         return ran([self.cargo_program, command, *words], cwd=folder, env=environment or self.environment())
 
+    def must(self, folder, command, *words, environment=None):
+        """The output of cargo, which must succeed."""
+        done = self.cargo(folder, command, *words, environment=environment)
+        want(done.returncode == 0, tail(errors_of(done.stdout)))
+        return done.stdout
+
     def build(self, folder, name, *words, environment=None):
         """A program of a package, under a name of its own."""
-        done = self.cargo(folder, 'build', '--release', *words, environment=environment)
-        want(done.returncode == 0, tail(errors_of(done.stdout)))
+        self.must(folder, 'build', '--release', *words, environment=environment)
         path = os.path.join(self.path, 'programs', name + self.ending)
         shutil.copy(os.path.join(self.made, os.path.basename(name).split('@')[0] + self.ending), path)
         return path

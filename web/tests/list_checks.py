@@ -178,8 +178,7 @@ def folder_chosen(page):
 
 
 def folder_dropped(page):
-    files = {f"deep/er/{i:03}.bin": bytes([i]) for i in range(120)}
-    folder = folder_of(page, "dropped", files)
+    folder = folder_of(page, "dropped", {f"deep/er/{i:03}.bin": bytes([i]) for i in range(120)})
     place = {"x": 200, "y": 200, "data": {"items": [], "files": [folder], "dragOperationsMask": 1}}
     for kind in ("dragEnter", "dragOver", "drop"):
         page.browser.devtools("Input.dispatchDragEvent", type=kind, **place)
@@ -397,6 +396,4 @@ LIST_CHECKS = {
 }
 
 # The checks for each browser.
-IN_EACH_BROWSER = ["an expected digest, in words", "a digest of another hash is told", "what can't be read in a drop is told, and again", "an expected digest among many", "a checksum file with its files",
-                   "improper lines of a checksum file", "one file is removed", "10,000 files and their checksum file",
-                   "verifying a download"]
+IN_EACH_BROWSER = {expected, other_digests, odd_items, among_many, checksum_file, improper_lines, removed, many_files, download}

@@ -323,8 +323,7 @@ def one_folder(page):
         want(ran.returncode == 0, ran.stderr)
         again = subprocess.run([os.path.join(WEB, "folder"), folder], capture_output=True, text=True)
         want(again.returncode == 1 and "isn't an empty folder" in again.stderr, again.stderr)
-        handler = functools.partial(Quiet, directory=room)
-        with http.server.ThreadingHTTPServer(("127.0.0.1", 0), handler) as serving:
+        with http.server.ThreadingHTTPServer(("127.0.0.1", 0), functools.partial(Quiet, directory=room)) as serving:
             threading.Thread(target=serving.serve_forever, daemon=True).start()
             there = Page(page.browser, f"http://127.0.0.1:{serving.server_address[1]}/some/where/", page.room)
             there.open()
@@ -473,12 +472,8 @@ PAGE_CHECKS = {
 }
 
 # The checks for each browser.
-IN_EACH_BROWSER = ["every control has a name", "typed text is hashed, with the seed", "files of all ranges of lengths, as xxhsum",
-                   "seeds and secrets", "stopped there is no digest, and started again the right ones", "a dropped file",
-                   "the page stays alive", "hash again, with another seed", "clear",
-                   "which module runs is said, and either hashes", "where no other thread reads, the one that hashes does",
-                   "a browser without WebAssembly is told so",
-                   "without a network, once it was loaded", "one folder on another host"]
+IN_EACH_BROWSER = {labels, text, small_files, seed_and_secret, stop_and_start, dropped, alive, again, clear, which_module,
+                   reads_by_itself, no_webassembly, offline, one_folder}
 
 
 def take_picture(page):

@@ -161,11 +161,9 @@ def of_trees(world):
     def lists(name, words, chosen, **more):
         return Scenario(name, (*words, *chosen), lambda fault: worlds.digests_listed(world, chosen, fault), **more)
 
-    def by_input(outcome, file, name='stdin'):
-        return lambda fault: outcome(fault and fault._replace(name=name if fault.name == INPUT else fault.name))
-
     def names_of_input(fault):
-        return worlds.digests_listed(world, {'stdin': listed['listed']}, fault)
+        as_list = fault and fault._replace(name='stdin' if fault.name == INPUT else fault.name)
+        return worlds.digests_listed(world, {'stdin': listed['listed']}, as_list)
 
     def listed_audit(fault):
         told = worlds.unread_list({'names': []}, fault)
@@ -180,7 +178,7 @@ def of_trees(world):
         lists('names of a list', ('--files-from',), {'listed': listed['listed']}),
         lists('names of two lists', ('--files-from',), listed),
         lists('names that NULs end', ('--files0-from',), {'ended': listed['listed']}),
-        Scenario('names of the input', ('--files-from',), by_input(names_of_input, 'listed'), 'listed'),
+        Scenario('names of the input', ('--files-from',), names_of_input, 'listed'),
         Scenario('an audit', ('--audit', 'lines', *names), lambda fault: worlds.audited(world, 'lines', entries, names, fault)),
         Scenario('an audit of what stayed', ('--audit', 'below', *below),
                  lambda fault: worlds.audited(world, 'below', below, list(below), fault)),

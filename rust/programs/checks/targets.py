@@ -22,8 +22,7 @@ def emulated(room, programs, runner):
 
 def rows_of_xxhsum(program):
     """The cases and rows of checks/xxhsum. Its planted faults depend on times, which an emulator stretches."""
-    words = [os.path.join(TOP, 'checks', 'xxhsum'), '--stored', program]
-    done = ran(words)
+    done = ran([os.path.join(TOP, 'checks', 'xxhsum'), '--stored', program])
     counts = RIGHT.findall(done.stdout)
     want(len(counts) == 3 and all(wrong == '0' for _, wrong in counts), f'{counts}: {tail(done.stdout)}')
     return f'{sum(int(right) for right, _ in counts)} cases and rows'
