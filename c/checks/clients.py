@@ -7,6 +7,7 @@ import socket
 import subprocess
 import tempfile
 import time
+from collections import namedtuple
 
 from report import Fault, tail, want
 from sides import loaded, run, want_library
@@ -14,13 +15,8 @@ from tools import free_port, write
 
 HERE = os.path.dirname(os.path.abspath(__file__))
 PYTHON = '/usr/bin/python3'
-
-
-class Sides:
-    """The original, ours, ours with changed results, and ours with hashes that end the process."""
-
-    def __init__(self, theirs, ours, wrong, stopping):
-        self.theirs, self.ours, self.wrong, self.stopping = theirs, ours, wrong, stopping
+# The original, ours, ours with changed results, and ours with hashes that end the process.
+Sides = namedtuple('Sides', 'theirs ours wrong stopping')
 
 
 # ---- python3-xxhash ----

@@ -43,10 +43,6 @@ def dispatch_header_is_refused(built, *flags, word):
     return refuses(built, DISPATCHED.split('\n')[0], word, 'gcc', *flags)
 
 
-def stack_is_refused(built, compiler):
-    return refuses(built, STATE_ON_THE_STACK, 'createState', compiler, '-DXXH_STATIC_LINKING_ONLY')
-
-
 def holds(built, program):
     return MARK in must([built.tools + 'nm', program])
 
@@ -87,4 +83,5 @@ def check_all(report, built):
     report.attempt('xxh_x86dispatch.h with XXH_INLINE_ALL is refused',
                    lambda: dispatch_header_is_refused(built, '-DXXH_INLINE_ALL', word='library to link'))
     for compiler in ('gcc', 'g++'):
-        report.attempt(f'a state on the stack is refused by {compiler}', stack_is_refused, built, compiler)
+        report.attempt(f'a state on the stack is refused by {compiler}', refuses, built, STATE_ON_THE_STACK, 'createState',
+                       compiler, '-DXXH_STATIC_LINKING_ONLY')

@@ -34,9 +34,6 @@ class Package:
         self.file, = glob.glob(os.path.join(room, '*.deb'))
         self.theirs_before = their_state()
 
-    def side(self):
-        return Side('the installed package', FOLDER, self.ours)
-
 
 def library(instructions):
     above = [] if instructions == sets_of_library()[0] else ['glibc-hwcaps', instructions]
@@ -104,11 +101,6 @@ def builds_by_cmake(package):
     must(['cmake', '-S', os.path.join(TOP, 'examples', 'cmake'), '-B', folder, '-DCMAKE_PREFIX_PATH=' + PREFIX])
     must(['cmake', '--build', folder])
     hashes_file(Side('the installed package', None, package.ours), [os.path.join(folder, 'hash-file')])
-
-
-def runs_where_told(package, sides):
-    """Debian's python3-xxhash loads Debian's library, and ours if LD_LIBRARY_PATH has its folder."""
-    return clients.python_hashes(clients.Sides(sides.theirs, package.side(), sides.wrong, sides.stopping))
 
 
 def copied_root(package):
@@ -206,7 +198,9 @@ def check_all(report, room, sides, v3):
         report.attempt('the Debian package: installed', installs, package)
         report.attempt('the Debian package: a program by pkg-config', builds_by_pkg_config, package)
         report.attempt('the Debian package: a program by CMake', builds_by_cmake, package)
-        report.attempt('the Debian package: python3-xxhash where it is told to', runs_where_told, package, sides)
+        # It loads Debian's library, and ours if LD_LIBRARY_PATH has its folder.
+        report.attempt('the Debian package: python3-xxhash where it is told to', clients.python_hashes,
+                       sides._replace(ours=Side('the installed package', FOLDER, package.ours)))
         report.attempt('the Debian package: a whole machine', serves_a_machine, package)
         report.attempt('the Debian package: xxh', commands_are_there, package)
         report.attempt('the Debian package: both builds of xxhsum', both_builds_run, package, v3)

@@ -2,7 +2,7 @@
 import os
 import re
 
-from report import want
+from report import tail, want
 from tools import write
 from room import PYTHON, must, run
 
@@ -38,10 +38,6 @@ def program(built, name, text):
     return write(os.path.join(built.room, f'{name}.py'), text)
 
 
-def package_is_typed(built):
-    return must([*MYPY, os.path.join(built.site, 'twox_hash')]).strip().splitlines()[-1]
-
-
 def stub_is_the_module(built):
     """Each name of the stub is a name of the extension, with its arguments, and none is missing."""
     done = run([PYTHON, '-m', 'mypy.stubtest', 'twox_hash._native', 'twox_hash._types', 'twox_hash._states',
@@ -62,6 +58,6 @@ def users_program(built):
 
 
 def check_all(report, built):
-    report.attempt('mypy --strict on the package', package_is_typed, built)
+    report.attempt('mypy --strict on the package', lambda: tail(must([*MYPY, os.path.join(built.site, 'twox_hash')])))
     report.attempt('the stub beside the extension', stub_is_the_module, built)
     report.attempt('mypy --strict on a program that uses it', users_program, built)

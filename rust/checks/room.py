@@ -232,11 +232,6 @@ __declspec(dllexport) BOOL WINAPI ProcessPrng(PBYTE room, SIZE_T length) { retur
 '''
 
 
-def riscv_room(path):
-    return FurtherRoom(path, 'riscv64gc-unknown-linux-gnu', 'riscv64-linux-gnu-gcc',
-                       'qemu-riscv64 -L /usr/riscv64-linux-gnu')
-
-
 def windows_room(path):
     folder = os.path.join(path, 'wine')
     os.makedirs(folder)
@@ -246,8 +241,10 @@ def windows_room(path):
     return FurtherRoom(path, 'x86_64-pc-windows-gnu', 'x86_64-w64-mingw32-gcc', '/usr/lib/wine/wine64', '.exe')
 
 
-FURTHER = {'riscv64': (riscv_room, {'riscv64-linux-gnu-gcc': 'gcc-riscv64-linux-gnu', 'qemu-riscv64': 'qemu-user',
-                                    '/usr/riscv64-linux-gnu/include/stdio.h': 'libc6-dev-riscv64-cross'}),
+RISCV = 'riscv64gc-unknown-linux-gnu', 'riscv64-linux-gnu-gcc', 'qemu-riscv64 -L /usr/riscv64-linux-gnu'
+FURTHER = {'riscv64': (lambda path: FurtherRoom(path, *RISCV), {
+    'riscv64-linux-gnu-gcc': 'gcc-riscv64-linux-gnu', 'qemu-riscv64': 'qemu-user',
+    '/usr/riscv64-linux-gnu/include/stdio.h': 'libc6-dev-riscv64-cross'}),
            'windows': (windows_room, {'x86_64-w64-mingw32-gcc': 'gcc-mingw-w64-x86-64', '/usr/lib/wine/wine64': 'wine64'})}
 
 

@@ -17,6 +17,7 @@ sys.path[:0] = [os.path.join(WEB, "tests"), os.path.join(TOP, "oracle"), os.path
 
 from browser import Chromium, Firefox, WebKit
 from page import Served
+from tools import write
 
 MIB = 1 << 20
 # As streams.js reads: four chunks ahead.
@@ -70,8 +71,7 @@ def main(kind, mib="1024", turns="5"):
     size = int(mib) * MIB
     with tempfile.TemporaryDirectory(prefix="twox-large-") as folder:
         for name, text in ("reader.js", READER), ("hasher.js", HASHER), ("large.html", PAGE):
-            with open(os.path.join(folder, name), "w", encoding="utf-8") as file:
-                file.write(text)
+            write(os.path.join(folder, name), text)
         large = os.path.join(folder, "large")
         with open(large, "wb") as file:
             for _ in range(int(mib)):

@@ -17,10 +17,6 @@ MEDIAN = 1  # of a module's times in a pass, behind the best
 DISTURBED = 1.1
 
 
-def has_vectors(name):
-    return name.endswith(("_simd", "_neon"))
-
-
 def ratio(row, ours, among):
     def fastest(times):
         return min(times[name][MEDIAN] for name in times if not name.startswith("ours") and among(name))
@@ -30,7 +26,7 @@ def ratio(row, ours, among):
 
 def ratios(row):
     """Of the module with vectors, and of the one without."""
-    return ratio(row, "ours_simd", lambda _: True), ratio(row, "ours", lambda name: not has_vectors(name))
+    return ratio(row, "ours_simd", lambda _: True), ratio(row, "ours", lambda name: not name.endswith(("_simd", "_neon")))
 
 
 def size_of(row):

@@ -309,13 +309,9 @@ def lines_read(folder):
     return f"{said['count']} lines"
 
 
-def sums_are_right():
-    """The modules of this folder have the sums in its SHA256SUMS."""
-    return must(["sha256sum", "--check", "SHA256SUMS"], WEB).strip().replace("\n", ", ")
-
-
 def check_in_node(checks, folder, nodes):
-    checks.attempt("the modules have their sums", sums_are_right)
+    checks.attempt("the modules have their sums",
+                   lambda: must(["sha256sum", "--check", "SHA256SUMS"], WEB).strip().replace("\n", ", "))
     checks.attempt("Node: the page reads lines as the command does", lines_read, folder)
     for node in nodes:
         checks.attempt(f"{node}: the tests of the module and its streams", tests_of_tree, folder, node)
