@@ -83,5 +83,5 @@ def check_all(report, built):
     report.attempt('xxh_x86dispatch.h with XXH_INLINE_ALL is refused',
                    lambda: dispatch_header_is_refused(built, '-DXXH_INLINE_ALL', word='library to link'))
     for compiler in ('gcc', 'g++'):
-        report.attempt(f'a state on the stack is refused by {compiler}', refuses, built, STATE_ON_THE_STACK, 'createState',
-                       compiler, '-DXXH_STATIC_LINKING_ONLY')
+        report.attempt(f'a state on the stack is refused by {compiler}', refuses, built, STATE_ON_THE_STACK,
+                       'createState', compiler, '-DXXH_STATIC_LINKING_ONLY')

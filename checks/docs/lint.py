@@ -115,8 +115,9 @@ WRONG = {
     words.lines_with_words: [
         ('wrong.md', 'It `tells` what it tells.\n'), ('wrong.rt', '/// Works but for zero.\nfn f() {}\n'),
         ('wrong.antt', 'use a\n\n-- the piece\n'), ('wrong.c', 'int a;\n/* Used by\n * whoever calls. */\n'),
-        ('wrong.js', 'let a = "//"; // made anew\n'), ('wrong.py', '"""Answers no."""\n'), ('wrong.py', 'A = 1  # by lot\n'),
-        ('wrong.sh', '#!/bin/bash\necho a # the gate\n'), ('Makefile', '# kit\n'), ('message.sh', 'fail "is right"\n'),
+        ('wrong.js', 'let a = "//"; // made anew\n'), ('wrong.py', '"""Answers no."""\n'), ('Makefile', '# kit\n'),
+        ('wrong.py', 'A = 1  # by lot\n'), ('wrong.sh', '#!/bin/bash\necho a # the gate\n'),
+        ('message.sh', 'fail "is right"\n'),
         ('message.py', 'print(f"nobody was told of {fault}")\n'), ('message.html', '<p>tells</p>\n'),
         ('message.js', 'throw new Error("handed over");\n')],
     words.puzzles: [('wrong.rt', '/// Whether it fits.\nfn f() {}\n'), ('wrong.h', 'int a;\n\n/** What it is. */\n'),

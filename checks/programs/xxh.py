@@ -50,10 +50,10 @@ TABLE = [
     # buffers.
     *((f'hash {words}', given, digest + b'\n', b'', 0) for words, given, digest in (
         ('32', b'', b'02cc5d05'), ('64', b'', b'ef46db3751d8e999'), ('3-64', b'', b'2d06800538d394c2'),
-        ('3-128', b'', b'99aa06d3014798d86001c324468d497f'), ('32', SOME, b'29f97ecd'), ('64', SOME, b'55cfd3deadcabb2a'),
-        ('3-64', SOME, b'45c97cf9b0447624'), ('3-128', SOME, b'99736577b441a1bbd3ec197fe371e984'),
-        ('32 1234', SOME, b'92f68bd9'), ('64 1234', SOME, b'eab55659a496d78b'), ('64 0001234', SOME, b'eab55659a496d78b'),
-        ('3-64 1234', SOME, b'582ee33d9ad8c6e9'), ('3-128 1234', SOME, b'd13af43e9c4507cfc327b2ddc4f87078'),
+        ('3-128', b'', b'99aa06d3014798d86001c324468d497f'), ('3-128', SOME, b'99736577b441a1bbd3ec197fe371e984'),
+        ('32', SOME, b'29f97ecd'), ('64', SOME, b'55cfd3deadcabb2a'), ('3-64', SOME, b'45c97cf9b0447624'),
+        ('32 1234', SOME, b'92f68bd9'), ('64 1234', SOME, b'eab55659a496d78b'), ('3-64 1234', SOME, b'582ee33d9ad8c6e9'),
+        ('64 0001234', SOME, b'eab55659a496d78b'), ('3-128 1234', SOME, b'd13af43e9c4507cfc327b2ddc4f87078'),
         ('32 4294967295', SOME, b'17343bb3'), ('64 18446744073709551615', SOME, b'68cffc67a3e39e33'),
         ('3-64 18446744073709551615', SOME, b'f2bedbe5c1d104be'),
         ('3-128 18446744073709551615', SOME, b'bff237cde472fcf2e98c75f91e037435'),
@@ -76,15 +76,15 @@ TABLE = [
      b'0000000000000000 4f6375cca7ece1e1bcd63266df6e2244\n', b'', 0),
     *((words, SOME, b'', message, 2) for message, refused in {
         # Arguments that are no command, and some that are not UTF-8.
-        USAGE: ([], 'hash', 'hash 65', 'HASH 64', 'hash 64 1 2', [b'hash ', b'64'], [b'hash', b' 64'], 'save 3-64', 'save 3-128 1',
-                'resume 64', 'resume 3-64 {}', 'blocks', 'blocks 4 5', '--help', [b'\xff'], [b'hash', b'64\xff'],
-                [b'hash', b'64', b'\xc3('], [b'resume', b'32', STATE_32, b'\x80']),
+        USAGE: ([], 'hash', 'hash 65', 'HASH 64', 'hash 64 1 2', [b'hash ', b'64'], [b'hash', b' 64'], 'save 3-64',
+                'save 3-128 1', 'resume 64', 'resume 3-64 {}', 'blocks', 'blocks 4 5', '--help', [b'\xff'],
+                [b'hash', b'64\xff'], [b'hash', b'64', b'\xc3('], [b'resume', b'32', STATE_32, b'\x80']),
         # Invalid seeds, sizes and states.
-        SEED: ('hash 32 4294967296', 'hash 64 18446744073709551616', 'hash 64 +1', [b'hash', b'64', b''], [b'hash', b'64', b' 1'],
-               'save 32 x'),
+        SEED: ('hash 32 4294967296', 'hash 64 18446744073709551616', 'hash 64 +1', 'save 32 x', [b'hash', b'64', b''],
+               [b'hash', b'64', b' 1']),
         SIZE: ('blocks 0', 'blocks 18446744073709551616', 'blocks -1'),
-        STATE: ('resume 64 {}', [b'resume', b'32', STATE_64], [b'resume', b'32', STATE_32[:-1]], [b'resume', b'32', LARGE_32],
-                [b'resume', b'64', LARGE_64]),
+        STATE: ('resume 64 {}', [b'resume', b'32', STATE_64], [b'resume', b'32', STATE_32[:-1]],
+                [b'resume', b'32', LARGE_32], [b'resume', b'64', LARGE_64]),
     }.items() for words in refused),
 ]
 

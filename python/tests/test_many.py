@@ -104,8 +104,8 @@ class Many(unittest.TestCase):
     def test_errors(self):
         rows = Matrix(4, 8)
         for error, calls in (
-                (TypeError, ("'abc'", "[b'a'], width=1", '5', 'None', "[b'a', 5]", "[b'a', None]", "[b'a'], int", "[b'a'], into=5",
-                             "[b'a'], 'xxh64', secret=SECRET", "[b'a'], seed=None", "[b'a'], foo=1")),
+                (TypeError, ("'abc'", "[b'a'], width=1", '5', 'None', "[b'a', 5]", "[b'a', None]", "[b'a'], int",
+                             "[b'a'], into=5", "[b'a'], 'xxh64', secret=SECRET", "[b'a'], seed=None", "[b'a'], foo=1")),
                 (ValueError, ("b'abc'", 'bytearray(8), width=3', "b'abc', width=0", "b'abc', width=-3", "[b'a'], 'md5'",
                               "[b'a'], into=bytearray(7)", 'rows.view, into=bytearray(31)', "[b'a'], secret=b'short'")),
                 (BufferError, ('rows.view[::2]', "[b'a'], into=bytes(8)")), (UnicodeEncodeError, (r"['\ud800']",))):

@@ -31,7 +31,7 @@ def twice(room, folder, log):
     said, again = (make(os.path.join(room, name), into, log).split(': ', 1)[1]
                    for name, into in (('first', folder), ('second', other)))
     want(said == again, f'first {said}, then {again}')  # for example if a commit was made meanwhile
-    one, two = ({name: written.sum_of(os.path.join(path, name)) for name in os.listdir(path)} for path in (folder, other))
+    one, two = ({name: written.sum_of(f'{path}/{name}') for name in os.listdir(path)} for path in (folder, other))
     shutil.rmtree(other)
     differ = sorted(name for name in set(one) | set(two) if one.get(name) != two.get(name))
     want(not differ, f'other bytes: {", ".join(differ)}')

@@ -26,7 +26,8 @@ def ratio(row, ours, among):
 
 def ratios(row):
     """Of the module with vectors, and of the one without."""
-    return ratio(row, "ours_simd", lambda _: True), ratio(row, "ours", lambda name: not name.endswith(("_simd", "_neon")))
+    plain = ratio(row, "ours", lambda name: not name.endswith(("_simd", "_neon")))
+    return ratio(row, "ours_simd", lambda _: True), plain
 
 
 def size_of(row):
