@@ -1,4 +1,4 @@
-#!/usr/bin/env python3
+#!/usr/bin/env -S python3 -B
 """Checks the assembly source of the library for C and of the cargo crate against the proved code:
 
     assembly/check.py [--target aarch64] [--of-ci] [c] [rust]
@@ -30,7 +30,6 @@ import tempfile
 ASSEMBLY = os.path.dirname(os.path.abspath(__file__))
 TOP = os.path.dirname(ASSEMBLY)
 sys.path[:0] = [ASSEMBLY, os.path.join(TOP, 'c', 'checks'), os.path.join(TOP, 'checks', 'lib')]
-sys.dont_write_bytecode = True
 
 import compile as compiling
 import prefetch

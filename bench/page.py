@@ -1,4 +1,4 @@
-#!/usr/bin/env python3
+#!/usr/bin/env -S python3 -B
 """Draws docs/SPEED.md and docs/speed.svg from bench/data:
 
     bench/page.py [--check | FOLDER]
@@ -10,7 +10,6 @@ import os
 import statistics
 import sys
 
-sys.dont_write_bytecode = True
 sys.path.insert(0, os.path.dirname(os.path.abspath(__file__)))
 import figures
 import measured

@@ -49,7 +49,7 @@ def first_line(path):
 def of_kind(paths, ending, interpreter):
     """The files whose name has the ending, if there is one, or that the interpreter runs."""
     return [path for path in paths if ending and path.endswith(ending)
-            or '.' not in os.path.basename(path) and re.match(rf'#!.*{interpreter}\s*$', first_line(path))]
+            or '.' not in os.path.basename(path) and re.match(rf'#!.*{interpreter}(?: -B)?\s*$', first_line(path))]
 
 
 def pages(paths):
