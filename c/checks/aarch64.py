@@ -30,7 +30,8 @@ def reference(built, name, change=(), flags=('-O2',)):
     header, path = write(os.path.join(folder, 'xxhash.h'), text_of(HEADER)), os.path.join(folder, 'reference.so')
     if change:
         replace_once(header, *change)
-    source = write(os.path.join(folder, 'reference.c'), '#define XXH_STATIC_LINKING_ONLY\n#define XXH_IMPLEMENTATION\n#include "xxhash.h"\n')
+    source = write(os.path.join(folder, 'reference.c'), '#define XXH_STATIC_LINKING_ONLY\n#define XXH_IMPLEMENTATION\n'
+                                                        '#include "xxhash.h"\n')
     built.tool('gcc', *flags, '-shared', '-fPIC', '-Wl,-Bsymbolic-functions', source, '-o', path)
     return path
 

@@ -31,7 +31,7 @@ class Built:
 
     @classmethod
     def by_make(cls, room, copy):
-        """The library that make installs from a clean copy. It is moved afterwards, since an installed folder may be."""
+        """The library that make installs from a clean copy, moved afterwards, since an installed folder may be."""
         built = cls.__new__(cls)
         built.room, built.tools = room, ''
         done = ran(['make', '-s', '-C', os.path.join(copy, 'c'), 'install', f'PREFIX={room}/first'])

@@ -162,7 +162,8 @@ def shrinking_file(programs):
             time.sleep(0.05)
             os.truncate('shrinks', 4096)
             out = done.stdout.read()
-        want(done.returncode == 0 and out.endswith(b'  shrinks\n') and out.count(b'\n') == 1, f'{done.returncode} {out!r}')
+        is_one_line = out.endswith(b'  shrinks\n') and out.count(b'\n') == 1
+        want(done.returncode == 0 and is_one_line, f'{done.returncode} {out!r}')
     os.remove('shrinks')
     return '5 times'
 

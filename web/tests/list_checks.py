@@ -396,4 +396,5 @@ LIST_CHECKS = {
 }
 
 # The checks for each browser.
-IN_EACH_BROWSER = {expected, other_digests, odd_items, among_many, checksum_file, improper_lines, removed, many_files, download}
+IN_EACH_BROWSER = {expected, other_digests, odd_items, among_many, checksum_file, improper_lines, removed, many_files,
+                   download}

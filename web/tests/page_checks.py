@@ -472,8 +472,8 @@ PAGE_CHECKS = {
 }
 
 # The checks for each browser.
-IN_EACH_BROWSER = {labels, text, small_files, seed_and_secret, stop_and_start, dropped, alive, again, clear, which_module,
-                   reads_by_itself, no_webassembly, offline, one_folder}
+IN_EACH_BROWSER = {labels, text, small_files, seed_and_secret, stop_and_start, dropped, alive, again, clear,
+                   which_module, reads_by_itself, no_webassembly, offline, one_folder}
 
 
 def take_picture(page):
