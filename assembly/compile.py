@@ -1,4 +1,3 @@
-#!/usr/bin/env python3
 """Replaces the toolchain's clang, installed by `annotated`:
 
     assembly/compile.py CLANG FOLDER WIDE WORD..

@@ -1,4 +1,3 @@
-#!/usr/bin/env python3
 """Makes a module for WebAssembly, whose addresses were lowered to 32 bits, use numbers of 32 bits for them:
 
     assembly/narrow.py IN.wat OUT.wat SOURCE..

@@ -48,9 +48,6 @@ class MostMemory(threading.Thread):
             self.most = max(self.most, memory_in_use())
             time.sleep(1)
 
-    def beyond_start(self):
-        return self.most - self.start_value
-
 
 def copied(room):
     """A copy of the tree, with nothing that was built in it."""
@@ -104,6 +101,6 @@ def main():
             os.environ["XDG_CACHE_HOME"] = f"{room}/cache"
         told, passed, failed = zip(*parts(copied(room), words_for_ci(room, anew)))
     print("", *told, sep="\n")
-    print(f"in all: {(time.monotonic() - began) / 60:.1f} minutes, {memory.beyond_start():.1f} GB of memory")
+    print(f"in all: {(time.monotonic() - began) / 60:.1f} minutes, {memory.most - memory.start_value:.1f} GB of memory")
     report.count(sum(passed), sum(failed))
     return report.end()

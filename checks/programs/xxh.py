@@ -121,11 +121,6 @@ def closed(number):
     return lambda: os.close(number)
 
 
-def over_table(run):
-    for row in TABLE:
-        run.row(*row)
-
-
 # A digest, a saved text, lines of blocks and a digest that continues, all of ten bytes.
 ALL = ['hash 64 1234', 'save 64 1234', 'blocks 4', [b'resume', b'64', STATE_64]]
 
@@ -185,7 +180,8 @@ def built(backend, room, is_of_ci):
 
 def over_all(program, title, room, report):
     run = Run(program, title)
-    over_table(run)
+    for row in TABLE:
+        run.row(*row)
     over_hostile_ends(run, room)
     over_slow_pipe(run)
     over_a_stream(run)

@@ -7,6 +7,7 @@ from report import Fault, tail, want
 from tools import write
 from room import DEBUG, PYTHON, PYTHON_FOLDER, copied, must, packed, run, site
 
+VALGRIND = ('/usr/bin/valgrind', '-q', '--error-exitcode=9', PYTHON)
 ALL = ('values', 'interface', 'objects', 'files', 'many', 'threads', 'leaks')
 
 
@@ -46,13 +47,11 @@ def of_set(built, instructions):
 def under_valgrind(built):
     """No call reads or writes memory that isn't its own. Fewer objects are made, since each step takes fifty times
     as long."""
-    valgrind = ('/usr/bin/valgrind', '-q', '--error-exitcode=9', PYTHON)
-    return pass_all(built.site, 'interface', 'objects', 'files', 'many', python=valgrind, PYTHONMALLOC='malloc')
+    return pass_all(built.site, 'interface', 'objects', 'files', 'many', python=VALGRIND, PYTHONMALLOC='malloc')
 
 
 def leaks_under_valgrind(built):
-    valgrind = ('/usr/bin/valgrind', '-q', '--error-exitcode=9', PYTHON)
-    return pass_all(built.site, 'leaks', python=valgrind, PYTHONMALLOC='malloc', TWOX_HASH_OBJECTS='2000')
+    return pass_all(built.site, 'leaks', python=VALGRIND, PYTHONMALLOC='malloc', TWOX_HASH_OBJECTS='2000')
 
 
 def of_debug_build(built):

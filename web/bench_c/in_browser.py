@@ -1,4 +1,3 @@
-#!/usr/bin/env python3
 """Benchmarks modules in a headless browser, as run.mjs does in Node:
 
     web/bench_c/in_browser.py chromium | firefox | webkit ROUNDS NAME=FILE.."""

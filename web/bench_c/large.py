@@ -1,4 +1,3 @@
-#!/usr/bin/env python3
 """Measures how fast the page's worker hashes a large file in a headless browser, compared with reading only:
 
     web/bench_c/large.py chromium | firefox | webkit [MIB [TURNS]]

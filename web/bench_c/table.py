@@ -1,4 +1,3 @@
-#!/usr/bin/env python3
 """Prints the measurements as the table of docs/SPEED.md (bench/data/web.tsv):
 
     web/bench_c/table.py NAME=FILE..
