@@ -1,4 +1,4 @@
-#!/usr/bin/env python3
+#!/usr/bin/env -S python3 -B
 """Checks the assembly source of the library for C and of the cargo crate against the proved code:
 
     assembly/check.py [--target aarch64] [--of-ci] [c] [rust]
@@ -24,14 +24,12 @@ import os
 import random
 import re
 import shutil
-import subprocess
 import sys
 import tempfile
 
 ASSEMBLY = os.path.dirname(os.path.abspath(__file__))
 TOP = os.path.dirname(ASSEMBLY)
 sys.path[:0] = [ASSEMBLY, os.path.join(TOP, 'c', 'checks'), os.path.join(TOP, 'checks', 'lib')]
-sys.dont_write_bytecode = True
 
 import compile as compiling
 import prefetch
@@ -40,6 +38,7 @@ import wide
 from report import Fault, Report, want
 from same_bytes import compare, compare_sums
 from library import sets_here
+from tools import ran, text_of, write
 
 BUILDS = {'c': 'c/build', 'rust': 'rust/build-library'}
 SETS = {('c', 'x86-64'): ('x86-64-v2', 'x86-64-v3', 'x86-64-v4'), ('rust', 'x86-64'): ('x86-64', 'x86-64-v3', 'x86-64-v4'),
@@ -49,7 +48,7 @@ WRONG_TEXTS = 18
 
 
 def run(words, **more):
-    done = subprocess.run(words, stdout=subprocess.PIPE, stderr=subprocess.STDOUT, text=True, **more)
+    done = ran(words, **more)
     want(done.returncode == 0, f'{" ".join(words[:3])}: {done.stdout.strip()[-300:]}')
     return done.stdout
 
@@ -59,7 +58,7 @@ def run(words, **more):
 class As:
     name = 'GNU as'
 
-    def __init__(self, target, _):
+    def __init__(self, target):
         self.words = ['as' if target == 'x86-64' else 'aarch64-linux-gnu-as']
 
     def is_there(self):
@@ -72,42 +71,36 @@ class As:
 class Clang(As):
     name = 'clang'
 
-    def __init__(self, target, _):
+    def __init__(self, target):
         self.words = ['clang', '-c', f'--target={"x86_64" if target == "x86-64" else target}-linux-gnu']
 
 
 class Rustc(As):
     name = 'rustc'
 
-    def __init__(self, target, sysroot):
+    def __init__(self, target):
         arch, self.options = ('x86_64', 'att_syntax, raw') if target == 'x86-64' else (target, 'raw')
         self.words = ['rustc', '--crate-type=lib', '--emit=obj', f'--target={arch}-unknown-linux-gnu']
-        if sysroot:
-            self.words += ['--sysroot', sysroot]
 
     def is_there(self):
         """With the library `core` of the target."""
         if not super().is_there():
             return False
         with tempfile.TemporaryDirectory() as room:
-            empty = os.path.join(room, 'empty.s')
-            open(empty, 'w').close()
             try:
-                self.assemble(empty, os.path.join(room, 'empty.o'))
+                self.assemble(write(os.path.join(room, 'empty.s'), ''), os.path.join(room, 'empty.o'))
             except Fault:
                 return False
         return True
 
     def assemble(self, text, out):
-        source = os.path.splitext(out)[0] + '.rs'
-        with open(source, 'w') as file:
-            file.write(f'#![no_std]\ncore::arch::global_asm!(include_str!("{text}"), options({self.options}));\n')
-        run([*self.words, source, '-o', out])
+        source = f'#![no_std]\ncore::arch::global_asm!(include_str!("{text}"), options({self.options}));\n'
+        run([*self.words, write(os.path.splitext(out)[0] + '.rs', source), '-o', out])
 
 
-def assemblers_for(target, sysroot):
+def assemblers_for(target):
     """Those that are on the machine."""
-    return [it for it in (kind(target, sysroot) for kind in (As, Clang, Rustc)) if it.is_there()]
+    return [it for it in (As(target), Clang(target), Rustc(target)) if it.is_there()]
 
 
 # ---- wrong sources ----
@@ -165,20 +158,15 @@ def wrong_texts(lines, target, count):
         want(places, f'the text has no {kind}')
         at = draw.choice(places)
         found = re.match(pattern, lines[at])
-        word = change(found[1], lines)
-        line = lines[at][:found.start(1)] + word + lines[at][found.end(1):]
+        line = lines[at][:found.start(1)] + change(found[1], lines) + lines[at][found.end(1):]
         section = next(line.split()[1].split(',')[0] for line in reversed(lines[:at]) if line.startswith('\t.section'))
         yield f'{kind}, line {at + 1}', section, [*lines[:at], line, *lines[at + 1:]]
 
 
 def wrong_texts_are_noticed(text, proved, target, room):
-    with open(text) as file:
-        lines = file.read().splitlines()
-    path, out = os.path.join(room, 'wrong.s'), os.path.join(room, 'wrong.o')
-    for what, section, wrong in wrong_texts(lines, target, WRONG_TEXTS):
-        with open(path, 'w') as file:
-            file.write('\n'.join(wrong) + '\n')
-        As(target, None).assemble(path, out)
+    out = os.path.join(room, 'wrong.o')
+    for what, section, wrong in wrong_texts(text_of(text).splitlines(), target, WRONG_TEXTS):
+        As(target).assemble(write(os.path.join(room, 'wrong.s'), '\n'.join(wrong) + '\n'), out)
         for found in (compare(proved, out), compare_sums(sums_beside(text), out)):
             want(any(line.startswith(f'{section}:') for line in found), f'{what}: it was not noticed in {section}')
     return f'{WRONG_TEXTS} of {WRONG_TEXTS}'
@@ -209,8 +197,7 @@ def has_prefetches(library, name):
 
 def other_modules_are_refused(library, name):
     module, annotated = module_of(library, name)
-    with open(os.path.join(TOP, library, 'out', 'module', name, 'words')) as file:
-        words = file.read().splitlines()
+    words = text_of(f'{library}/out/module/{name}/words').splitlines()
     is_wide = name == WIDE
     module = wide.narrow(module) if is_wide else module
     for what, pattern, new in (('a number', r'(\n  %\w+ = add i64 %\w+, )\d+', r'\g<1>77'),
@@ -250,8 +237,8 @@ def is_built(library, target, of_ci):
 
 def is_made_anew(text, made):
     for path in (text, sums_beside(text)):
-        with open(path) as committed, open(os.path.join(made, os.path.basename(path))) as anew:
-            want(committed.read() == anew.read(), f'{os.path.relpath(path, TOP)} is another: {made} has it anew')
+        want(text_of(path) == text_of(os.path.join(made, os.path.basename(path))),
+             f'{os.path.relpath(path, TOP)} is another: {made} has it anew')
 
 
 def are_all_made_anew(library, target):
@@ -270,10 +257,10 @@ def is_same(assembler, text, proved, room):
     want(not found, ' / '.join(line[:200] for line in found[:3]))
 
 
-def check_texts(report, library, target, sysroot=None):
+def check_texts(report, library, target):
     """The sources of a library that was proved and built."""
     out = os.path.join(TOP, library, 'out')
-    assemblers = assemblers_for(target, sysroot)
+    assemblers = assemblers_for(target)
     report.attempt(f'all that is made of {library} for {target}', are_all_made_anew, library, target)
     for name in SETS[library, target]:
         text, proved = os.path.join(TOP, library, 'asm', f'{name}.s'), os.path.join(out, 'proved', f'{name}.o')
@@ -295,8 +282,7 @@ def check_texts(report, library, target, sysroot=None):
 def other_instructions_are_noticed(text, room):
     """The source itself has none; an instruction that the list lacks is detected in each wide function, and a wide
     vector in another."""
-    with open(text) as file:
-        right = file.read()
+    right = text_of(text)
     want(not faults_of(right, room), 'it has others')
     for name, line in (*((re.escape(wide.plain(name)) + r'(?:\.i\w+)?', 'vpcmpeqb %zmm0,%zmm1,%k1') for name in wide.WIDE),
                        (r'(?:XXH64|twox_rust_\d+_xxh32_write_v4)', 'vpaddq %zmm0,%zmm1,%zmm2')):
@@ -306,15 +292,13 @@ def other_instructions_are_noticed(text, room):
 
 
 def faults_of(text, room):
-    path, out = os.path.join(room, 'wide.s'), os.path.join(room, 'wide.o')
-    with open(path, 'w') as file:
-        file.write(text)
-    As('x86-64', None).assemble(path, out)
+    out = os.path.join(room, 'wide.o')
+    As('x86-64').assemble(write(os.path.join(room, 'wide.s'), text), out)
     return list(wide.faults(out, wide.mnemonics()))
 
 
 def check_frames(report, library, target, text, room):
-    shown, assembler = os.path.relpath(text, TOP), As(target, None)
+    shown, assembler = os.path.relpath(text, TOP), As(target)
     report.attempt(f'{shown}: the frames', unwinding.are_told, assembler, text, room)
     report.attempt(f'{shown}: wrong frames are noticed', unwinding.wrong_ones_are_noticed, assembler, text, room,
                    lambda out: unwinding.differences(out)[1])
@@ -336,7 +320,7 @@ def has_sums(assembler, text, room):
 def check_sums(report, folder, sets):
     """Sources for x86-64 against their sums, if no proved object is available."""
     with tempfile.TemporaryDirectory() as room:
-        for assembler in assemblers_for('x86-64', None):
+        for assembler in assemblers_for('x86-64'):
             for name in sets:
                 report.attempt(f'the sums of {name}.s by {assembler.name}', has_sums, assembler,
                                os.path.join(folder, f'{name}.s'), room)

@@ -1,4 +1,3 @@
-#!/usr/bin/env python3
 """Replaces the toolchain's clang, installed by `annotated`:
 
     assembly/compile.py CLANG FOLDER WIDE WORD..
@@ -97,7 +96,7 @@ def compile_changed(clang, room, text, made, is_wide=False):
     clang.written('-S', bitcode, as_read)
     if without_changes(clang, as_read, narrow, is_wide) != text:
         stop('without what was added the module is not the one that was proved')
-    clang.compile(bitcode, made, FOR_X86_64 if is_for_x86_64(text) else [])
+    clang.compile(bitcode, made, FOR_X86_64 if re.search('^target triple = "x86_64', text, re.M) else [])
     return clang.text(annotated)
 
 
@@ -119,10 +118,6 @@ def without_changes(clang, folder, narrow, is_wide):
 def keep(folder, clang, module):
     write(os.path.join(folder, 'module.ll'), module)
     write(os.path.join(folder, 'words'), '\n'.join(clang.words) + '\n')
-
-
-def is_for_x86_64(text):
-    return re.search('^target triple = "x86_64', text, re.M)
 
 
 def compile_all(clang, widened):

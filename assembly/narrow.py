@@ -1,4 +1,3 @@
-#!/usr/bin/env python3
 """Makes a module for WebAssembly, whose addresses were lowered to 32 bits, use numbers of 32 bits for them:
 
     assembly/narrow.py IN.wat OUT.wat SOURCE..
@@ -30,8 +29,7 @@ def parsed(text):
         if token == '(':
             open_lists.append([])
         elif token == ')':
-            done = open_lists.pop()
-            open_lists[-1].append(done)
+            open_lists[-2].append(open_lists.pop())
         elif not token.startswith(';;'):
             open_lists[-1].append(token)
     return open_lists[0]

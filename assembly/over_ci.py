@@ -1,4 +1,4 @@
-#!/usr/bin/env python3
+#!/usr/bin/env -S python3 -B
 """Does what `rt lib` does in the folder of a static library, and `rt run` in that of a program, over the libraries that
 `rt ci` left in this tree:
 
@@ -11,7 +11,6 @@ import sys
 
 TOP = os.path.dirname(os.path.dirname(os.path.abspath(__file__)))
 sys.path.insert(0, os.path.join(TOP, 'checks'))
-sys.dont_write_bytecode = True
 
 from mutants import kit
 

@@ -1,4 +1,3 @@
-#!/usr/bin/env python3
 """Adds prefetches to a module of LLVM in text, or removes them again:
 
     assembly/prefetch.py add | strip < MODULE.ll

@@ -2,13 +2,13 @@
 libgcc at each executed instruction."""
 import os
 import re
-import subprocess
 
 import frames
 from eh_frame import Table
 from report import tail, want
 from same_bytes import Object
 from text import Text
+from tools import ran, text_of, write
 
 TOP = os.path.dirname(os.path.dirname(os.path.abspath(__file__)))
 ASSEMBLY, C = os.path.join(TOP, 'assembly'), os.path.join(TOP, 'c')
@@ -50,14 +50,9 @@ def wrong_ones(lines):
 
 
 def wrong_ones_are_noticed(assembler, text, room, is_noticed):
-    with open(text) as file:
-        lines = file.read().splitlines()
-    path, count = os.path.join(room, 'wrong.s'), 0
-    for what, wrong in wrong_ones(lines):
-        with open(path, 'w') as file:
-            file.write('\n'.join(wrong) + '\n')
-        out = os.path.join(room, 'framed.o')
-        assembler.assemble(path, out)
+    out, count = os.path.join(room, 'framed.o'), 0
+    for what, wrong in wrong_ones(text_of(text).splitlines()):
+        assembler.assemble(write(os.path.join(room, 'wrong.s'), '\n'.join(wrong) + '\n'), out)
         want(is_noticed(out), f'{what} is not noticed')
         count += 1
     return f'{count} of {count}'
@@ -68,13 +63,13 @@ def program(framed, room):
     out, sources = os.path.join(room, 'unwind'), [os.path.join(C, name) for name in ('states.c', 'guards.c')]
     words = ['gcc', '-O1', '-I', os.path.join(C, 'include'), '-I', os.path.join(C, 'asm'), os.path.join(ASSEMBLY, 'unwind.c'),
              *sources, framed, '-Wl,-T,' + os.path.join(ASSEMBLY, 'unwind.ld'), '-o', out]
-    done = subprocess.run(words, stdout=subprocess.PIPE, stderr=subprocess.STDOUT, text=True)
+    done = ran(words)
     want(done.returncode == 0, tail(done.stdout))
     return out
 
 
 def run(framed, room):
-    return subprocess.run([program(framed, room)], stdout=subprocess.PIPE, stderr=subprocess.STDOUT, text=True, timeout=300)
+    return ran([program(framed, room)], timeout=300)
 
 
 def unwinds(assembler, text, room):
@@ -83,10 +78,7 @@ def unwinds(assembler, text, room):
     assembler.assemble(text, out)
     done = run(out, room)
     want(done.returncode == 0, f'status {done.returncode}: {tail(done.stdout)}')
-    with open(text) as file:
-        _, lines = next(wrong_ones(file.read().splitlines()))
-    with open(os.path.join(room, 'wrong.s'), 'w') as file:
-        file.write('\n'.join(lines) + '\n')
-    assembler.assemble(file.name, out)
+    _, lines = next(wrong_ones(text_of(text).splitlines()))
+    assembler.assemble(write(os.path.join(room, 'wrong.s'), '\n'.join(lines) + '\n'), out)
     want(run(out, room).returncode == 1, 'a wrong frame is not noticed')
     return tail(done.stdout)

@@ -1,4 +1,3 @@
-#!/usr/bin/env python3
 """Converts a module for x86-64-v3 to one for x86-64-v4, in text of LLVM, and back:
 
     assembly/wide.py widen | narrow < MODULE.ll

@@ -23,11 +23,6 @@ def ratios(cell, peer, ours):
     return [a / b for a, b in zip(cell[peer], cell[ours])]
 
 
-def ratio_of_best(cell, peer, ours):
-    """The peer's best time of all rounds over our best."""
-    return min(cell[peer]) / min(cell[ours])
-
-
 def spread(values):
     """How far the rounds lie apart, as a part of their median."""
     return (max(values) - min(values)) / statistics.median(values)

@@ -4,14 +4,12 @@ each peer `name=ratio`, a peer's time over ours, then our spread of that ratio i
 times, as `c_gcc=1.03/12/0.98`. Figures that an older page lacked are left out: the best times of most rows, and some
 speeds."""
 import os
+from collections import namedtuple
 
 FILE = os.path.join(os.path.dirname(os.path.abspath(__file__)), "data", "measured.tsv")
 
 
-class Ratio:
-    def __init__(self, median, spread=None, best=None):
-        self.median, self.spread, self.best = median, spread, best
-
+class Ratio(namedtuple("Ratio", "median spread best", defaults=(None, None))):
     def __str__(self):
         return f"{self.median:.2f}" + ("" if self.best is None else f"/{self.spread:.0f}/{self.best:.2f}")
 

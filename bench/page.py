@@ -1,4 +1,4 @@
-#!/usr/bin/env python3
+#!/usr/bin/env -S python3 -B
 """Draws docs/SPEED.md and docs/speed.svg from bench/data:
 
     bench/page.py [--check | FOLDER]
@@ -9,8 +9,8 @@ import math
 import os
 import statistics
 import sys
+from pathlib import Path
 
-sys.dont_write_bytecode = True
 sys.path.insert(0, os.path.dirname(os.path.abspath(__file__)))
 import figures
 import measured
@@ -67,10 +67,13 @@ def summary(parts, ratio):
     return markdown(["what", "x86-64-v2, the default", "x86-64-v3"], lines)
 
 
+def data_of(name):
+    return Path(f"{TOP}/bench/data/{name}.tsv").read_text().splitlines()
+
+
 def copied(name):
     """A table that another program printed, and the sentences on how it was measured."""
-    with open(f"{TOP}/bench/data/{name}.tsv") as file:
-        lines = file.read().splitlines()
+    lines = data_of(name)
     said = [it[2:] for it in lines if it.startswith("# ")]
     head, *rows = [it.split("\t") for it in lines if not it.startswith("# ")]
     return [*markdown(head, rows), *(line for it in said for line in (it, ""))]
@@ -105,8 +108,7 @@ def shared(rows):
 
 def dispatch():
     """The calls `.._dispatch`, of both widths."""
-    with open(f"{TOP}/bench/data/dispatch.tsv") as lines:
-        rows = [it.strip().split("\t") for it in lines if not it.startswith("#")]
+    rows = [it.split("\t") for it in data_of("dispatch") if not it.startswith("#")]
     return ["Debian's functions `.._dispatch` use AVX-512. The same ratio, if both use it (ours only for chunks of 2 KiB and more):", "",
             *markdown(["what", "64 bits", "128 bits"], rows)]
 
@@ -122,17 +124,15 @@ def programs(rows):
 
 def xxhsum():
     """The program `xxhsum` beside Debian's, as bench/xxhsum measured both."""
-    with open(f"{TOP}/bench/data/xxhsum.tsv") as lines:
-        rows = [it.rstrip("\n").split("\t") for it in lines if not it.startswith("#")]
+    rows = [it.split("\t") for it in data_of("xxhsum") if not it.startswith("#")]
     return markdown(["`xxhsum`", "the original, s", *SETS], rows)
 
 
 def arm():
     """Counts of instructions: those of the header over ours."""
     counts = {}
-    with open(f"{TOP}/bench/data/arm_instructions.tsv") as lines:
-        for line in [it.rstrip("\n").split("\t") for it in lines if not it.startswith("#")]:
-            counts.setdefault(line[0], {})[int(line[1])] = [int(it) for it in line[2:]]
+    for name, size, *found in (it.split("\t") for it in data_of("arm_instructions") if not it.startswith("#")):
+        counts.setdefault(name, {})[int(size)] = list(map(int, found))
     sizes = (16, 64, 240, 1024, 65536)
     shown = lambda it: f"{it[2] / it[0]:.2f}" if it else ""
     lines = [[name, *(shown(of.get(size)) for size in sizes)] for name, of in counts.items()]
@@ -254,14 +254,11 @@ def main(words):
     parts = {name: [it for it in rows if it.part == name] for name in dict.fromkeys(it.part for it in rows)}
     drawn = {"SPEED.md": page(said, parts), "speed.svg": picture(parts[SETS[0]], ["XXH32", "XXH64", "XXH3-64", "XXH3-128"])}
     for name, text in drawn.items():
-        path = f"{folder or f'{TOP}/docs'}/{name}"
-        if is_check:
-            with open(path) as file:
-                if file.read() != text:
-                    sys.exit(f"docs/{name} is not as bench/page.py draws it")
-        else:
-            with open(path, "w") as file:
-                file.write(text)
+        path = Path(folder or f"{TOP}/docs", name)
+        if not is_check:
+            path.write_text(text)
+        elif path.read_text() != text:
+            sys.exit(f"docs/{name} is not as bench/page.py draws it")
 
 
 if __name__ == "__main__":

@@ -19,7 +19,7 @@ def row(part, key, cell):
     for peer in cell:
         if peer != "ours":
             ratios = figures.ratios(cell, peer, "ours")
-            best = figures.ratio_of_best(cell, peer, "ours")
+            best = min(cell[peer]) / min(cell["ours"])
             peers[peer] = measured.Ratio(statistics.median(ratios), 100 * figures.spread(ratios), best)
     # A stream is timed for 1 MiB.
     speed = (size if form in ("oneshot", "kernel") else MIB) / statistics.median(cell["ours"])

@@ -1,6 +1,5 @@
 """Checks the library for C of 64-bit ARM on a machine of another processor, under qemu-aarch64."""
 import os
-import subprocess
 import tempfile
 
 import clients
@@ -11,9 +10,9 @@ import values
 from arm_roots import TOOLS, debian_root
 from check import check_texts
 from library import C, Built
-from report import Fault, want
+from report import want
 from sides import EmulatedSide, run
-from tools import TOP, install_packages, must
+from tools import TOP, install_packages, must, replace_once, text_of, write
 
 HEADER = '/usr/include/xxhash.h'
 PACKAGES = {TOOLS + 'gcc': 'gcc-aarch64-linux-gnu', TOOLS + 'objcopy': 'binutils-aarch64-linux-gnu',
@@ -25,19 +24,14 @@ THEIRS = '/usr/lib/aarch64-linux-gnu/libxxhash.so.0'
 RIGHT, WRONG = '#define XXH_PRIME32_1  0x9E3779B1U', '#define XXH_PRIME32_1  0x9E3779B3U'
 
 
-def reference(built, name, change=('', ''), flags=('-O2',)):
+def reference(built, name, change=(), flags=('-O2',)):
     """Builds only the reference's header as a shared library, with one change."""
     folder = os.path.join(built.room, name)
-    os.mkdir(folder)
-    with open(HEADER) as file:
-        text = file.read()
-    if change[0] and text.count(change[0]) != 1:
-        raise Fault(f'{HEADER} does not have {change[0]} once')
-    with open(os.path.join(folder, 'xxhash.h'), 'w') as file:
-        file.write(text.replace(*change) if change[0] else text)
-    source, path = os.path.join(folder, 'reference.c'), os.path.join(folder, 'reference.so')
-    with open(source, 'w') as file:
-        file.write('#define XXH_STATIC_LINKING_ONLY\n#define XXH_IMPLEMENTATION\n#include "xxhash.h"\n')
+    header, path = write(os.path.join(folder, 'xxhash.h'), text_of(HEADER)), os.path.join(folder, 'reference.so')
+    if change:
+        replace_once(header, *change)
+    source = write(os.path.join(folder, 'reference.c'), '#define XXH_STATIC_LINKING_ONLY\n#define XXH_IMPLEMENTATION\n'
+                                                        '#include "xxhash.h"\n')
     built.tool('gcc', *flags, '-shared', '-fPIC', '-Wl,-Bsymbolic-functions', source, '-o', path)
     return path
 
@@ -51,11 +45,7 @@ def wrong_reference_differs(built, qemu, program, count):
 def table_agrees(built, qemu):
     """The oracle's table, with our static library."""
     program = built.program('table', os.path.join(TOP, 'oracle', 'vectors.c'), built.archive, '-static')
-    done = subprocess.run([*qemu, program], stdout=subprocess.PIPE, timeout=300)
-    with open(os.path.join(TOP, 'oracle', 'vectors.txt'), 'rb') as file:
-        table = file.read()
-    want(done.returncode == 0 and done.stdout == table, 'the table is another')
-    return f'{len(table.splitlines()) - 1} rows'
+    return values.table_agrees([*qemu, program])
 
 
 def loads(side):
@@ -73,7 +63,7 @@ def package_serves(built, sides, root):
     want(must(['dpkg-deb', '-f', file, 'Architecture']) == 'arm64\n', 'it is for another processor')
     must(['dpkg-deb', '-x', file, root])
     ours = EmulatedSide('the package', package.FOLDER, package.PLAIN, root)
-    return clients.python_hashes(clients.Sides(sides.theirs, ours, sides.wrong, sides.stopping))
+    return clients.python_hashes(sides._replace(ours=ours))
 
 
 def check_all(report, quick):

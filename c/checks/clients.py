@@ -7,6 +7,7 @@ import socket
 import subprocess
 import tempfile
 import time
+from collections import namedtuple
 
 from report import Fault, tail, want
 from sides import loaded, run, want_library
@@ -14,13 +15,8 @@ from tools import free_port, write
 
 HERE = os.path.dirname(os.path.abspath(__file__))
 PYTHON = '/usr/bin/python3'
-
-
-class Sides:
-    """The original, ours, ours with changed results, and ours with hashes that end the process."""
-
-    def __init__(self, theirs, ours, wrong, stopping):
-        self.theirs, self.ours, self.wrong, self.stopping = theirs, ours, wrong, stopping
+# The original, ours, ours with changed results, and ours with hashes that end the process.
+Sides = namedtuple('Sides', 'theirs ours wrong stopping')
 
 
 # ---- python3-xxhash ----
@@ -39,10 +35,8 @@ def python_hashes(sides):
 def rsync_source(folder):
     """Files of several lengths, and their destinations: older copies of them with some bytes changed."""
     source, target = os.path.join(folder, 'source'), os.path.join(folder, 'target')
-    os.mkdir(source)
     for length in (0, 1, 700, 5000, 300000, 3000000):
-        with open(os.path.join(source, f'file-{length}'), 'wb') as file:
-            file.write(os.urandom(length))
+        write(os.path.join(source, f'file-{length}'), os.urandom(length))
     shutil.copytree(source, target)
     for name in os.listdir(target):
         path = os.path.join(target, name)
@@ -50,10 +44,7 @@ def rsync_source(folder):
             file.seek(os.path.getsize(path) // 2)
             file.write(b'changed')
         os.utime(path, (0, 0))
-    shell = os.path.join(folder, 'shell')
-    write(shell, '#!/bin/sh\nshift\nexec sh -c "$*"\n')
-    os.chmod(shell, 0o755)
-    return source, target, shell
+    return source, target, write(os.path.join(folder, 'shell'), '#!/bin/sh\nshift\nexec sh -c "$*"\n', 0o755)
 
 
 def rsync_run(folder, choice, sender, receiver):
@@ -96,10 +87,8 @@ def borg(side, folder, *words):
 
 def borg_archive(folder, writer):
     source = os.path.join(folder, 'source')
-    os.mkdir(source)
     for length in (0, 10, 100000, 4000000):
-        with open(os.path.join(source, f'file-{length}'), 'wb') as file:
-            file.write(os.urandom(length))
+        write(os.path.join(source, f'file-{length}'), os.urandom(length))
     for words in (['init', '-e', 'none', 'repository'], ['create', 'repository::one', 'source']):
         done = borg(writer, folder, *words)
         want(done.status == 0, tail(done.out))
@@ -151,9 +140,8 @@ def apt_root(folder):
     write(os.path.join(folder, 'etc/status'), '')
     settings = {'Dir::Etc': 'etc', 'Dir::Etc::parts': 'etc/apt.conf.d', 'Dir::Etc::main': 'etc/none', 'Dir::State': '',
                 'Dir::State::lists': 'lists', 'Dir::State::status': 'etc/status', 'Dir::Cache': 'cache'}
-    write(os.path.join(folder, 'conf'), 'APT::Sandbox::User "root";\nDebug::pkgCacheGen "1";\n' + ''.join(
+    return write(os.path.join(folder, 'conf'), 'APT::Sandbox::User "root";\nDebug::pkgCacheGen "1";\n' + ''.join(
         f'{name} "{os.path.join(folder, path)}";\n' for name, path in settings.items()))
-    return os.path.join(folder, 'conf')
 
 
 def apt_accepts(side, conf):

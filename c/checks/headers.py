@@ -1,9 +1,8 @@
 """Programs that are built with the installed files: the headers, pkg-config with -static, CMake."""
 import os
-import subprocess
 
 from report import want
-from tools import TOP, must
+from tools import TOP, must, ran
 
 STATE_ON_THE_STACK = '#include <xxhash.h>\nint main(void) { XXH3_state_t s; return XXH3_64bits_reset(&s); }\n'
 DISPATCHED = ('#include <xxh_x86dispatch.h>\n'
@@ -20,8 +19,7 @@ def package_path(built):
 def compiled(built, text, compiler, *flags):
     """Compiles a source, and returns the status, the lines with an error, and the whole output."""
     language = 'c++' if compiler == 'g++' else 'c'
-    words = [built.tools + compiler, *flags, '-I', built.include, '-fsyntax-only', '-x', language, '-']
-    done = subprocess.run(words, input=text, stdout=subprocess.PIPE, stderr=subprocess.STDOUT, text=True)
+    done = ran([built.tools + compiler, *flags, '-I', built.include, '-fsyntax-only', '-x', language, '-'], input=text)
     return done.returncode, [line for line in done.stdout.splitlines() if 'error: ' in line], done.stdout
 
 
@@ -43,10 +41,6 @@ def dispatch_header_serves(built):
 
 def dispatch_header_is_refused(built, *flags, word):
     return refuses(built, DISPATCHED.split('\n')[0], word, 'gcc', *flags)
-
-
-def stack_is_refused(built, compiler):
-    return refuses(built, STATE_ON_THE_STACK, 'createState', compiler, '-DXXH_STATIC_LINKING_ONLY')
 
 
 def holds(built, program):
@@ -89,4 +83,5 @@ def check_all(report, built):
     report.attempt('xxh_x86dispatch.h with XXH_INLINE_ALL is refused',
                    lambda: dispatch_header_is_refused(built, '-DXXH_INLINE_ALL', word='library to link'))
     for compiler in ('gcc', 'g++'):
-        report.attempt(f'a state on the stack is refused by {compiler}', stack_is_refused, built, compiler)
+        report.attempt(f'a state on the stack is refused by {compiler}', refuses, built, STATE_ON_THE_STACK,
+                       'createState', compiler, '-DXXH_STATIC_LINKING_ONLY')

@@ -4,7 +4,7 @@ import subprocess
 
 from report import want
 from library import C
-from tools import must
+from tools import must, write
 
 SHOWS = '''#include <stdio.h>
 int main(int count, char **words)
@@ -28,9 +28,7 @@ def lay_out(room, compiler):
     in a folder that was moved since. Its name has characters that are special in a shell or C."""
     first, folder = os.path.join(room, 'first'), os.path.join(room, compiler, 'launched "$(here)\\')
     os.mkdir(os.path.dirname(folder))
-    source = os.path.join(room, 'shows.c')
-    with open(source, 'w') as file:
-        file.write(SHOWS)
+    source = write(os.path.join(room, 'shows.c'), SHOWS)
     for name in SETS:
         os.makedirs(os.path.join(first, BUILDS, name))
         must(['gcc', f'-DSET="{name}"', source, '-o', os.path.join(first, BUILDS, name, 'shows')])
@@ -43,7 +41,7 @@ def lay_out(room, compiler):
 
 
 def runs(words, told=b'', **more):
-    done = subprocess.run(words, stdout=subprocess.PIPE, stderr=subprocess.PIPE, **more)
+    done = subprocess.run(words, capture_output=True, **more)
     want(done.stderr == told, f'{words} tells {done.stderr!r}')
     return done.returncode, done.stdout
 

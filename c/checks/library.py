@@ -3,7 +3,8 @@ import os
 import shutil
 import subprocess
 
-from tools import TOP, must
+from report import tail, want
+from tools import TOP, must, ran
 
 C = os.path.join(TOP, 'c')
 
@@ -27,6 +28,17 @@ class Built:
         self.room, self.tools = room, tools
         self.set_paths(os.path.join(room, 'prefix'))
         must([os.path.join(C, 'install'), '--target', target, self.prefix])
+
+    @classmethod
+    def by_make(cls, room, copy):
+        """The library that make installs from a clean copy, moved afterwards, since an installed folder may be."""
+        built = cls.__new__(cls)
+        built.room, built.tools = room, ''
+        done = ran(['make', '-s', '-C', os.path.join(copy, 'c'), 'install', f'PREFIX={room}/first'])
+        want(done.returncode == 0, tail(done.stdout))
+        os.rename(f'{room}/first', f'{room}/prefix')
+        built.set_paths(f'{room}/prefix')
+        return built
 
     def set_paths(self, prefix):
         self.prefix, self.folder = prefix, os.path.join(prefix, 'lib')

@@ -6,7 +6,7 @@ import subprocess
 from report import want
 from sides import THEIRS
 from library import C
-from tools import must
+from tools import must, ran, text_of
 
 HEADER = '/usr/include/xxhash.h'
 # The word comes after the header was included once, for example by another header.
@@ -50,8 +50,7 @@ def own_states_agree(built, theirs, paths, compiler, folder, run=()):
     must([compiler, '-O2', '-Wall', '-Wextra', '-I', folder, os.path.join(C, 'checks', 'own_states.c'), '-o', program])
     found = []
     for path in paths:
-        words = [*run, program, theirs, path]
-        done = subprocess.run(words, stdout=subprocess.PIPE, stderr=subprocess.STDOUT, text=True)
+        done = ran([*run, program, theirs, path])
         want(done.returncode == 0, done.stdout[-300:])
         found.append(done.stdout.split()[0])
     return f'{", ".join(found)} compared'
@@ -75,8 +74,7 @@ def features_are_known(built):
     """XXH_featureTest, compared with what the system reports of its processor, and on others that qemu emulates."""
     path = os.path.join(built.room, 'asks')
     must(['gcc', '-x', 'c', '-', '-I', built.include, '-x', 'none', built.archive, '-o', path], input=ASKS)
-    with open('/proc/cpuinfo') as file:
-        flags = set(file.read().split())
+    flags = set(text_of('/proc/cpuinfo').split())
     here = 3 if 'avx512f' in flags else 2 if 'avx2' in flags else 1
     others = {'Nehalem': 1, 'max': 2, 'max,-avx2': 1, 'max,-xsave': 1}
     for words, wanted in (([], here), *((['qemu-x86_64', '-cpu', name], wanted) for name, wanted in others.items())):
@@ -94,8 +92,7 @@ def demands_this_library(built, compiler, *flags):
         must([compiler, '-x', 'c++' if '++' in compiler else 'c', '-', '-I', built.include, '-pedantic', '-Wall', '-Wextra', '-Werror',
               *flags, '-x', 'none', built.plain, '-o', path], input=CHANGES_ITS_SECRET.replace('LINE', line))
         for folder in (built.folder, os.path.dirname(THEIRS)):
-            done = subprocess.run([path], stdout=subprocess.PIPE, stderr=subprocess.PIPE, text=True,
-                                  env={**os.environ, 'LD_LIBRARY_PATH': folder})
+            done = subprocess.run([path], capture_output=True, text=True, env={**os.environ, 'LD_LIBRARY_PATH': folder})
             found.append((done.returncode == 0, done.stdout, 'twox_hash_library' in done.stderr))
     (_, ours, _), (_, theirs, _), with_ours, with_theirs = found
     want(ours == KEYED and theirs not in ('', KEYED), f'{ours} on ours, {theirs} on the other')

@@ -17,7 +17,7 @@ from collections import namedtuple
 
 from report import want
 from library import C, Built
-from tools import TOP, clean_copy, install_packages, must
+from tools import TOP, clean_copy, install_packages, text_of
 
 sys.path.append(os.path.join(TOP, 'release', 'parts'))
 from roots import TAKEN, new_base, new_root
@@ -33,8 +33,7 @@ Script = namedtuple('Script', 'name releases packages source')
 def scripts():
     """The scripts, by their first lines."""
     for path in sorted(glob.glob(os.path.join(CHECKS, 'programs', '*.sh'))):
-        with open(path) as file:
-            said = dict(re.findall(r'^# (Debian|packages|source): *(.*)$', file.read(), re.M))
+        said = dict(re.findall(r'^# (Debian|packages|source): *(.*)$', text_of(path), re.M))
         yield Script(os.path.basename(path).removesuffix('.sh'), said['Debian'].split(), said.get('packages', '').split(),
                      said.get('source'))
 
@@ -114,20 +113,11 @@ def judged(root, script):
     return ' and '.join(sorted(verdicts))
 
 
-class Made(Built):
-    """The library installed by make from a clean copy."""
-
-    def __init__(self, room):
-        self.room, self.tools = room, ''
-        copy = os.path.join(room, 'copy')
-        clean_copy(copy)
-        self.set_paths(os.path.join(room, 'prefix'))
-        must(['make', '-s', '-C', os.path.join(copy, 'c'), 'install', f'PREFIX={self.prefix}'])
-
-
 def laid_out(room):
     """A folder of the files for the root: the scripts, c/suits, the library with its headers, and one that stops."""
-    built, taken = Made(room), os.path.join(room, 'taken')
+    copy, taken = os.path.join(room, 'copy'), os.path.join(room, 'taken')
+    clean_copy(copy)
+    built = Built.by_make(room, copy)
     shutil.copytree(os.path.join(CHECKS, 'programs'), os.path.join(taken, 'programs'))
     shutil.copy(os.path.join(CHECKS, 'python_hashes.py'), os.path.join(taken, 'programs'))
     os.mkdir(os.path.join(taken, 'c'))

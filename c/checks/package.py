@@ -12,7 +12,7 @@ from launcher import OLD, SETS
 from report import tail, want
 from sides import THEIRS, Side, others, run
 from library import C, sets_here, sets_of_library
-from tools import TOP, must
+from tools import TOP, bytes_of, must, ran, write
 
 NAME = 'twox-hash'
 PREFIX = '/usr/lib/twox-hash'
@@ -34,9 +34,6 @@ class Package:
         self.file, = glob.glob(os.path.join(room, '*.deb'))
         self.theirs_before = their_state()
 
-    def side(self):
-        return Side('the installed package', FOLDER, self.ours)
-
 
 def library(instructions):
     above = [] if instructions == sets_of_library()[0] else ['glibc-hwcaps', instructions]
@@ -45,8 +42,7 @@ def library(instructions):
 
 def their_state():
     """Debian's library: its bytes, what dpkg finds changed in its package, and what the loader has under its name."""
-    with open(THEIRS, 'rb') as file:
-        digest = hashlib.sha256(file.read()).hexdigest()
+    digest = hashlib.sha256(bytes_of(THEIRS)).hexdigest()
     known = [line for line in must(['ldconfig', '-p']).splitlines() if 'libxxhash' in line]
     return digest, must(['dpkg', '-V', 'libxxhash0']), known
 
@@ -107,19 +103,13 @@ def builds_by_cmake(package):
     hashes_file(Side('the installed package', None, package.ours), [os.path.join(folder, 'hash-file')])
 
 
-def runs_where_told(package, sides):
-    """Debian's python3-xxhash loads Debian's library, and ours if LD_LIBRARY_PATH has its folder."""
-    return clients.python_hashes(clients.Sides(sides.theirs, package.side(), sides.wrong, sides.stopping))
-
-
 def copied_root(package):
     """A folder with rsync and the files that it loads, as a root."""
     root = os.path.join(package.room, 'root')
     for part in ('lib', 'lib64', 'bin'):
         os.makedirs(os.path.join(root, 'usr', part))
         os.symlink('usr/' + part, os.path.join(root, part))
-    needed = re.findall(r'/\S+\.so\S*', must(['ldd', '/usr/bin/rsync']))
-    for path in ['/usr/bin/rsync', *needed]:
+    for path in ['/usr/bin/rsync', *re.findall(r'/\S+\.so\S*', must(['ldd', '/usr/bin/rsync']))]:
         os.makedirs(os.path.dirname(root + path), exist_ok=True)
         shutil.copy(path, root + path)
     os.mkdir(os.path.join(root, 'etc'))
@@ -130,8 +120,7 @@ def copied_root(package):
 
 def library_in(root):
     """The libxxhash that rsync loads in this root."""
-    done = subprocess.run(['chroot', root, '/usr/bin/rsync', '--version'], stdout=subprocess.PIPE,
-                          stderr=subprocess.STDOUT, text=True, env={**others(), 'LD_DEBUG': 'libs'})
+    done = ran(['chroot', root, '/usr/bin/rsync', '--version'], env={**others(), 'LD_DEBUG': 'libs'})
     want(done.returncode == 0, tail(done.stdout))
     return os.path.normpath(' '.join(re.findall(r'calling init: (\S*libxxhash\S*)', done.stdout)) or 'none')
 
@@ -144,8 +133,7 @@ def serves_a_machine(package):
     must(['ldconfig', '-r', root])
     theirs = library_in(root)
     want(not theirs.startswith(PREFIX), f'the package alone changes what is loaded: {theirs}')
-    with open(os.path.join(root, 'etc/ld.so.conf.d/00-twox-hash.conf'), 'w') as file:
-        file.write(FOLDER + '\n')
+    write(os.path.join(root, 'etc/ld.so.conf.d/00-twox-hash.conf'), FOLDER + '\n')
     must(['ldconfig', '-r', root])
     want(library_in(root) == package.ours, f'{library_in(root)} is loaded')
     shutil.rmtree(root + PREFIX)
@@ -169,8 +157,7 @@ def both_builds_run(package, v3):
     for words, build in (([], SETS[v3]), (OLD, SETS[0])):
         path = os.path.join(PREFIX, 'libexec', NAME, build, 'xxhsum')
         os.rename(path, path + '.away')
-        done = subprocess.run([*words, os.path.join(PREFIX, 'bin', 'xxhsum'), EXAMPLE], stdout=subprocess.PIPE,
-                              stderr=subprocess.PIPE, text=True)
+        done = subprocess.run([*words, os.path.join(PREFIX, 'bin', 'xxhsum'), EXAMPLE], capture_output=True, text=True)
         os.rename(path + '.away', path)
         want((done.returncode, done.stdout) == (127, '') and path in done.stderr, f'{build} is not what runs')
         want(must([*words, os.path.join(PREFIX, 'bin', 'xxhsum'), '-q', EXAMPLE]) == must(['xxhsum', '-q', EXAMPLE]),
@@ -211,7 +198,9 @@ def check_all(report, room, sides, v3):
         report.attempt('the Debian package: installed', installs, package)
         report.attempt('the Debian package: a program by pkg-config', builds_by_pkg_config, package)
         report.attempt('the Debian package: a program by CMake', builds_by_cmake, package)
-        report.attempt('the Debian package: python3-xxhash where it is told to', runs_where_told, package, sides)
+        # It loads Debian's library, and ours if LD_LIBRARY_PATH has its folder.
+        report.attempt('the Debian package: python3-xxhash where it is told to', clients.python_hashes,
+                       sides._replace(ours=Side('the installed package', FOLDER, package.ours)))
         report.attempt('the Debian package: a whole machine', serves_a_machine, package)
         report.attempt('the Debian package: xxh', commands_are_there, package)
         report.attempt('the Debian package: both builds of xxhsum', both_builds_run, package, v3)

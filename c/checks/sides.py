@@ -4,10 +4,13 @@ import os
 import re
 import subprocess
 import tempfile
+from collections import namedtuple
 
 from report import want
 
 THEIRS = '/usr/lib/x86_64-linux-gnu/libxxhash.so.0'
+# How a program ended.
+Done = namedtuple('Done', 'status out files')
 
 
 class Side:
@@ -59,18 +62,8 @@ def loaded(logs):
     files = set()
     for log in glob.glob(logs + '.*'):
         with open(log, errors='replace') as lines:
-            for line in lines:
-                found = re.search(r'calling init: (\S*libxxhash\.so\S*)', line)
-                if found:
-                    files.add(os.path.realpath(found.group(1)))
+            files |= set(map(os.path.realpath, re.findall(r'calling init: (\S*libxxhash\.so\S*)', lines.read())))
     return files
-
-
-class Done:
-    """How a program ended."""
-
-    def __init__(self, status, out, files):
-        self.status, self.out, self.files = status, out, files
 
 
 def run(side, words, want_loaded=True, folder=None, **more):

@@ -7,7 +7,7 @@ import subprocess
 import on_debian
 from report import tail, want
 from library import C
-from tools import TOP, must, path_without
+from tools import must, path_without, ran, text_of, write
 
 HEADER = '/usr/include/xxhash.h'
 STATES = '''#define XXH_STATIC_LINKING_ONLY
@@ -39,8 +39,7 @@ case $1 in -S) case $2 in *'*'*) echo "rsync: /usr/bin/rsync" ;; */rsync) echo "
 
 
 def said_of(path, folder='/', **variables):
-    done = subprocess.run([os.path.join(C, 'suits'), path], stdout=subprocess.PIPE, stderr=subprocess.STDOUT, text=True,
-                          cwd=folder, env={**os.environ, **variables})
+    done = ran([os.path.join(C, 'suits'), path], cwd=folder, env={**os.environ, **variables})
     return done.returncode, done.stdout
 
 
@@ -62,9 +61,7 @@ class Programs:
 
     def compiled(self, name, text, *words):
         path = os.path.join(self.room, name)
-        with open(path + '.c', 'w') as file:
-            file.write(text)
-        must(['gcc', path + '.c', '-I', self.headers, *words, '-o', path])
+        must(['gcc', write(path + '.c', text), '-I', self.headers, *words, '-o', path])
         return path
 
     def with_states(self, kind, bits, reset, name=None):
@@ -74,10 +71,8 @@ class Programs:
     def library(self, path):
         """A library that has states of XXH3."""
         path = os.path.join(self.room, path)
-        os.makedirs(os.path.dirname(path))
         text = STATES.replace('KINDbits', 'XXH3_64bits').replace('KIND', 'XXH3').replace('int main', 'int inner')
-        with open(path + '.c', 'w') as file:
-            file.write(text.replace('RESET', 'XXH3_64bits_reset(&state)'))
+        write(path + '.c', text.replace('RESET', 'XXH3_64bits_reset(&state)'))
         must(['gcc', '-shared', '-fPIC', path + '.c', '-I', self.headers, '-lxxhash', '-o', path])
         return path
 
@@ -145,9 +140,7 @@ def loading(room):
     program = Programs(room).compiled('loads', LOADS)
     script = os.path.join(room, 'a script')
     for first, runs in ((f'{shutil.which("env")} python3', shutil.which('python3')), ('/bin/sh', '/bin/sh')):
-        with open(script, 'w') as file:
-            file.write(f'#!{first}\n')
-        verdict_is('unknown', script)
+        verdict_is('unknown', write(script, f'#!{first}\n'))
         out = said_of(script)[1]
         want(f'{script}: unknown: a script, which {runs} runs' in out and f'\n{runs}: ' in out, f'of a script: {out}')
     verdict_is('unknown', program)
@@ -159,19 +152,15 @@ def of_known_source(room):
     program = Programs(room).with_states('XXH3', '_64bits', '(void)XXH3_createState(), XXH3_64bits_reset(&state)',
                                          name='rsync')
     tools = os.path.join(room, 'tools')
-    os.mkdir(tools)
     for release, words in (('3.5.0+ds1-0+deb13u2', 'yes'), ('9.9-1', 'unknown')):
-        with open(os.path.join(tools, 'dpkg-query'), 'w') as file:
-            file.write(DPKG.replace('RELEASE', release))
-        os.chmod(file.name, 0o755)
+        write(os.path.join(tools, 'dpkg-query'), DPKG.replace('RELEASE', release), 0o755)
         verdict_is(words, program, PATH=f'{tools}:{os.environ["PATH"]}')
     verdict_is('unknown', program)
     # A name that dpkg-query reads as a pattern, of a file of no package.
     folder = os.path.join(room, '*bin')
     os.mkdir(folder)
     shutil.copy(program, folder)
-    with open(os.path.join(tools, 'dpkg-query'), 'w') as file:
-        file.write(DPKG.replace('RELEASE', '3.2.7-1'))
+    write(os.path.join(tools, 'dpkg-query'), DPKG.replace('RELEASE', '3.2.7-1'))
     verdict_is('unknown', '*bin/rsync', folder=room, PATH=f'{tools}:{os.environ["PATH"]}')
     return 'a release that was read, another, files of no package'
 
@@ -185,8 +174,7 @@ def of_debian(_room):
 
 def tried(release):
     """The programs that were run on a release unchanged, and those that were built there, as on the page."""
-    with open(os.path.join(TOP, 'docs', 'C.md'), encoding='utf-8') as file:
-        row, = re.findall(rf'^\| {release} \| (.*) \| (.*) \|$', file.read(), re.M)
+    row, = re.findall(rf'^\| {release} \| (.*) \| (.*) \|$', text_of('docs/C.md'), re.M)
     return tuple(cell.split(', ') for cell in row)
 
 

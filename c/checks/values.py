@@ -4,7 +4,7 @@ import subprocess
 
 from report import want
 from library import C
-from tools import must
+from tools import bytes_of, must, ran
 
 # What release 0.8.3 has in addition to the names of 0.8.1, on x86-64, and the name by which a program requires this
 # library.
@@ -23,14 +23,20 @@ def names_are_theirs(path, their_path):
     return f'all {len(theirs)}' + ''.join(f', and {name}' for name in sorted(newer))
 
 
+def table_agrees(words):
+    """A program that prints the oracle's table."""
+    done, table = subprocess.run(words, stdout=subprocess.PIPE, timeout=300), bytes_of('oracle/vectors.txt')
+    want(done.returncode == 0 and done.stdout == table, 'the table is another')
+    return f'{len(table.splitlines()) - 1} rows'
+
+
 def calls_program(built, name, *flags):
     """checks/calls.c, which compares two libraries."""
     return built.program(name, os.path.join(C, 'checks', 'calls.c'), '-pthread', *flags)
 
 
 def calls(program, their_path, path, count, *words, **variables):
-    done = subprocess.run([*program, their_path, path, str(count), *words], stdout=subprocess.PIPE,
-                          stderr=subprocess.STDOUT, text=True, timeout=1200, env={**os.environ, **variables})
+    done = ran([*program, their_path, path, str(count), *words], timeout=1200, env={**os.environ, **variables})
     return done.returncode, done.stdout
 
 

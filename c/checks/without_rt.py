@@ -3,7 +3,6 @@
 import os
 import re
 import shutil
-import subprocess
 import tempfile
 import time
 
@@ -16,7 +15,7 @@ import values
 from report import Fault, tail, want
 from sides import THEIRS, Side
 from library import Built
-from tools import clean_copy, hide_rt, install_packages, must, path_without
+from tools import clean_copy, hide_rt, install_packages, must, path_without, ran, text_of, write
 
 PACKAGES = {'gcc': 'gcc', 'g++': 'g++', '/usr/include/stdio.h': 'libc6-dev', 'nm': 'binutils', 'make': 'make',
             'python3': 'python3', 'pkg-config': 'pkg-config', 'cmake': 'cmake', 'clang': 'clang',
@@ -40,20 +39,8 @@ OTHER_TEXTS = {
 COMPILERS = ('clang', 'g++', 'clang++', 'gcc -flto', 'clang -flto=thin', 'gcc -std=c89 -pedantic -Werror')
 
 
-class Made(Built):
-    """The library installed by make, instead of c/install."""
-
-    def __init__(self, room, copy):
-        self.room, self.tools, self.copy = room, '', copy
-        # It is moved afterwards, since an installed folder may be.
-        make(copy, 'install', f'PREFIX={room}/first')
-        os.rename(f'{room}/first', f'{room}/prefix')
-        self.set_paths(os.path.join(room, 'prefix'))
-
-
 def run_make(copy, *words, **variables):
-    return subprocess.run(['make', '-s', '-C', os.path.join(copy, 'c'), *words], stdout=subprocess.PIPE,
-                          stderr=subprocess.STDOUT, text=True, env={**os.environ, **variables})
+    return ran(['make', '-s', '-C', os.path.join(copy, 'c'), *words], env={**os.environ, **variables})
 
 
 def make(copy, *words):
@@ -97,19 +84,14 @@ class Changed:
 
     def __init__(self, copy, name, change):
         self.path = os.path.join(copy, 'c', name)
-        with open(self.path) as file:
-            self.right = file.read()
+        self.right = text_of(self.path)
         self.wrong = change(self.right)
 
     def __enter__(self):
-        self.write(self.wrong)
+        write(self.path, self.wrong)
 
     def __exit__(self, *_):
-        self.write(self.right)
-
-    def write(self, text):
-        with open(self.path, 'w') as file:
-            file.write(text)
+        write(self.path, self.right)
 
 
 def wrong_text_is_noticed(copy, function, right, wrong, goal, word):
@@ -148,11 +130,7 @@ def uncalled_name_is_noticed(copy):
 
 def foreign_compiler(room, machine):
     """A compiler for another machine, which reports that machine."""
-    path = os.path.join(room, 'cc-' + machine)
-    with open(path, 'w') as file:
-        file.write(f'#!/bin/sh\necho {machine}\n')
-    os.chmod(path, 0o755)
-    return path
+    return write(os.path.join(room, 'cc-' + machine), f'#!/bin/sh\necho {machine}\n', 0o755)
 
 
 def check_refusals(report, copy, room):
@@ -201,8 +179,7 @@ def processors_stay_apart(copy):
 
 
 def files_below(folder):
-    return sorted(os.path.relpath(os.path.join(where, name), folder) for where, _, names in os.walk(folder)
-                  for name in names)
+    return sorted(os.path.relpath(f'{where}/{name}', folder) for where, _, names in os.walk(folder) for name in names)
 
 
 def is_taken_away(copy, room):
@@ -213,8 +190,7 @@ def is_taken_away(copy, room):
     want(f'{place}/lib and include: no program runs on it unless' in said, f'install says {tail(said)}')
     put = files_below(place)
     want(len(put) >= 10, f'it puts {put}')
-    with open(os.path.join(place, 'lib', 'other.so'), 'w'):
-        pass
+    write(os.path.join(place, 'lib', 'other.so'), '')
     make(copy, 'uninstall', 'PREFIX=/opt/twox_hash', f'DESTDIR={root}')
     want(files_below(root) == ['opt/twox_hash/lib/other.so'], f'it leaves {files_below(root)}')
     said = make(copy, 'install', 'PREFIX=/usr/local', f'DESTDIR={root}')
@@ -242,13 +218,8 @@ def static_table_agrees(copy, room, compiler, out, run=()):
     program = os.path.join(room, f'table-{os.path.basename(out)}')
     source, library = os.path.join(copy, 'oracle', 'vectors.c'), os.path.join(copy, 'c', out, 'lib', 'libtwox_hash.a')
     must([compiler, '-O2', '-static', '-w', '-I', os.path.join(copy, 'c', 'include'), source, library, '-o', program])
-    headers = must(['readelf', '-lW', program])
-    want('INTERP' not in headers, 'the program asks for a loader')
-    done = subprocess.run([*run, program], stdout=subprocess.PIPE, timeout=300)
-    with open(os.path.join(copy, 'oracle', 'vectors.txt'), 'rb') as file:
-        table = file.read()
-    want(done.returncode == 0 and done.stdout == table, 'the table is another')
-    return f'{len(table.splitlines()) - 1} rows'
+    want('INTERP' not in must(['readelf', '-lW', program]), 'the program asks for a loader')
+    return values.table_agrees([*run, program])
 
 
 def check_makefile(report, copy, room):
@@ -271,7 +242,7 @@ def check_makefile(report, copy, room):
 
 def check_x86(report, copy, room, has_v3, examples):
     check_makefile(report, copy, room)
-    built = Made(room, copy)
+    built = Built.by_make(room, copy)
     every, paths = built.libraries()
     for path in every:
         report.attempt(f'names of {os.path.relpath(path, built.folder)}', values.names_are_theirs, path, THEIRS)

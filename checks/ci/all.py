@@ -19,7 +19,7 @@ import time
 
 import command
 from report import Report
-from tools import TOP, ran
+from tools import TOP, ran, text_of
 
 from .parts import Part
 
@@ -31,8 +31,7 @@ FOR_ALL_BYTES = [("the definitions beside the reference's code", 32, "oracle/sym
 
 
 def memory_in_use():
-    with open("/proc/meminfo") as file:
-        kib = dict(re.findall(r"^(\w+): +(\d+)", file.read(), re.M))
+    kib = dict(re.findall(r"^(\w+): +(\d+)", text_of("/proc/meminfo"), re.M))
     return (int(kib["MemTotal"]) - int(kib["MemAvailable"])) / 2 ** 20
 
 
@@ -48,9 +47,6 @@ class MostMemory(threading.Thread):
         while True:
             self.most = max(self.most, memory_in_use())
             time.sleep(1)
-
-    def beyond_start(self):
-        return self.most - self.start_value
 
 
 def copied(room):
@@ -105,6 +101,6 @@ def main():
             os.environ["XDG_CACHE_HOME"] = f"{room}/cache"
         told, passed, failed = zip(*parts(copied(room), words_for_ci(room, anew)))
     print("", *told, sep="\n")
-    print(f"in all: {(time.monotonic() - began) / 60:.1f} minutes, {memory.beyond_start():.1f} GB of memory")
+    print(f"in all: {(time.monotonic() - began) / 60:.1f} minutes, {memory.most - memory.start_value:.1f} GB of memory")
     report.count(sum(passed), sum(failed))
     return report.end()

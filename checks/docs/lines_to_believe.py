@@ -148,8 +148,7 @@ def counted_of_program(path, head):
             continue
         seen.add((module, name))
         lines += len(definitions[name])
-        cited = words_in(definitions[name])
-        left += [(imported.get(word, module), word) for word in cited]
+        left += [(imported.get(word, module), word) for word in words_in(definitions[name])]
     return lines
 
 

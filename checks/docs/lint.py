@@ -14,6 +14,7 @@ check, with what it found; the last line is "N passed, M failed". It takes half 
 Debian's shellcheck, pyflakes3, rustfmt, rust-clippy and nodejs."""
 import contextlib
 import fnmatch
+import functools
 import io
 import os
 import re
@@ -48,7 +49,7 @@ def first_line(path):
 def of_kind(paths, ending, interpreter):
     """The files whose name has the ending, if there is one, or that the interpreter runs."""
     return [path for path in paths if ending and path.endswith(ending)
-            or '.' not in os.path.basename(path) and re.match(rf'#!.*{interpreter}\s*$', first_line(path))]
+            or '.' not in os.path.basename(path) and re.match(rf'#!.*{interpreter}(?: -B)?\s*$', first_line(path))]
 
 
 def pages(paths):
@@ -71,8 +72,7 @@ def documented(paths):
 def found(*command):
     """The lines of a tool's output, if it fails."""
     done = ran(command, cwd=TOP)
-    lines = [line.replace(TOP + os.sep, '') for line in done.stdout.splitlines() if line.strip()]
-    return lines if done.returncode else []
+    return [line for line in done.stdout.splitlines() if line.strip()] if done.returncode else []
 
 
 def shellcheck(*paths):
@@ -80,12 +80,8 @@ def shellcheck(*paths):
     return found('shellcheck', '--external-sources', '--source-path=SCRIPTDIR', '--severity=warning', '--format=gcc', *paths)
 
 
-def pyflakes(*paths):
-    return found('pyflakes3', *paths)
-
-
-def rustfmt(*paths):
-    return found('rustfmt', '--check', '-l', '--edition', '2021', *paths)
+pyflakes = functools.partial(found, 'pyflakes3')
+rustfmt = functools.partial(found, 'rustfmt', '--check', '-l', '--edition', '2021')
 
 
 def clippy(*roots):
@@ -99,14 +95,6 @@ def clippy(*roots):
 
 def node(*paths):
     return sum((found('node', '--check', path) for path in paths), [])
-
-
-def listed_words(*paths):
-    return [line.replace(TOP + os.sep, '') for line in words.lines_with_words(*paths)]
-
-
-def puzzles(*paths):
-    return [line.replace(TOP + os.sep, '') for line in words.puzzles(*paths)]
 
 
 def unnamed(*specs):
@@ -124,14 +112,16 @@ WRONG = {
     rustfmt: [('wrong.rs', 'fn  main(){}\n')],
     clippy: [('wrong.rs', 'pub fn one(a: bool) -> bool { a == true }\n')],
     node: [('wrong.js', 'let = ;\n')],
-    listed_words: [('wrong.md', 'It `tells` what it tells.\n'), ('wrong.rt', '/// Works but for zero.\nfn f() {}\n'),
-                   ('wrong.antt', 'use a\n\n-- the piece\n'), ('wrong.c', 'int a;\n/* Used by\n * whoever calls. */\n'),
-                   ('wrong.js', 'let a = "//"; // made anew\n'), ('wrong.py', '"""Answers no."""\n'), ('wrong.py', 'A = 1  # by lot\n'),
-                   ('wrong.sh', '#!/bin/bash\necho a # the gate\n'), ('Makefile', '# kit\n'),
-                   ('message.py', 'print(f"nobody was told of {fault}")\n'), ('message.sh', 'fail "is right"\n'),
-                   ('message.js', 'throw new Error("handed over");\n'), ('message.html', '<p>tells</p>\n')],
-    puzzles: [('wrong.rt', '/// Whether it fits.\nfn f() {}\n'), ('wrong.h', 'int a;\n\n/** What it is. */\n'),
-              ('wrong.py', 'def f():\n    """Whether it fits."""\n')],
+    words.lines_with_words: [
+        ('wrong.md', 'It `tells` what it tells.\n'), ('wrong.rt', '/// Works but for zero.\nfn f() {}\n'),
+        ('wrong.antt', 'use a\n\n-- the piece\n'), ('wrong.c', 'int a;\n/* Used by\n * whoever calls. */\n'),
+        ('wrong.js', 'let a = "//"; // made anew\n'), ('wrong.py', '"""Answers no."""\n'), ('Makefile', '# kit\n'),
+        ('wrong.py', 'A = 1  # by lot\n'), ('wrong.sh', '#!/bin/bash\necho a # the gate\n'),
+        ('message.sh', 'fail "is right"\n'),
+        ('message.py', 'print(f"nobody was told of {fault}")\n'), ('message.html', '<p>tells</p>\n'),
+        ('message.js', 'throw new Error("handed over");\n')],
+    words.puzzles: [('wrong.rt', '/// Whether it fits.\nfn f() {}\n'), ('wrong.h', 'int a;\n\n/** What it is. */\n'),
+                    ('wrong.py', 'def f():\n    """Whether it fits."""\n')],
     unnamed: [('OfNoRow.antt', '')],
 }
 WRONG_MESSAGES = ('A' * 73 + '\n\nWhy.', "Merge branch 'main' of /work/main", 'Fix it\n\nSee (/home/a/b.c).')
@@ -140,9 +130,9 @@ WRONG_MESSAGES = ('A' * 73 + '\n\nWhy.', "Merge branch 'main' of /work/main", 'F
 def is_clean(tool, paths):
     for name, text in WRONG[tool]:
         with tempfile.TemporaryDirectory() as room:
-            want(tool(write(os.path.join(room, name), text)), f'it does not detect {text!r}')
+            want(list(tool(write(os.path.join(room, name), text))), f'it does not detect {text!r}')
     want(paths, 'no file')
-    lines = tool(*paths)
+    lines = [line.replace(TOP + os.sep, '') for line in tool(*paths)]
     want(not lines, '\n  '.join([f'{len(lines)} lines', *lines[:20]]))
     return f'{len(paths)} files'
 
@@ -178,9 +168,9 @@ def main():
     report.attempt('rustfmt', is_clean, rustfmt, rust)
     report.attempt('clippy', is_clean, clippy, [os.path.join(TOP, 'rust', *folder, 'src', 'lib.rs') for folder in ((), ('programs',))])
     report.attempt('node', is_clean, node, [path for path in every if path.endswith(('.js', '.mjs'))])
-    report.attempt('words of pages', is_clean, listed_words, pages(every))
-    report.attempt('words of comments and messages', is_clean, listed_words, sources(every))
-    report.attempt('beginnings of doc comments', is_clean, puzzles, documented(every))
+    report.attempt('words of pages', is_clean, words.lines_with_words, pages(every))
+    report.attempt('words of comments and messages', is_clean, words.lines_with_words, sources(every))
+    report.attempt('beginnings of doc comments', is_clean, words.puzzles, documented(every))
     report.attempt('commits', commits_are_clean)
     report.attempt('files of definitions', is_clean, unnamed,
                    [path for path in every if '/specs/' in path and not path.endswith('/Lib.antt')])

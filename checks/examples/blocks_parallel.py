@@ -18,7 +18,7 @@ import time
 
 import command
 from report import want
-from tools import TOP, proved_program, write
+from tools import TOP, bytes_of, proved_program, write
 
 from .ssh_hosts import Hosts, run_checks
 
@@ -29,8 +29,7 @@ def run(hosts, **told):
     """Whether the example over both hosts printed the lines of one run, its status, and its messages."""
     words = [f'{TOP}/examples/blocks-parallel', str(SIZE), f'{hosts.room}/file', '1']
     status, printed, said = hosts.run(words, {'XXH': hosts.program}, **told)
-    with open(f'{hosts.room}/one-{SIZE}', 'rb') as lines:
-        return printed == lines.read(), status, said
+    return printed == bytes_of(f'{hosts.room}/one-{SIZE}'), status, said
 
 
 def with_jobs(room, xxh, size, jobs):

@@ -21,7 +21,7 @@ import time
 
 import command
 from report import want
-from tools import TOP, proved_program, text_of, write
+from tools import TOP, bytes_of, flip_bit, proved_program, text_of, write
 
 from .ssh_hosts import Hosts, run_checks
 
@@ -59,8 +59,7 @@ class Tree:
 
     def run(self, jobs=4, options=(), xxhsum=None):
         """The status of a run, and its messages."""
-        done = subprocess.run(self.words(jobs, options), env=self.environment(xxhsum), stdout=subprocess.PIPE,
-                              stderr=subprocess.PIPE, timeout=300)
+        done = subprocess.run(self.words(jobs, options), env=self.environment(xxhsum), capture_output=True, timeout=300)
         want(not done.stdout, f'it printed {done.stdout[:80]}')
         return done.returncode, done.stderr.decode(errors='backslashreplace')
 
@@ -68,8 +67,7 @@ class Tree:
         """The list, which is removed, or None."""
         if not os.path.exists(self.list):
             return None
-        with open(self.list, 'rb') as file:
-            text = file.read()
+        text = bytes_of(self.list)
         os.remove(self.list)
         return text
 
@@ -98,22 +96,21 @@ def paths_are_quoted(tree):
     os.rename(tree.script('exec {xxhsum} "$@"\n'), os.path.join(tree.room, program + 'xxhsum'))
     words = [PROGRAM, '--jobs', '4', os.path.join(folder, 'tree'), os.path.join(folder, name), '--', '--tag']
     os.chmod(folder, 0o700)
-    done = subprocess.run(words, env=tree.environment(f'./{program}xxhsum'), stdout=subprocess.PIPE, stderr=subprocess.PIPE,
-                          cwd=tree.room, timeout=300)
+    done = subprocess.run(words, env=tree.environment(f'./{program}xxhsum'), capture_output=True, cwd=tree.room,
+                          timeout=300)
     want(done.returncode == 0 and not done.stderr, f'status {done.returncode}: {done.stderr[-300:]}')
     want(sorted(os.listdir(folder)) == sorted([name, 'tree']), f'there is more: {os.listdir(folder)}')
-    with open(os.path.join(folder, name), 'rb') as file:
-        want(file.read() == tree.one_run('--tag'), 'the lines differ')
+    want(bytes_of(os.path.join(folder, name)) == tree.one_run('--tag'), 'the lines differ')
 
 
 def is_accepted(tree):
     """xxhsum -c accepts the list, and detects a changed file."""
     tree.run()
     words = [tree.xxhsum, '-c', '--quiet', tree.list]
-    done = subprocess.run(words, cwd=tree.folder, stdout=subprocess.PIPE, stderr=subprocess.PIPE)
+    done = subprocess.run(words, cwd=tree.folder, capture_output=True)
     want(done.returncode == 0, done.stdout[-200:])
     tree.write(b'folder 7/file-700', b'changed')
-    done = subprocess.run(words, cwd=tree.folder, stdout=subprocess.PIPE, stderr=subprocess.PIPE)
+    done = subprocess.run(words, cwd=tree.folder, capture_output=True)
     want(done.returncode == 1 and done.stdout.startswith(b'./folder 7/file-700: FAILED'), done.stdout)
     tree.lines = tree.one_run()
     tree.taken()
@@ -162,10 +159,7 @@ def starts_over(tree):
 def same_length_and_time(path):
     """Changes a file's bytes, and neither its length nor its time."""
     before = os.stat(path)
-    with open(path, 'r+b') as file:
-        byte = file.read(1)
-        file.seek(0)
-        file.write(bytes([byte[0] ^ 1]))
+    flip_bit(path)
     os.utime(path, ns=(before.st_atime_ns, before.st_mtime_ns))
 
 
@@ -217,7 +211,7 @@ def words_that_do_not_fit(tree):
     for words, line in ([[tree.folder], 'files-parallel [--jobs'], [[tree.list, tree.list], 'is no folder'],
                         [[tree.folder, f'{tree.folder}/list'], 'lies in the tree'], [['/', f'{tree.room}/list'], 'lies in the tree'],
                         [[tree.folder, f'{tree.room}/parallel'], 'is a folder']):
-        done = subprocess.run([PROGRAM, *words], env=tree.environment(), stdout=subprocess.PIPE, stderr=subprocess.PIPE, text=True)
+        done = subprocess.run([PROGRAM, *words], env=tree.environment(), capture_output=True, text=True)
         want(done.returncode == 2 and line in done.stderr, f'{words}: status {done.returncode}: {done.stderr}')
 
 

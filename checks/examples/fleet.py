@@ -37,7 +37,7 @@ import time
 
 import command
 from report import Fault, Report, want
-from tools import TOP, free_port, install_packages, must, proved_program, text_of, write
+from tools import TOP, flip_bit, free_port, install_packages, must, proved_program, text_of, write
 
 # Neither files nor bytes fill the last task, and some tasks are full of bytes.
 FILES, MEDIUM, LARGE, BLOCK = 100050, 12 << 20, 64 << 20, 1000003
@@ -83,7 +83,7 @@ def lines_of_xxhsum(xxhsum, tree):
     """The manifest by one process of xxhsum, and its time."""
     began = time.monotonic()
     words = "find . -type f -print0 | LC_ALL=C sort -z | xargs -0 \"$0\" -H2"
-    done = subprocess.run(['sh', '-c', words, xxhsum], cwd=tree, stdout=subprocess.PIPE, stderr=subprocess.PIPE)
+    done = subprocess.run(['sh', '-c', words, xxhsum], cwd=tree, capture_output=True)
     return done.stdout.splitlines(keepends=True), time.monotonic() - began
 
 
@@ -267,13 +267,9 @@ def xxhsum_accepts(fleet):
     done = subprocess.run(words, cwd=fleet.tree, stdout=subprocess.PIPE)
     want(done.returncode == 0, done.stdout.decode(errors='replace')[-300:])
     path = os.path.join(fleet.tree, 'large-1')
-    with open(path, 'r+b') as file:
-        byte = file.read(1)
-        file.seek(0)
-        file.write(bytes([byte[0] ^ 1]))
+    flip_bit(path)
     done = subprocess.run(words, cwd=fleet.tree, stdout=subprocess.PIPE)
-    with open(path, 'r+b') as file:
-        file.write(byte)
+    flip_bit(path)
     time.sleep(1.1)
     want(done.returncode == 1 and b'./large-1: FAILED' in done.stdout, 'a changed byte is not noticed')
     return f'{len(fleet.lines)} lines; a changed byte is noticed'

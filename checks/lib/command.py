@@ -11,9 +11,10 @@ def run(module):
     sys.exit(importlib.import_module(module).main())
 
 
-def parser(doc, only=None):
-    """A parser of arguments with this help. `only` names what `--only WORD` selects."""
-    made = argparse.ArgumentParser(description=doc, formatter_class=argparse.RawDescriptionHelpFormatter)
+def parser(doc, only=None, name=None):
+    """A parser of arguments with this help. `only` names what `--only WORD` selects, and `name` is that of the command
+    if it isn't only its file's."""
+    made = argparse.ArgumentParser(name, description=doc, formatter_class=argparse.RawDescriptionHelpFormatter)
     if only:
         made.add_argument('--only', metavar='WORD', default='', help=f'the {only} whose name has the word')
     return made

@@ -7,6 +7,8 @@ import subprocess
 import sys
 import time
 
+from report import want
+
 TOP = os.path.dirname(os.path.dirname(os.path.dirname(os.path.abspath(__file__))))
 # So that apt-get's messages are in English.
 QUIET = {**os.environ, 'DEBIAN_FRONTEND': 'noninteractive', 'LC_ALL': 'C.UTF-8'}
@@ -20,6 +22,11 @@ def text_of(path):
         return file.read()
 
 
+def bytes_of(path):
+    with open(os.path.join(TOP, path), 'rb') as file:
+        return file.read()
+
+
 def write(path, data, mode=None):
     """Writes a file of bytes or text, in a folder that is created if it is missing. Returns the path."""
     if folder := os.path.dirname(path):
@@ -29,6 +36,22 @@ def write(path, data, mode=None):
     if mode:
         os.chmod(path, mode)
     return path
+
+
+def replace_once(path, old, new):
+    """Replaces a text of a file, which must have it once."""
+    text = text_of(path)
+    want(text.count(old) == 1, f'{path} has {old!r} {text.count(old)} times')
+    write(path, text.replace(old, new))
+
+
+def flip_bit(path, at=0):
+    """Changes one bit of the byte at a place of a file. A second call reverts it."""
+    with open(path, 'r+b') as file:
+        file.seek(at)
+        byte, = file.read(1)
+        file.seek(at)
+        file.write(bytes([byte ^ 1]))
 
 
 def free_port():

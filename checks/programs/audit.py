@@ -169,14 +169,11 @@ def main():
               f'{(len(listed[0]) + len(b"".join(names))) / len(before):.0f}')
 
         draw.shuffle(names)
-        for word in ('the lines in another order', 'the lines of three jobs, joined'):
-            if word.startswith('the lines in'):
-                draw.shuffle(lines)
-                write('other', b''.join(lines))
-            else:
-                write('other', b''.join(b''.join(sorted(lines)[job::3]) for job in (2, 0, 1)))
-            again = run(['--audit', '--files0-from', './other'], b''.join(names))
-            check(word, again == changed_told)
+        draw.shuffle(lines)
+        joined = [line for job in (2, 0, 1) for line in sorted(lines)[job::3]]
+        for word, listed_lines in (('the lines in another order', lines), ('the lines of three jobs, joined', joined)):
+            write('other', b''.join(listed_lines))
+            check(word, run(['--audit', '--files0-from', './other'], b''.join(names)) == changed_told)
         write('other', b''.join(lines))
         dotted = run(['--audit', '--files0-from', './other'], b''.join(b'./' + name for name in names))
         check('names that begin with ./', dotted[0].splitlines()[-1:] == changed_told[0].splitlines()[-1:] and dotted[1:] == (b'', 1)

@@ -35,7 +35,11 @@ def one_line(text):
 
 def fails(told, out=b''):
     """Ours reports these lines, and ends with 1."""
-    return {'out': out, 'err': b''.join(map(one_line, told)), 'status': 1}
+    return ours(out, b''.join(map(one_line, told)), 1)
+
+
+def ours(out, err=b'', status=0):
+    return {'out': out, 'err': err, 'status': status}
 
 
 def refused(status=1):
@@ -54,7 +58,10 @@ GOOD = X64 + b'  a\n'
 GOOD_OUT = b'a: OK\n'
 
 
-def unread(place, name, why=b'a failure occurred reading the input file'):
+UNREAD = b'a failure occurred reading the input file'
+
+
+def unread(place, name, why=UNREAD):
     """The message for a file of a list that could not be read to its end, or not opened for another reason."""
     return place + b": Could not open or read '" + name + b"': " + why + b'.\n'
 
@@ -69,6 +76,22 @@ FAILING = '/proc/self/mem'
 # The message if `-` would be left unread.
 BESIDE_NAMES = b"Error: '-' is standard input, which can't be read with files; for a file of that name use './-'."
 NOT_READ = b"Error: Could not read '/proc/self/mem': a failure occurred reading the input file. \n"
+GONE = b"Error: Could not open 'gone': No such file or directory. \n"
+IMPROPER = fails([b'lines:2: Error: Improperly formatted checksum line.'])
+
+
+def one_unread(out):
+    """A list prints this, and one of its files could not be read."""
+    return ours(out + b'1 listed file could not be read\n', status=1)
+
+
+def audited(*lines, err=b''):
+    """An audit prints these lines, and how many there are of each class. It ends with 0 if no file has changed."""
+    numbers = {word: sum(b': ' + {b'copied': b'copy'}.get(word, word) in line for line in lines)
+               for word in (b'same', b'changed', b'moved', b'copied', b'new', b'missing')}
+    counts = b', '.join(b'%d %s' % (number, word) for word, number in numbers.items())
+    is_well = not err and numbers[b'same'] == len(lines)
+    return ours(b''.join(line + b'\n' for line in (*lines, counts)), err, 0 if is_well else 1)
 
 
 def gen(count):
@@ -83,72 +106,42 @@ SIZED = {f'length-{count:06}': gen(count) for count in LENGTHS}
 
 # The files of every case, besides the folder d and the links of `lay_out` in checks/xxhsum.
 FILES = {
-    'a': HELLO,
-    'b c': b'world',
-    'e': b'',
-    'back\\slash': HELLO,
-    'line\nfeed': HELLO,
-    'return\r': HELLO,
-    b'\xff\xfe': HELLO,
-    'é': HELLO,
-    '(p)': HELLO,
-    '*star': HELLO,
-    ' space': HELLO,
-    '-x': HELLO,
-    'n' * 255: HELLO,
-    'd/inner': HELLO,
-    'good': GOOD,
-    'wrong': WRONG + b'  a\n',
-    'junk': b'junk\n',
-    'empty': b'',
+    'a': HELLO, 'b c': b'world', 'e': b'', 'back\\slash': HELLO, 'line\nfeed': HELLO, 'return\r': HELLO,
+    b'\xff\xfe': HELLO, 'é': HELLO, '(p)': HELLO, '*star': HELLO, ' space': HELLO, '-x': HELLO, 'n' * 255: HELLO,
+    'd/inner': HELLO, 'good': GOOD, 'wrong': WRONG + b'  a\n', 'junk': b'junk\n', 'empty': b'',
 }
 
 
 def names():
     """Files by their names in the arguments."""
     return [
-        Case('one file', ('a',)),
-        Case('three files, one with a space', ('a', 'b c', 'e')),
-        Case('an empty file', ('e',)),
-        Case('one file twice', ('a', 'a')),
-        Case('paths with folders', ('./a', 'd/inner', 'd/../a', './/a')),
-        Case('a missing file', ('gone',)),
-        Case('a missing file among others', ('a', 'gone', 'e')),
-        Case('missing files alone', ('gone', 'away')),
-        Case('a missing folder', ('gone/a',)),
-        Case('a folder', ('d',)),
-        Case('a folder with a slash', ('d/',)),
-        Case('the folder itself, and the root', ('.', '..', '/')),
-        Case('a folder among others', ('d', 'a', 'd')),
-        Case('links: to a file, to a folder, to nothing', ('link', 'linked-folder', 'broken')),
-        Case('a link to itself', ('loop',)),
-        Case('a file as a folder', ('a/b', 'a/')),
-        Case('no name at all', ('',)),
-        Case('no name among others', ('a', '', 'e')),
-        Case('a name longer than the system allows', ('x' * 300,)),
-        Case('a path longer than the system allows', ('x/' * 3000,)),
-        Case('a path of just the longest length', ('./' * 2046 + 'a',)),
-        Case('a path one byte too long', ('./' * 2047 + 'ab',)),
-        Case('a name of 255 bytes', ('n' * 255,)),
-        Case('a backslash in a name', ('back\\slash',)),
-        Case('a line feed in a name', ('line\nfeed',)),
-        Case('a carriage return in a name', ('return\r',)),
-        Case('a space first in a name', (' space',)),
-        Case('brackets and a star in names', ('(p)', '*star')),
-        Case('a name that is not UTF-8', (b'\xff\xfe', 'a'), wanted={
-            'out': X64 + b'  a\n', 'err': b"Error: Could not open '\xff\xfe': The name is not UTF-8. \n", 'status': 1}),
-        Case('a name beyond ASCII', ('é',)),
-        Case('devices', ('/dev/null', '/proc/self/gone')),
+        *(Case(name, words) for name, words in {
+            'one file': ('a',), 'three files, one with a space': ('a', 'b c', 'e'), 'an empty file': ('e',),
+            'one file twice': ('a', 'a'), 'paths with folders': ('./a', 'd/inner', 'd/../a', './/a'),
+            'a missing file': ('gone',), 'a missing file among others': ('a', 'gone', 'e'),
+            'missing files alone': ('gone', 'away'), 'a missing folder': ('gone/a',), 'a folder': ('d',),
+            'a folder with a slash': ('d/',), 'the folder itself, and the root': ('.', '..', '/'),
+            'a folder among others': ('d', 'a', 'd'),
+            'links: to a file, to a folder, to nothing': ('link', 'linked-folder', 'broken'),
+            'a link to itself': ('loop',), 'a file as a folder': ('a/b', 'a/'), 'no name at all': ('',),
+            'no name among others': ('a', '', 'e'), 'a name longer than the system allows': ('x' * 300,),
+            'a path longer than the system allows': ('x/' * 3000,),
+            'a path of just the longest length': ('./' * 2046 + 'a',),
+            'a path one byte too long': ('./' * 2047 + 'ab',), 'a name of 255 bytes': ('n' * 255,),
+            'a backslash in a name': ('back\\slash',), 'a line feed in a name': ('line\nfeed',),
+            'a carriage return in a name': ('return\r',), 'a space first in a name': (' space',),
+            'brackets and a star in names': ('(p)', '*star'), 'a name beyond ASCII': ('é',),
+            'devices': ('/dev/null', '/proc/self/gone'), '2,000 names': ('a', 'e') * 1000,
+            '100,000 short names': ('a',) * 100000, '12,000 arguments': ('-q',) * 11998 + ('gone', 'a'),
+            'words of 100,000 bytes': ('y' * 100000, 'a', 'z/' * 50000),
+            '500 long names': ('n' * 255, 'x' * 255) * 250}.items()),
+        Case('a name that is not UTF-8', (b'\xff\xfe', 'a'),
+             wanted=ours(X64 + b'  a\n', b"Error: Could not open '\xff\xfe': The name is not UTF-8. \n", 1)),
         Case('a file named stdin', ('stdin',), given=b'world', files={'stdin': HELLO}),
         Case('no file named stdin', ('stdin',), given=b'world'),
-        Case('a read that fails', (FAILING,), wanted={'out': b'', 'err': NOT_READ, 'status': 1}),
-        Case('reads that fail, among others', ('a', FAILING, FAILING, 'gone', 'a'), wanted={
-            'out': GOOD * 2, 'err': NOT_READ * 2 + b"Error: Could not open 'gone': No such file or directory. \n", 'status': 1}),
-        Case('2,000 names', ('a', 'e') * 1000),
-        Case('100,000 short names', ('a',) * 100000),
-        Case('12,000 arguments', ('-q',) * 11998 + ('gone', 'a')),
-        Case('words of 100,000 bytes', ('y' * 100000, 'a', 'z/' * 50000)),
-        Case('500 long names', ('n' * 255, 'x' * 255) * 250),
+        Case('a read that fails', (FAILING,), wanted=ours(b'', NOT_READ, 1)),
+        Case('reads that fail, among others', ('a', FAILING, FAILING, 'gone', 'a'),
+             wanted=ours(GOOD * 2, NOT_READ * 2 + GONE, 1)),
         Case('spaces and tabs at both ends of names', (' both ', 'a ', ' a', 'a\t'), files={' both ': HELLO}),
         Case('a pipe with a name', shell='mkfifo p; printf hello >p & "$X" p'),
         Case('the device of standard input', shell='"$X" /dev/stdin <a'),
@@ -196,20 +189,16 @@ def options():
     told = ('-V', '--version', '-h', '--help', '-qV', '-Vx', '-hx', '-cV', '-H0h')
     cases += [Case(f'the word {word}, which only tells', (word, 'a'), compared=NO_ERROR_TEXT) for word in told]
     return cases + [
-        Case('options after a name are names', ('a', '-H0', '--tag')),
-        Case('names after --', ('--', '-x', '-H0')),
+        *(Case(name, words) for name, words in {
+            'options after a name are names': ('a', '-H0', '--tag'), 'names after --': ('--', '-x', '-H0'),
+            'names after --, one of them --': ('--', 'a', '--'), 'options before --': ('-H0', '--tag', '--', '-x'),
+            'letters together': ('-qH0w', 'a'), 'quiet twice': ('-q', '--quiet', 'd', 'a'),
+            'a bad option before the version': ('-Z', '-V'), 'a bad option with a line feed': ('-x\na: OK', 'a'),
+            'a number too large before a bad option': ('-i99999999999', '-Z'),
+            'a bad option after a file': ('a', '--nope'), 'an option that is not UTF-8': (b'-\xff', 'a')}.items()),
         Case('-- and nothing more', ('--',), given=HELLO),
-        Case('names after --, one of them --', ('--', 'a', '--')),
-        Case('options before --', ('-H0', '--tag', '--', '-x')),
-        Case('letters together', ('-qH0w', 'a')),
-        Case('quiet twice', ('-q', '--quiet', 'd', 'a')),
-        Case('a bad option before the version', ('-Z', '-V')),
         Case('a bad option behind good ones', ('-q', '--tag', '-H0x', 'a'), wrong='-H0x'),
-        Case('a bad option with a line feed', ('-x\na: OK', 'a')),
         Case('the version before a bad option', ('-V', '-Z'), compared=NO_ERROR_TEXT),
-        Case('a number too large before a bad option', ('-i99999999999', '-Z')),
-        Case('a bad option after a file', ('a', '--nope')),
-        Case('an option that is not UTF-8', (b'-\xff', 'a')),
         Case('the benchmark', ('-b', 'a'), wanted=refused()),
         Case('the benchmark of all', ('--bench-all', 'a'), wanted=refused()),
     ]
@@ -282,11 +271,11 @@ def verdicts():
         of_list('a missing file alone', X64 + b'  gone\n'),
         of_list('a missing file, quiet', X64 + b'  gone\n', '-cq'),
         of_list('a missing file, status', X64 + b'  gone\n', '-c', '--status'),
-        of_list('a folder in a list', GOOD + X64 + b'  d\n' + GOOD, wanted={
-            'out': b'a: OK\n' + unread(b'L:2', b'd') + b'a: OK\n1 listed file could not be read\n', 'err': b'', 'status': 1}),
+        of_list('a folder in a list', GOOD + X64 + b'  d\n' + GOOD,
+                wanted=one_unread(b'a: OK\n' + unread(b'L:2', b'd') + GOOD_OUT)),
         of_list('a folder in a list, status', X64 + b'  d\n' + GOOD, '-c', '--status', wanted=refused()),
-        of_list('a read that fails in a list', X64 + b'  ' + FAILING.encode() + b'\n' + GOOD, wanted={
-            'out': unread(b'L:1', FAILING.encode()) + b'a: OK\n1 listed file could not be read\n', 'err': b'', 'status': 1}),
+        of_list('a read that fails in a list', X64 + b'  ' + FAILING.encode() + b'\n' + GOOD,
+                wanted=one_unread(unread(b'L:1', FAILING.encode()) + GOOD_OUT)),
         of_list('an empty list', b''),
         of_list('an empty list, status', b'', '-c', '--status'),
         of_list('blank lines alone', b'\n\n'),
@@ -305,11 +294,10 @@ def plain_lines():
         of_list('three lengths of digits', X32 + b'  a\n' + GOOD + X128 + b'  a\n'),
         of_list('no line feed at the end', X64 + b'  a'),
         # The originals parse a carriage return as a part of the line.
-        of_list('carriage returns', X64 + b'  a\r\n' + EMPTY + b'  e\r\n# no\r\n\r\n' + X64 + b'  a\r', '-cw', wanted={
-            'out': b'a: OK\ne: OK\na: OK\n1 line is improperly formatted\n',
-            'err': b'L:4: Error: Improperly formatted checksum line.\n', 'status': 0}),
-        of_list('two carriage returns', X64 + b'  return\r\r\n', '-cw', wanted={
-            'out': one_line(b'return\r: OK'), 'err': b'', 'status': 0}),
+        of_list('carriage returns', X64 + b'  a\r\n' + EMPTY + b'  e\r\n# no\r\n\r\n' + X64 + b'  a\r', '-cw',
+                wanted=ours(b'a: OK\ne: OK\na: OK\n1 line is improperly formatted\n',
+                            b'L:4: Error: Improperly formatted checksum line.\n')),
+        of_list('two carriage returns', X64 + b'  return\r\r\n', '-cw', wanted=ours(one_line(b'return\r: OK'))),
         of_list('capital digits', X64.upper() + b'  a\n' + X64[:8].upper() + X64[8:] + b'  a\n'),
         of_list('a star, a letter, a NUL before the name', X64 + b' *a\n' + X64 + b' xa\n' + X64 + b' \0a\n', '-cw'),
         of_list('one space before the name', X64 + b' a\n', '-cw'),
@@ -359,8 +347,8 @@ def long_lines():
     return [
         of_list('a line of 32766 bytes', line_of(32766) + GOOD),
         # The limit of the originals for a line that ends with a newline is one byte less.
-        of_list('a line of 32767 bytes', GOOD + line_of(32767) + GOOD, wanted={
-            'out': GOOD_OUT + not_opened(32749) + GOOD_OUT + b'1 listed file could not be read\n', 'err': b'', 'status': 1}),
+        of_list('a line of 32767 bytes', GOOD + line_of(32767) + GOOD,
+                wanted=one_unread(GOOD_OUT + not_opened(32749) + GOOD_OUT)),
         of_list('a line of 32768 bytes', GOOD + line_of(32768) + GOOD, wanted=over_long(2)),
         of_list('a line of 100000 bytes', GOOD + line_of(100000) + GOOD, '-cw', wanted=over_long(2)),
         of_list('a line of 40000 bytes, status', GOOD + b'x' * 40000 + b'\n' + GOOD, '-c', '--status'),
@@ -372,20 +360,19 @@ def long_lines():
                 wanted=over_long(2, 4, 6, 8, out=GOOD_OUT * 5)),
         of_list('a long line with a NUL before its end', GOOD + X64 + b'  a\0' + b'x' * 32748 + b'\n' + GOOD, wanted=over_long(2)),
         of_list('a long line with a carriage return at its end', GOOD + line_of(32767, b'\r\n') + GOOD, wanted=over_long(2)),
-        of_list('a line of 32766 bytes and a carriage return', GOOD + line_of(32766, b'\r\n') + GOOD, wanted={
-            'out': GOOD_OUT + not_opened(32748) + GOOD_OUT + b'1 listed file could not be read\n', 'err': b'', 'status': 1}),
+        of_list('a line of 32766 bytes and a carriage return', GOOD + line_of(32766, b'\r\n') + GOOD,
+                wanted=one_unread(GOOD_OUT + not_opened(32748) + GOOD_OUT)),
         of_list('lines within a long one', GOOD + inside + b'\n' + GOOD, wanted=over_long(2)),
         of_list('lines within a long last one', GOOD * 2 + inside, wanted=over_long(3)),
         of_list('a long comment', GOOD + b'#' + b'x' * 32767 + b'\n' + GOOD, wanted=over_long(2)),
-        of_list('a comment of 32767 bytes', b'#' + b'x' * 32766 + b'\n' + GOOD, wanted={
-            'out': GOOD_OUT, 'err': b'', 'status': 0}),
-        of_list('two long lines, strict', GOOD + line_of(40000) * 2 + b'junk\n' + GOOD, '-cw', '--strict', wanted={
-            'out': GOOD_OUT * 2 + b'3 lines are improperly formatted\n', 'status': 1,
-            'err': b'L:2: Error: Line too long.\nL:3: Error: Line too long.\n'
-                   b'L:4: Error: Improperly formatted checksum line.\n'}),
-        of_list('long lines alone', line_of(40000) * 2, wanted={
-            'out': b'', 'err': b'L:1: Error: Line too long.\nL:2: Error: Line too long.\n'
-                              b'L: no properly formatted xxHash checksum lines found\n', 'status': 1}),
+        of_list('a comment of 32767 bytes', b'#' + b'x' * 32766 + b'\n' + GOOD, wanted=ours(GOOD_OUT)),
+        of_list('two long lines, strict', GOOD + line_of(40000) * 2 + b'junk\n' + GOOD, '-cw', '--strict',
+                wanted=fails([b'L:2: Error: Line too long.', b'L:3: Error: Line too long.',
+                              b'L:4: Error: Improperly formatted checksum line.'],
+                             GOOD_OUT * 2 + b'3 lines are improperly formatted\n')),
+        of_list('long lines alone', line_of(40000) * 2, wanted=fails([
+            b'L:1: Error: Line too long.', b'L:2: Error: Line too long.',
+            b'L: no properly formatted xxHash checksum lines found'])),
     ]
 
 
@@ -415,8 +402,7 @@ def tagged_lines():
             b'XXH64 ((p)) = %s\n', b'XXH64 (b c) = %s\n', b'XXH64 () = %s\n', b'XXH64 (a) (b) = %s\n',
             b'XXH64 (a) = b) = %s\n'))),
         of_list('tagged lines cut short', b'X (\nX ()\nX () =\nX () = \n (a) = %s\n(a) = %s\nXXH64 (a = %s\n' % (X64, X64, X64), '-cw'),
-        of_list('tagged lines with carriage returns', b'XXH64 (a) = ' + X64 + b'\r\n', '-cw', wanted={
-            'out': b'a: OK\n', 'err': b'', 'status': 0}),
+        of_list('tagged lines with carriage returns', b'XXH64 (a) = ' + X64 + b'\r\n', '-cw', wanted=ours(b'a: OK\n')),
         of_list('a tagged line and no line feed', b'XXH64 (a) = ' + X64),
         of_list('both shapes', tagged(*tags) + GOOD),
     ]
@@ -425,7 +411,6 @@ def tagged_lines():
 def missing_files():
     """--ignore-missing, which 0.8.1 lacks. For 0.8.3 a file that can't be opened is missing, whatever the reason."""
     gone, missing = X64 + b'  gone\n', ('-c', '--ignore-missing')
-    unopened = b"L:1: Could not open or read 'a/b': Not a directory.\n"
     return [
         of_list('a missing file is ignored', gone + GOOD + gone, *missing),
         of_list('a missing file is ignored, --ignore-missing first', gone + GOOD, '--ignore-missing', '-c'),
@@ -448,18 +433,12 @@ def missing_files():
         Case('a missing list, --ignore-missing', (*missing, 'gone', 'good')),
         Case('a list from input, --ignore-missing', missing, given=gone),
         Case('names, --ignore-missing', ('--ignore-missing', 'gone', 'a')),
-        of_list('a file below no folder is not missing', X64 + b'  a/b\n' + GOOD, *missing, wanted={
-            'out': unopened + b'a: OK\n1 listed file could not be read\n', 'err': b'', 'status': 1}),
-        of_list('a name that is not UTF-8 is not missing', X64 + b'  \xff\xfe\n' + GOOD, *missing, wanted={
-            'out': unread(b'L:1', b'\xff\xfe', b'The name is not UTF-8') + b'a: OK\n1 listed file could not be read\n',
-            'err': b'', 'status': 1}),
-        of_list('a link to itself is not missing', X64 + b'  loop\n' + GOOD, *missing, wanted={
-            'out': unread(b'L:1', b'loop', b'Too many levels of symbolic links') + b'a: OK\n1 listed file could not be read\n',
-            'err': b'', 'status': 1}),
-        of_list('a folder in a list is not missing', X64 + b'  d\n' + GOOD, *missing, wanted={
-            'out': unread(b'L:1', b'd') + b'a: OK\n1 listed file could not be read\n', 'err': b'', 'status': 1}),
-        of_list('a read that fails is not missing', X64 + b'  ' + FAILING.encode() + b'\n' + GOOD, *missing, wanted={
-            'out': unread(b'L:1', FAILING.encode()) + b'a: OK\n1 listed file could not be read\n', 'err': b'', 'status': 1}),
+        *(of_list(f'{name} is not missing', X64 + b'  ' + file + b'\n' + GOOD, *missing,
+                  wanted=one_unread(unread(b'L:1', file, why) + GOOD_OUT)) for name, file, why in (
+            ('a file below no folder', b'a/b', b'Not a directory'), ('a folder in a list', b'd', UNREAD),
+            ('a name that is not UTF-8', b'\xff\xfe', b'The name is not UTF-8'),
+            ('a link to itself', b'loop', b'Too many levels of symbolic links'),
+            ('a read that fails', FAILING.encode(), UNREAD))),
     ]
 
 
@@ -470,59 +449,51 @@ def lines_with_nuls():
     def beside(name, option, bare, form):
         return Case(name, shell=f'for X in "$X" sha256sum; do "$X" {option} a "b c" *slash line* return* e | sed -z "{bare}" '
                     '>"${X##*/}.z"; done; cmp xxhsum.z sha256sum.z && cat xxhsum.z',
-                    wanted={'out': b''.join(form % word.encode() for word in ('a', 'b c', *odd, 'e')), 'err': b'', 'status': 0})
+                    wanted=ours(b''.join(form % word.encode() for word in ('a', 'b c', *odd, 'e'))))
 
     def raw(digits, *names):
         return b''.join(digits + b'  ' + name.encode() + b'\0' for name in names)
 
-    refused_words = fails([b"Wrong parameters: '-z' with '-c' or '--audit'"])
     return [
         beside('lines that NULs end, as sha256sum has them', '-z', 's/^[0-9a-f]*//', b'  %s\0'),
         beside('tagged lines that NULs end, as sha256sum has them', '-z --tag', 's/^[A-Z0-9]* //; s/[0-9a-f]*$//',
                b'(%s) = \0'),
-        Case('-z of odd names', ('-z', *odd), wanted={'out': raw(X64, *odd), 'err': b'', 'status': 0}),
-        Case('--zero and -H3', ('--zero', '-H3', *odd), wanted={'out': raw(b'XXH3_' + X3, *odd), 'err': b'', 'status': 0}),
-        Case('-z among other letters', ('-qzH0', *odd), wanted={'out': raw(X32, *odd), 'err': b'', 'status': 0}),
-        Case('-z and -H2, little endian', ('-z', '-H2', '--little-endian', 'a'), wanted={
-            'out': raw(X128_LE, 'a'), 'err': b'', 'status': 0}),
-        Case('-z of the input', ('-z', '--tag'), given=HELLO, wanted={
-            'out': b'XXH64 (stdin) = ' + X64 + b'\0', 'err': b'', 'status': 0}),
-        Case('-z of names that NULs end', ('-z', '--files0-from', '-'), given=b'a\0line\nfeed\0', wanted={
-            'out': raw(X64, 'a', 'line\nfeed'), 'err': b'', 'status': 0}),
-        Case('-z and a missing file', ('-z', 'gone', 'a'), wanted={
-            'out': raw(X64, 'a'), 'err': b"Error: Could not open 'gone': No such file or directory. \n", 'status': 1}),
-        Case('-z with -c', ('-z', '-c', 'good'), wanted=refused_words),
-        Case('-c with --zero', ('-c', '--zero', 'good'), wanted=refused_words),
-        Case('-z with --audit', ('-z', '--audit', 'good', 'a'), wanted=refused_words),
+        Case('-z of odd names', ('-z', *odd), wanted=ours(raw(X64, *odd))),
+        Case('--zero and -H3', ('--zero', '-H3', *odd), wanted=ours(raw(b'XXH3_' + X3, *odd))),
+        Case('-z among other letters', ('-qzH0', *odd), wanted=ours(raw(X32, *odd))),
+        Case('-z and -H2, little endian', ('-z', '-H2', '--little-endian', 'a'), wanted=ours(raw(X128_LE, 'a'))),
+        Case('-z of the input', ('-z', '--tag'), given=HELLO, wanted=ours(b'XXH64 (stdin) = ' + X64 + b'\0')),
+        Case('-z of names that NULs end', ('-z', '--files0-from', '-'), given=b'a\0line\nfeed\0',
+             wanted=ours(raw(X64, 'a', 'line\nfeed'))),
+        Case('-z and a missing file', ('-z', 'gone', 'a'), wanted=ours(raw(X64, 'a'), GONE, 1)),
+        *(Case(name, words, wanted=fails([b"Wrong parameters: '-z' with '-c' or '--audit'"])) for name, words in (
+            ('-z with -c', ('-z', '-c', 'good')), ('-c with --zero', ('-c', '--zero', 'good')),
+            ('-z with --audit', ('-z', '--audit', 'good', 'a')))),
     ]
 
 
 def several_lists():
     """Lists by names, from standard input, and missing."""
     return [
-        Case('several lists', ('-c', 'good', 'wrong', 'junk', 'good')),
-        Case('several lists, status', ('-c', '--status', 'wrong', 'good')),
-        Case('several lists, quiet and warned', ('-cqw', 'junk', 'good', 'empty')),
-        Case('a missing list', ('-c', 'gone', 'good')),
-        Case('a missing list alone', ('-c', 'gone')),
-        Case('a missing list, status', ('-c', '--status', 'gone')),
-        Case('a folder as a list', ('-c', 'd', 'good')),
-        Case('a list of which each read fails', ('-c', FAILING, 'good')),
-        Case('options after a list are lists', ('-c', 'good', '-q')),
-        Case('lists after --', ('-c', '--', 'good', '-x')),
-        Case('the last of two options', ('-q', '-c', 'wrong')),
+        *(Case(name, words) for name, words in {
+            'several lists': ('-c', 'good', 'wrong', 'junk', 'good'),
+            'several lists, status': ('-c', '--status', 'wrong', 'good'),
+            'several lists, quiet and warned': ('-cqw', 'junk', 'good', 'empty'),
+            'a missing list': ('-c', 'gone', 'good'), 'a missing list alone': ('-c', 'gone'),
+            'a missing list, status': ('-c', '--status', 'gone'), 'a folder as a list': ('-c', 'd', 'good'),
+            'a list of which each read fails': ('-c', FAILING, 'good'),
+            'options after a list are lists': ('-c', 'good', '-q'), 'lists after --': ('-c', '--', 'good', '-x'),
+            'the last of two options': ('-q', '-c', 'wrong'), 'an empty list from input': ('-c',)}.items()),
         Case('a list from input', ('-c',), given=GOOD + WRONG + b'  a\n'),
         Case('a list from input by -', ('-c', '-'), given=WRONG + b'  a\n' + X64 + b'  gone\n' + b'junk\n'),
         Case('a warned list from input', ('-cw',), given=b'junk\n' + GOOD),
-        Case('an empty list from input', ('-c',)),
         Case('a list named stdin', ('-c', 'stdin'), given=WRONG + b'  a\n', files={'stdin': GOOD}),
         Case('- in a list is a file', ('-c',), given=X64 + b'  -\n', files={'-': HELLO}),
-        Case('stdin in a list from input', ('-c',), given=GOOD + X64 + b'  stdin\n' + GOOD, wanted={
-            'out': b'a: OK\n' + no_stdin(b'stdin:2') + b'a: OK\n1 listed file could not be read\n', 'err': b'', 'status': 1}),
-        of_list('stdin in a list', X64 + b'  stdin\n', given=HELLO, wanted={
-            'out': no_stdin(b'L:1') + b'1 listed file could not be read\n', 'err': b'', 'status': 1}),
-        of_list('stdin in a list, twice', X64 + b'  stdin\n' + EMPTY + b'  stdin\n', given=HELLO, wanted={
-            'out': no_stdin(b'L:1') + no_stdin(b'L:2') + b'2 listed files could not be read\n', 'err': b'', 'status': 1}),
+        Case('stdin in a list from input', ('-c',), given=GOOD + X64 + b'  stdin\n' + GOOD,
+             wanted=one_unread(b'a: OK\n' + no_stdin(b'stdin:2') + GOOD_OUT)),
+        of_list('stdin in a list', X64 + b'  stdin\n', given=HELLO, wanted=one_unread(no_stdin(b'L:1'))),
+        of_list('stdin in a list, twice', X64 + b'  stdin\n' + EMPTY + b'  stdin\n', given=HELLO,
+                wanted=ours(no_stdin(b'L:1') + no_stdin(b'L:2') + b'2 listed files could not be read\n', b'', 1)),
         Case('a folder as input of lists', shell='"$X" -c <d'),
         Case('closed input of lists', shell='"$X" -c <&-'),
         Case('a pipe as a list', shell=f'mkfifo p; printf "{X64.decode()}  a\\n" >p & "$X" -c p'),
@@ -545,82 +516,58 @@ def ends():
 def trees():
     """Lists of names, and audits, which neither original has."""
     listed = {'listed': b'a\nb c\n(p)\n', 'more': b'e\n*star'}
-    ended = {'ended': b'a\0line\nfeed\0e'}
     lines = X64 + b'  a\n' + WRONG + b'  *star\n' + EMPTY + b'  e\n' + X64 + b'  old\n' + X64_LE + b'  lost\n'
-    told = (b'*star: changed\na: same\ne: same\n(p): moved from old\nlost: missing\nb c: new\n'
-            b'2 same, 1 changed, 1 moved, 0 copied, 1 new, 1 missing\n')
-    changed = {'out': told, 'err': b'', 'status': 1}
+    changed = audited(b'*star: changed', b'a: same', b'e: same', b'(p): moved from old', b'lost: missing', b'b c: new')
+
+    def audit(name, words, listed, wanted, **files):
+        return Case(name, ('--audit', 'lines', *words), files={'lines': listed, **files}, wanted=wanted)
+
     return [
         Case('names of a file', ('--files-from', 'listed'), files=listed),
         Case('names of a file, by the other word', ('--filelist', '-H0', 'listed'), files=listed),
         Case('names of two files', ('--files-from', '--tag', 'listed', 'more'), files=listed),
         Case('names of the input', ('--files-from',), given=b'a\ne\n'),
-        Case('names with carriage returns', ('--files-from', 'listed'), files={'listed': b'return\r\na\r\n'}, wanted={
-            'out': b'\\' + X64 + b'  return\\r\n', 'err': one_line(b"Error: Could not open 'a\r': No such file or directory. "),
-            'status': 1}),
-        Case('an audit of a list with carriage returns', ('--audit', 'lines', 'a'), files={'lines': X64 + b'  a\r\n'}, wanted={
-            'out': b'a: same\n1 same, 0 changed, 0 moved, 0 copied, 0 new, 0 missing\n', 'err': b'', 'status': 0}),
-        Case('names that NULs end', ('--files0-from', 'ended'), files=ended, wanted={
-            'out': X64 + b'  a\n\\' + X64 + b'  line\\nfeed\n' + EMPTY + b'  e\n', 'err': b'', 'status': 0}),
-        Case('an audit of names of the input, by -', ('--audit', '--files0-from', '-', 'good'), given=b'a\0', wanted={
-            'out': b'a: same\n1 same, 0 changed, 0 moved, 0 copied, 0 new, 0 missing\n', 'err': b'', 'status': 0}),
-        Case('names that NULs end, of the input', ('--files0-from', '-'), given=b'a\0e\0', wanted={
-            'out': X64 + b'  a\n' + EMPTY + b'  e\n', 'err': b'', 'status': 0}),
-        Case('an audit', ('--audit', 'lines', 'a', 'e', 'b c', '(p)', '*star'), files={'lines': lines}, wanted=changed),
+        Case('names with carriage returns', ('--files-from', 'listed'), files={'listed': b'return\r\na\r\n'},
+             wanted=fails([b"Error: Could not open 'a\r': No such file or directory. "],
+                          b'\\' + X64 + b'  return\\r\n')),
+        audit('an audit of a list with carriage returns', ('a',), X64 + b'  a\r\n', audited(b'a: same')),
+        Case('names that NULs end', ('--files0-from', 'ended'), files={'ended': b'a\0line\nfeed\0e'},
+             wanted=ours(X64 + b'  a\n\\' + X64 + b'  line\\nfeed\n' + EMPTY + b'  e\n')),
+        Case('an audit of names of the input, by -', ('--audit', '--files0-from', '-', 'good'), given=b'a\0',
+             wanted=audited(b'a: same')),
+        Case('names that NULs end, of the input', ('--files0-from', '-'), given=b'a\0e\0',
+             wanted=ours(GOOD + EMPTY + b'  e\n')),
+        audit('an audit', ('a', 'e', 'b c', '(p)', '*star'), lines, changed),
         Case('an audit of names of the input', ('--audit', '--files0-from', 'lines'), files={'lines': lines},
              given=b'*star\0b c\0a\0(p)\0e', wanted=changed),
-        Case('an audit of what stayed', ('--audit', '-H0', 'lines', 'a'), files={'lines': GOOD},
-             wanted={'out': b'a: same\n1 same, 0 changed, 0 moved, 0 copied, 0 new, 0 missing\n', 'err': b'', 'status': 0}),
-        Case('an audit of copies', ('--audit', 'lines', 'z', 'a', 'y', 'k', '(p)'),
-             files={'lines': X64 + b'  a\n' + X64 + b'  (p)\n', 'y': HELLO, 'z': HELLO, 'k': b''}, wanted={
-                 'out': b'(p): same\na: same\ny: copy of (p)\nz: copy of (p)\nk: new\n'
-                        b'2 same, 0 changed, 0 moved, 2 copied, 1 new, 0 missing\n', 'err': b'', 'status': 1}),
-        Case('an audit of a copy beside a moved file', ('--audit', 'lines', 'a', 'y', 'z'),
-             files={'lines': X64 + b'  a\n' + X64 + b'  old\n', 'y': HELLO, 'z': HELLO}, wanted={
-                 'out': b'a: same\ny: moved from old\nz: copy of a\n'
-                        b'1 same, 0 changed, 1 moved, 1 copied, 0 new, 0 missing\n', 'err': b'', 'status': 1}),
-        Case('an audit of the bytes of a file before and after it changed', ('--audit', 'lines', 'a', 'y', 'k'),
-             files={'lines': EMPTY + b'  a\n', 'y': HELLO, 'k': b''}, wanted={
-                 'out': b'a: changed\ny: new\nk: new\n0 same, 1 changed, 0 moved, 0 copied, 2 new, 0 missing\n', 'err': b'',
-                 'status': 1}),
-        Case('an audit of a copy by another algorithm', ('--audit', 'lines', '(p)', 'a', 'z'),
-             files={'lines': b'XXH3_' + X3_LE + b'  (p)\n' + GOOD, 'z': HELLO}, wanted={
-                 'out': b'(p): changed\na: same\nz: new\n1 same, 1 changed, 0 moved, 0 copied, 1 new, 0 missing\n', 'err': b'',
-                 'status': 1}),
-        Case('an audit of names with ./', ('--audit', 'lines', './a', 'e', './z', '././y'),
-             files={'lines': GOOD + EMPTY + b'  ././e\n', 'y': HELLO, 'z': HELLO}, wanted={
-                 'out': b'./a: same\ne: same\n././y: copy of ./a\n./z: copy of ./a\n'
-                        b'2 same, 0 changed, 0 moved, 2 copied, 0 new, 0 missing\n', 'err': b'', 'status': 1}),
-        Case('an audit of a line with ./ that is missing', ('--audit', 'lines', 'z'),
-             files={'lines': X64 + b'  ./old\n', 'z': HELLO}, wanted={
-                 'out': b'z: moved from ./old\n0 same, 0 changed, 1 moved, 0 copied, 0 new, 0 missing\n', 'err': b'',
-                 'status': 1}),
-        Case('an audit of lines that differ by ./', ('--audit', 'lines', 'a'), files={'lines': GOOD + X64 + b'  ./a\n'},
-             wanted=fails([b"lines: duplicate name './a'."])),
-        Case('an audit of names that differ by ./', ('--audit', 'lines', 'a', '././a'), files={'lines': GOOD},
-             wanted=fails([b"Error: duplicate name '././a'."])),
-        Case('an audit of names that differ by ./ inside', ('--audit', 'lines', 'd/inner', 'd/./inner'),
-             files={'lines': X64 + b'  d/inner\n'}, wanted={
-                 'out': b'd/inner: same\nd/./inner: copy of d/inner\n1 same, 0 changed, 0 moved, 1 copied, 0 new, 0 missing\n',
-                 'err': b'', 'status': 1}),
-        Case('an audit of two kinds', ('--audit', 'lines', 'a'), files={'lines': X128 + b'  old\n'}, wanted={
-            'out': b'a: moved from old\n0 same, 0 changed, 1 moved, 0 copied, 0 new, 0 missing\n', 'err': b'', 'status': 1}),
-        Case('an audit of a name that is not there', ('--audit', 'lines', 'a', 'gone'), files={'lines': GOOD}, wanted={
-            'out': b'a: same\n1 same, 0 changed, 0 moved, 0 copied, 0 new, 0 missing\n',
-            'err': b"Error: Could not open 'gone': No such file or directory. \n", 'status': 1}),
-        Case('an audit of a line that stands twice', ('--audit', 'lines', 'a'), files={'lines': GOOD * 2}, wanted={
-            'out': b'', 'err': b"lines: duplicate name 'a'.\n", 'status': 1}),
-        Case('an audit of a name that stands twice', ('--audit', 'lines', 'a', 'a'), files={'lines': GOOD}, wanted={
-            'out': b'', 'err': b"Error: duplicate name 'a'.\n", 'status': 1}),
-        Case('an audit of a list that breaks off', ('--audit', 'lines', 'a'), files={'lines': GOOD + X64}, wanted={
-            'out': b'', 'err': b'lines:2: Error: Improperly formatted checksum line.\n', 'status': 1}),
-        Case('an audit of a list with a line of 32768 bytes', ('--audit', 'lines', 'a'), files={
-            'lines': GOOD + line_of(32768) + GOOD}, wanted={'out': b'', 'err': b'lines:2: Error: Line too long.\n', 'status': 1}),
-        Case('an audit of a list with a last line of 32767 bytes', ('--audit', 'lines', 'a'), files={
-            'lines': GOOD + line_of(32767, b'\r')[1:]}, wanted={
-                'out': b'', 'err': b'lines:2: Error: Improperly formatted checksum line.\n', 'status': 1}),
-        Case('an audit without a list', ('--audit',), wanted={
-            'out': b'', 'err': b'Error: --audit needs a list.\n', 'status': 1}),
+        Case('an audit of what stayed', ('--audit', '-H0', 'good', 'a'), wanted=audited(b'a: same')),
+        audit('an audit of copies', ('z', 'a', 'y', 'k', '(p)'), GOOD + X64 + b'  (p)\n',
+              audited(b'(p): same', b'a: same', b'y: copy of (p)', b'z: copy of (p)', b'k: new'),
+              y=HELLO, z=HELLO, k=b''),
+        audit('an audit of a copy beside a moved file', ('a', 'y', 'z'), GOOD + X64 + b'  old\n',
+              audited(b'a: same', b'y: moved from old', b'z: copy of a'), y=HELLO, z=HELLO),
+        audit('an audit of the bytes of a file before and after it changed', ('a', 'y', 'k'), EMPTY + b'  a\n',
+              audited(b'a: changed', b'y: new', b'k: new'), y=HELLO, k=b''),
+        audit('an audit of a copy by another algorithm', ('(p)', 'a', 'z'), b'XXH3_' + X3_LE + b'  (p)\n' + GOOD,
+              audited(b'(p): changed', b'a: same', b'z: new'), z=HELLO),
+        audit('an audit of names with ./', ('./a', 'e', './z', '././y'), GOOD + EMPTY + b'  ././e\n',
+              audited(b'./a: same', b'e: same', b'././y: copy of ./a', b'./z: copy of ./a'), y=HELLO, z=HELLO),
+        audit('an audit of a line with ./ that is missing', ('z',), X64 + b'  ./old\n', audited(b'z: moved from ./old'),
+              z=HELLO),
+        audit('an audit of lines that differ by ./', ('a',), GOOD + X64 + b'  ./a\n',
+              fails([b"lines: duplicate name './a'."])),
+        audit('an audit of names that differ by ./', ('a', '././a'), GOOD, fails([b"Error: duplicate name '././a'."])),
+        audit('an audit of names that differ by ./ inside', ('d/inner', 'd/./inner'), X64 + b'  d/inner\n',
+              audited(b'd/inner: same', b'd/./inner: copy of d/inner')),
+        audit('an audit of two kinds', ('a',), X128 + b'  old\n', audited(b'a: moved from old')),
+        audit('an audit of a name that is not there', ('a', 'gone'), GOOD, audited(b'a: same', err=GONE)),
+        audit('an audit of a line that stands twice', ('a',), GOOD * 2, fails([b"lines: duplicate name 'a'."])),
+        audit('an audit of a name that stands twice', ('a', 'a'), GOOD, fails([b"Error: duplicate name 'a'."])),
+        audit('an audit of a list that breaks off', ('a',), GOOD + X64, IMPROPER),
+        audit('an audit of a list with a line of 32768 bytes', ('a',), GOOD + line_of(32768) + GOOD,
+              fails([b'lines:2: Error: Line too long.'])),
+        audit('an audit of a list with a last line of 32767 bytes', ('a',), GOOD + line_of(32767, b'\r')[1:], IMPROPER),
+        Case('an audit without a list', ('--audit',), wanted=fails([b'Error: --audit needs a list.'])),
         Case('an audit to a full disk', files={'lines': GOOD}, shell='"$X" --audit lines a >/dev/full', wanted=refused()),
     ]
 
@@ -633,41 +580,36 @@ def folders():
     bound = '[ "$(id -u)" = 0 ] && run="setpriv --bounding-set=-dac_override,-dac_read_search"; chmod 0 t/b; '
     rows = [(EMPTY, b'B'), (X64, b'a'), (EMPTY, b'b/deep/q'), (X64, b'b/z'), (X64, b'b.x/c')]
     found = b''.join(digits + b'  t/' + name + b'\n' for digits, name in rows)
-    same = b''.join(b't/' + name + b': same\n' for name in sorted(name for _, name in rows))
     closed = b"Error: Could not open 't/b': Permission denied. "
     beside = fails([b"Wrong parameters: '-r' with '-c' or lists of names"])
     alone = fails([b"Wrong parameters: '-r' without a FILE"])
 
-    def well(text):
-        return {'out': text, 'err': b'', 'status': 0}
-
     return [
-        Case('-r of a tree', shell=tree + '"$X" -r t', wanted=well(found)),
+        Case('-r of a tree', shell=tree + '"$X" -r t', wanted=ours(found)),
         Case('-r as find and sort have it', shell=tree + 'rm t/b.x/c; "$X" -r t >ours; find t -type f -print0 | LC_ALL=C sort -z | '
-             '"$X" --files0-from >theirs; cmp ours theirs', wanted=well(b'')),
-        Case('-r of a name that ends with a slash', ('-r', 'd/'), wanted=well(X64 + b'  d/inner\n')),
-        Case('--recursive of names in the order in which they came', ('--recursive', 'e', 'd', 'a'), wanted=well(
+             '"$X" --files0-from >theirs; cmp ours theirs', wanted=ours(b'')),
+        Case('-r of a name that ends with a slash', ('-r', 'd/'), wanted=ours(X64 + b'  d/inner\n')),
+        Case('--recursive of names in the order in which they came', ('--recursive', 'e', 'd', 'a'), wanted=ours(
             EMPTY + b'  e\n' + X64 + b'  d/inner\n' + X64 + b'  a\n')),
-        Case('-r among other letters', ('-rzH0', 'd'), wanted=well(X32 + b'  d/inner\0')),
-        Case('-r of links that are named', ('-r', 'linked-folder', 'link'), wanted=well(
+        Case('-r among other letters', ('-rzH0', 'd'), wanted=ours(X32 + b'  d/inner\0')),
+        Case('-r of links that are named', ('-r', 'linked-folder', 'link'), wanted=ours(
             X64 + b'  linked-folder/inner\n' + X64 + b'  link\n')),
         Case('-r of links that lead nowhere', ('-r', 'broken', 'd'), wanted=fails([
             b"Error: Could not open 'broken': No such file or directory. "], X64 + b'  d/inner\n')),
-        Case('-r of an empty folder', shell='mkdir t; "$X" -r t', wanted=well(b'')),
+        Case('-r of an empty folder', shell='mkdir t; "$X" -r t', wanted=ours(b'')),
         Case('-r of a name that is not UTF-8', shell='mkdir t; cp a t; cp a "$(printf "t/\\377")"; "$X" -r t', wanted=fails([
             b"Error: Could not open 't/\xff': The name is not UTF-8. "], X64 + b'  t/a\n')),
-        Case('-r of many names', shell='mkdir t; seq 3000 | sed "s#^#t/#" | xargs touch; "$X" -r t | wc -l', wanted=well(b'3000\n')),
+        Case('-r of many names', shell='mkdir t; seq 3000 | sed "s#^#t/#" | xargs touch; "$X" -r t | wc -l', wanted=ours(b'3000\n')),
         Case('-r of deep folders', shell='mkdir -p "$(printf "t%.0s/" $(seq 900))"; cp a "$(printf "t%.0s/" $(seq 900))"; '
-             '"$X" -r t | cut -c1-16', wanted=well(X64 + b'\n')),
+             '"$X" -r t | cut -c1-16', wanted=ours(X64 + b'\n')),
         Case('-r of a folder that can not be read', shell=tree + bound + '$run "$X" -r t; status=$?; chmod 700 t/b; exit $status',
              wanted=fails([closed], b''.join(line for line in found.splitlines(keepends=True) if b't/b/' not in line))),
         Case('-r to a full disk', shell='"$X" -r d >/dev/full', wanted=refused()),
-        Case('an audit of a folder', shell=tree + '"$X" -r t >list; "$X" --audit -r list t', wanted=well(
-            same + b'5 same, 0 changed, 0 moved, 0 copied, 0 new, 0 missing\n')),
+        Case('an audit of a folder', shell=tree + '"$X" -r t >list; "$X" --audit -r list t',
+             wanted=audited(*(b't/' + name + b': same' for name in sorted(name for _, name in rows)))),
         Case('an audit of a folder that has changed', shell=tree + '"$X" -rH3 t >list; mv t/b/deep/q t/q; rm t/B; echo >>t/a; '
-             '"$X" --audit -qr list t', wanted={
-                 'out': b't/a: changed\nt/q: moved from t/B\nt/b/deep/q: missing\n2 same, 1 changed, 1 moved, 0 copied, 0 new, 1 missing\n',
-                 'err': b'', 'status': 1}),
+             '"$X" --audit -qr list t', wanted=fails([], b't/a: changed\nt/q: moved from t/B\nt/b/deep/q: missing\n'
+             b'2 same, 1 changed, 1 moved, 0 copied, 0 new, 1 missing\n')),
         Case('an audit of a folder that can not be read', shell=tree + bound + '"$X" -r t/a >list; $run "$X" --audit -r list t; '
              'status=$?; chmod 700 t/b; exit $status', wanted=fails([closed])),
         Case('-r without a name', ('-r',), wanted=alone),
@@ -692,10 +634,9 @@ def told_names():
 
     listed = b"L:1: Could not open or read '" + odd + b"': " + missing + b'.'
     return [
-        of_list('a list that forges a line', escaped + GOOD, wanted={
-            'out': one_line(listed) + b'a: OK\n1 listed file could not be read\n', 'err': b'', 'status': 1}),
-        of_list('a wrong line of an odd name', b'\\' + WRONG + b'  line\\nfeed\n', wanted={
-            'out': one_line(b'line\nfeed: FAILED') + b'1 computed checksum did NOT match\n', 'err': b'', 'status': 1}),
+        of_list('a list that forges a line', escaped + GOOD, wanted=one_unread(one_line(listed) + GOOD_OUT)),
+        of_list('a wrong line of an odd name', b'\\' + WRONG + b'  line\\nfeed\n',
+                wanted=ours(one_line(b'line\nfeed: FAILED') + b'1 computed checksum did NOT match\n', b'', 1)),
         Case('a missing file of an odd name', (odd, 'back\\gone'), wanted=fails([
             unopened + b'. ', b"Error: Could not open 'back\\gone': " + missing + b'. '])),
         Case('a missing file of an odd name, -z', ('-z', odd), wanted=fails([unopened + b'. '])),
@@ -714,9 +655,8 @@ def told_names():
             b"Error: duplicate name 'line\nfeed'."])),
         Case('an audit of a line of an odd name that stands twice', ('--audit', 'L', 'a'), files={'L': escaped * 2},
              wanted=fails([b"L: duplicate name '" + odd + b"'."])),
-        Case('an audit of odd names', ('--audit', 'L', 'line\nfeed'), files={'L': escaped}, wanted={
-            'out': one_line(b'line\nfeed: moved from ' + odd) + b'0 same, 0 changed, 1 moved, 0 copied, 0 new, 0 missing\n',
-            'err': b'', 'status': 1}),
+        Case('an audit of odd names', ('--audit', 'L', 'line\nfeed'), files={'L': escaped},
+             wanted=audited(one_line(b'line\nfeed: moved from ' + odd)[:-1])),
     ]
 
 

@@ -18,7 +18,7 @@ import time
 
 import command
 from report import Fault, Report, want
-from tools import TOP, write
+from tools import TOP, ran, write
 
 from .cases import FILES
 from .runs import HASHES, found, is_utf8, marked
@@ -94,18 +94,15 @@ def lists_of_each_other(programs):
     for maker in programs:
         for kind in HASHES:
             for shape in ([], ['--tag']):
-                text = found(maker, [kind, *shape, *names])[0]
-                out, err, status = same(programs, ['-c'], text)
-                is_good = not status and out.count(b': OK\n') == len(names)
-                want(is_good, f'{kind} {shape}: {out!r:.300} {err!r:.300}')
+                out, err, status = same(programs, ['-c'], found(maker, [kind, *shape, *names])[0])
+                want(not status and out.count(b': OK\n') == len(names), f'{kind} {shape}: {out!r:.300} {err!r:.300}')
                 count += 1
     return f'{count} lists of {len(names)} files'
 
 
 def lines_of_the_table(programs):
     """The lines of checks/lines.json, as parsed by ours."""
-    lines_command = os.path.join(TOP, 'checks', 'xxhsum-lines')
-    done = subprocess.run([lines_command, programs[1]], capture_output=True, text=True, check=False)
+    done = ran([os.path.join(TOP, 'checks', 'xxhsum-lines'), programs[1]])
     want(not done.returncode, done.stdout[-2000:])
     return done.stdout.splitlines()[-1]
 
@@ -118,8 +115,7 @@ def names_of_each_byte(programs):
     for name in names:
         write(name, name)
     for words in ([], ['--tag'], ['-H3']):
-        text = same(programs, [*words, *names])[0]
-        same(programs, ['-c'], text)
+        same(programs, ['-c'], same(programs, [*words, *names])[0])
     return f'{len(names)} names'
 
 
@@ -147,8 +143,8 @@ def long_pipe(programs, gib):
     block = random.Random(SEED).randbytes(MIB)
     lines = []
     for program in programs:
-        with subprocess.Popen([program, '-H2', '-'], stdin=subprocess.PIPE,
-                              stdout=subprocess.PIPE, stderr=subprocess.DEVNULL) as done:
+        with subprocess.Popen([program, '-H2', '-'], stdin=subprocess.PIPE, stdout=subprocess.PIPE,
+                              stderr=subprocess.DEVNULL) as done:
             for _ in range(1024 * gib):
                 done.stdin.write(block)
             done.stdin.close()
@@ -162,8 +158,7 @@ def shrinking_file(programs):
     for _ in range(5):
         with open('shrinks', 'wb') as file:
             file.truncate(1024 * MIB)
-        with subprocess.Popen([programs[1], 'shrinks'], stdout=subprocess.PIPE,
-                              stderr=subprocess.DEVNULL) as done:
+        with subprocess.Popen([programs[1], 'shrinks'], stdout=subprocess.PIPE, stderr=subprocess.DEVNULL) as done:
             time.sleep(0.05)
             os.truncate('shrinks', 4096)
             out = done.stdout.read()
@@ -202,14 +197,10 @@ def main():
     given = parser.parse_args()
     parts = {
         'lists that one makes and the other checks': (lists_of_each_other,),
-        'lists with damaged lines': (random_lists, given.lists),
-        'the table of lines': (lines_of_the_table,),
-        'names of each byte': (names_of_each_byte,),
-        'names that are not UTF-8': (refused_names,),
-        'many small files': (small_files, given.files),
-        'a long pipe': (long_pipe, given.gib),
-        'a file that shrinks': (shrinking_file,),
-        'progress on a terminal': (progress,),
+        'lists with damaged lines': (random_lists, given.lists), 'the table of lines': (lines_of_the_table,),
+        'names of each byte': (names_of_each_byte,), 'names that are not UTF-8': (refused_names,),
+        'many small files': (small_files, given.files), 'a long pipe': (long_pipe, given.gib),
+        'a file that shrinks': (shrinking_file,), 'progress on a terminal': (progress,),
     }
     report = Report()
     with tempfile.TemporaryDirectory() as room:

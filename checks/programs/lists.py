@@ -117,17 +117,23 @@ def hostile_names(draw, count):
     return sorted(names)
 
 
+def drawn_list(draw, pool, maker, checker):
+    """The options and the text of a list of some names, which the checker must take."""
+    names = draw.choices(pool, k=draw.randrange(1, 9))
+    words = (draw.choice(HASHES), *draw.choice(SHAPES))
+    text = made(maker, words, names)
+    answer = found(checker, [*order_of(words), '-c', '--strict', '-w'], text)
+    want(answer == all_good(names), f'{words} {text!r}: {answer!r:.600}')
+    return names, words, text
+
+
 def random_lists(original, ours, count):
     draw = random.Random(SEED)
     pool = hostile_names(draw, POOL)
     make_files(pool)
     for number in range(count):
         maker, checker = (original, ours) if number % 2 else (ours, original)
-        names = draw.choices(pool, k=draw.randrange(1, 9))
-        words = (draw.choice(HASHES), *draw.choice(SHAPES))
-        text = made(maker, words, names)
-        answer = found(checker, [*order_of(words), '-c', '--strict', '-w'], text)
-        want(answer == all_good(names), f'{words} {text!r}: {answer!r:.600}')
+        names, words, text = drawn_list(draw, pool, maker, checker)
         if number % 50 == 0:
             wrong = found(checker, [*order_of(words), '-c', '--strict', '-w'], spoiled(text, draw))
             want(wrong != all_good(names), f'a wrong list is not noticed: {text!r}')
@@ -140,11 +146,7 @@ def older_lists(older, ours, count):
     pool = [name for name in hostile_names(draw, POOL) if b'\n' not in name]
     make_files(pool)
     for _ in range(count):
-        names = draw.choices(pool, k=draw.randrange(1, 9))
-        words = (draw.choice(HASHES), *draw.choice(SHAPES))
-        text = made(older, words, names)
-        answer = found(ours, [*order_of(words), '-c', '--strict', '-w'], text)
-        want(answer == all_good(names), f'{words} {text!r}: {answer!r:.600}')
+        drawn_list(draw, pool, older, ours)
     return f'{count} lists of {len(pool)} names'
 
 

@@ -86,8 +86,7 @@ def checked_lines(program, folder):
 def before_messages(program, folder):
     """Output comes before a message that is written after it."""
     names = names_in(folder, 3)
-    words = [program, names[0], 'gone', names[1], '.', names[2]]
-    parts, (status,) = writes_of([words], folder)
+    parts, (status,) = writes_of([[program, names[0], 'gone', names[1], '.', names[2]]], folder)
     ends = [line.split()[-1] if line[:1] in b'0123456789abcdef' else line[:6] for line in b''.join(parts).splitlines()]
     wanted = [names[0].encode(), b'Error:', names[1].encode(), b'xxhsum', names[2].encode()]
     return None if status == 1 and ends == wanted else f'status {status}, {ends}'
@@ -138,14 +137,10 @@ def long_line(program, folder):
 
 
 ROWS = {
-    'whole lines': whole_lines,
-    'whole lines that NULs end': nul_lines,
-    'whole lines of a check': checked_lines,
-    'output before messages': before_messages,
-    'output before messages about lists': before_messages_of_lists,
+    'whole lines': whole_lines, 'whole lines that NULs end': nul_lines, 'whole lines of a check': checked_lines,
+    'output before messages': before_messages, 'output before messages about lists': before_messages_of_lists,
     'output before messages about lists with no line': before_messages_of_empty_lists,
-    'several runs into one pipe': runs_into_one_pipe,
-    'a long line': long_line,
+    'several runs into one pipe': runs_into_one_pipe, 'a long line': long_line,
 }
 
 
@@ -157,8 +152,7 @@ def fault_of(program, row):
 def rows_on_pipes(program, names=tuple(ROWS)):
     """The tests, each with its error."""
     with concurrent.futures.ThreadPoolExecutor(2) as pool:
-        faults = pool.map(lambda name: fault_of(program, ROWS[name]), names)
-        yield from zip(names, faults)
+        yield from zip(names, pool.map(lambda name: fault_of(program, ROWS[name]), names))
 
 
 # Programs that write incorrectly, and the tests that must detect it.

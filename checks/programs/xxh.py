@@ -48,27 +48,17 @@ def gen(n):
 TABLE = [
     # Digests: every algorithm, no seed, a seed, leading zeros, the maximum seeds, no input, input longer than the
     # buffers.
-    ('hash 32', b'', b'02cc5d05\n', b'', 0),
-    ('hash 64', b'', b'ef46db3751d8e999\n', b'', 0),
-    ('hash 3-64', b'', b'2d06800538d394c2\n', b'', 0),
-    ('hash 3-128', b'', b'99aa06d3014798d86001c324468d497f\n', b'', 0),
-    ('hash 32', SOME, b'29f97ecd\n', b'', 0),
-    ('hash 64', SOME, b'55cfd3deadcabb2a\n', b'', 0),
-    ('hash 3-64', SOME, b'45c97cf9b0447624\n', b'', 0),
-    ('hash 3-128', SOME, b'99736577b441a1bbd3ec197fe371e984\n', b'', 0),
-    ('hash 32 1234', SOME, b'92f68bd9\n', b'', 0),
-    ('hash 64 1234', SOME, b'eab55659a496d78b\n', b'', 0),
-    ('hash 64 0001234', SOME, b'eab55659a496d78b\n', b'', 0),
-    ('hash 3-64 1234', SOME, b'582ee33d9ad8c6e9\n', b'', 0),
-    ('hash 3-128 1234', SOME, b'd13af43e9c4507cfc327b2ddc4f87078\n', b'', 0),
-    ('hash 32 4294967295', SOME, b'17343bb3\n', b'', 0),
-    ('hash 64 18446744073709551615', SOME, b'68cffc67a3e39e33\n', b'', 0),
-    ('hash 3-64 18446744073709551615', SOME, b'f2bedbe5c1d104be\n', b'', 0),
-    ('hash 3-128 18446744073709551615', SOME, b'bff237cde472fcf2e98c75f91e037435\n', b'', 0),
-    ('hash 64', gen(65535), b'fc26b00b70f81612\n', b'', 0),
-    ('hash 64', gen(65536), b'316c40df46fe2584\n', b'', 0),
-    ('hash 64', gen(65537), b'8c8e0218a8ee0fee\n', b'', 0),
-    ('hash 64', gen(200000), b'3c72c119d42ed27f\n', b'', 0),
+    *((f'hash {words}', given, digest + b'\n', b'', 0) for words, given, digest in (
+        ('32', b'', b'02cc5d05'), ('64', b'', b'ef46db3751d8e999'), ('3-64', b'', b'2d06800538d394c2'),
+        ('3-128', b'', b'99aa06d3014798d86001c324468d497f'), ('3-128', SOME, b'99736577b441a1bbd3ec197fe371e984'),
+        ('32', SOME, b'29f97ecd'), ('64', SOME, b'55cfd3deadcabb2a'), ('3-64', SOME, b'45c97cf9b0447624'),
+        ('32 1234', SOME, b'92f68bd9'), ('64 1234', SOME, b'eab55659a496d78b'), ('64 0001234', SOME, b'eab55659a496d78b'),
+        ('3-64 1234', SOME, b'582ee33d9ad8c6e9'), ('3-128 1234', SOME, b'd13af43e9c4507cfc327b2ddc4f87078'),
+        ('32 4294967295', SOME, b'17343bb3'), ('64 18446744073709551615', SOME, b'68cffc67a3e39e33'),
+        ('3-64 18446744073709551615', SOME, b'f2bedbe5c1d104be'),
+        ('3-128 18446744073709551615', SOME, b'bff237cde472fcf2e98c75f91e037435'),
+        ('64', gen(65535), b'fc26b00b70f81612'), ('64', gen(65536), b'316c40df46fe2584'),
+        ('64', gen(65537), b'8c8e0218a8ee0fee'), ('64', gen(200000), b'3c72c119d42ed27f'))),
     # Saved texts, and digests that continue from them.
     ('save 32', HELLO, STATE_32 + b'\n', b'', 0),
     ('save 64 0', HELLO, STATE_64 + b'\n', b'', 0),
@@ -84,41 +74,18 @@ TABLE = [
     ('blocks 10240', gen(10240), b'0000000000000000 4f6375cca7ece1e1bcd63266df6e2244\n', b'', 0),
     ('blocks 18446744073709551615', gen(10240),
      b'0000000000000000 4f6375cca7ece1e1bcd63266df6e2244\n', b'', 0),
-    # Arguments that are no command.
-    ([], SOME, b'', USAGE, 2),
-    ('hash', SOME, b'', USAGE, 2),
-    ('hash 65', SOME, b'', USAGE, 2),
-    ('HASH 64', SOME, b'', USAGE, 2),
-    ('hash 64 1 2', SOME, b'', USAGE, 2),
-    ([b'hash ', b'64'], SOME, b'', USAGE, 2),
-    ([b'hash', b' 64'], SOME, b'', USAGE, 2),
-    ('save 3-64', SOME, b'', USAGE, 2),
-    ('save 3-128 1', SOME, b'', USAGE, 2),
-    ('resume 64', SOME, b'', USAGE, 2),
-    ('resume 3-64 {}', SOME, b'', USAGE, 2),
-    ('blocks', SOME, b'', USAGE, 2),
-    ('blocks 4 5', SOME, b'', USAGE, 2),
-    ('--help', SOME, b'', USAGE, 2),
-    # Arguments that are not UTF-8.
-    ([b'\xff'], SOME, b'', USAGE, 2),
-    ([b'hash', b'64\xff'], SOME, b'', USAGE, 2),
-    ([b'hash', b'64', b'\xc3('], SOME, b'', USAGE, 2),
-    ([b'resume', b'32', STATE_32, b'\x80'], SOME, b'', USAGE, 2),
-    # Invalid seeds, sizes and states.
-    ('hash 32 4294967296', SOME, b'', SEED, 2),
-    ('hash 64 18446744073709551616', SOME, b'', SEED, 2),
-    ('hash 64 +1', SOME, b'', SEED, 2),
-    ([b'hash', b'64', b''], SOME, b'', SEED, 2),
-    ([b'hash', b'64', b' 1'], SOME, b'', SEED, 2),
-    ('save 32 x', SOME, b'', SEED, 2),
-    ('blocks 0', SOME, b'', SIZE, 2),
-    ('blocks 18446744073709551616', SOME, b'', SIZE, 2),
-    ('blocks -1', SOME, b'', SIZE, 2),
-    ('resume 64 {}', SOME, b'', STATE, 2),
-    ([b'resume', b'32', STATE_64], SOME, b'', STATE, 2),
-    ([b'resume', b'32', STATE_32[:-1]], SOME, b'', STATE, 2),
-    ([b'resume', b'32', LARGE_32], SOME, b'', STATE, 2),
-    ([b'resume', b'64', LARGE_64], SOME, b'', STATE, 2),
+    *((words, SOME, b'', message, 2) for message, refused in {
+        # Arguments that are no command, and some that are not UTF-8.
+        USAGE: ([], 'hash', 'hash 65', 'HASH 64', 'hash 64 1 2', [b'hash ', b'64'], [b'hash', b' 64'], 'save 3-64',
+                'save 3-128 1', 'resume 64', 'resume 3-64 {}', 'blocks', 'blocks 4 5', '--help', [b'\xff'],
+                [b'hash', b'64\xff'], [b'hash', b'64', b'\xc3('], [b'resume', b'32', STATE_32, b'\x80']),
+        # Invalid seeds, sizes and states.
+        SEED: ('hash 32 4294967296', 'hash 64 18446744073709551616', 'hash 64 +1', 'save 32 x', [b'hash', b'64', b''],
+               [b'hash', b'64', b' 1']),
+        SIZE: ('blocks 0', 'blocks 18446744073709551616', 'blocks -1'),
+        STATE: ('resume 64 {}', [b'resume', b'32', STATE_64], [b'resume', b'32', STATE_32[:-1]],
+                [b'resume', b'32', LARGE_32], [b'resume', b'64', LARGE_64]),
+    }.items() for words in refused),
 ]
 
 
@@ -152,11 +119,6 @@ class Run:
 
 def closed(number):
     return lambda: os.close(number)
-
-
-def over_table(run):
-    for row in TABLE:
-        run.row(*row)
 
 
 # A digest, a saved text, lines of blocks and a digest that continues, all of ten bytes.
@@ -197,16 +159,14 @@ def over_slow_pipe(run):
     run.check('a line before the next read', os.read(done.stdout.fileno(), 1000), PAIRS[:50])
     done.stdin.write(bytes([1, 0]))
     done.stdin.close()
-    rest = done.stdout.read()
-    run.check('the lines after it', (rest, done.wait(timeout=20)), (PAIRS[50:], 0))
+    run.check('the lines after it', (done.stdout.read(), done.wait(timeout=20)), (PAIRS[50:], 0))
 
 
 def over_a_stream(run):
     """A saved text of one part, and the digest that continues with the other."""
     for kind, want in (('32', b'92f68bd9\n'), ('64', b'eab55659a496d78b\n')):
         saved = subprocess.run(run.words(f'save {kind} 1234'), input=b'some', capture_output=True)
-        words = [b'resume', kind.encode(), saved.stdout.strip()]
-        run.row(words, b' bytes', want, b'', 0)
+        run.row([b'resume', kind.encode(), saved.stdout.strip()], b' bytes', want, b'', 0)
 
 
 def built(backend, room, is_of_ci):
@@ -220,7 +180,8 @@ def built(backend, room, is_of_ci):
 
 def over_all(program, title, room, report):
     run = Run(program, title)
-    over_table(run)
+    for row in TABLE:
+        run.row(*row)
     over_hostile_ends(run, room)
     over_slow_pipe(run)
     over_a_stream(run)

@@ -185,10 +185,6 @@ def store(older, newer, report):
     report.count(len(rows) - faults, faults)
 
 
-def stored():
-    return {row.pop('name'): row for row in json.loads(text_of(ANSWERS))}
-
-
 def wanted_of(case, answers):
     """The expected result of ours: the case's, or the stored one."""
     if case.wanted:
@@ -203,8 +199,7 @@ def faults_of(program, cases, answers):
     """The cases in which a program has another result than expected, each with its parts."""
     for case in cases:
         wanted = wanted_of(case, answers)
-        had = {part: as_stored(value) for part, value in found(program, case).items()}
-        parts = differences(wanted, had)
+        parts = differences(wanted, {part: as_stored(value) for part, value in found(program, case).items()})
         if parts:
             yield case, parts
 
@@ -242,7 +237,7 @@ def over_streams(programs, report, where, rows_of, wrong_ones):
 
 def over_stored(programs, cases, report):
     """Compares the programs with the stored results, plants wrong ones, and counts the tests."""
-    answers = stored()
+    answers = {row.pop('name'): row for row in json.loads(text_of(ANSWERS))}
     for program in programs:
         faults = 0
         for case, parts in faults_of(program, cases, answers):

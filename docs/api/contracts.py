@@ -3,7 +3,7 @@ definitions that contracts cite."""
 import os
 import re
 
-from rattle import CRATES, LISTED, modules_of, trait_of, type_of
+from rattle import CRATES, LISTED, modules_of, text_of, trait_of, type_of
 
 # The crates whose functions state the guarantees beside those that others call.
 STATED = ('theorems', 'xxhsum_theorems')
@@ -61,8 +61,8 @@ def definitions():
         names = sorted(name.removesuffix('.antt') for name in os.listdir(folder)) if os.path.isdir(folder) else []
         for name in names:
             if name != 'Lib':
-                with open(os.path.join(folder, f'{name}.antt'), encoding='utf-8') as file:
-                    yield f'`{crate}`', f'`{name}`', ', '.join(f'`{it}`' for it in DEFINED.findall(file.read()))
+                found = DEFINED.findall(text_of(folder, f'{name}.antt'))
+                yield f'`{crate}`', f'`{name}`', ', '.join(f'`{it}`' for it in found)
 
 
 def text():

@@ -2,7 +2,7 @@
 import os
 import re
 
-from rattle import TOP, trait_of
+from rattle import TOP, text_of, trait_of
 
 
 def lines_of_type(crate, path):
@@ -31,11 +31,6 @@ def lines_of_crate(crate):
             yield from (f'  {path}::{bare(inner)}' for inner in item.inner)
         yield from lines_of_type(crate, path)
     yield from (f'use {path} = {target}' for path, target in sorted(crate.others.items()))
-
-
-def text_of(*names):
-    with open(os.path.join(TOP, *names), encoding='utf-8') as file:
-        return file.read()
 
 
 def lines_of_c():

@@ -1,9 +1,8 @@
 """docs/MANUAL.md: both manual pages, for readers without `man`."""
-import os
 import re
 import shlex
 
-from rattle import TOP
+from rattle import text_of
 
 PAGES = ('xxhsum.1', 'xxh.1')
 HEAD = '# Manual pages\n\nWritten from [xxhsum.1](xxhsum.1) and [xxh.1](xxh.1) by `docs/api/make`.\n'
@@ -67,8 +66,5 @@ def markdown_of(lines):
 
 
 def text():
-    pages = []
-    for name in PAGES:
-        with open(os.path.join(TOP, 'docs', name), encoding='utf-8') as file:
-            pages.append(markdown_of(file.read().splitlines()))
+    pages = [markdown_of(text_of('docs', name).splitlines()) for name in PAGES]
     return re.sub(r'\n{3,}', '\n\n', '\n'.join([HEAD, *pages])).rstrip('\n') + '\n'

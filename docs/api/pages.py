@@ -6,7 +6,7 @@ import re
 import shutil
 import textwrap
 
-from rattle import CRATES, LISTED, TOP, trait_of
+from rattle import CRATES, LISTED, text_of, trait_of
 
 HERE = os.path.dirname(os.path.abspath(__file__))
 DEFINITION = re.compile(r'(?:abbrev|unfoldable) pub (\S+)')
@@ -28,8 +28,7 @@ def definitions(crate):
     for name in sorted(os.listdir(folder)) if os.path.isdir(folder) else ():
         if not name.endswith('.antt') or name == 'Lib.antt':
             continue
-        with open(os.path.join(folder, name), encoding='utf-8') as file:
-            parts = re.split(r'\n\s*\n', file.read())
+        parts = re.split(r'\n\s*\n', text_of(folder, name))
         words = [(DEFINITION.search(part)[1], part.strip('\n')) for part in parts if DEFINITION.search(part)]
         if words:
             found[name.removesuffix('.antt')] = words
@@ -96,8 +95,7 @@ def prose(lines):
 
 
 def page(title, body):
-    with open(os.path.join(HERE, 'frame.html'), encoding='utf-8') as file:
-        return file.read().replace('TITLE', html.escape(title)).replace('BODY', body)
+    return text_of(HERE, 'frame.html').replace('TITLE', html.escape(title)).replace('BODY', body)
 
 
 # ---- modules ----
@@ -110,8 +108,7 @@ class Pages:
 
     def words(self, item):
         if item.file not in self.imports:
-            with open(os.path.join(TOP, item.file), encoding='utf-8') as file:
-                self.imports[item.file] = self.places.imported(file.read())
+            self.imports[item.file] = self.places.imported(text_of(item.file))
         return self.imports[item.file]
 
     def contract(self, item):
@@ -171,8 +168,8 @@ class Pages:
         return f'<a href="{place}"><code>{target}</code></a>' if place else f'<code>{target}</code>'
 
     def spec(self, crate, file, words):
-        with open(os.path.join(CRATES, crate, 'specs', f'{file}.antt'), encoding='utf-8') as source:
-            known = self.places.imported(source.read()) | {word: f'#{anchor(word)}' for word, _ in words}
+        source = text_of(CRATES, crate, 'specs', f'{file}.antt')
+        known = self.places.imported(source) | {word: f'#{anchor(word)}' for word, _ in words}
         body = f'<h1>{crate}: {file}</h1>\n<p>Definitions that contracts cite.</p>\n'
         for word, text in words:
             self.names.append((word, f'definition of {crate}', self.places.words[crate, file, word]))

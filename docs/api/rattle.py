@@ -13,6 +13,11 @@ ITEM = re.compile(r'(?P<pub>pub )?(?:const |unsafe |extern "C" )*'
 CLAUSE = re.compile(r'(requires|ensures)\b')
 
 
+def text_of(*names):
+    with open(os.path.join(TOP, *names), encoding='utf-8') as file:
+        return file.read()
+
+
 class Item:
     """An item as it is written. `inner` are those between its braces."""
 
@@ -97,8 +102,7 @@ class Module:
 
     def __init__(self, crate, path, file):
         self.crate, self.path, self.file = crate, path, file
-        with open(file, encoding='utf-8') as text:
-            lines = text.read().split('\n')
+        lines = text_of(file).split('\n')
         self.docs = [line[3:].removeprefix(' ') for line in lines if line.startswith('//!')]
         self.items = read_items(lines)
         for item in self.items:
@@ -195,5 +199,4 @@ def type_of(block):
 
 def trait_of(block):
     """The trait that a block of `impl` is of, if it is of one."""
-    text = re.sub(r'^impl(<.*?>)? (?=\S)', '', block.signature)
-    return text.rpartition(' for ')[0]
+    return re.sub(r'^impl(<.*?>)? (?=\S)', '', block.signature).rpartition(' for ')[0]

@@ -6,6 +6,7 @@ import tarfile
 import zipfile
 
 from report import want
+from tools import write
 from room import DEBIANS, PATH, PYTHON, PYTHON_FOLDER, TOP, copied, must, run
 from same_bytes import Object, compare_sums
 
@@ -47,8 +48,7 @@ def venv(built, name):
 def pip_builds(built):
     """`pip install .` in a fresh environment, as a user types it, without a network."""
     programs = venv(built, 'fresh-source')
-    clone = copied(os.path.join(built.room, 'for-pip'))
-    must([os.path.join(programs, 'pip'), 'install', '-q', '.'], clone)
+    must([os.path.join(programs, 'pip'), 'install', '-q', '.'], copied(os.path.join(built.room, 'for-pip')))
     found = must([os.path.join(programs, 'python'), '-c', 'import twox_hash; print(twox_hash.__file__)'], '/')
     want(found.startswith(os.path.dirname(programs)), f'it is {found}')
 
@@ -96,10 +96,7 @@ def wheel_installs(built):
 def refusals(built):
     """A build that can't be made prints the reason in one line."""
     clone = copied(os.path.join(built.room, 'refusals'))
-    compiler = os.path.join(built.room, 'foreign-cc')
-    with open(compiler, 'w') as file:
-        file.write('#!/bin/sh\necho riscv64-linux-gnu\n')
-    os.chmod(compiler, 0o755)
+    compiler = write(os.path.join(built.room, 'foreign-cc'), '#!/bin/sh\necho riscv64-linux-gnu\n', 0o755)
     for cc, words in (('/none/cc', 'a C compiler is needed'),
                       (compiler, 'there is no proved code for riscv64-linux-gnu')):
         done = run([os.path.join(clone, 'build'), PYTHON], CC=cc)
@@ -114,8 +111,7 @@ def names_are_hidden(built):
     asked = [line.split()[-1] for line in must(['/usr/bin/nm', '-D', '-u', built.library]).splitlines()]
     wrong = [name for name in asked if 'XXH' in name or not re.match(r'_?Py|_Py|mem|str|getenv|pthread_mutex|__|_ITM', name)]
     want(not wrong, f'it asks for {wrong}')
-    stack = must(['/usr/bin/readelf', '-lW', built.library])
-    want(re.search(r'GNU_STACK.* RW ', stack), 'its stack is executable')
+    want(re.search(r'GNU_STACK.* RW ', must(['/usr/bin/readelf', '-lW', built.library])), 'its stack is executable')
     return f'1 name is shown, {len(asked)} are asked for'
 
 
@@ -125,8 +121,7 @@ def parts_that_differ(room, tools, instructions, prefix, change=('', '')):
     by a wrong one."""
     text = backend.read(backend.proved(f'asm/{instructions}.s')).decode()
     path = os.path.join(room, f'renamed-{instructions}')
-    with open(f'{path}.s', 'w') as file:
-        file.write(backend.renamed(text, prefix).replace(*change, 1))
+    write(f'{path}.s', backend.renamed(text, prefix).replace(*change, 1))
     back = [f'{prefix}{name.removeprefix("proved_")}={name}' for name in re.findall(r'^\s*\.globl (\S+)$', text, re.M)]
     must([f'/usr/bin/{tools}gcc', '-c', f'{path}.s', '-o', f'{path}.o'])
     must([f'/usr/bin/{tools}objcopy', *(word for pair in back for word in ('--redefine-sym', pair)), f'{path}.o'])

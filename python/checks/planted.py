@@ -2,6 +2,7 @@
 import os
 
 from report import tail, want
+from tools import replace_once, text_of, write
 from room import copied, packed, site
 from suite import first_failure, tests
 
@@ -43,16 +44,6 @@ PLANTED = [
 ]
 
 
-def plant(folder, path, text, other):
-    """Replaces a text that occurs exactly once."""
-    path = os.path.join(folder, path)
-    with open(path) as file:
-        whole = file.read()
-    want(whole.count(text) == 1, f'{path} has {text!r} {whole.count(text)} times')
-    with open(path, 'w') as file:
-        file.write(whole.replace(text, other))
-
-
 def noticed(done):
     """The test that failed first, if one did."""
     want(done.returncode == 1 and 'FAILED (' in done.stdout, f'no test fails: {tail(done.stdout)}')
@@ -63,7 +54,7 @@ def notices(room, number, path, text, other, name):
     """A build with another text there fails the tests of this name."""
     clone = os.path.join(room, f'planted-{number}')
     folder = copied(clone)
-    plant(clone, path, text, other)
+    replace_once(os.path.join(clone, path), text, other)
     wheel = packed(folder, CFLAGS='-Wno-unused-variable -Wno-unused-parameter')[1]
     return noticed(tests(site(room, f'planted-{number}', wheel), name, TWOX_HASH_OBJECTS='200000'))
 
@@ -73,11 +64,9 @@ def constant_is_noticed(room, instructions):
     clone = os.path.join(room, f'planted-{instructions}')
     folder = copied(clone)
     path = os.path.join(clone, 'c', 'asm', f'{instructions}.s')
-    with open(path) as file:
-        text = file.read()
+    text = text_of(path)
     want('0x9e3779b185ebca87' in text, f'{path} has no such constant')
-    with open(path, 'w') as file:
-        file.write(text.replace('0x9e3779b185ebca87', '0x9e3779b185ebca89'))
+    write(path, text.replace('0x9e3779b185ebca87', '0x9e3779b185ebca89'))
     path = site(room, f'planted-{instructions}', packed(folder)[1])
     return noticed(tests(path, 'values', TWOX_HASH_INSTRUCTIONS=instructions))
 

@@ -4,6 +4,7 @@ import random
 import re
 
 from report import want
+from tools import write
 from room import DEBIANS, PYTHON, must, run
 
 HERE = os.path.dirname(os.path.abspath(__file__))
@@ -28,11 +29,7 @@ class Sides:
 
     @staticmethod
     def folder(built, name, text):
-        path = os.path.join(built.room, name)
-        os.makedirs(path)
-        with open(os.path.join(path, 'xxhash.py'), 'w') as file:
-            file.write(text)
-        return path
+        return os.path.dirname(write(os.path.join(built.room, name, 'xxhash.py'), text))
 
 
 def agrees(sides, words, name_at=0):
@@ -66,8 +63,7 @@ def duplicates(sides, built):
     for number, length in enumerate((10, 1000, 70000, 4000000)):
         data = draw.randbytes(length)
         for name, text in (('one', data), ('two', data), ('other', data[:-1] + bytes([data[-1] ^ 1]))):
-            with open(os.path.join(folder, f'{number}-{name}'), 'wb') as file:
-                file.write(text)
+            write(os.path.join(folder, f'{number}-{name}'), text)
     words = [os.path.join(HERE, 'find_duplicates.py'), os.path.join(package, 'usr/share/dupeguru'), folder]
     return agrees(sides, words)
 

@@ -2,7 +2,6 @@
 import glob
 import os
 import shutil
-import subprocess
 import sys
 
 PYTHON_FOLDER = os.path.dirname(os.path.dirname(os.path.abspath(__file__)))
@@ -10,6 +9,7 @@ TOP = os.path.dirname(PYTHON_FOLDER)
 sys.path[:0] = [os.path.join(TOP, 'checks', 'lib'), os.path.join(TOP, 'assembly')]
 
 from report import Fault, tail, want
+from tools import ran
 
 PYTHON, DEBUG = '/usr/bin/python3', '/usr/bin/python3-dbg'
 DEBIANS = '/usr/lib/python3/dist-packages'
@@ -30,8 +30,7 @@ def environment(**more):
 
 def run(words, folder=None, timeout=1200, **more):
     """A program's status and both of its outputs, in the environment of such a user."""
-    return subprocess.run(words, cwd=folder, env=environment(**more), stdout=subprocess.PIPE, stderr=subprocess.STDOUT,
-                          text=True, timeout=timeout)
+    return ran(words, cwd=folder, env=environment(**more), timeout=timeout)
 
 
 def must(words, folder=None, **more):

@@ -1,8 +1,8 @@
 """The C of the package under AddressSanitizer and UndefinedBehaviorSanitizer, called with hostile buffers (fuzz.py)."""
 import os
 
-from planted import plant
 from report import tail, want
+from tools import replace_once
 from room import PYTHON, copied, must, packed, run, site
 
 HERE = os.path.dirname(os.path.abspath(__file__))
@@ -12,13 +12,13 @@ FLAGS = '-g -fsanitize=address,undefined -fno-sanitize-recover=all'
 OPTIONS = 'detect_leaks=0:allocator_may_return_null=1'
 
 
-def built_so(room, name, *change):
+def built_so(room, name, file='', *change):
     """A folder for PYTHONPATH with the package built with the sanitizers, and with the module hostile. `change` is a
-    mistake."""
+    mistake in a file."""
     clone = os.path.join(room, name)
     folder = copied(clone)
     if change:
-        plant(clone, *change)
+        replace_once(os.path.join(clone, file), *change)
     path = site(room, name, packed(folder, CFLAGS=FLAGS)[1])
     must(['/usr/bin/gcc', '-shared', '-fPIC', '-O1', '-I', must([PYTHON, '-c', 'import sysconfig; '
           'print(sysconfig.get_path("include"))']).strip(), os.path.join(HERE, 'hostile.c'), '-o',

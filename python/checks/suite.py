@@ -4,8 +4,10 @@ import re
 import shutil
 
 from report import Fault, tail, want
+from tools import write
 from room import DEBUG, PYTHON, PYTHON_FOLDER, copied, must, packed, run, site
 
+VALGRIND = ('/usr/bin/valgrind', '-q', '--error-exitcode=9', PYTHON)
 ALL = ('values', 'interface', 'objects', 'files', 'many', 'threads', 'leaks')
 
 
@@ -45,19 +47,16 @@ def of_set(built, instructions):
 def under_valgrind(built):
     """No call reads or writes memory that isn't its own. Fewer objects are made, since each step takes fifty times
     as long."""
-    valgrind = ('/usr/bin/valgrind', '-q', '--error-exitcode=9', PYTHON)
-    return pass_all(built.site, 'interface', 'objects', 'files', 'many', python=valgrind, PYTHONMALLOC='malloc')
+    return pass_all(built.site, 'interface', 'objects', 'files', 'many', python=VALGRIND, PYTHONMALLOC='malloc')
 
 
 def leaks_under_valgrind(built):
-    valgrind = ('/usr/bin/valgrind', '-q', '--error-exitcode=9', PYTHON)
-    return pass_all(built.site, 'leaks', python=valgrind, PYTHONMALLOC='malloc', TWOX_HASH_OBJECTS='2000')
+    return pass_all(built.site, 'leaks', python=VALGRIND, PYTHONMALLOC='malloc', TWOX_HASH_OBJECTS='2000')
 
 
 def of_debug_build(built):
     """The tests pass with a build by Debian's debug Python, which tests its own rules and counts references."""
-    folder = copied(os.path.join(built.room, 'debug'))
-    wheel = packed(folder, DEBUG)[1]
+    wheel = packed(copied(os.path.join(built.room, 'debug')), DEBUG)[1]
     counts = must([DEBUG, '-c', 'import sys; print(sys.gettotalrefcount() > 0)'])
     want(counts.strip() == 'True', f'{DEBUG} counts no references')
     return pass_all(site(built.room, 'debug', wheel), python=(DEBUG,), TWOX_HASH_OBJECTS='100000')
@@ -65,8 +64,7 @@ def of_debug_build(built):
 
 def of_clang(built):
     """The tests of values pass when compiled by clang."""
-    folder = copied(os.path.join(built.room, 'clang'))
-    wheel = packed(folder, CC='clang')[1]
+    wheel = packed(copied(os.path.join(built.room, 'clang')), CC='clang')[1]
     return pass_all(site(built.room, 'clang', wheel), 'values', 'objects')
 
 
@@ -74,10 +72,7 @@ def in_another_python(built, path, python):
     """The tests pass in another Python. The package replaces the original there: of the values only the reference
     library's table is left, and of the interface nothing."""
     folder = os.path.join(built.room, 'stand-in')
-    if not os.path.exists(folder):
-        os.makedirs(folder)
-        with open(os.path.join(folder, 'xxhash.py'), 'w') as file:
-            file.write('import sys\n\nimport twox_hash\n\nsys.modules["xxhash"] = twox_hash\n')
+    write(os.path.join(folder, 'xxhash.py'), 'import sys\n\nimport twox_hash\n\nsys.modules["xxhash"] = twox_hash\n')
     names = [name for name in ALL if name != 'interface']
     return pass_all(f'{path}:{folder}', *names, python=(python,), TWOX_HASH_OBJECTS='200000')
 

@@ -2,7 +2,8 @@
 import os
 import re
 
-from report import want
+from report import tail, want
+from tools import write
 from room import PYTHON, must, run
 
 MYPY = [PYTHON, '-m', 'mypy', '--strict', '--cache-dir=/dev/null']
@@ -34,14 +35,7 @@ WRONG = ["xxhash.xxh64_digest(5)", "xxhash.xxh64_digest()", "xxhash.xxh64_digest
 
 
 def program(built, name, text):
-    path = os.path.join(built.room, f'{name}.py')
-    with open(path, 'w') as file:
-        file.write(text)
-    return path
-
-
-def package_is_typed(built):
-    return must([*MYPY, os.path.join(built.site, 'twox_hash')]).strip().splitlines()[-1]
+    return write(os.path.join(built.room, f'{name}.py'), text)
 
 
 def stub_is_the_module(built):
@@ -64,6 +58,6 @@ def users_program(built):
 
 
 def check_all(report, built):
-    report.attempt('mypy --strict on the package', package_is_typed, built)
+    report.attempt('mypy --strict on the package', lambda: tail(must([*MYPY, os.path.join(built.site, 'twox_hash')])))
     report.attempt('the stub beside the extension', stub_is_the_module, built)
     report.attempt('mypy --strict on a program that uses it', users_program, built)

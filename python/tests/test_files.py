@@ -172,7 +172,3 @@ class Files(unittest.TestCase):
             with self.assertRaises(IsADirectoryError):
                 ours.file_digest(self.folder)
         self.assertEqual(len(os.listdir('/proc/self/fd')), before)
-
-
-if __name__ == '__main__':
-    unittest.main()

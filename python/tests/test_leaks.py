@@ -118,7 +118,3 @@ class Leaks(unittest.TestCase):
             file.write(bytes(300000))
             file.flush()
             self.leaves_nothing(lambda: ours.file_digest(file.name), OBJECTS // 500)
-
-
-if __name__ == '__main__':
-    unittest.main()

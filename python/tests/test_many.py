@@ -40,8 +40,7 @@ class Many(unittest.TestCase):
             want = [getattr(ours, name + '_digest')(row) for row in rows]
             for given in (rows, tuple(rows), iter(rows), (bytearray(row) for row in rows), map(memoryview, rows)):
                 self.assertEqual(ours.many(given, name), want)
-            into = bytearray(len(want) * len(want[0]))
-            self.assertEqual(ours.many(rows, name, into=into), b''.join(want))
+            self.assertEqual(ours.many(rows, name, into=bytearray(len(want) * len(want[0]))), b''.join(want))
 
     def test_items_of_several_bytes_are_rows(self):
         words = array.array('Q', [1, 2, 1 << 60])
@@ -55,8 +54,7 @@ class Many(unittest.TestCase):
 
     def test_seeds_and_secrets(self):
         matrix = Matrix(50, 260)
-        short = [row[:20] for row in matrix.rows]
-        for rows in (matrix.rows, short):
+        for rows in (matrix.rows, [row[:20] for row in matrix.rows]):
             for name in NAMES:
                 for key in [{'seed': -3}] + [{'secret': SECRET}, {'secret': SECRET, 'seed': 4}] * (name in WITH_SECRET):
                     want = [getattr(ours, name + '_digest')(row, **key) for row in rows]
@@ -75,8 +73,7 @@ class Many(unittest.TestCase):
         except ImportError:
             self.skipTest('no numpy')
         table = numpy.arange(600, dtype='u2').reshape(100, 6)
-        want = [ours.xxh64_digest(row.tobytes()) for row in table]
-        self.assertEqual(ours.many(table, 'xxh64'), want)
+        self.assertEqual(ours.many(table, 'xxh64'), [ours.xxh64_digest(row.tobytes()) for row in table])
         into = numpy.empty(100, '>u8')
         self.assertIs(ours.many(table, 'xxh64', into=into), into)
         self.assertEqual(into.tolist(), [ours.xxh64_intdigest(row.tobytes()) for row in table])
@@ -106,23 +103,15 @@ class Many(unittest.TestCase):
 
     def test_errors(self):
         rows = Matrix(4, 8)
-        for call, error in (
-                (lambda: ours.many('abc'), TypeError), (lambda: ours.many(b'abc'), ValueError),
-                (lambda: ours.many(bytearray(8), width=3), ValueError),
-                (lambda: ours.many(b'abc', width=0), ValueError),
-                (lambda: ours.many(b'abc', width=-3), ValueError), (lambda: ours.many([b'a'], width=1), TypeError),
-                (lambda: ours.many(5), TypeError), (lambda: ours.many(None), TypeError),
-                (lambda: ours.many([b'a', 5]), TypeError), (lambda: ours.many([b'a', None]), TypeError),
-                (lambda: ours.many(['\ud800']), UnicodeEncodeError), (lambda: ours.many(rows.view[::2]), BufferError),
-                (lambda: ours.many([b'a'], 'md5'), ValueError), (lambda: ours.many([b'a'], int), TypeError),
-                (lambda: ours.many([b'a'], into=bytearray(7)), ValueError),
-                (lambda: ours.many([b'a'], into=bytes(8)), BufferError), (lambda: ours.many([b'a'], into=5), TypeError),
-                (lambda: ours.many(rows.view, into=bytearray(31)), ValueError),
-                (lambda: ours.many([b'a'], secret=b'short'), ValueError),
-                (lambda: ours.many([b'a'], 'xxh64', secret=SECRET), TypeError),
-                (lambda: ours.many([b'a'], seed=None), TypeError), (lambda: ours.many([b'a'], foo=1), TypeError)):
-            with self.assertRaises(error):
-                call()
+        for error, calls in (
+                (TypeError, ("'abc'", "[b'a'], width=1", '5', 'None', "[b'a', 5]", "[b'a', None]", "[b'a'], int",
+                             "[b'a'], into=5", "[b'a'], 'xxh64', secret=SECRET", "[b'a'], seed=None", "[b'a'], foo=1")),
+                (ValueError, ("b'abc'", 'bytearray(8), width=3', "b'abc', width=0", "b'abc', width=-3", "[b'a'], 'md5'",
+                              "[b'a'], into=bytearray(7)", 'rows.view, into=bytearray(31)', "[b'a'], secret=b'short'")),
+                (BufferError, ('rows.view[::2]', "[b'a'], into=bytes(8)")), (UnicodeEncodeError, (r"['\ud800']",))):
+            for arguments in calls:
+                with self.subTest(call=arguments), self.assertRaises(error):
+                    eval(f'ours.many({arguments})', {'ours': ours, 'rows': rows, 'SECRET': SECRET})
 
     def test_digests_over_their_own_rows(self):
         """They would overwrite rows that aren't read yet."""
@@ -223,8 +212,7 @@ class Many(unittest.TestCase):
                     ours.many((kind * 3)(), width=width)
         with self.assertRaisesRegex(TypeError, 'not addresses'):
             ours.many(memoryview(bytes(16)).cast('P'))
-        plain = (Plain * 2)()
-        self.assertEqual(ours.many(plain), [ours.xxh3_64_digest(bytes(ctypes.sizeof(Plain)))] * 2)
+        self.assertEqual(ours.many((Plain * 2)()), [ours.xxh3_64_digest(bytes(ctypes.sizeof(Plain)))] * 2)
 
     def test_rows_of_complex_numbers(self):
         try:
@@ -244,7 +232,3 @@ class Many(unittest.TestCase):
                 rows.clear()
                 yield row
         self.assertEqual(ours.many(changing()), [ours.xxh3_64_digest(row) for row in (b'a', b'b', b'c')])
-
-
-if __name__ == '__main__':
-    unittest.main()

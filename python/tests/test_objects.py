@@ -157,8 +157,7 @@ class Forged(unittest.TestCase):
 
     def changed(self, kind, words, data=b'a' * 100, **members):
         """The state with other members is refused with this text."""
-        record = json.loads(kind(data, 3).state())
-        self.refused(kind, json.dumps(record | members), words)
+        self.refused(kind, json.dumps(json.loads(kind(data, 3).state()) | members), words)
 
     def test_what_is_no_saved_text(self):
         words = 'The text is not a saved state'
@@ -240,7 +239,3 @@ class Forged(unittest.TestCase):
                 hasher.update(b'b' * 700)
                 hasher.reset()
                 self.assertEqual(len(hasher.digest()), hasher.digest_size)
-
-
-if __name__ == '__main__':
-    unittest.main()

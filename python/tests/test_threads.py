@@ -190,7 +190,3 @@ class Threads(unittest.TestCase):
                 except BufferError:
                     pass
         self.assertIn(done.result(), {ours.xxh32_digest(LONG), ours.xxh32_digest(LONG + b'x')})
-
-
-if __name__ == '__main__':
-    unittest.main()

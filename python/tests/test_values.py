@@ -139,7 +139,3 @@ class Secrets(unittest.TestCase):
                 getattr(ours, name + '_digest')(b'', secret=bytes(200))
             with self.assertRaises(TypeError):
                 getattr(ours, name)(secret=bytes(200))
-
-
-if __name__ == '__main__':
-    unittest.main()

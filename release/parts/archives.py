@@ -11,7 +11,7 @@ import by_cargo
 import provenance
 from arm_roots import debian_root
 from packing import read_tar, tree_of, write_tar
-from tools import must
+from tools import bytes_of, must
 
 PREFIX = 'usr/lib/twox-hash'
 EXAMPLES = tuple(f'examples/{name}' for name in ('c', 'cmake', 'cpp', 'go', 'java', 'python'))
@@ -177,8 +177,7 @@ def node(commit, made):
     files = read_tar(path)
     manifest = {**json.loads(files['package/package.json']), 'version': commit.version}
     files['package/package.json'] = json.dumps(manifest, indent=2).encode() + b'\n'
-    with open(os.path.join(made, 'PROVENANCE'), 'rb') as file:
-        files['package/PROVENANCE'] = file.read()
+    files['package/PROVENANCE'] = bytes_of(os.path.join(made, 'PROVENANCE'))
     write_tar(os.path.join(made, f'{commit.stem}.tgz'), files, commit.seconds)
     return [f'{commit.stem}.tgz']
 

@@ -3,7 +3,7 @@ import os
 import re
 import sys
 
-from tools import must
+from tools import must, text_of
 
 
 class Commit:
@@ -36,11 +36,4 @@ class Commit:
         return os.path.join(self.tree, *names)
 
     def read(self, *names):
-        with open(self.path(*names), encoding='utf-8') as file:
-            return file.read()
-
-    @staticmethod
-    def write(path, text):
-        with open(path, 'w', encoding='utf-8') as file:
-            file.write(text)
-        os.chmod(path, 0o644)
+        return text_of(self.path(*names))

@@ -10,7 +10,7 @@ import zipfile
 import written
 from packing import read_tar
 from report import tail, want
-from tools import TOP, must
+from tools import TOP, bytes_of, flip_bit, must, ran, text_of, write
 
 # The programs that make the assembly sources, and their targets.
 TEXTS = {'c/build': ('x86-64', 'aarch64'), 'rust/build-library': ('x86-64', 'aarch64')}
@@ -20,8 +20,7 @@ MAKE = os.path.join(TOP, 'release', 'make')
 def make(room, folder, log):
     """release/make, with a working folder of its own."""
     os.mkdir(room)
-    done = subprocess.run([MAKE, *(['--gate', log] if log else []), folder], env={**os.environ, 'TMPDIR': room},
-                          stdout=subprocess.PIPE, stderr=subprocess.STDOUT, text=True)
+    done = ran([MAKE, *(['--gate', log] if log else []), folder], env={**os.environ, 'TMPDIR': room})
     want(done.returncode == 0, done.stdout[-1500:])
     return tail(done.stdout)
 
@@ -32,7 +31,7 @@ def twice(room, folder, log):
     said, again = (make(os.path.join(room, name), into, log).split(': ', 1)[1]
                    for name, into in (('first', folder), ('second', other)))
     want(said == again, f'first {said}, then {again}')  # for example if a commit was made meanwhile
-    one, two = (sums_of(path) for path in (folder, other))
+    one, two = ({name: written.sum_of(f'{path}/{name}') for name in os.listdir(path)} for path in (folder, other))
     shutil.rmtree(other)
     differ = sorted(name for name in set(one) | set(two) if one.get(name) != two.get(name))
     want(not differ, f'other bytes: {", ".join(differ)}')
@@ -64,14 +63,9 @@ def wrong_bodies_are_refused(room):
     expected verdicts; CI tests those of the smallest crates."""
     program = os.path.join(proved_clone(room), 'checks', 'wrong-bodies')
     for word in '--self-test', '--anew':
-        done = subprocess.run([program, word], stdin=subprocess.DEVNULL, stdout=subprocess.PIPE, stderr=subprocess.STDOUT,
-                              text=True)
+        done = ran([program, word], stdin=subprocess.DEVNULL)
         want(done.returncode == 0, done.stdout[-1500:])
     return tail(done.stdout)
-
-
-def sums_of(folder):
-    return {name: must(['sha256sum', os.path.join(folder, name)]).split()[0] for name in os.listdir(folder)}
 
 
 def stem(folder):
@@ -93,13 +87,8 @@ def change_is_noticed(room, folder):
     copy = os.path.join(room, 'changed')
     shutil.copytree(folder, copy)
     path = sorted(glob.glob(os.path.join(copy, '*.tar.gz')))[0]
-    with open(path, 'r+b') as file:
-        file.seek(1000)
-        byte = file.read(1)
-        file.seek(1000)
-        file.write(bytes([byte[0] ^ 1]))
-    done = subprocess.run(['sha256sum', '-c', '--quiet', 'SHA256SUMS'], cwd=copy, stdout=subprocess.PIPE,
-                          stderr=subprocess.PIPE, text=True)
+    flip_bit(path, 1000)
+    done = subprocess.run(['sha256sum', '-c', '--quiet', 'SHA256SUMS'], cwd=copy, capture_output=True, text=True)
     shutil.rmtree(copy)
     want(done.returncode and os.path.basename(path) in done.stdout, 'it is not detected')
     return os.path.basename(path)
@@ -113,15 +102,13 @@ def members(path):
     elif path.endswith(('.gz', '.tgz', '.crate')):
         found = read_tar(path)
     else:
-        with open(path, 'rb') as file:
-            found = {'': file.read()}
+        found = {'': bytes_of(path)}
     return {name: data for name, data in found.items() if os.path.basename(name) not in ('PROVENANCE', 'RECORD')}
 
 
 def commit_of(folder):
     """The commit that a release names."""
-    with open(os.path.join(folder, 'PROVENANCE'), encoding='utf-8') as file:
-        return re.search(r'^  commit (\w+)$', file.read(), re.M)[1]
+    return re.search(r'^  commit (\w+)$', text_of(os.path.join(folder, 'PROVENANCE')), re.M)[1]
 
 
 def tree(folder):
@@ -131,19 +118,15 @@ def tree(folder):
         if os.path.islink(path) or os.path.isdir(path):
             found[path] = os.readlink(path) if os.path.islink(path) else None
         else:
-            with open(path, 'rb') as file:
-                found[path] = file.read()
+            found[path] = bytes_of(path)
     return found
 
 
 def foreign_folders(room, folder):
     """Folders with more than a release in them, each with a name that release/make must refuse."""
     mirror, name = os.path.join(room, 'mirror'), sorted(os.listdir(folder))[-1]
-    os.mkdir(mirror)
-    with open(os.path.join(mirror, 'disk.iso'), 'wb') as file:
-        file.write(b'an image')
-    with open(os.path.join(mirror, written.SUMS), 'w') as file:
-        file.write(must(['sha256sum', 'disk.iso'], cwd=mirror))
+    write(os.path.join(mirror, 'disk.iso'), b'an image')
+    write(os.path.join(mirror, written.SUMS), must(['sha256sum', 'disk.iso'], cwd=mirror))
     yield mirror, 'disk.iso'
     yield shutil.copytree(os.path.join(TOP, 'web'), os.path.join(room, 'web')), 'LICENSE'
     for number, (foreign, change) in enumerate((('more', 'echo > more'), ('more', 'mkdir more'), (name, f'echo >> {name}'),
@@ -151,8 +134,7 @@ def foreign_folders(room, folder):
         copy = shutil.copytree(folder, os.path.join(room, f'copy {number}'))
         must(['sh', '-c', change], cwd=copy)
         yield copy, foreign
-    with open(os.path.join(room, 'a file'), 'w'):
-        yield os.path.join(room, 'a file'), 'a file'
+    yield write(os.path.join(room, 'a file'), ''), 'a file'
 
 
 def foreign_folders_stay(folder):
@@ -161,14 +143,13 @@ def foreign_folders_stay(folder):
         count = 0
         for place, name in foreign_folders(room, folder):
             before = tree(place)
-            done = subprocess.run([MAKE, place], stdout=subprocess.PIPE, stderr=subprocess.STDOUT, text=True, timeout=60)
+            done = ran([MAKE, place], timeout=60)
             want(done.returncode and place in done.stdout and name in done.stdout and tree(place) == before,
                  f'{place}: status {done.returncode}: {tail(done.stdout)}')
             count += 1
         earlier, other = shutil.copytree(folder, os.path.join(room, 'earlier')), os.path.join(room, 'other')
-        os.mkdir(other)
-        with open(os.path.join(other, 'new'), 'w'):
-            written.write_sums(other)
+        write(os.path.join(other, 'new'), '')
+        written.write_sums(other)
         written.replace(earlier, other)
         want(sorted(os.listdir(earlier)) == [written.SUMS, 'new'], f'of a release is left {os.listdir(earlier)}')
         sums_agree(earlier)
@@ -191,8 +172,7 @@ def provenances(room, path):
 
 
 def has_provenance(room, folder):
-    with open(os.path.join(folder, 'PROVENANCE'), 'rb') as file:
-        right = file.read()
+    right = bytes_of(os.path.join(folder, 'PROVENANCE'))
     names = [name for name in sorted(os.listdir(folder)) if name.endswith(('.gz', '.tgz', '.crate', '.whl', '.deb'))]
     for name in names:
         want(provenances(room, os.path.join(folder, name)) == [right], f'{name} has another one, or none')

@@ -2,11 +2,10 @@
 import filecmp
 import glob
 import os
-import subprocess
 
 from arm_roots import debian_root
 from report import tail, want
-from tools import TOP, four_hashes, install_packages, must
+from tools import TOP, four_hashes, install_packages, must, ran
 
 NAME = '64-bit ARM, under qemu'
 PACKAGES = {'qemu-aarch64': 'qemu-user', 'aarch64-linux-gnu-gcc': 'gcc-aarch64-linux-gnu',
@@ -18,8 +17,7 @@ VALUE = 'import twox_hash as xxhash; print(xxhash.instruction_set, xxhash.xxh64_
 def run(words, root, **variables):
     """A program for that processor."""
     pairs = [word for pair in variables.items() for word in ('-E', '='.join(pair))]
-    done = subprocess.run(['qemu-aarch64', '-L', root, *pairs, *words], stdout=subprocess.PIPE,
-                          stderr=subprocess.STDOUT, text=True, timeout=600)
+    done = ran(['qemu-aarch64', '-L', root, *pairs, *words], timeout=600)
     want(done.returncode == 0, f'{words}: {tail(done.stdout)}')
     return done.stdout
 

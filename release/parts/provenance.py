@@ -1,12 +1,12 @@
 """The provenance of a release: what it was made from, and by what."""
-import hashlib
 import os
 import platform
 import re
 import shutil
 import time
 
-from tools import must
+from tools import must, text_of
+from written import sum_of
 
 VERDICT = re.compile(r'^logic=')
 CRATE = re.compile(r'^== (\w+)$')
@@ -14,11 +14,6 @@ COUNTS = re.compile(r'^\d+ passed, \d+ failed$')
 # The toolchain files that make the programs and the assembly source, below its folder.
 KIT_FILES = ('bin/rattle', 'bin/rattle-link', 'bin/rt', 'bin/rtlib.py', 'toolchain/bin/clang', 'toolchain/bin/ld.lld',
              'rattle/logic/antt-project.json', 'c/liblibc_c.a', 'c/libos_c.a')
-
-
-def sum_of(path):
-    with open(path, 'rb') as file:
-        return hashlib.file_digest(file, 'sha256').hexdigest()
 
 
 def sums(folder, names):
@@ -51,8 +46,7 @@ def verdicts(lines):
 
 
 def machine():
-    with open('/proc/cpuinfo') as file:
-        model = re.search(r'^model name\s*: (.*)$', file.read(), re.M)
+    model = re.search(r'^model name\s*: (.*)$', text_of('/proc/cpuinfo'), re.M)
     return f'{model[1] if model else platform.machine()}, {os.cpu_count()} processors'
 
 

@@ -5,7 +5,7 @@ import shutil
 import subprocess
 
 from report import tail, want
-from tools import QUIET, must
+from tools import QUIET, must, ran, write
 
 MIRROR, SECURITY = 'http://deb.debian.org/debian', 'http://deb.debian.org/debian-security'
 # The folder of the archives in a root, as downloaded by a user, and of the repository, as cloned.
@@ -17,13 +17,10 @@ LEFT = ('proc', 'root', 'tmp', 'var/log', 'var/cache', 'var/lib/apt', 'var/lib/d
 def new_base(suite, folder):
     """A root of a release with what every Debian machine has, and its updates."""
     must(['debootstrap', '--variant=minbase', suite, folder, MIRROR], env=QUIET)
-    with open(os.path.join(folder, 'etc', 'apt', 'sources.list'), 'w') as file:
-        for place, name in ((MIRROR, suite), (MIRROR, f'{suite}-updates'), (SECURITY, f'{suite}-security')):
-            file.write(f'deb {place} {name} main\n')
-    with open(os.path.join(folder, 'etc', 'apt', 'apt.conf.d', '90quiet'), 'w') as file:
-        file.write('APT::Install-Recommends "false";\nAPT::Sandbox::User "root";\n')
-    with open(os.path.join(folder, 'etc', 'hosts'), 'w') as file:
-        file.write('127.0.0.1 localhost\n')
+    places = ((MIRROR, suite), (MIRROR, f'{suite}-updates'), (SECURITY, f'{suite}-security'))
+    write(f'{folder}/etc/apt/sources.list', ''.join(f'deb {place} {name} main\n' for place, name in places))
+    write(f'{folder}/etc/apt/apt.conf.d/90quiet', 'APT::Install-Recommends "false";\nAPT::Sandbox::User "root";\n')
+    write(f'{folder}/etc/hosts', '127.0.0.1 localhost\n')
     shutil.copy('/etc/resolv.conf', os.path.join(folder, 'etc', 'resolv.conf'))
     must(['chroot', folder, 'apt-get', 'update', '-qq'], env=QUIET)
     return folder
@@ -43,8 +40,7 @@ class Root:
         environment = {'PATH': '/usr/sbin:/usr/bin:/sbin:/bin', 'HOME': '/root', 'DEBIAN_FRONTEND': 'noninteractive',
                        'LC_ALL': 'C.UTF-8', 'PYTHONDONTWRITEBYTECODE': '1', **variables}
         words = ['chroot', self.path, '/bin/bash', '-c', f'cd {folder}\n{script}']
-        done = subprocess.run(words, env=environment, stdin=subprocess.DEVNULL, stdout=subprocess.PIPE,
-                              stderr=subprocess.STDOUT, text=True, errors='replace', timeout=1800)
+        done = ran(words, env=environment, stdin=subprocess.DEVNULL, timeout=1800)
         return done.returncode, done.stdout
 
     def must(self, script, **variables):
@@ -57,15 +53,11 @@ class Root:
             self.must(f'apt-get install -y -qq {" ".join(packages)}')
 
     def write(self, name, data):
-        path = self.at(f'{TAKEN}/{name}')
-        os.makedirs(os.path.dirname(path), exist_ok=True)
-        with open(path, 'wb') as file:
-            file.write(data)
+        write(self.at(f'{TAKEN}/{name}'), data)
 
     def copy(self, source, name):
         """Copies a file or a folder of this machine to the archives."""
-        copying = shutil.copytree if os.path.isdir(source) else shutil.copy
-        copying(source, self.at(f'{TAKEN}/{name}'))
+        (shutil.copytree if os.path.isdir(source) else shutil.copy)(source, self.at(f'{TAKEN}/{name}'))
 
     def files(self):
         """All files except those that an installation may leave behind."""

@@ -131,8 +131,7 @@ def crate(root):
     root.must('cd twox-hash-2.1.5; find . -type f -printf "%P\\n" | sort > ../held; cargo package --list --allow-dirty --offline '
               '| grep -vx "Cargo.lock\\|Cargo.toml.orig" | sort | diff ../held - >&2')
     root.copy(os.path.join(TOP, 'examples', 'rust'), 'program')
-    with open(os.path.join(TOP, 'examples', 'rust', 'Cargo.toml')) as file:
-        manifest = file.read().split('# The one line')[0]
+    manifest = text_of(os.path.join(TOP, 'examples', 'rust', 'Cargo.toml')).split('# The one line')[0]
     patch, = re.findall(r'```toml\n(\[patch.*?)```', text_of(printed.RELEASES), re.S)
     root.write('program/Cargo.toml', (manifest + patch.replace('"twox-hash', '"../twox-hash')).encode())
     root.copy(LICENSE, 'LICENSE')

@@ -34,7 +34,7 @@ class Eraser:
     def each(self, sources):
         """For each pair of a file's name and its source: 'erased' and the Rust, or 'refused' and the reason."""
         done = subprocess.run([sys.executable, '-c', EACH, self.program], input=json.dumps(sources),
-                              stdout=subprocess.PIPE, stderr=subprocess.PIPE, text=True)
+                              capture_output=True, text=True)
         return json.loads(done.stdout) if done.returncode == 0 else [('failed', done.stderr[-300:])] * len(sources)
 
     def tree(self, folder, crates=CRATES, *words):

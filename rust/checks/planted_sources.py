@@ -28,20 +28,10 @@ fn second() -> usize
 { 8 }
 pub fn case() -> usize { first() | second() }'''),
     ('words of contracts in strings', 47, '''
-pub fn case() -> usize {
-    let a = "crate::x twox_core::y std::z a + Drop b prove! ";
-    a.len()
-}'''),
-    ('raw strings with quotes', 18, '''
-pub fn case() -> usize {
-    let a = r#"a " requires {x} b"#;
-    a.len()
-}'''),
+pub fn case() -> usize { let a = "crate::x twox_core::y std::z a + Drop b prove! "; a.len() }'''),
+    ('raw strings with quotes', 18, 'pub fn case() -> usize { let a = r#"a " requires {x} b"#; a.len() }'),
     ('a raw string that ends in a backslash', 2, r'''
-pub fn case() -> usize {
-    let a = r"\"; let b = r"\";
-    a.len() + b.len()
-}'''),
+pub fn case() -> usize { let a = r"\"; let b = r"\"; a.len() + b.len() }'''),
     ('empty lines in a string', 9, '''
 pub fn case() -> usize {
     let a = "a
@@ -61,15 +51,9 @@ pub fn case() -> usize {
     t.len()
 }'''),
     ('characters that are brackets', 6, r'''
-pub fn case() -> usize {
-    let c = ['{', '\'', '"', '\\', '}', '\u{7b}'];
-    c.len()
-}'''),
+pub fn case() -> usize { let c = ['{', '\'', '"', '\\', '}', '\u{7b}']; c.len() }'''),
     ('bytes that are brackets', 4, r'''
-pub fn case() -> usize {
-    let b = [b'{', b'\'', b'"', b'\\'];
-    b.len()
-}'''),
+pub fn case() -> usize { let b = [b'{', b'\'', b'"', b'\\']; b.len() }'''),
     ('a comment in a comment', 3, '''
 pub fn case() -> usize {
     let mut x = 1;
@@ -86,11 +70,7 @@ impl Model for X {
 */
 pub fn case() -> usize { 1 }'''),
     ('numbers with dots', 2, '''
-pub fn case() -> usize {
-    let t = ((1usize, 2usize), 3usize);
-    let _ = (1..3, 1.5e3f64, 2.0f64);
-    t.0.1
-}'''),
+pub fn case() -> usize { let t = ((1usize, 2usize), 3usize); let _ = (1..3, 1.5e3f64, 2.0f64); t.0.1 }'''),
     ('a label that is used', 2, '''
 pub fn case() -> usize {
     let mut n = 0;

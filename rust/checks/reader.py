@@ -7,6 +7,8 @@ import os
 import re
 from dataclasses import dataclass
 
+from tools import text_of
+
 CRATES = ('twox_words', 'twox_plain', 'twox_core', 'twox_hash')
 OF_PROGRAMS = ('xxh_io', 'xxh_program', 'xxh', 'xxhsum_line', 'xxhsum_options', 'xxhsum_audit', 'xxhsum_fs', 'xxhsum_output',
                'xxhsum_program', 'xxhsum_app', 'xxhsum')
@@ -266,11 +268,6 @@ def sources(crates, tree):
                 inside = os.path.relpath(path, top).removesuffix('.rt')
                 if is_of(tree, crate, inside):
                     yield crate, crate if inside in ('lib', 'main') else f'{crate}/{inside}', path
-
-
-def text_of(path):
-    with open(path, encoding='utf-8') as file:
-        return file.read()
 
 
 def faults(crates, folder, tree=LIBRARY):

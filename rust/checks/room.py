@@ -11,7 +11,7 @@ sys.path[:0] = [os.path.join(TOP, 'checks', 'lib'), os.path.join(TOP, 'assembly'
 
 import arm_roots
 from report import tail, want
-from tools import install
+from tools import install, ran, text_of, write
 
 CRATES = '/usr/share/cargo/registry'
 PACKAGES = {'gcc': 'gcc', 'nm': 'binutils', 'git': 'git', 'valgrind': 'valgrind', 'xxhsum': 'xxhash',
@@ -61,7 +61,7 @@ serde = { version = "1.0", features = ["derive"], optional = true }
 
 def must(words, **more):
     """Runs a tool of the check itself, which must succeed."""
-    done = subprocess.run(words, stdout=subprocess.PIPE, stderr=subprocess.PIPE, text=True, **more)
+    done = subprocess.run(words, capture_output=True, text=True, **more)
     if done.returncode:
         sys.exit(f'rust/{os.path.basename(sys.argv[0])}: {" ".join(words)}:\n{(done.stdout + done.stderr)[-2000:]}')
     return done.stdout
@@ -92,9 +92,8 @@ class Room:
         os.makedirs(os.path.join(path, 'programs'))
 
     def use_registry(self, folder):
-        os.makedirs(os.path.join(self.path, '.cargo'), exist_ok=True)
-        with open(os.path.join(self.path, '.cargo', 'config.toml'), 'w') as file:
-            file.write(f'[source.crates-io]\nreplace-with = "debian"\n[source.debian]\ndirectory = "{folder}"\n')
+        write(os.path.join(self.path, '.cargo', 'config.toml'),
+              f'[source.crates-io]\nreplace-with = "debian"\n[source.debian]\ndirectory = "{folder}"\n')
 
     def environment(self, flags='', **more):
         kept = {name: value for name, value in os.environ.items() if name != 'RUSTFLAGS'}
@@ -102,13 +101,17 @@ class Room:
         return {**kept, **found, 'RUSTFLAGS': flags, **more}
 
     def cargo(self, folder, command, *words, environment=None):
-        return subprocess.run([self.cargo_program, command, *words], cwd=folder, env=environment or self.environment(),
-                              stdout=subprocess.PIPE, stderr=subprocess.STDOUT, text=True)
+        return ran([self.cargo_program, command, *words], cwd=folder, env=environment or self.environment())
+
+    def must(self, folder, command, *words, environment=None):
+        """The output of cargo, which must succeed."""
+        done = self.cargo(folder, command, *words, environment=environment)
+        want(done.returncode == 0, tail(errors_of(done.stdout)))
+        return done.stdout
 
     def build(self, folder, name, *words, environment=None):
         """A program of a package, under a name of its own."""
-        done = self.cargo(folder, 'build', '--release', *words, environment=environment)
-        want(done.returncode == 0, tail(errors_of(done.stdout)))
+        self.must(folder, 'build', '--release', *words, environment=environment)
         path = os.path.join(self.path, 'programs', name + self.ending)
         shutil.copy(os.path.join(self.made, os.path.basename(name).split('@')[0] + self.ending), path)
         return path
@@ -123,10 +126,7 @@ class Room:
         shutil.copytree(self.rust, crate, ignore=shutil.ignore_patterns('target', 'Cargo.lock'))
         folder = os.path.join(crate, 'asm')
         for file in os.listdir(folder):
-            with open(os.path.join(folder, file)) as text:
-                right = text.read()
-            with open(os.path.join(folder, file), 'w') as text:
-                text.write(change(right))
+            write(os.path.join(folder, file), change(text_of(os.path.join(folder, file))))
         return crate
 
     def add_original(self, package, sources):
@@ -134,10 +134,9 @@ class Room:
         copy = os.path.join(self.path, 'original')
         shutil.copytree(sources, copy)
         manifest = os.path.join(copy, 'Cargo.toml')
-        text = open(manifest).read() if os.path.exists(manifest) else ORIGINAL
+        text = text_of(manifest) if os.path.exists(manifest) else ORIGINAL
         # Two packages of one name and version can't be linked into one program.
-        with open(manifest, 'w') as file:
-            file.write(re.sub(r'^version = "2\.1\.5"', 'version = "2.1.5-original"', text, flags=re.M))
+        write(manifest, re.sub(r'^version = "2\.1\.5"', 'version = "2.1.5-original"', text, flags=re.M))
         with open(os.path.join(package, 'Cargo.toml'), 'a') as file:
             file.write(f'original = {{ package = "twox-hash", path = "{copy}", version = "=2.1.5-original", '
                        'features = ["serialize"] }\n')
@@ -233,11 +232,6 @@ __declspec(dllexport) BOOL WINAPI ProcessPrng(PBYTE room, SIZE_T length) { retur
 '''
 
 
-def riscv_room(path):
-    return FurtherRoom(path, 'riscv64gc-unknown-linux-gnu', 'riscv64-linux-gnu-gcc',
-                       'qemu-riscv64 -L /usr/riscv64-linux-gnu')
-
-
 def windows_room(path):
     folder = os.path.join(path, 'wine')
     os.makedirs(folder)
@@ -247,8 +241,10 @@ def windows_room(path):
     return FurtherRoom(path, 'x86_64-pc-windows-gnu', 'x86_64-w64-mingw32-gcc', '/usr/lib/wine/wine64', '.exe')
 
 
-FURTHER = {'riscv64': (riscv_room, {'riscv64-linux-gnu-gcc': 'gcc-riscv64-linux-gnu', 'qemu-riscv64': 'qemu-user',
-                                    '/usr/riscv64-linux-gnu/include/stdio.h': 'libc6-dev-riscv64-cross'}),
+RISCV = 'riscv64gc-unknown-linux-gnu', 'riscv64-linux-gnu-gcc', 'qemu-riscv64 -L /usr/riscv64-linux-gnu'
+FURTHER = {'riscv64': (lambda path: FurtherRoom(path, *RISCV), {
+    'riscv64-linux-gnu-gcc': 'gcc-riscv64-linux-gnu', 'qemu-riscv64': 'qemu-user',
+    '/usr/riscv64-linux-gnu/include/stdio.h': 'libc6-dev-riscv64-cross'}),
            'windows': (windows_room, {'x86_64-w64-mingw32-gcc': 'gcc-mingw-w64-x86-64', '/usr/lib/wine/wine64': 'wine64'})}
 
 

@@ -2,9 +2,9 @@
 compiled over Rust's core library, which is built from Debian's sources, and linked with a line of C. The expected
 sum is that of the same calls by the reference's header."""
 import os
-import subprocess
 
 from report import tail, want
+from tools import ran, text_of, write
 from room import SOURCE_PACKAGES, SourceRoom, errors_of, install_packages, must
 
 SUMS = os.path.join(os.path.dirname(os.path.abspath(__file__)), 'sums')
@@ -36,7 +36,7 @@ def sum_of(room, target, flags=''):
     folder = os.path.join(room.rust, 'checks', 'sums')
     kind = 'staticlib' if TARGETS[target] else 'cdylib'
     words = [room.cargo_program, 'rustc', '--release', '-Z', 'build-std=core', '--target', target, '--crate-type', kind]
-    done = subprocess.run(words, cwd=folder, env=environment, stdout=subprocess.PIPE, stderr=subprocess.STDOUT, text=True)
+    done = ran(words, cwd=folder, env=environment)
     want(done.returncode == 0, tail(errors_of(done.stdout)))
     made = os.path.join(room.path, 'target', target, 'release')
     if not TARGETS[target]:
@@ -66,8 +66,5 @@ def check_sums_of_targets(report, path):
 def notices_another(room, wanted):
     """The crate with one wrong rotation."""
     file = os.path.join(room.rust, 'src', 'erased', 'twox_plain', 'xxhash32', 'rounds.rs')
-    with open(file) as text:
-        right = text.read()
-    with open(file, 'w') as text:
-        text.write(right.replace('rotate_left(13)', 'rotate_left(14)'))
+    write(file, text_of(file).replace('rotate_left(13)', 'rotate_left(14)'))
     want(sum_of(room, 's390x-unknown-linux-gnu') != wanted, 'it was not noticed')

@@ -9,6 +9,7 @@ import reader
 from erasers import Eraser
 from planted_sources import CHANGED_CRATES, PLANTED, PLANTED_IN_PROGRAMS
 from report import tail, want
+from tools import replace_once
 from room import Room, install_packages
 
 RUST = os.path.dirname(os.path.dirname(os.path.abspath(__file__)))
@@ -94,12 +95,7 @@ def wrong_parts(room, number, file, old, new):
     folder = os.path.join(room, f'wrong-{number}', 'eraser')
     shutil.copytree(PARTS, folder)
     shutil.copy(os.path.join(RUST, 'erase'), os.path.join(os.path.dirname(folder), 'erase'))
-    path = os.path.join(folder, file)
-    with open(path, encoding='utf-8') as text:
-        right = text.read()
-    want(right.count(old) == 1, f'{file} has the line {right.count(old)} times')
-    with open(path, 'w', encoding='utf-8') as text:
-        text.write(right.replace(old, new))
+    replace_once(os.path.join(folder, file), old, new)
     return folder
 
 
@@ -113,12 +109,7 @@ def changed_crates(room, number, file, old, new):
     folder = os.path.join(room, f'crates-{number}')
     for crate in reader.PROGRAMS.crates:
         shutil.copytree(os.path.join(CRATES, crate, 'src'), os.path.join(folder, crate, 'src'), dirs_exist_ok=True)
-    path = os.path.join(folder, file)
-    with open(path, encoding='utf-8') as text:
-        right = text.read()
-    want(right.count(old) == 1, f'{file} has the text {right.count(old)} times')
-    with open(path, 'w', encoding='utf-8') as text:
-        text.write(right.replace(old, new))
+    replace_once(os.path.join(folder, file), old, new)
     return folder
 
 
@@ -145,8 +136,7 @@ def noticed_in_programs(eraser, tree):
 
 
 def is_noticed(room, number, file, old, new):
-    eraser = Eraser(wrong_parts(room, number, file, old, new))
-    found = noticed_by(eraser, os.path.join(room, f'wrong-{number}'))
+    found = noticed_by(Eraser(wrong_parts(room, number, file, old, new)), os.path.join(room, f'wrong-{number}'))
     want(found, 'it was not noticed')
     return f'by {found}'
 

@@ -1,4 +1,3 @@
-#!/usr/bin/env python3
 """Benchmarks modules in a headless browser, as run.mjs does in Node:
 
     web/bench_c/in_browser.py chromium | firefox | webkit ROUNDS NAME=FILE.."""
@@ -15,6 +14,7 @@ sys.path[:0] = [os.path.join(WEB, "tests"), os.path.join(TOP, "oracle"), os.path
 
 from browser import Chromium, Firefox, WebKit
 from page import Requests, Served
+from tools import write
 
 
 class Isolated(Requests):
@@ -39,8 +39,7 @@ def main(kind, rounds, *words):
     with tempfile.TemporaryDirectory(prefix="twox-bench-") as folder:
         for name, file in modules.items():
             shutil.copyfile(file, os.path.join(folder, f"{name}.wasm"))
-        with open(os.path.join(folder, "bench.html"), "w", encoding="utf-8") as file:
-            file.write(PAGE)
+        write(os.path.join(folder, "bench.html"), PAGE)
         browser = {"chromium": Chromium, "firefox": Firefox, "webkit": WebKit}[kind]()
         try:
             with Served(folder, Isolated) as address:

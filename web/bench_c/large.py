@@ -1,4 +1,3 @@
-#!/usr/bin/env python3
 """Measures how fast the page's worker hashes a large file in a headless browser, compared with reading only:
 
     web/bench_c/large.py chromium | firefox | webkit [MIB [TURNS]]
@@ -17,6 +16,7 @@ sys.path[:0] = [os.path.join(WEB, "tests"), os.path.join(TOP, "oracle"), os.path
 
 from browser import Chromium, Firefox, WebKit
 from page import Served
+from tools import write
 
 MIB = 1 << 20
 # As streams.js reads: four chunks ahead.
@@ -70,8 +70,7 @@ def main(kind, mib="1024", turns="5"):
     size = int(mib) * MIB
     with tempfile.TemporaryDirectory(prefix="twox-large-") as folder:
         for name, text in ("reader.js", READER), ("hasher.js", HASHER), ("large.html", PAGE):
-            with open(os.path.join(folder, name), "w", encoding="utf-8") as file:
-                file.write(text)
+            write(os.path.join(folder, name), text)
         large = os.path.join(folder, "large")
         with open(large, "wb") as file:
             for _ in range(int(mib)):

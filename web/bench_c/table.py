@@ -1,4 +1,3 @@
-#!/usr/bin/env python3
 """Prints the measurements as the table of docs/SPEED.md (bench/data/web.tsv):
 
     web/bench_c/table.py NAME=FILE..
@@ -17,10 +16,6 @@ MEDIAN = 1  # of a module's times in a pass, behind the best
 DISTURBED = 1.1
 
 
-def has_vectors(name):
-    return name.endswith(("_simd", "_neon"))
-
-
 def ratio(row, ours, among):
     def fastest(times):
         return min(times[name][MEDIAN] for name in times if not name.startswith("ours") and among(name))
@@ -30,7 +25,8 @@ def ratio(row, ours, among):
 
 def ratios(row):
     """Of the module with vectors, and of the one without."""
-    return ratio(row, "ours_simd", lambda _: True), ratio(row, "ours", lambda name: not has_vectors(name))
+    plain = ratio(row, "ours", lambda name: not name.endswith(("_simd", "_neon")))
+    return ratio(row, "ours_simd", lambda _: True), plain
 
 
 def size_of(row):

@@ -13,7 +13,7 @@ import time
 import urllib.error
 import urllib.request
 
-from tools import free_port
+from tools import free_port, write
 
 ELEMENT = "element-6066-11e4-a52e-4f735466cecf"
 KEYS = {"Tab": "\ue004", "Enter": "\ue007", "Space": " "}
@@ -191,8 +191,7 @@ class Firefox(Browser):
     socket = None
 
     def start(self, width, height):
-        with open(os.path.join(self.room, "user.js"), "w", encoding="utf-8") as file:
-            file.write(f'user_pref("marionette.port", {self.port});\n')
+        write(os.path.join(self.room, "user.js"), f'user_pref("marionette.port", {self.port});\n')
         self.spawn("firefox-esr", "--headless", "--marionette", "--no-remote", "--profile", self.room,
                    f"--width={width}", f"--height={height}", env={**os.environ, "HOME": self.room})
         self.socket = self.until(lambda: socket.create_connection(("127.0.0.1", self.port), 330), "Firefox", OSError)

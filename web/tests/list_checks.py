@@ -5,6 +5,7 @@ import time
 
 from module_checks import WEB
 from report import Fault, want
+from tools import text_of, write
 from values import SOME_BYTES, XXHSUM, line_of, reference
 
 ENDINGS = {"xxh32": "xxh32", "xxh64": "xxh64", "xxh3_64": "xxh3", "xxh3_128": "xxh128"}
@@ -160,10 +161,7 @@ def improper_lines(page):
 
 def folder_of(page, name, files):
     for path, content in files.items():
-        path = os.path.join(page.room, name, path)
-        os.makedirs(os.path.dirname(path), exist_ok=True)
-        with open(path, "wb") as file:
-            file.write(content)
+        write(os.path.join(page.room, name, path), content)
     return os.path.join(page.room, name)
 
 
@@ -180,8 +178,7 @@ def folder_chosen(page):
 
 
 def folder_dropped(page):
-    files = {f"deep/er/{i:03}.bin": bytes([i]) for i in range(120)}
-    folder = folder_of(page, "dropped", files)
+    folder = folder_of(page, "dropped", {f"deep/er/{i:03}.bin": bytes([i]) for i in range(120)})
     place = {"x": 200, "y": 200, "data": {"items": [], "files": [folder], "dragOperationsMask": 1}}
     for kind in ("dragEnter", "dragOver", "drop"):
         page.browser.devtools("Input.dispatchDragEvent", type=kind, **place)
@@ -279,8 +276,7 @@ def lines_saved(page):
         want(ran.returncode == 0 and ran.stdout.count(": OK") == len(names), ran.stdout + ran.stderr)
         page.browser.click("#copy-all")
         page.browser.wait("return document.getElementById('status').textContent === 'all lines copied'", seconds=10)
-        with open(saved, encoding="utf-8") as file:
-            want(page.browser.run("return navigator.clipboard.readText()") == file.read(), "other lines were copied")
+        want(page.browser.run("return navigator.clipboard.readText()") == text_of(saved), "other lines were copied")
         page.browser.run("document.getElementById('status').textContent = ''")
     page.set_key("7")
     page.browser.click("#again")
@@ -378,28 +374,17 @@ def opened_as_file(page):
 
 
 LIST_CHECKS = {
-    "an expected digest, in words": expected,
-    "what is no digest is told": no_digest,
-    "a digest of another hash is told": other_digests,
-    "what can't be read in a drop is told, and again": odd_items,
-    "dragging over a scrolled page": dragged,
-    "an expected digest among many": among_many,
-    "a checksum file with its files": checksum_file,
-    "a checksum file under a seed": under_a_seed,
-    "long lines of a checksum file": long_lines,
-    "improper lines of a checksum file": improper_lines,
-    "a folder that is chosen": folder_chosen,
-    "a folder that is dropped": folder_dropped,
-    "lines saved and copied, for xxhsum -c": lines_saved,
-    "one file is removed": removed,
-    "10,000 files and their checksum file": many_files,
-    "1,000,000 names": million_names,
-    "verifying a download": download,
-    "a small screen": small_screen,
-    "opened as a file": opened_as_file,
+    "an expected digest, in words": expected, "what is no digest is told": no_digest,
+    "a digest of another hash is told": other_digests, "what can't be read in a drop is told, and again": odd_items,
+    "dragging over a scrolled page": dragged, "an expected digest among many": among_many,
+    "a checksum file with its files": checksum_file, "a checksum file under a seed": under_a_seed,
+    "long lines of a checksum file": long_lines, "improper lines of a checksum file": improper_lines,
+    "a folder that is chosen": folder_chosen, "a folder that is dropped": folder_dropped,
+    "lines saved and copied, for xxhsum -c": lines_saved, "one file is removed": removed,
+    "10,000 files and their checksum file": many_files, "1,000,000 names": million_names,
+    "verifying a download": download, "a small screen": small_screen, "opened as a file": opened_as_file,
 }
 
 # The checks for each browser.
-IN_EACH_BROWSER = ["an expected digest, in words", "a digest of another hash is told", "what can't be read in a drop is told, and again", "an expected digest among many", "a checksum file with its files",
-                   "improper lines of a checksum file", "one file is removed", "10,000 files and their checksum file",
-                   "verifying a download"]
+IN_EACH_BROWSER = {expected, other_digests, odd_items, among_many, checksum_file, improper_lines, removed, many_files,
+                   download}

@@ -6,7 +6,9 @@ import shutil
 import subprocess
 import tempfile
 
+import tools
 from report import Fault, want
+from tools import bytes_of, text_of
 from values import long_digests
 
 HERE = os.path.dirname(os.path.abspath(__file__))
@@ -46,11 +48,8 @@ def must(words, folder):
     return ran.stdout
 
 
-def write(folder, name, text):
-    path = os.path.join(folder, name)
-    with open(path, "w", encoding="utf-8") as file:
-        file.write(text)
-    return path
+def write(folder, name, data):
+    return tools.write(os.path.join(folder, name), data)
 
 
 def all_right(lines):
@@ -88,14 +87,11 @@ def tests_of_module(folder, node, module):
 
 def wrong_module_is_noticed(folder, node):
     """A module with one bit changed, in the default secret of XXH3, fails the tests."""
-    with open(os.path.join(WEB, MODULES[1]), "rb") as file:
-        module = bytearray(file.read())
+    module = bytearray(bytes_of(f"web/{MODULES[1]}"))
     at = module.find(bytes.fromhex("b8fe6c3923a44bbe"))
     want(at > 0, "the secret is not there")
     module[at] ^= 1
-    path = os.path.join(folder, "wrong.wasm")
-    with open(path, "wb") as file:
-        file.write(module)
+    path = write(folder, "wrong.wasm", bytes(module))
     entry = write(folder, "wrong.mjs", f'import * as twox from "file://{WEB}/node.js"; export * from "file://{WEB}/node.js";'
                                        f'export const load = () => twox.load("file://{path}");')
     try:
@@ -124,16 +120,11 @@ def packed(folder):
     package = os.path.join(folder, "node_modules", "twox_hash")
     files = [os.path.relpath(os.path.join(at, name), package) for at, _, names in os.walk(package) for name in names]
     want(sorted(files) == sorted(PACKAGED), sorted(set(files) ^ set(PACKAGED)))
-    want(text_of(package, "LICENSE") == text_of(os.path.dirname(WEB), "LICENSE"), "LICENSE is another")
-    links = set(re.findall(r"\]\(([^)#:]+)[^):]*\)", text_of(package, "README.md")))
+    want(text_of(f"{package}/LICENSE") == text_of("LICENSE"), "LICENSE is another")
+    links = set(re.findall(r"\]\(([^)#:]+)[^):]*\)", text_of(f"{package}/README.md")))
     lost = [link for link in links if not link.startswith("../") and not os.path.exists(os.path.join(package, link))]
     want(not lost, f"README links to {lost}")
     return archive
-
-
-def text_of(folder, name):
-    with open(os.path.join(folder, name), encoding="utf-8") as file:
-        return file.read()
 
 
 def copy_of_clone(folder):
@@ -146,12 +137,12 @@ def copy_of_clone(folder):
 
 def files_of(web):
     """The file names in a copy of this folder without build output, and the text of package.json."""
-    return {name: name == "package.json" and text_of(web, name) for name in os.listdir(web) if name != "out"}
+    return {name: name == "package.json" and text_of(f"{web}/{name}") for name in os.listdir(web) if name != "out"}
 
 
 def row_of_page(start):
     """The second cell of the row of web/README.md with this beginning."""
-    return re.search(rf"^\| {re.escape(start)} \| (.*) \|$", text_of(WEB, "README.md"), re.M)[1]
+    return re.search(rf"^\| {re.escape(start)} \| (.*) \|$", text_of("web/README.md"), re.M)[1]
 
 
 def installed_as_printed(folder, node):
@@ -228,8 +219,7 @@ def tests_of_commonjs(folder, node):
 
 def page_example(folder, node):
     """The examples of web/README.md have the printed results, in the package's own folder."""
-    with open(os.path.join(WEB, "README.md"), encoding="utf-8") as file:
-        examples = re.findall(r"```js\n(.*?)```", file.read(), re.S)
+    examples = re.findall(r"```js\n(.*?)```", text_of("web/README.md"), re.S)
     same = "function same(value, expected) { if (value !== expected) throw new Error(`${value} instead of ${expected}`); }"
     all_of_them = 0
     for number, code in enumerate(examples):
@@ -319,13 +309,9 @@ def lines_read(folder):
     return f"{said['count']} lines"
 
 
-def sums_are_right():
-    """The modules of this folder have the sums in its SHA256SUMS."""
-    return must(["sha256sum", "--check", "SHA256SUMS"], WEB).strip().replace("\n", ", ")
-
-
 def check_in_node(checks, folder, nodes):
-    checks.attempt("the modules have their sums", sums_are_right)
+    checks.attempt("the modules have their sums",
+                   lambda: must(["sha256sum", "--check", "SHA256SUMS"], WEB).strip().replace("\n", ", "))
     checks.attempt("Node: the page reads lines as the command does", lines_read, folder)
     for node in nodes:
         checks.attempt(f"{node}: the tests of the module and its streams", tests_of_tree, folder, node)

@@ -5,6 +5,7 @@ import threading
 
 from module_checks import WEB
 from report import want
+from tools import bytes_of
 
 sys.path.append(WEB)
 import serve
@@ -44,8 +45,7 @@ class Requests(serve.Handler):
             super().do_GET()
 
     def send_file(self, path, before=b""):
-        with open(path, "rb") as file:
-            body = before + file.read()
+        body = before + bytes_of(path)
         self.send_response(200)
         self.send_header("Content-Type", self.guess_type(path))
         self.send_header("Content-Length", str(len(body)))

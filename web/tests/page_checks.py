@@ -12,6 +12,7 @@ import table
 from module_checks import WEB
 from page import Page, Requests, Served, serve
 from report import want
+from tools import write
 from values import SOME_BYTES, reference
 
 MIB = 1 << 20
@@ -322,8 +323,7 @@ def one_folder(page):
         want(ran.returncode == 0, ran.stderr)
         again = subprocess.run([os.path.join(WEB, "folder"), folder], capture_output=True, text=True)
         want(again.returncode == 1 and "isn't an empty folder" in again.stderr, again.stderr)
-        handler = functools.partial(Quiet, directory=room)
-        with http.server.ThreadingHTTPServer(("127.0.0.1", 0), handler) as serving:
+        with http.server.ThreadingHTTPServer(("127.0.0.1", 0), functools.partial(Quiet, directory=room)) as serving:
             threading.Thread(target=serving.serve_forever, daemon=True).start()
             there = Page(page.browser, f"http://127.0.0.1:{serving.server_address[1]}/some/where/", page.room)
             there.open()
@@ -421,9 +421,7 @@ def served_and_no_more(folder):
               "web/outside", "web/../.git/config", "docs/%2e%2e/.git/config"]
     top, before = os.path.join(folder, "served"), serve.TOP
     for name in [*public, "README.md.orig", "docs.bak/x", "web-old/x", "LICENSE2", "oracle/vectors.txt~", "oracle/check", ".git/config"]:
-        os.makedirs(os.path.dirname(os.path.join(top, name)), exist_ok=True)
-        with open(os.path.join(top, name), "w", encoding="utf-8") as file:
-            file.write(name)
+        write(os.path.join(top, name), name)
     os.symlink("../.git/config", os.path.join(top, "web", "outside"))
     serve.TOP = os.path.realpath(top)
     try:
@@ -444,42 +442,26 @@ def status_of(address, name):
 
 
 PAGE_CHECKS = {
-    "every control has a name": labels,
-    "typed text is hashed, with the seed": text,
-    "100 MB in pieces, as xxhsum": large_file,
-    "files of all ranges of lengths, as xxhsum": small_files,
-    "seeds and secrets": seed_and_secret,
-    "a seed of more than 32 bits gives no XXH32, and the others": wide_seed,
+    "every control has a name": labels, "typed text is hashed, with the seed": text,
+    "100 MB in pieces, as xxhsum": large_file, "files of all ranges of lengths, as xxhsum": small_files,
+    "seeds and secrets": seed_and_secret, "a seed of more than 32 bits gives no XXH32, and the others": wide_seed,
     "a wrong seed is told, and the file waits for a right one": wrong_seed,
     "a wrong secret is told, as text and as hexadecimal, and beside the text": wrong_secret,
-    "stopped there is no digest, and started again the right ones": stop_and_start,
-    "stop all": stop_all,
-    "a dropped file": dropped,
-    "the page stays alive": alive,
+    "stopped there is no digest, and started again the right ones": stop_and_start, "stop all": stop_all,
+    "a dropped file": dropped, "the page stays alive": alive,
     "a file that vanished or changed is told, and the next one hashed": vanished,
-    "the same while it is hashed": vanished_while_hashed,
-    "the keyboard alone": keyboard,
-    "hash again, with another seed": again,
-    "another seed while a file is hashed": changed_while_hashed,
-    "clear": clear,
-    "no request while hashing": no_network,
-    "each link leads to a page": links,
-    "light and dark": schemes,
-    "which module runs is said, and either hashes": which_module,
+    "the same while it is hashed": vanished_while_hashed, "the keyboard alone": keyboard,
+    "hash again, with another seed": again, "another seed while a file is hashed": changed_while_hashed,
+    "clear": clear, "no request while hashing": no_network, "each link leads to a page": links,
+    "light and dark": schemes, "which module runs is said, and either hashes": which_module,
     "where no other thread reads, the one that hashes does": reads_by_itself,
-    "a browser without WebAssembly is told so": no_webassembly,
-    "without a network, once it was loaded": offline,
-    "a newer file for which there is no room": no_room_to_keep,
-    "one folder on another host": one_folder,
+    "a browser without WebAssembly is told so": no_webassembly, "without a network, once it was loaded": offline,
+    "a newer file for which there is no room": no_room_to_keep, "one folder on another host": one_folder,
 }
 
 # The checks for each browser.
-IN_EACH_BROWSER = ["every control has a name", "typed text is hashed, with the seed", "files of all ranges of lengths, as xxhsum",
-                   "seeds and secrets", "stopped there is no digest, and started again the right ones", "a dropped file",
-                   "the page stays alive", "hash again, with another seed", "clear",
-                   "which module runs is said, and either hashes", "where no other thread reads, the one that hashes does",
-                   "a browser without WebAssembly is told so",
-                   "without a network, once it was loaded", "one folder on another host"]
+IN_EACH_BROWSER = {labels, text, small_files, seed_and_secret, stop_and_start, dropped, alive, again, clear,
+                   which_module, reads_by_itself, no_webassembly, offline, one_folder}
 
 
 def take_picture(page):
@@ -493,8 +475,7 @@ def take_picture(page):
     page.set_field("expected", SOME_BYTES["xxh64"] + "  some.txt")
     page.browser.wait("return document.getElementById('verdict').textContent")
     page.browser.run("document.activeElement.blur(); scrollTo(0, 0)")
-    with open(os.path.join(os.path.dirname(WEB), "docs", "page.png"), "wb") as file:
-        file.write(page.browser.picture("results"))
-    return f"docs/page.png, {os.path.getsize(file.name)} bytes"
+    path = write(os.path.join(os.path.dirname(WEB), "docs", "page.png"), page.browser.picture("results"))
+    return f"docs/page.png, {os.path.getsize(path)} bytes"
 
 

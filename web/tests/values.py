@@ -1,4 +1,5 @@
 """Sources of the expected values: Debian's xxhsum, and the reference library's values of one input."""
+import re
 import subprocess
 import tempfile
 
@@ -10,20 +11,14 @@ XXHSUM = {"xxh32": "-H0", "xxh64": "-H1", "xxh3_64": "-H3", "xxh3_128": "-H2"}
 
 def reference(path):
     """The digests by xxhsum."""
-    return {kind: digest_in(line_of(path, kind), kind) for kind in XXHSUM}
+    lines = {kind: line_of(path, kind).split() for kind in XXHSUM}
+    return {kind: next(word for word in words if re.fullmatch("[0-9a-f]+", word) and len(word) == len(SOME_BYTES[kind]))
+            for kind, words in lines.items()}
 
 
 def line_of(path, kind, *words, folder=None):
     """The line that xxhsum prints for a file."""
     return subprocess.run(["xxhsum", XXHSUM[kind], *words, path], capture_output=True, text=True, check=True, cwd=folder).stdout
-
-
-def digest_in(line, kind):
-    return next(word for word in line.split() if is_digest(word, kind))
-
-
-def is_digest(word, kind):
-    return len(word) == len(SOME_BYTES[kind]) and all(digit in "0123456789abcdef" for digit in word)
 
 
 def long_digests():

@@ -130,7 +130,7 @@ def main():
     report = Report()
     with tempfile.TemporaryDirectory() as room, concurrent.futures.ThreadPoolExecutor(given.jobs) as pool:
         world = worlds.World(os.path.join(room, 'files'))
-        every = scenarios.all_scenarios(world)
+        every = [row for group in scenarios.GROUPS for row in group(world)]
         rows = [it for it in every if given.only in it.name]
         for row, (count, faults) in zip(rows, pool.map(lambda row: over_calls(row, programs, world, given), rows)):
             for fault in faults:

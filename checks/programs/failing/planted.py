@@ -5,17 +5,14 @@ def told_twice(done):
     return done._replace(err=done.err * 2)
 
 
-def silent(done):
-    return done._replace(err=b'')
+def instead(**parts):
+    """The result with other parts."""
+    return lambda done: done._replace(**parts)
 
 
-def well(done):
-    return done._replace(status=0)
-
-
-def passed_over(done):
-    """As if there were no such name or directory."""
-    return done._replace(out=b'', err=b'', status=0)
+silent, well, hanging = instead(err=b''), instead(status=0), instead(status='not ended')
+# As if there were no such name or directory.
+passed_over = instead(out=b'', err=b'', status=0)
 
 
 def with_line(line):
@@ -38,10 +35,6 @@ def message_first(done):
     """The message about memory before the last buffered line."""
     *lines, last, empty, told = done.out.splitlines(keepends=True)
     return done._replace(out=b''.join([*lines, empty, told, last]))
-
-
-def hanging(done):
-    return done._replace(status='not ended')
 
 
 # The mistake, and the scenario, call and error whose result it replaces.

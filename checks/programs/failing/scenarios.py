@@ -38,15 +38,6 @@ def of_names(world):
     def row(name, words, names, form=worlds.World.line):
         return Scenario(name, (*words, *names), lambda fault: worlds.digests(world, names, fault, form))
 
-    def tagged(it, name):
-        return f'XXH64 ({name}) = {it.digest(name)}\n'
-
-    def turned(it, name):
-        return f'{bytes.fromhex(it.digest(name))[::-1].hex()}  {name}\n'
-
-    def ended(it, name):
-        return it.line(name)[:-1] + '\0'
-
     def of(algorithm):
         return lambda it, name: it.line(name, algorithm)
 
@@ -60,9 +51,10 @@ def of_names(world):
         row('XXH32', ('-H0',), ['a', 'long'], of('32')),
         row('XXH3', ('-H3',), ['a', 'long'], of('3')),
         row('XXH128', ('-H2',), ['a', 'long'], of('128')),
-        row('tagged lines', ('--tag',), ['a', 'e'], tagged),
-        row('little endian', ('--little-endian',), ['a', 'e'], turned),
-        row('lines that NULs end', ('-z',), ['a', 'b c'], ended),
+        row('tagged lines', ('--tag',), ['a', 'e'], lambda it, name: f'XXH64 ({name}) = {it.digest(name)}\n'),
+        row('little endian', ('--little-endian',), ['a', 'e'],
+            lambda it, name: f'{bytes.fromhex(it.digest(name))[::-1].hex()}  {name}\n'),
+        row('lines that NULs end', ('-z',), ['a', 'b c'], lambda it, name: it.line(name)[:-1] + '\0'),
         row('names after --', ('--',), ['a', 'e']),
         row('lines that fill the output several times', (), MANY),
         row('messages among many lines', (), [*MANY[:60], 'gone', *MANY[60:], 'd', 'a']),
@@ -161,11 +153,9 @@ def of_trees(world):
     def lists(name, words, chosen, **more):
         return Scenario(name, (*words, *chosen), lambda fault: worlds.digests_listed(world, chosen, fault), **more)
 
-    def by_input(outcome, file, name='stdin'):
-        return lambda fault: outcome(fault and fault._replace(name=name if fault.name == INPUT else fault.name))
-
     def names_of_input(fault):
-        return worlds.digests_listed(world, {'stdin': listed['listed']}, fault)
+        as_list = fault and fault._replace(name='stdin' if fault.name == INPUT else fault.name)
+        return worlds.digests_listed(world, {'stdin': listed['listed']}, as_list)
 
     def listed_audit(fault):
         told = worlds.unread_list({'names': []}, fault)
@@ -180,7 +170,7 @@ def of_trees(world):
         lists('names of a list', ('--files-from',), {'listed': listed['listed']}),
         lists('names of two lists', ('--files-from',), listed),
         lists('names that NULs end', ('--files0-from',), {'ended': listed['listed']}),
-        Scenario('names of the input', ('--files-from',), by_input(names_of_input, 'listed'), 'listed'),
+        Scenario('names of the input', ('--files-from',), names_of_input, 'listed'),
         Scenario('an audit', ('--audit', 'lines', *names), lambda fault: worlds.audited(world, 'lines', entries, names, fault)),
         Scenario('an audit of what stayed', ('--audit', 'below', *below),
                  lambda fault: worlds.audited(world, 'below', below, list(below), fault)),
@@ -232,8 +222,7 @@ def of_xxh(world):
             Scenario('xxh with a bad seed', ('hash', '32', 'x'), plainly('', 'xxh: bad seed\n', 2), 'a', 'xxh')]
 
 
-def all_scenarios(world):
-    return [*of_names(world), *of_input(world), *of_checks(world), *of_one_pipe(world), *of_trees(world), *of_streams(world), *of_xxh(world)]
+GROUPS = of_names, of_input, of_checks, of_one_pipe, of_trees, of_streams, of_xxh
 
 
 def input_of(scenario, world):

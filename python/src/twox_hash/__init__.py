@@ -7,26 +7,9 @@ can be saved, loaded and pickled (`state`, `from_state`), `file_digest`, and `ma
 against an attacker who chooses the input."""
 from ._files import file_digest
 from ._many import many
-from ._native import (
-    XXHASH_VERSION,
-    instruction_set,
-    xxh3_64,
-    xxh3_64_digest,
-    xxh3_64_hexdigest,
-    xxh3_64_intdigest,
-    xxh3_128,
-    xxh3_128_digest,
-    xxh3_128_hexdigest,
-    xxh3_128_intdigest,
-    xxh32,
-    xxh32_digest,
-    xxh32_hexdigest,
-    xxh32_intdigest,
-    xxh64,
-    xxh64_digest,
-    xxh64_hexdigest,
-    xxh64_intdigest,
-)
+from ._native import (XXHASH_VERSION, instruction_set, xxh3_64, xxh3_64_digest, xxh3_64_hexdigest, xxh3_64_intdigest,
+                      xxh3_128, xxh3_128_digest, xxh3_128_hexdigest, xxh3_128_intdigest, xxh32, xxh32_digest,
+                      xxh32_hexdigest, xxh32_intdigest, xxh64, xxh64_digest, xxh64_hexdigest, xxh64_intdigest)
 from ._types import algorithms_available
 from .version import VERSION, VERSION_TUPLE, __version__
 

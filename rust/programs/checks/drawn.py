@@ -4,6 +4,7 @@ import random
 import subprocess
 
 from report import want
+from tools import write
 
 SECONDS = 30
 # Only the version of these programs has this, in a line that is also in the help.
@@ -51,10 +52,8 @@ def mutated(draw, text):
 
 def lay_out(draw, room):
     """Files, directories and links, and a list of digests in each style by the program of the list."""
-    os.makedirs(os.path.join(room, b'd', b'deep'))
     for name, most in FILES.items():
-        with open(os.path.join(room, name), 'wb') as file:
-            file.write(draw.randbytes(draw.randrange(most + 1)))
+        write(os.path.join(room, name), draw.randbytes(draw.randrange(most + 1)))
     for target, name in LINKS:
         os.symlink(target, os.path.join(room, name))
 
@@ -87,8 +86,7 @@ def drawn_xxhsum(draw, lists, room):
     listed = drawn_list(draw, lists)
     between = draw.choice((b'\n', b'\n', b'\0', b'\0', b'a\0b\n'))
     for name, text in ((b'list', listed), (b'names', mutated(draw, between.join(draw.sample(NAMES, 5))))):
-        with open(os.path.join(room, name), 'wb') as file:
-            file.write(text)
+        write(os.path.join(room, name), text)
     words = draw.sample(OPTIONS, draw.choice((0, 1, 1, 2, 3)))
     if draw.random() < .5:
         words.insert(0, draw.choice((b'-c', b'--audit', b'--check', b'--files-from', b'--files0-from', b'--filelist', b'-r')))

@@ -5,7 +5,7 @@ import resource
 import subprocess
 
 from report import want
-from tools import must
+from tools import must, write
 
 SOURCE = os.path.join(os.path.dirname(os.path.abspath(__file__)), 'refused.c')
 # The status and the message of each program.
@@ -26,15 +26,10 @@ UNHARMED = 4
 
 
 def lay_out(room, programs):
-    for folder in ('short/folder', os.path.dirname(LONG)):
-        os.makedirs(os.path.join(room, folder))
     for name in ('a', 'b', 'short/c', 'short/folder/d', LONG):
-        with open(os.path.join(room, name), 'w') as file:
-            file.write(name * 50)
-    with open(os.path.join(room, 'names'), 'w') as file:
-        file.write('a\nb\nshort/c\n')
-    with open(os.path.join(room, 'list'), 'wb') as file:
-        file.write(did(programs, ('xxhsum', 'a', 'b', 'short/c', 'short/folder/d'), room)[0])
+        write(os.path.join(room, name), name * 50)
+    write(os.path.join(room, 'names'), 'a\nb\nshort/c\n')
+    write(os.path.join(room, 'list'), did(programs, ('xxhsum', 'a', 'b', 'short/c', 'short/folder/d'), room)[0])
 
 
 def did(programs, task, room, limit=None, **variables):

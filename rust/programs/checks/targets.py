@@ -2,11 +2,10 @@
 import os
 import re
 import shutil
-import subprocess
 
 from report import tail, want
 from room import ARM_PACKAGES, FURTHER, SOURCE_PACKAGES, ArmRoom, install_packages
-from tools import TOP, must
+from tools import TOP, must, ran, write
 
 PROGRAMS = ('xxh', 'xxhsum')
 RIGHT = re.compile(r'(\d+) (?:cases|rows on \w+) as wanted, (\d+) otherwise')
@@ -16,17 +15,14 @@ def emulated(room, programs, runner):
     """A script for each program that runs it by an emulator, under the name by which the script is called."""
     found = {}
     for name, program in programs.items():
-        found[name] = os.path.join(room.path, f'{name}-emulated')
-        with open(found[name], 'w') as file:
-            file.write(f'#!/bin/sh\nexec {" ".join(runner)} {program} "$@"\n')
-        os.chmod(found[name], 0o755)
+        found[name] = write(os.path.join(room.path, f'{name}-emulated'),
+                            f'#!/bin/sh\nexec {" ".join(runner)} {program} "$@"\n', 0o755)
     return found
 
 
 def rows_of_xxhsum(program):
     """The cases and rows of checks/xxhsum. Its planted faults depend on times, which an emulator stretches."""
-    words = [os.path.join(TOP, 'checks', 'xxhsum'), '--stored', program]
-    done = subprocess.run(words, stdout=subprocess.PIPE, stderr=subprocess.STDOUT, text=True, errors='replace')
+    done = ran([os.path.join(TOP, 'checks', 'xxhsum'), '--stored', program])
     counts = RIGHT.findall(done.stdout)
     want(len(counts) == 3 and all(wrong == '0' for _, wrong in counts), f'{counts}: {tail(done.stdout)}')
     return f'{sum(int(right) for right, _ in counts)} cases and rows'
@@ -55,22 +51,18 @@ ON_WINDOWS = (
 
 def on_windows(wine, folder, words, given, told, status):
     name, *arguments = words.split()
-    done = subprocess.run([*wine, os.path.join(folder, f'{name}.exe'), *arguments], input=given, cwd=folder, stdout=subprocess.PIPE,
-                          stderr=subprocess.STDOUT, text=True)
+    done = ran([*wine, os.path.join(folder, f'{name}.exe'), *arguments], input=given, cwd=folder)
     found = '\n'.join(line for line in done.stdout.splitlines() if not line.startswith('wine:'))
     want((found.rstrip('\n'), done.returncode) == (told, status), f'{found}, {done.returncode}')
 
 
 def lay_out_for_windows(programs, folder):
     """Files, lists of Debian's xxhsum, and the programs under three names."""
-    os.makedirs(os.path.join(folder, 'folder'))
     for name, text in (('a', 'some bytes'), ('folder/b', 'other bytes')):
-        with open(os.path.join(folder, name), 'w') as file:
-            file.write(text)
+        write(os.path.join(folder, name), text)
     listed = must(['xxhsum', '-q', 'a', 'folder/b'], cwd=folder)
     for name, text in (('list', listed), ('missing', listed.splitlines(True)[0] + listed.split()[0] + '  no/where\n')):
-        with open(os.path.join(folder, name), 'w') as file:
-            file.write(text)
+        write(os.path.join(folder, name), text)
     for name, program in (('xxh', 'xxh'), ('xxhsum', 'xxhsum'), ('xxh32sum', 'xxhsum')):
         shutil.copy(programs[program], os.path.join(folder, f'{name}.exe'))
     return listed
