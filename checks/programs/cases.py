@@ -106,9 +106,24 @@ SIZED = {f'length-{count:06}': gen(count) for count in LENGTHS}
 
 # The files of every case, besides the folder d and the links of `lay_out` in checks/xxhsum.
 FILES = {
-    'a': HELLO, 'b c': b'world', 'e': b'', 'back\\slash': HELLO, 'line\nfeed': HELLO, 'return\r': HELLO,
-    b'\xff\xfe': HELLO, 'é': HELLO, '(p)': HELLO, '*star': HELLO, ' space': HELLO, '-x': HELLO, 'n' * 255: HELLO,
-    'd/inner': HELLO, 'good': GOOD, 'wrong': WRONG + b'  a\n', 'junk': b'junk\n', 'empty': b'',
+    'a': HELLO,
+    'b c': b'world',
+    'e': b'',
+    'back\\slash': HELLO,
+    'line\nfeed': HELLO,
+    'return\r': HELLO,
+    b'\xff\xfe': HELLO,
+    'é': HELLO,
+    '(p)': HELLO,
+    '*star': HELLO,
+    ' space': HELLO,
+    '-x': HELLO,
+    'n' * 255: HELLO,
+    'd/inner': HELLO,
+    'good': GOOD,
+    'wrong': WRONG + b'  a\n',
+    'junk': b'junk\n',
+    'empty': b'',
 }
 
 

@@ -197,10 +197,14 @@ def main():
     given = parser.parse_args()
     parts = {
         'lists that one makes and the other checks': (lists_of_each_other,),
-        'lists with damaged lines': (random_lists, given.lists), 'the table of lines': (lines_of_the_table,),
-        'names of each byte': (names_of_each_byte,), 'names that are not UTF-8': (refused_names,),
-        'many small files': (small_files, given.files), 'a long pipe': (long_pipe, given.gib),
-        'a file that shrinks': (shrinking_file,), 'progress on a terminal': (progress,),
+        'lists with damaged lines': (random_lists, given.lists),
+        'the table of lines': (lines_of_the_table,),
+        'names of each byte': (names_of_each_byte,),
+        'names that are not UTF-8': (refused_names,),
+        'many small files': (small_files, given.files),
+        'a long pipe': (long_pipe, given.gib),
+        'a file that shrinks': (shrinking_file,),
+        'progress on a terminal': (progress,),
     }
     report = Report()
     with tempfile.TemporaryDirectory() as room:
