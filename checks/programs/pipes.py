@@ -137,10 +137,14 @@ def long_line(program, folder):
 
 
 ROWS = {
-    'whole lines': whole_lines, 'whole lines that NULs end': nul_lines, 'whole lines of a check': checked_lines,
-    'output before messages': before_messages, 'output before messages about lists': before_messages_of_lists,
+    'whole lines': whole_lines,
+    'whole lines that NULs end': nul_lines,
+    'whole lines of a check': checked_lines,
+    'output before messages': before_messages,
+    'output before messages about lists': before_messages_of_lists,
     'output before messages about lists with no line': before_messages_of_empty_lists,
-    'several runs into one pipe': runs_into_one_pipe, 'a long line': long_line,
+    'several runs into one pipe': runs_into_one_pipe,
+    'a long line': long_line,
 }
 
 

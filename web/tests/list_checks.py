@@ -374,15 +374,25 @@ def opened_as_file(page):
 
 
 LIST_CHECKS = {
-    "an expected digest, in words": expected, "what is no digest is told": no_digest,
-    "a digest of another hash is told": other_digests, "what can't be read in a drop is told, and again": odd_items,
-    "dragging over a scrolled page": dragged, "an expected digest among many": among_many,
-    "a checksum file with its files": checksum_file, "a checksum file under a seed": under_a_seed,
-    "long lines of a checksum file": long_lines, "improper lines of a checksum file": improper_lines,
-    "a folder that is chosen": folder_chosen, "a folder that is dropped": folder_dropped,
-    "lines saved and copied, for xxhsum -c": lines_saved, "one file is removed": removed,
-    "10,000 files and their checksum file": many_files, "1,000,000 names": million_names,
-    "verifying a download": download, "a small screen": small_screen, "opened as a file": opened_as_file,
+    "an expected digest, in words": expected,
+    "what is no digest is told": no_digest,
+    "a digest of another hash is told": other_digests,
+    "what can't be read in a drop is told, and again": odd_items,
+    "dragging over a scrolled page": dragged,
+    "an expected digest among many": among_many,
+    "a checksum file with its files": checksum_file,
+    "a checksum file under a seed": under_a_seed,
+    "long lines of a checksum file": long_lines,
+    "improper lines of a checksum file": improper_lines,
+    "a folder that is chosen": folder_chosen,
+    "a folder that is dropped": folder_dropped,
+    "lines saved and copied, for xxhsum -c": lines_saved,
+    "one file is removed": removed,
+    "10,000 files and their checksum file": many_files,
+    "1,000,000 names": million_names,
+    "verifying a download": download,
+    "a small screen": small_screen,
+    "opened as a file": opened_as_file,
 }
 
 # The checks for each browser.
