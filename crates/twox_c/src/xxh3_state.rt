@@ -54,7 +54,7 @@ fn is_secret_length(length: usize) -> bool
 
 // Borrows the first bytes of the array as a secret.
 #[inline(always)]
-fn stored_secret(secret: &[u8; GREATEST_SECRET_LENGTH], count: usize) -> Secret<'_>
+fn lent(secret: &[u8; GREATEST_SECRET_LENGTH], count: usize) -> Secret<'_>
     requires { IsSecretLength count }
     ensures { secret_bytes result ≡ take count secret.now }
 {
@@ -76,7 +76,7 @@ impl Xxh3State {
         requires { IsSecretLength self.now.secret_length }
         ensures { IsTrue result ↔ IsInRange (secret_of self.now) self.now.core }
     {
-        let secret = stored_secret(&self.secret, self.secret_length);
+        let secret = lent(&self.secret, self.secret_length);
         self.core.is_in_range(secret)
     }
 
@@ -149,7 +149,7 @@ impl Xxh3State {
         if !self.is_usable() {
             return XXH_ERROR;
         }
-        let secret = stored_secret(&self.secret, self.secret_length);
+        let secret = lent(&self.secret, self.secret_length);
         self.core.write(Kernel {}, input, secret);
         XXH_OK
     }
@@ -172,7 +172,7 @@ impl Xxh3State {
         if !self.is_usable() {
             return None;
         }
-        let secret = stored_secret(&self.secret, self.secret_length);
+        let secret = lent(&self.secret, self.secret_length);
         Some(self.core.finish(Kernel {}, finalize, self.seed(), secret))
     }
 }

@@ -6,7 +6,7 @@ use Rattle.twox_c.proofs.xxh3_state.Xxh3State.finish.Goals as goal
 
 pub returns-clause-exact : goal.returns-clause-exact
 unfolding core_finish
-returns-clause-exact g c = λ _. ap (λ x. Some x) (rw (c.stored_secret-secret.ensures, c.seed.ensures) at c.finish.ensures.exact)
+returns-clause-exact g c = λ _. ap (λ x. Some x) (rw (c.lent-secret.ensures, c.seed.ensures) at c.finish.ensures.exact)
 
 pub returns-clause-short : goal.returns-clause-short
 returns-clause-short g c = λ seed s m given short.

@@ -8,7 +8,7 @@ use Rattle.twox_c.proofs.xxh3_state.Xxh3State.update.Goals as goal
 pub returns-clause-exact : goal.returns-clause-exact
 unfolding core_after_write
 returns-clause-exact c = λ _.
-    let exact = rw c.stored_secret-secret.ensures at c.write.ensures.exact in
+    let exact = rw c.lent-secret.ensures at c.write.ensures.exact in
     rw exact refl
 
 pub returns-clause-message : goal.returns-clause-message
@@ -19,7 +19,7 @@ returns-clause-message c = λ seed s m given.
       usable = record {
         mark = usable.mark;
         secret_length = usable.secret_length;
-        in_range = rw c.stored_secret-secret.ensures at c.write.ensures.in_range;
+        in_range = rw c.lent-secret.ensures at c.write.ensures.in_range;
       };
       message = subst (λ h. Represents (λ x. x) h seed s (m ++ d)) (sym (returns-clause-exact c usable))
           (stands_written (λ x. x) (stream_of c.args.self.now) seed s m d (omega (arith, usable.in_range.place)) c.write.ensures.size usable.in_range.within given.message);
