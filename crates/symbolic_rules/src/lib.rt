@@ -1,6 +1,6 @@
 //! The rules by which `oracle/symbolic` writes the definitions and the reference library's code as terms in one form,
-//! as functions whose contracts are these rules. They have no code. The program in `oracle/symbolic_terms` uses the same
-//! names for its rules; that it applies them as they are written is not proved.
+//! as functions whose contracts are these rules. They have no code. The program in `oracle/symbolic_terms` uses the
+//! same names for its rules; that it applies them as they are written is not proved.
 //!
 //! All values are naturals: a word of w bits is one below 2 ^ w, and a segment of a value v is v / 2 ^ k % 2 ^ n.
 #![tactic(auto)]
