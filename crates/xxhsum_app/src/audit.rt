@@ -137,7 +137,8 @@ fn digests_of_entries(alloc: Global, entries: &[Entry]) -> Result<Vec<FileDigest
 }
 
 fn borrowed_names(alloc: Global, names: &[Vec<u8>]) -> Result<Vec<&[u8]>, AllocError>
-    ensures { IfOk result (λ requested. texts_of requested.items ≡ map (λ name. name.items) names.now) }
+    ensures { IfOk result
+        (λ requested. texts_of requested.items ≡ map (λ name. name.items) names.now) }
 {
     let mut requested = Vec::new(alloc);
     for name in names {
@@ -148,7 +149,8 @@ fn borrowed_names(alloc: Global, names: &[Vec<u8>]) -> Result<Vec<&[u8]>, AllocE
 
 // Reports the first name that leads to the same place as the next one. Returns whether there is one.
 fn eprint_duplicate<E: Sink>(among: &[u8], names: &[&[u8]], err: &mut E) -> bool
-    ensures { ReportsDuplicate E.Sink among.now (find_duplicate (texts_of names.now)) err.old err.new result }
+    ensures { ReportsDuplicate E.Sink among.now (find_duplicate (texts_of names.now))
+        err.old err.new result }
 {
     match find_duplicate(names) {
         Some(name) => {

@@ -541,7 +541,8 @@ pub fn check_list<S: Store, T: TimedSink, R: Source + Drop, W: Output, E: Sink>(
     source: R,
     streams: &mut Streams<W, E>,
 ) -> Result<bool, Stop>
-    ensures { SaysList (files_of S.Store S.File.Source context.now.store.now) (input_of R.Source source)
+    ensures { SaysList (files_of S.Store S.File.Source context.now.store.now)
+        (input_of R.Source source)
         (effect_of (rules_of W.Sink W.held W.has_lost E.Sink) streams.old streams.new result)
         context.now.options name.now }
 {
