@@ -25,6 +25,7 @@ ghost use Rattle.twox_hash.specs.Ending.{stream_accumulators, stream_block, last
 ghost use Rattle.twox_hash.specs.Record32 as Record32;
 ghost use Rattle.twox_hash.specs.Record64 as Record64;
 ghost use Rattle.twox_hash.specs.Represents.{Represents};
+ghost use Rattle.twox_hash.specs.StreamState.{own};
 ghost use Rattle.theorems.specs.Values.{AreValuesOf, joined};
 
 use std::alloc::{AllocError, Allocator};
@@ -126,6 +127,22 @@ impl<A: Allocator> StreamingHasher for XxHash3_64<A> {
     }
 }
 
+impl<A: Allocator> StreamingHasher for xxhash3_64::LazyHasher<A> {
+    type Value = u64;
+
+    ghost follows = { λ h seed s m. Represents own h seed s m };
+
+    ghost value = { stream_64 };
+
+    fn update(&mut self, piece: &[u8]) {
+        self.write(piece);
+    }
+
+    fn digest(&self) -> u64 {
+        self.finish()
+    }
+}
+
 impl<S: FixedBuffer> StreamingHasher for xxhash3_128::RawHasher<S> {
     type Value = u128;
 
@@ -146,6 +163,22 @@ impl<A: Allocator> StreamingHasher for XxHash3_128<A> {
     type Value = u128;
 
     ghost follows = { λ h seed s m. Represents boxed_slice_items h seed s m };
+
+    ghost value = { stream_128 };
+
+    fn update(&mut self, piece: &[u8]) {
+        self.write(piece);
+    }
+
+    fn digest(&self) -> u128 {
+        self.finish_128()
+    }
+}
+
+impl<A: Allocator> StreamingHasher for xxhash3_128::LazyHasher<A> {
+    type Value = u128;
+
+    ghost follows = { λ h seed s m. Represents own h seed s m };
 
     ghost value = { stream_128 };
 
@@ -308,6 +341,44 @@ pub fn xxh3_64_keyed_of_pieces<A: Allocator>(
     Some(digests(&mut hasher, first, rest))
 }
 
+/// A stream that derives its secret whenever it has an effect, by `new`: the seed 0 and the default secret.
+pub fn xxh3_64_lazy_of_pieces<A: Allocator>(alloc: A, first: &[&[u8]], rest: &[&[u8]]) -> (u64, u64)
+    ensures { AreValuesOf (stream_64 (Some 0) default_secret) first.now rest.now result }
+{
+    digests(&mut xxhash3_64::LazyHasher::new(alloc), first, rest)
+}
+
+/// A stream that derives its secret whenever it has an effect, with a seed.
+pub fn xxh3_64_lazy_seeded_of_pieces<A: Allocator>(
+    alloc: A,
+    seed: u64,
+    first: &[&[u8]],
+    rest: &[&[u8]],
+) -> (u64, u64)
+    ensures { AreValuesOf (stream_64 (Some seed) (derived_secret seed)) first.now rest.now result }
+{
+    digests(
+        &mut xxhash3_64::LazyHasher::with_seed(alloc, seed),
+        first,
+        rest,
+    )
+}
+
+/// The same type of stream with a seed and a boxed secret of the caller: accepted from 136 bytes on.
+pub fn xxh3_64_lazy_seeded_and_keyed_of_pieces<A: Allocator>(
+    seed: u64,
+    secret: BoxedSlice<u8, A>,
+    first: &[&[u8]],
+    rest: &[&[u8]],
+) -> Option<(u64, u64)>
+    ensures accepted { IsSome result ↔ (136 ≤ length (boxed_slice_items secret)) }
+    ensures values { let s = boxed_slice_items secret in
+        IfSome result (AreValuesOf (stream_64 (Some seed) s) first.now rest.now) }
+{
+    let mut hasher = xxhash3_64::LazyHasher::with_seed_and_secret(seed, secret).ok()?;
+    Some(digests(&mut hasher, first, rest))
+}
+
 /// All bytes at once, with the default secret and the seed 0.
 pub fn xxh3_64_at_once(input: &[u8]) -> u64
     ensures { result ≡ xxh3_64 0 default_secret input.now }
@@ -429,6 +500,48 @@ pub fn xxh3_128_keyed_of_pieces<A: Allocator>(
         IfSome result (AreValuesOf (xxh3_128 0 s) first.now rest.now) }
 {
     let mut hasher = XxHash3_128::with_secret(secret).ok()?;
+    Some(digests(&mut hasher, first, rest))
+}
+
+/// A stream that derives its secret whenever it has an effect, by `new`: the seed 0 and the default secret.
+pub fn xxh3_128_lazy_of_pieces<A: Allocator>(
+    alloc: A,
+    first: &[&[u8]],
+    rest: &[&[u8]],
+) -> (u128, u128)
+    ensures { AreValuesOf (stream_128 (Some 0) default_secret) first.now rest.now result }
+{
+    digests(&mut xxhash3_128::LazyHasher::new(alloc), first, rest)
+}
+
+/// A stream that derives its secret whenever it has an effect, with a seed.
+pub fn xxh3_128_lazy_seeded_of_pieces<A: Allocator>(
+    alloc: A,
+    seed: u64,
+    first: &[&[u8]],
+    rest: &[&[u8]],
+) -> (u128, u128)
+    ensures { AreValuesOf (stream_128 (Some seed) (derived_secret seed)) first.now rest.now result }
+{
+    digests(
+        &mut xxhash3_128::LazyHasher::with_seed(alloc, seed),
+        first,
+        rest,
+    )
+}
+
+/// The same type of stream with a seed and a boxed secret of the caller: accepted from 136 bytes on.
+pub fn xxh3_128_lazy_seeded_and_keyed_of_pieces<A: Allocator>(
+    seed: u64,
+    secret: BoxedSlice<u8, A>,
+    first: &[&[u8]],
+    rest: &[&[u8]],
+) -> Option<(u128, u128)>
+    ensures accepted { IsSome result ↔ (136 ≤ length (boxed_slice_items secret)) }
+    ensures values { let s = boxed_slice_items secret in
+        IfSome result (AreValuesOf (stream_128 (Some seed) s) first.now rest.now) }
+{
+    let mut hasher = xxhash3_128::LazyHasher::with_seed_and_secret(seed, secret).ok()?;
     Some(digests(&mut hasher, first, rest))
 }
 

@@ -28,7 +28,7 @@
 //! |---|---|---|---|
 //! | `XXH32_state_t` | `Xxh32State` | 48 | 4 |
 //! | `XXH64_state_t` | `Xxh64State` | 88 | 8 |
-//! | `XXH3_state_t` | `Xxh3State` | 960 | 8 |
+//! | `XXH3_state_t` | `Xxh3State` | 896 | 8 |
 //! | `XXH128_hash_t` | `Xxh128Hash` | 16 | 8 |
 //! | `XXH32_canonical_t`, `XXH64_canonical_t`, `XXH128_canonical_t` | arrays of bytes | 4, 8, 16 | 1 |
 //! | `XXH_errorcode` | `u32` | 4 | 4 |

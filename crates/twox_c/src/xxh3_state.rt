@@ -22,7 +22,7 @@ pub const GREATEST_SECRET_LENGTH: usize = 256;
 /// Written to a state by a reset: the letters `twoxXXH3`, the first in the low byte.
 pub const MARK_3: u64 = 0x3348_5858_786f_7774;
 
-/// `XXH3_state_t`: 960 bytes, aligned to 8. Before the first reset it may hold anything.
+/// `XXH3_state_t`: 896 bytes, aligned to 8. Before the first reset it may hold anything.
 ///
 /// It stores the secret itself, not a pointer to it.
 #[repr(C)]
@@ -42,7 +42,7 @@ pub struct Xxh3State {
     pub secret: [u8; GREATEST_SECRET_LENGTH],
 }
 
-const _: () = prove!(size_of::<Xxh3State>() == 960);
+const _: () = prove!(size_of::<Xxh3State>() == 896);
 
 // True if a state stores secrets of this length.
 #[inline(always)]

@@ -11,8 +11,10 @@ pub mod OutsideVectors128
 pub mod OutsideVectors64
 pub mod PartFacts
 mod Prelude
+pub mod ShortBytes
 pub mod ShortLaws
 pub mod StepLaws
+pub mod StateFacts
 pub mod StreamFacts
 pub mod StripeFacts
 pub mod TakenFacts

@@ -1,7 +1,9 @@
 -- Lemmas on streams: a stream represents the concatenation of its chunks.
 use Rattle.std.proofs.Common.{◌≡◌, ℕ, Option, zero, suc, ◌+◌, ◌-◌, ◌*◌, ◌/◌, ◌%◌, ◌^◌, ◌<◌, ◌≤◌, min, nat_le, nat_lt, if◌then◌else◌, Bool, true, false, List, [], ◌++◌, length, take, drop, refl, sym, ap, ◌∙◌, arith, length-append, length-drop}
 use Rattle.twox_core.proofs.Prelude.{CoreState, CoreView, StreamKey, TakenStripes, buffered_of, counted, done_of, nat_tests, short_secret, stream_seed, stripes_of, take-append-add, total_of}
-use Rattle.std.proofs.lemmas.List.{append-nil, append_assoc, drop-append-le, drop-drop, drop-take, drop_all, drop_at, take_at, length-take-le, take-append-drop}
+use Rattle.std.proofs.lemmas.List.{append-nil, append_assoc, drop-append-le, drop-drop, drop-take, drop_all, drop_at, take_at, length-take-le, take-append-drop, take-append-le, take_all}
+use Rattle.std.proofs.lemmas.Slice.{drop-append-drop}
+use Rattle.twox_core.specs.Parts.{stripe_at}
 use Rattle.twox_core.specs.Ending.{accumulators_after, stream_accumulators, stream_block, last_stripe}
 use Rattle.twox_core.specs.AfterWrite.{after_taking, empty_state, stripes_in_place, after_rest, after_long_piece, state_after_write, core_after_write}
 use Rattle.twox_core.specs.Finish.{last_bytes, buffered_bytes, stripes_left, end_accumulators, end_block, state_finish, core_finish}
@@ -58,8 +60,37 @@ holds_rest s m r b k n t some held count =
 counted_more : (t n : ℕ) (m d : List ℕ) → t ≡ counted (length m) → n ≡ min (t + length d) (2 ^ 64 - 1) → n ≡ counted (length (m ++ d))
 counted_more t n m d count sum = omega (arith, length-append m d)
 
-late_more : (m d : List ℕ) (k u : ℕ) → LeavesLast m k u → LeavesLast (m ++ d) k (u + length d)
-late_more m d k u late = record { left = λ some. omega (arith, late.left some); long = λ some. omega (arith, late.long some, length-append m d) }
+-- Lemma: bytes appended to m don't change a whole stripe of it.
+stripe_longer : (m d : List ℕ) (i : ℕ) → i + 64 ≤ length m → stripe_at (m ++ d) i ≡ stripe_at m i
+stripe_longer m d i fits = rw (drop-append-le i m d (omega arith)) (take-append-le 64 (drop i m) d (omega (arith, length-drop i m)))
+
+-- Lemma: bytes written before the buffer's last stripe leave it.
+end_stays : (b d : List ℕ) (u : ℕ) → u + length d ≤ 448 → u ≤ length b → drop 448 (take u b ++ (d ++ drop (length d) (drop u b))) ≡ drop 448 b
+end_stays b d u before within =
+    let written : take u b ++ (d ++ drop (length d) (drop u b)) ≡ (take u b ++ d) ++ drop (u + length d) b =
+    ap (λ (x : List ℕ). take u b ++ (d ++ x)) (drop-drop (length d) u b) ∙ sym (append_assoc (take u b) d (drop (u + length d) b)) in
+    rw written (drop-append-drop (u + length d) b (take u b ++ d) 448 before (omega (arith, length-append (take u b) d, length-take-le u b within)))
+
+late_more : (m d b : List ℕ) (k u : ℕ) → LeavesLast m k b u → u ≤ length b → 64 * k ≤ length m
+    → LeavesLast (m ++ d) k (take u b ++ (d ++ drop (length d) (drop u b))) (u + length d)
+late_more m d b k u late within fits = record {
+  left = λ some. omega (arith, late.left some);
+  long = λ some. omega (arith, late.long some, length-append m d);
+  last = λ some few. end_stays b d u (omega arith) within ∙ late.last some (omega arith) ∙ sym (stripe_longer m d (64 * k - 64) (omega arith));
+}
+
+-- Lemma: after fewer than 64 bytes, which begin the buffer again, a full buffer still ends with the last stripe taken.
+end_after_full : (m r b : List ℕ) (k : ℕ) → length b ≡ 512 → length r < 64 → 64 * k + 512 ≡ length m → b ≡ drop (64 * k) m
+    → drop 448 (r ++ drop (length r) b) ≡ stripe_at (m ++ r) (64 * (k + 8) - 64)
+end_after_full m r b k size few full bytes =
+    let place : 64 * k + 448 ≡ 64 * (k + 8) - 64 = omega arith in
+    let whole : length (drop (64 * k + 448) m) ≡ 64 = omega (arith, length-drop (64 * k + 448) m) in
+    drop-append-drop (length r) b r 448 (omega arith) refl
+    ∙ ap (drop 448) bytes
+    ∙ drop-drop 448 (64 * k) m
+    ∙ sym (take_all 64 (drop (64 * k + 448) m) (omega arith))
+    ∙ ap (stripe_at m) place
+    ∙ sym (stripe_longer m r (64 * (k + 8) - 64) (omega arith))
 
 written_in : (b : Bool) (s m d : List ℕ) (c : CoreState) → nat_le (length d) (512 - c.buffer_usage) ≡ b → 0 < stripes_of s → length c.buffer ≡ 512 → c.buffer_usage ≤ 512
     → Follows s c m → Follows s (state_after_write s c d) (m ++ d)
@@ -69,7 +100,7 @@ written_in true s m d c e some size within held =
     rw e (
       held.0,
       counted_more c.total_bytes _ m d held.1 refl,
-      late_more m d held.0 c.buffer_usage held.2,
+      late_more m d c.buffer held.0 c.buffer_usage held.2 (omega arith) (omega (arith, held.3.all)),
       holds_added s m d c.buffer held.0 c.buffer_usage c.taken held.3 size (omega arith),
     )
 written_in false s m d c e some size within held =
@@ -90,10 +121,18 @@ written_in false s m d c e some size within held =
     let filled = holds_added s m head c.buffer k u c.taken held.3 size fits in
     let taken = holds_rest s (m ++ head) rest buffer (k + (u + length head) / 64) n _ some (holds_emptied s (m ++ head) buffer k (u + length head) c.taken some filled (omega arith) whole) refl in
     let joined : (m ++ head) ++ rest ≡ m ++ d = append_assoc m head rest ∙ ap (λ (x : List ℕ). m ++ x) (take-append-drop part d) in
+    let last : length rest - 64 * n < 64 → drop 448 (drop (64 * n) rest ++ drop (length rest - 64 * n) buffer) ≡ stripe_at (m ++ d) (64 * (k + (u + length head) / 64 + n) - 64) =
+    λ few.
+    let start : 64 * n ≡ 0 = omega arith in
+    let entire : length rest - 64 * n ≡ length rest = omega arith in
+    let full : u + length head ≡ 512 = omega arith in
+    let eight : k + (u + length head) / 64 + n ≡ k + 8 = omega arith in
+    let bytes : buffer ≡ drop (64 * k) (m ++ head) = sym (take_all (u + length head) buffer (omega arith)) ∙ filled.bytes in
+    rw (eight, entire, start) (end_after_full (m ++ head) rest buffer k wide (omega arith) (omega (arith, filled.all)) bytes ∙ ap (λ (x : List ℕ). stripe_at x (64 * (k + 8) - 64)) joined) in
     rw e (
       k + (u + length head) / 64 + n,
       counted_more c.total_bytes _ m d held.1 refl,
-      record { left = λ _. omega arith; long = λ _. omega (arith, length-append m d) },
+      record { left = λ _. omega arith; long = λ _. omega (arith, length-append m d); last = λ _ few. last few },
       rw joined at taken,
     )
 
@@ -147,32 +186,33 @@ end_block_follows s m c held long =
     let last : 64 * k + 64 * n ≡ 64 * ((length m - 1) / 64) = omega arith in
     ap (drop (64 * n)) held.3.bytes ∙ drop-drop (64 * n) (64 * k) m ∙ rw last refl
 
-last_in : (b : Bool) (s m buffer : List ℕ) (k u : ℕ) (t : TakenStripes) → nat_lt u 64 ≡ b → Holds s m k t buffer u → 64 ≤ length m → last_bytes t.last buffer u ≡ last_stripe m
+last_in : (b : Bool) (s m buffer : List ℕ) (k u : ℕ) (t : TakenStripes) → nat_lt u 64 ≡ b → Holds s m k t buffer u → LeavesLast m k buffer u → 64 ≤ length m
+    → last_bytes buffer u ≡ last_stripe m
 unfolding last_bytes last_stripe
-last_in true s m buffer k u t e held long =
+last_in true s m buffer k u t e held late long =
     let few : u < 64 = grind (arith, nat_tests, e) in
     let all = held.all in
     let some : 0 < k = omega arith in
-    let kept : drop u t.last ≡ take (64 - u) (drop (length m - 64) m) =
+    let kept : drop (448 + u) buffer ≡ take (64 - u) (drop (length m - 64) m) =
     let there : 64 * k - 64 + u ≡ length m - 64 = omega arith in
     let width : u + (64 - u) ≡ 64 = omega arith in
-    ap (drop u) (held.taken.last some)
+    sym (drop-drop u 448 buffer) ∙ ap (drop u) (late.last some few)
     ∙ rw width at (drop-take u (64 - u) (drop (64 * k - 64) m))
     ∙ ap (take (64 - u)) (drop-drop u (64 * k - 64) m ∙ rw there refl) in
     let rest : take u buffer ≡ drop (64 - u) (drop (length m - 64) m) =
     let there : length m - 64 + (64 - u) ≡ 64 * k = omega arith in
     held.bytes ∙ sym (drop-drop (64 - u) (length m - 64) m ∙ rw there refl) in
     rw (e, kept, rest) (take-append-drop (64 - u) (drop (length m - 64) m))
-last_in false s m buffer k u t e held long =
+last_in false s m buffer k u t e held late long =
     let many : 64 ≤ u = grind (arith, nat_tests, e) in
     let all = held.all in
     let width : u - 64 + 64 ≡ u = omega arith in
     let there : 64 * k + (u - 64) ≡ length m - 64 = omega arith in
     rw e (sym (rw width at (drop-take (u - 64) 64 buffer)) ∙ ap (drop (u - 64)) held.bytes ∙ drop-drop (u - 64) (64 * k) m ∙ rw there refl)
 
-end_stripe_follows : (s m : List ℕ) (c : CoreState) → Follows s c m → 240 < length m → last_bytes c.taken.last c.buffer c.buffer_usage ≡ last_stripe m
+end_stripe_follows : (s m : List ℕ) (c : CoreState) → Follows s c m → 240 < length m → last_bytes c.buffer c.buffer_usage ≡ last_stripe m
 unfolding Follows
-end_stripe_follows s m c held long = last_in (nat_lt c.buffer_usage 64) s m c.buffer held.0 c.buffer_usage c.taken refl held.3 (omega arith)
+end_stripe_follows s m c held long = last_in (nat_lt c.buffer_usage 64) s m c.buffer held.0 c.buffer_usage c.taken refl held.3 held.2 (omega arith)
 
 -- ---- the clauses of the core's contracts
 
@@ -186,7 +226,7 @@ stands_cleared bytes h buffer = (
   (
     0,
     refl,
-    record { left = λ some. absurd (omega (arith, some)); long = λ some. absurd (omega (arith, some)) },
+    record { left = λ some. absurd (omega (arith, some)); long = λ some. absurd (omega (arith, some)); last = λ some _. absurd (omega (arith, some)) },
     record { taken = took_none (bytes h.secret) []; all = refl; bytes = refl },
   ),
 )
@@ -225,7 +265,7 @@ stands_secret bytes h seed s m held = held.1
 
 finished_in : {R : Type 0} (b : Bool) (small : List ℕ → ℕ → List ℕ → R) (large : List ℕ → List ℕ → List ℕ → List ℕ → ℕ → R) (seed : Option ℕ) (s : List ℕ) (c : CoreState)
     → nat_le c.total_bytes 240 ≡ b → state_finish small large seed s c
-    ≡ (if b then small (short_secret seed s) (stream_seed seed) (take c.total_bytes c.buffer) else large (end_accumulators s c) (end_block c) (last_bytes c.taken.last c.buffer c.buffer_usage) s c.total_bytes)
+    ≡ (if b then small (short_secret seed s) (stream_seed seed) (take c.total_bytes c.buffer) else large (end_accumulators s c) (end_block c) (last_bytes c.buffer c.buffer_usage) s c.total_bytes)
 unfolding state_finish
 finished_in b small large seed s c e = rw e refl
 

@@ -1,6 +1,5 @@
 -- The effect of one write on a stream, unread buffer bytes included.
-use Rattle.std.specs.Prelude.{ℕ, zero, suc, List, ◌++◌, ◌+◌, ◌-◌, ◌*◌, ◌/◌, ◌%◌, ◌^◌, min, nat_le, replicate, length, take, drop, if◌then◌else◌}
-use Rattle.twox_core.specs.Parts.{stripe_at}
+use Rattle.std.specs.Prelude.{ℕ, List, ◌++◌, ◌+◌, ◌-◌, ◌*◌, ◌/◌, ◌%◌, ◌^◌, min, nat_le, replicate, length, take, drop, if◌then◌else◌}
 use Rattle.twox_core.specs.Stripes.{after_stripes, no_stripe}
 use Rattle.twox_core.specs.CoreView.{CoreView}
 use Rattle.twox_core.specs.declared.xxhash3.streaming.taken_stripes.TakenStripes.{TakenStripes}
@@ -8,21 +7,15 @@ use Rattle.twox_core.specs.declared.xxhash3.streaming.core_state.CoreState.{Core
 
 -- nothing taken, and the state of no bytes
 abbrev pub none_taken : TakenStripes
-none_taken = record { stripes = no_stripe; last = replicate 64 0; count = 0 }
+none_taken = record { stripes = no_stripe; count = 0 }
 
 abbrev pub empty_state : CoreState
 empty_state = record { taken = none_taken; buffer = replicate 512 0; buffer_usage = 0; total_bytes = 0 }
-
--- the last of the first n stripes of xs, or the old one where n is 0
-unfoldable pub newest_stripe : List ℕ → List ℕ → ℕ → List ℕ
-newest_stripe old xs zero = old
-newest_stripe old xs (suc n) = stripe_at xs (64 * n)
 
 -- t after the first n stripes of xs, under the secret s
 unfoldable pub after_taking : List ℕ → TakenStripes → List ℕ → ℕ → TakenStripes
 after_taking s t xs n = record {
   stripes = after_stripes s t.stripes xs n;
-  last = newest_stripe t.last xs n;
   count = min (t.count + n) (2 ^ 64 - 1);
 }
 

@@ -1,13 +1,13 @@
 -- What the last call of a stream reads of it.
-use Rattle.std.specs.Prelude.{ℕ, Option, List, ◌++◌, ◌-◌, ◌*◌, ◌/◌, nat_le, nat_lt, take, drop, if◌then◌else◌}
+use Rattle.std.specs.Prelude.{ℕ, Option, List, ◌++◌, ◌+◌, ◌-◌, ◌*◌, ◌/◌, nat_le, nat_lt, take, drop, if◌then◌else◌}
 use Rattle.twox_core.specs.Value.{short_secret, stream_seed}
 use Rattle.twox_core.specs.Stripes.{after_stripes}
 use Rattle.twox_core.specs.CoreView.{CoreView}
 use Rattle.twox_core.specs.declared.xxhash3.streaming.core_state.CoreState.{CoreState}
 
--- the last 64 bytes, from the last stripe taken, t, and a buffer with u bytes in use
-unfoldable pub last_bytes : List ℕ → List ℕ → ℕ → List ℕ
-last_bytes t b u = if nat_lt u 64 then drop u t ++ take u b else take 64 (drop (u - 64) b)
+-- the last 64 bytes, from a buffer b with u bytes in use, which ends with the last stripe taken if u is below 64
+unfoldable pub last_bytes : List ℕ → ℕ → List ℕ
+last_bytes b u = if nat_lt u 64 then drop (448 + u) b ++ take u b else take 64 (drop (u - 64) b)
 
 abbrev pub buffered_bytes : CoreState → List ℕ
 buffered_bytes c = take c.buffer_usage c.buffer
@@ -27,7 +27,7 @@ end_block c = drop (64 * stripes_left c) (buffered_bytes c)
 unfoldable pub state_finish : {R : Type 0} → (List ℕ → ℕ → List ℕ → R) → (List ℕ → List ℕ → List ℕ → List ℕ → ℕ → R) → Option ℕ → List ℕ → CoreState → R
 state_finish small large seed s c =
     if nat_le c.total_bytes 240 then small (short_secret seed s) (stream_seed seed) (take c.total_bytes c.buffer)
-    else large (end_accumulators s c) (end_block c) (last_bytes c.taken.last c.buffer c.buffer_usage) s c.total_bytes
+    else large (end_accumulators s c) (end_block c) (last_bytes c.buffer c.buffer_usage) s c.total_bytes
 
 -- the value of a core, where `bytes` is the function from its secret to that secret's bytes
 unfoldable pub core_finish : {S R : Type 0} → (List ℕ → ℕ → List ℕ → R) → (List ℕ → List ℕ → List ℕ → List ℕ → ℕ → R) → (S → List ℕ) → CoreView S → R

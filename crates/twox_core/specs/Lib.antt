@@ -19,3 +19,5 @@ pub mod AfterWrite
 pub mod Finish
 pub mod Represents
 pub mod InRange
+pub mod StreamState
+pub mod LazyKey

@@ -7,10 +7,9 @@ use Rattle.twox_core.specs.Parts.{stripe_at}
 use Rattle.twox_core.specs.declared.xxhash3.streaming.taken_stripes.TakenStripes.{TakenStripes}
 use Rattle.twox_core.specs.declared.xxhash3.streaming.core_state.CoreState.{CoreState}
 
--- t has taken the first k stripes of m, and keeps the last of them
+-- t has taken the first k stripes of m
 pub record TookStripes (s m : List ℕ) (k : ℕ) (t : TakenStripes) : Type 0 where
   pub stripes : HasTaken s m k t.stripes
-  pub last : 0 < k → t.last ≡ stripe_at m (64 * k - 64)
   pub count : t.count ≡ min k (2 ^ 64 - 1)
 
 -- and the buffer begins with the u bytes of m after them
@@ -19,15 +18,17 @@ pub record Holds (s m : List ℕ) (k : ℕ) (t : TakenStripes) (buffer : List �
   pub all : 64 * k + u ≡ length m
   pub bytes : take u buffer ≡ drop (64 * k) m
 
--- stripes are taken only of a list that is longer than the buffer, and at least one byte is then left
-pub record LeavesLast (m : List ℕ) (k u : ℕ) : Type 0 where
+-- stripes are taken only of a list that is longer than the buffer, and at least one byte is then left; if fewer bytes
+-- than a stripe are left, the buffer ends with the last stripe taken
+pub record LeavesLast (m : List ℕ) (k : ℕ) (buffer : List ℕ) (u : ℕ) : Type 0 where
   pub left : 0 < k → 0 < u
   pub long : 0 < k → 512 < length m
+  pub last : 0 < k → u < 64 → drop 448 buffer ≡ stripe_at m (64 * k - 64)
 
 -- the state c under the secret s has taken m
 unfoldable pub Follows : List ℕ → CoreState → List ℕ → Type 0
 Follows s c m =
-    (k : ℕ) × (c.total_bytes ≡ counted (length m)) × LeavesLast m k c.buffer_usage × Holds s m k c.taken c.buffer c.buffer_usage
+    (k : ℕ) × (c.total_bytes ≡ counted (length m)) × LeavesLast m k c.buffer c.buffer_usage × Holds s m k c.taken c.buffer c.buffer_usage
 
 -- the core h has this seed, or none if it was made with only a secret; its secret has these bytes (by `bytes`), and it
 -- has hashed m

@@ -15,8 +15,8 @@ use crate::xxhash3::primes::{PRIME_MX2, PRIME32_2, PRIME64_1, PRIME64_2, PRIME64
 use crate::xxhash3::{
     Algorithm, AnyLength, CUTOFF, DEFAULT_SECRET_LENGTH, DEFAULT_SEED, DefaultLength, Derived,
     Finalize, Kernel, MANY_BYTES, Secret, Vector, avalanche, avalanche_xxh64, chunks_17_to_128,
-    default_secret, derived_secret, full_product, impl_1_to_3_bytes_combined, is_widened, mix_step,
-    oneshot_widened, pairs_of_u64_bytes, to_u64s,
+    default_secret, derived_secret, expect_middle, full_product, impl_1_to_3_bytes_combined,
+    is_widened, mix_step, oneshot_widened, pairs_of_u64_bytes, to_u64s,
 };
 use twox_words::words::{Halves, IntoU64, IntoU128, bp_as_chunks, u32_at, u64_at};
 
@@ -52,7 +52,7 @@ impl Finalize for Finalize128 {
 
 /// Returns the value with the default secret and the seed 0.
 ///
-/// Inputs above 64 bytes are a separate call: they need more registers than are free, so the shortest inputs save none.
+/// Each range above 64 bytes is a separate call: they need more registers than are free, so shorter inputs save none.
 #[inline(always)]
 pub fn oneshot(input: &[u8]) -> Wide
     ensures { result.high * 2 ^ 64 + result.low
@@ -62,24 +62,23 @@ pub fn oneshot(input: &[u8]) -> Wide
         impl_0_to_16_bytes(default_secret(), DEFAULT_SEED, input)
     } else if input.len() <= 64 {
         impl_17_to_64_bytes(default_secret(), DEFAULT_SEED, input)
-    } else {
-        oneshot_from_65(input)
-    }
-}
-
-#[inline(never)]
-fn oneshot_from_65(input: &[u8]) -> Wide
-    requires { 64 < length input.now }
-    ensures { result.high * 2 ^ 64 + result.low
-        ≡ xxh3_128 0 default_secret input.now }
-{
-    if input.len() <= 128 {
-        impl_65_to_128_bytes(default_secret(), DEFAULT_SEED, input)
+    } else if input.len() <= 128 {
+        oneshot_65_to_128(input)
     } else if input.len() <= CUTOFF {
         impl_129_to_240_bytes(default_secret(), DEFAULT_SEED, input)
     } else {
         oneshot_long(default_secret(), input)
     }
+}
+
+#[inline(never)]
+fn oneshot_65_to_128(input: &[u8]) -> Wide
+    requires some { 64 < length input.now }
+    requires few { length input.now ≤ 128 }
+    ensures { result.high * 2 ^ 64 + result.low
+        ≡ xxh3_128 0 default_secret input.now }
+{
+    impl_65_to_128_bytes(default_secret(), DEFAULT_SEED, input)
 }
 
 /// Returns the value with a seed: up to 240 bytes with the default secret, above that with the one derived from the
@@ -94,26 +93,25 @@ pub fn oneshot_with_seed(seed: u64, input: &[u8]) -> Wide
         impl_0_to_16_bytes(default_secret(), seed, input)
     } else if input.len() <= 64 {
         impl_17_to_64_bytes(default_secret(), seed, input)
+    } else if input.len() <= 128 {
+        oneshot_with_seed_65_to_128(input, seed)
+    } else if input.len() <= CUTOFF {
+        impl_129_to_240_bytes(default_secret(), seed, input)
     } else {
-        oneshot_with_seed_from_65(input, seed)
+        oneshot_long_with_seed(seed, input)
     }
 }
 
 // The seed comes last, as in C's calls, so no register moves on the way.
 #[inline(never)]
 #[tactic(auto, unfolding(crate::specs::Value::effective_secret))]
-fn oneshot_with_seed_from_65(input: &[u8], seed: u64) -> Wide
-    requires { 64 < length input.now }
+fn oneshot_with_seed_65_to_128(input: &[u8], seed: u64) -> Wide
+    requires some { 64 < length input.now }
+    requires few { length input.now ≤ 128 }
     ensures { result.high * 2 ^ 64 + result.low
         ≡ xxh3_128 seed (effective_secret (derived_secret seed) input.now) input.now }
 {
-    if input.len() <= 128 {
-        impl_65_to_128_bytes(default_secret(), seed, input)
-    } else if input.len() <= CUTOFF {
-        impl_129_to_240_bytes(default_secret(), seed, input)
-    } else {
-        oneshot_long_with_seed(seed, input)
-    }
+    impl_65_to_128_bytes(default_secret(), seed, input)
 }
 
 /// Returns the value with a secret and the seed 0.
@@ -126,24 +124,23 @@ pub fn oneshot_with_secret(secret: Secret<'_>, input: &[u8]) -> Wide
         impl_0_to_16_bytes(secret, DEFAULT_SEED, input)
     } else if input.len() <= 64 {
         impl_17_to_64_bytes(secret, DEFAULT_SEED, input)
-    } else {
-        oneshot_with_secret_from_65(input, secret)
-    }
-}
-
-#[inline(never)]
-fn oneshot_with_secret_from_65(input: &[u8], secret: Secret<'_>) -> Wide
-    requires { 64 < length input.now }
-    ensures { result.high * 2 ^ 64 + result.low
-        ≡ xxh3_128 0 (secret_bytes secret.entry) input.now }
-{
-    if input.len() <= 128 {
-        impl_65_to_128_bytes(secret, DEFAULT_SEED, input)
+    } else if input.len() <= 128 {
+        oneshot_with_secret_65_to_128(input, secret)
     } else if input.len() <= CUTOFF {
         impl_129_to_240_bytes(secret, DEFAULT_SEED, input)
     } else {
         oneshot_long(secret, input)
     }
+}
+
+#[inline(never)]
+fn oneshot_with_secret_65_to_128(input: &[u8], secret: Secret<'_>) -> Wide
+    requires some { 64 < length input.now }
+    requires few { length input.now ≤ 128 }
+    ensures { result.high * 2 ^ 64 + result.low
+        ≡ xxh3_128 0 (secret_bytes secret.entry) input.now }
+{
+    impl_65_to_128_bytes(secret, DEFAULT_SEED, input)
 }
 
 /// Returns the value above 240 bytes, with a secret. No seed is used, so it is the value for every seed.
@@ -555,6 +552,7 @@ fn impl_129_to_240_bytes(secret: Secret<'_>, seed: u64, input: &[u8]) -> Wide
     ensures { result.high * 2 ^ 64 + result.low
         ≡ xxh3_128 seed (secret_bytes secret.entry) input.now }
 {
+    expect_middle(input, secret);
     let pairs = pairs_of_u64_bytes(input);
     let Accumulators {
         mut first,

@@ -7,16 +7,17 @@ ghost use Rattle.twox_core.specs.Middle.{both_ends, value64_129_to_240, value64_
 ghost use Rattle.twox_core.specs.Secret.{default_secret, derived_secret};
 ghost use Rattle.twox_core.specs.SecretBytes.{secret_bytes};
 ghost use Rattle.twox_core.specs.Short.{combined_bytes, value64_0, value64_4_to_8, value64_9_to_16, strong, low_1_to_3};
-ghost use Rattle.twox_core.specs.Steps.{mix, sum_below};
+ghost use Rattle.twox_core.specs.Steps.{mix, sum_below, word64};
 ghost use Rattle.twox_core.specs.Value.{effective_secret, xxh3_64};
 
 use crate::xxhash3::primes::{PRIME_MX2, PRIME64_1};
 use crate::xxhash3::{
     Algorithm, AnyLength, CUTOFF, DEFAULT_SECRET_LENGTH, DEFAULT_SEED, DefaultLength, Derived,
     Finalize, Kernel, MANY_BYTES, Secret, Vector, avalanche, avalanche_xxh64, chunks_17_to_128,
-    default_secret, derived_secret, fold, impl_1_to_3_bytes_combined, is_widened, mix_step,
-    mix_words, oneshot_widened,
+    default_secret, derived_secret, expect_middle, fold, impl_1_to_3_bytes_combined, is_widened,
+    mix_step, mix_words, oneshot_widened,
 };
+use twox_words::barriers::hidden_u64;
 use twox_words::words::{Halves, IntoU64, u32_at, u64_at};
 
 /// Finalizes 64-bit values, of short and of long inputs.
@@ -357,7 +358,17 @@ fn mix_at(input: &[u8], from_8: &[u8], i: usize, words: &[u8; 16], seed: u64) ->
     requires from_8 { from_8.now ≡ drop 8 input.now }
     ensures { result ≡ mix input.now i words.now 0 seed }
 {
-    mix_words(u64_at(input, i), u64_at(from_8, i), words, seed)
+    mix_words(u64_at(input, i), second_word(input, from_8, i), words, seed)
+}
+
+// Returns the second word of the 16 bytes at `i`, read from `from_8`.
+#[inline(always)]
+fn second_word(input: &[u8], from_8: &[u8], i: usize) -> u64
+    requires there { i + 16 ≤ length input.now }
+    requires from_8 { from_8.now ≡ drop 8 input.now }
+    ensures { result ≡ word64 input.now (i + 8) }
+{
+    u64_at(from_8, i)
 }
 
 // `from_8` is the input from byte 8 on. In its own function LLVM can't see that the two words of a chunk are adjacent;
@@ -369,20 +380,21 @@ fn impl_129_to_240_bytes(secret: Secret<'_>, seed: u64, input: &[u8], from_8: &[
     requires from_8 { from_8.now ≡ drop 8 input.now }
     ensures { result ≡ value64_129_to_240 seed (secret_bytes secret.entry) input.now }
 {
+    expect_middle(input, secret);
     let mut acc = input.len().into_u64().wrapping_mul(PRIME64_1);
 
     let words = secret.for_64().words_for_129_to_240_part1();
     'early: for c in 0..8 {
-        acc = acc.wrapping_add(mix_at(input, from_8, 16 * c, &words[c], seed));
+        acc = hidden_u64(acc.wrapping_add(mix_at(input, from_8, 16 * c, &words[c], seed)));
     }
     acc = avalanche(acc);
 
     // LLVM knows this number of iterations, so it doesn't make vectors of them either.
     let words = secret.for_64().words_for_129_to_240_part2();
-    let count = input.len() / 16 - 8;
     'later: for c in 0..7 {
-        if c < count {
-            acc = acc.wrapping_add(mix_at(input, from_8, 128 + 16 * c, &words[c], seed));
+        if input.len() >= 144 + 16 * c {
+            let sum = acc.wrapping_add(mix_at(input, from_8, 128 + 16 * c, &words[c], seed));
+            acc = hidden_u64(sum);
         }
     }
 

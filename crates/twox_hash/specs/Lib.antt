@@ -25,4 +25,5 @@ pub use Rattle.twox_core.specs.CoreView
 pub use Rattle.twox_core.specs.AfterWrite
 pub use Rattle.twox_core.specs.Finish
 pub use Rattle.twox_core.specs.Represents
+pub use Rattle.twox_core.specs.StreamState
 pub mod Streams

@@ -1,12 +1,12 @@
 //! Code shared by the streams of both widths: a core that takes the bytes, and the finalizer that computes the value.
-//! Each width's module adds its names, `Hasher` and `RawHasher`, and its last call.
+//! Each width's module adds its names, `Hasher`, `LazyHasher` and `RawHasher`, and its last call.
 
 use std::alloc::{AllocError, Allocator, Global};
 use std::boxed::BoxedSlice;
 use std::marker::{Model, PhantomData};
 use twox_core::xxhash3::{
-    AllocRawHasher, ClonedBuffer, Finalize, FixedBuffer, RawHasherCore, SecretBuffer,
-    SecretTooShortError,
+    ClonedBuffer, ClonedKey, DEFAULT_SEED, Finalize, FixedBuffer, Key, KeyedCore, LazyKey,
+    RawHasherCore, SecretBuffer, SecretTooShortError,
 };
 
 /// A stream over a secret of the caller. Allocates nothing. Its names are `xxhash3_64::RawHasher` and
@@ -50,6 +50,15 @@ impl<F: Finalize, S: FixedBuffer> RawStream<F, S> {
         self.core.write(input);
     }
 
+    /// Hashes the bytes of an array after the bytes before, as `write` does.
+    #[inline(always)]
+    pub fn write_array<const N: usize>(&mut self, bytes: &[u8; N])
+        ensures message { TakesPiece S.bytes self.old self.new bytes.now }
+        ensures exact { self.new ≡ core_after_write S.bytes self.old bytes.now }
+    {
+        self.core.write_array(bytes);
+    }
+
     /// Returns the secret that was passed in.
     pub fn into_secret(self) -> S
         ensures exact { result ≡ self.key.secret }
@@ -85,39 +94,73 @@ impl<F: Finalize, S: ClonedBuffer> Clone for RawStream<F, S> {
     }
 }
 
-/// A stream whose secret is allocated: `xxhash3_64::Hasher` and `xxhash3_128::Hasher`.
+/// A stream over a key. Its names are `Hasher` and `LazyHasher` of `xxhash3_64` and `xxhash3_128`.
 #[derive(Drop)]
-pub struct BoxedStream<F: Finalize, A: Allocator = Global> {
-    inner: AllocRawHasher<A>,
+pub struct KeyedStream<F: Finalize, K: Key> {
+    inner: KeyedCore<K>,
     finalizer: PhantomData<F>,
 }
 
-impl<F: Finalize, A: Allocator> Model for BoxedStream<F, A> {
-    ghost use Rattle.std.specs.Prelude.{ℕ};
-    ghost use Rattle.std.specs.declared.boxed.BoxedSlice.{BoxedSlice};
+impl<F: Finalize, K: Key> Model for KeyedStream<F, K> {
     ghost use Rattle.twox_core.specs.CoreView.{CoreView};
 
-    ghost Value = { CoreView (BoxedSlice ℕ A) };
+    ghost Value = { CoreView K.Held };
 
     ghost view = { λ h. h.inner };
 }
+
+impl<F: Finalize, K: Key> KeyedStream<F, K> {
+    ghost use Rattle.std.specs.Prelude.{◌≡◌, ℕ, Option, List};
+    ghost use Rattle.twox_core.specs.CoreView.{CoreView};
+    ghost use Rattle.twox_core.specs.AfterWrite.{core_after_write};
+    ghost use Rattle.twox_core.specs.Represents.{Represents, TakesPiece};
+
+    #[inline(always)]
+    fn over(inner: KeyedCore<K>) -> KeyedStream<F, K>
+        ensures { result ≡ inner }
+    {
+        KeyedStream {
+            inner,
+            finalizer: PhantomData,
+        }
+    }
+
+    /// Hashes a chunk after the bytes before.
+    #[inline]
+    pub fn write(&mut self, input: &[u8])
+        ensures message { TakesPiece K.bytes self.old self.new input.now }
+        ensures exact { self.new ≡ core_after_write K.bytes self.old input.now }
+    {
+        self.inner.write(input);
+    }
+
+    /// Hashes the bytes of an array after the bytes before, as `write` does.
+    #[inline(always)]
+    pub fn write_array<const N: usize>(&mut self, bytes: &[u8; N])
+        ensures message { TakesPiece K.bytes self.old self.new bytes.now }
+        ensures exact { self.new ≡ core_after_write K.bytes self.old bytes.now }
+    {
+        self.inner.write_array(bytes);
+    }
+
+    // Borrows the core, for the last call of a width.
+    #[inline(always)]
+    pub(crate) fn inner(&self) -> &KeyedCore<K>
+        ensures { result.now ≡ self.now }
+    {
+        &self.inner
+    }
+}
+
+/// A stream whose secret is allocated: `xxhash3_64::Hasher` and `xxhash3_128::Hasher`.
+pub type BoxedStream<F, A = Global> = KeyedStream<F, SecretBuffer<BoxedSlice<u8, A>>>;
 
 impl<F: Finalize, A: Allocator> BoxedStream<F, A> {
     ghost use Rattle.std.specs.Prelude.{◌≡◌, ℕ, Option, List, [], ◌<◌, ◌≤◌, length, IfOk, MatchResult};
     ghost use Rattle.std.specs.Box.{boxed_slice_items};
     ghost use Rattle.twox_core.specs.Secret.{default_secret, derived_secret};
     ghost use Rattle.twox_core.specs.CoreView.{CoreView};
-    ghost use Rattle.twox_core.specs.AfterWrite.{core_after_write};
-    ghost use Rattle.twox_core.specs.Represents.{Represents, TakesPiece};
-
-    fn over(inner: AllocRawHasher<A>) -> BoxedStream<F, A>
-        ensures { result ≡ inner }
-    {
-        BoxedStream {
-            inner,
-            finalizer: PhantomData,
-        }
-    }
+    ghost use Rattle.twox_core.specs.Represents.{Represents};
 
     /// Creates a stream of no bytes, with the seed 0 and the default secret.
     ///
@@ -127,7 +170,8 @@ impl<F: Finalize, A: Allocator> BoxedStream<F, A> {
     pub fn new(alloc: A) -> Result<BoxedStream<F, A>, AllocError>
         ensures { IfOk result (λ h. Represents boxed_slice_items h (Some 0) default_secret []) }
     {
-        Ok(BoxedStream::over(AllocRawHasher::allocate_default(alloc)?))
+        let buffer = SecretBuffer::allocate_default(alloc)?;
+        Ok(KeyedStream::over(KeyedCore::new(buffer)))
     }
 
     /// Creates a stream of no bytes, with the seed 0 and the default secret, as [`BoxedStream::new`] does.
@@ -150,8 +194,8 @@ impl<F: Finalize, A: Allocator> BoxedStream<F, A> {
         ensures { let s = derived_secret seed in
             IfOk result (λ h. Represents boxed_slice_items h (Some seed) s []) }
     {
-        let inner = AllocRawHasher::allocate_with_seed(alloc, seed)?;
-        Ok(BoxedStream::over(inner))
+        let buffer = SecretBuffer::allocate_with_seed(alloc, seed)?;
+        Ok(KeyedStream::over(KeyedCore::new(buffer)))
     }
 
     /// Creates a stream of no bytes, with the seed and the secret. Allocates nothing.
@@ -167,8 +211,8 @@ impl<F: Finalize, A: Allocator> BoxedStream<F, A> {
             MatchResult result (λ h. (136 ≤ length s) × Represents boxed_slice_items h (Some seed) s [])
             (λ e. (length s < 136) × (e ≡ secret)) }
     {
-        let inner = AllocRawHasher::allocate_with_seed_and_secret(seed, secret)?;
-        Ok(BoxedStream::over(inner))
+        let buffer = SecretBuffer::allocate_with_seed_and_secret(seed, secret)?;
+        Ok(KeyedStream::over(KeyedCore::new(buffer)))
     }
 
     /// Creates a stream of no bytes, with only the secret, which it uses at every length with the seed 0. Allocates
@@ -184,17 +228,8 @@ impl<F: Finalize, A: Allocator> BoxedStream<F, A> {
             MatchResult result (λ h. (136 ≤ length s) × Represents boxed_slice_items h None s [])
             (λ e. (length s < 136) × (e ≡ secret)) }
     {
-        let inner = AllocRawHasher::allocate_with_secret(secret)?;
-        Ok(BoxedStream::over(inner))
-    }
-
-    /// Hashes a chunk after the bytes before.
-    #[inline]
-    pub fn write(&mut self, input: &[u8])
-        ensures message { TakesPiece boxed_slice_items self.old self.new input.now }
-        ensures exact { self.new ≡ core_after_write boxed_slice_items self.old input.now }
-    {
-        self.inner.write(input);
+        let buffer = SecretBuffer::allocate_with_secret(secret)?;
+        Ok(KeyedStream::over(KeyedCore::new(buffer)))
     }
 
     /// Returns the secret that was passed in or derived.
@@ -204,30 +239,86 @@ impl<F: Finalize, A: Allocator> BoxedStream<F, A> {
             → Represents boxed_slice_items self seed s m
             → boxed_slice_items result ≡ s }
     {
-        let BoxedStream {
+        let KeyedStream {
             inner,
             finalizer: _,
         } = self;
         inner.into_secret()
     }
+}
 
-    // Borrows the core, for the last call of a width.
+/// A stream that derives its secret whenever it has an effect: `xxhash3_64::LazyHasher` and `xxhash3_128::LazyHasher`.
+pub type LazyStream<F, A = Global> = KeyedStream<F, LazyKey<A>>;
+
+impl<F: Finalize, A: Allocator> LazyStream<F, A> {
+    ghost use Rattle.std.specs.Prelude.{◌≡◌, ℕ, Option, List, [], ◌<◌, ◌≤◌, length, IfOk, MatchResult};
+    ghost use Rattle.std.specs.Box.{boxed_slice_items};
+    ghost use Rattle.twox_core.specs.CoreView.{CoreView};
+    ghost use Rattle.twox_core.specs.Represents.{Represents};
+    ghost use Rattle.twox_core.specs.Secret.{default_secret, derived_secret};
+    ghost use Rattle.twox_core.specs.StreamState.{own};
+
+    /// Creates a stream of no bytes, with the seed 0 and the default secret. Allocates nothing.
     #[inline(always)]
-    pub(crate) fn inner(&self) -> &AllocRawHasher<A>
-        ensures { result.now ≡ self.now }
+    #[tactic(auto, using(twox_core::proofs::Vectors::derived_secret_none))]
+    pub fn new(alloc: A) -> LazyStream<F, A>
+        ensures { Represents own result (Some 0) default_secret [] }
     {
-        &self.inner
+        KeyedStream::over(KeyedCore::with_seed(alloc, DEFAULT_SEED))
+    }
+
+    /// Creates a stream of no bytes, with the seed and the secret derived from it. Allocates nothing.
+    #[inline(always)]
+    pub fn with_seed(alloc: A, seed: u64) -> LazyStream<F, A>
+        ensures { Represents own result (Some seed) (derived_secret seed) [] }
+    {
+        KeyedStream::over(KeyedCore::with_seed(alloc, seed))
+    }
+
+    /// Creates a stream of no bytes, with the seed and the secret. Allocates nothing.
+    ///
+    /// # Errors
+    ///
+    /// Returns the secret in the error if it has fewer than 136 bytes.
+    pub fn with_seed_and_secret(
+        seed: u64,
+        secret: BoxedSlice<u8, A>,
+    ) -> Result<LazyStream<F, A>, SecretTooShortError<BoxedSlice<u8, A>>>
+        ensures { let s = boxed_slice_items secret in
+            MatchResult result (λ h. (136 ≤ length s) × Represents own h (Some seed) s [])
+            (λ e. (length s < 136) × (e ≡ secret)) }
+    {
+        let given = SecretBuffer::allocate_with_seed_and_secret(seed, secret)?;
+        Ok(KeyedStream::over(KeyedCore::given(given)))
+    }
+
+    /// Returns the secret that was passed in or is derived from the seed.
+    ///
+    /// # Errors
+    ///
+    /// `AllocError` if it is derived, and out of memory.
+    #[tactic(auto, unfolding(twox_core::specs::Represents::Represents))]
+    pub fn into_secret(self) -> Result<BoxedSlice<u8, A>, AllocError>
+        ensures exact { IfOk result (λ b. boxed_slice_items b ≡ self.key.secret) }
+        ensures message { (seed : Option ℕ) (s m : List ℕ)
+            → Represents own self seed s m
+            → IfOk result (λ b. boxed_slice_items b ≡ s) }
+    {
+        let KeyedStream {
+            inner: keyed,
+            finalizer: _,
+        } = self;
+        keyed.into_secret()
     }
 }
 
-impl<F: Finalize, A: Allocator + Clone> Clone for BoxedStream<F, A> {
-    ghost use Rattle.std.specs.Box.{boxed_slice_items};
+impl<F: Finalize, K: ClonedKey> Clone for KeyedStream<F, K> {
     ghost use Rattle.twox_core.specs.Represents.{IsCopy};
 
-    ghost is_clone = { λ a b. IsCopy boxed_slice_items a b };
+    ghost is_clone = { λ a b. IsCopy K.Key.bytes a b };
 
-    fn clone(&self) -> Result<BoxedStream<F, A>, AllocError> {
+    fn clone(&self) -> Result<KeyedStream<F, K>, AllocError> {
         let inner = self.inner.clone()?;
-        Ok(BoxedStream::over(inner))
+        Ok(KeyedStream::over(inner))
     }
 }

@@ -5,15 +5,15 @@ ghost use Rattle.twox_core.specs.Laws.{TellsOthers128, HasLowHalf64};
 ghost use Rattle.twox_core.specs.Secret.{default_secret, derived_secret};
 ghost use Rattle.twox_core.specs.Value.{effective_secret, xxh3_128};
 
-use crate::streams::{BoxedStream, RawStream};
-use std::alloc::{Allocator, Global};
+use crate::streams::{BoxedStream, KeyedStream, LazyStream, RawStream};
+use std::alloc::Global;
 use twox_core::width_128;
 pub use twox_core::width_128::Finalize128;
 pub use twox_core::xxhash3::{
     ClonedBuffer, DEFAULT_SECRET_LENGTH, FixedBuffer, FixedMutBuffer, OneshotWithSecretError,
     SECRET_MINIMUM_LENGTH, SecretBuffer, SecretTooShortError, SecretWithSeedError,
 };
-use twox_core::xxhash3::{CUTOFF, Secret, default_secret};
+use twox_core::xxhash3::{CUTOFF, Key, Secret, default_secret};
 use twox_words::words::IntoU128;
 
 /// Calculates the 128-bit hash, of all bytes at once or of chunks one after another. The secret of a stream is
@@ -26,6 +26,15 @@ use twox_words::words::IntoU128;
 /// assert_eq!(hasher.finish_128(), Hasher::oneshot_with_seed(7, b"some bytes"));
 /// ```
 pub type Hasher<A = Global> = BoxedStream<Finalize128, A>;
+
+/// A stream that derives its secret from its seed whenever it has an effect, and allocates nothing for it.
+///
+/// ```text
+/// let mut hasher = LazyHasher::with_seed(alloc, 7);
+/// hasher.write(b"some bytes");
+/// assert_eq!(hasher.finish_128(), Hasher::oneshot_with_seed(7, b"some bytes"));
+/// ```
+pub type LazyHasher<A = Global> = LazyStream<Finalize128, A>;
 
 /// A stream over a secret of the caller. Allocates nothing.
 ///
@@ -109,9 +118,8 @@ impl Hasher<Global> {
     }
 }
 
-impl<A: Allocator> Hasher<A> {
+impl<K: Key> KeyedStream<Finalize128, K> {
     ghost use Rattle.std.specs.Prelude.{◌≡◌, ℕ, Option, List};
-    ghost use Rattle.std.specs.Box.{boxed_slice_items};
     ghost use Rattle.twox_core.specs.Value.{stream_128};
     ghost use Rattle.twox_core.specs.Represents.{Represents};
     ghost use Rattle.twox_hash.specs.Streams.{value_128};
@@ -123,9 +131,9 @@ impl<A: Allocator> Hasher<A> {
     #[tactic(auto, unfolding(crate::specs::Streams::value_128))]
     pub fn finish_128(&self) -> u128
         ensures message { (seed : Option ℕ) (s m : List ℕ)
-            → Represents boxed_slice_items self.now seed s m
+            → Represents K.bytes self.now seed s m
             → result ≡ stream_128 seed s m }
-        ensures exact { result ≡ value_128 boxed_slice_items self.now }
+        ensures exact { result ≡ value_128 K.bytes self.now }
     {
         self.inner().finish(Finalize128)
     }

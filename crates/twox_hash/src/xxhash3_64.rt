@@ -5,8 +5,8 @@ ghost use Rattle.twox_core.specs.Laws.{TellsOthers64};
 ghost use Rattle.twox_core.specs.Secret.{default_secret, derived_secret};
 ghost use Rattle.twox_core.specs.Value.{effective_secret, xxh3_64};
 
-use crate::streams::{BoxedStream, RawStream};
-use std::alloc::{Allocator, Global};
+use crate::streams::{BoxedStream, KeyedStream, LazyStream, RawStream};
+use std::alloc::Global;
 use std::hash;
 use twox_core::width_64;
 pub use twox_core::width_64::Finalize64;
@@ -14,7 +14,7 @@ pub use twox_core::xxhash3::{
     ClonedBuffer, DEFAULT_SECRET_LENGTH, FixedBuffer, FixedMutBuffer, OneshotWithSecretError,
     SECRET_MINIMUM_LENGTH, SecretBuffer, SecretTooShortError, SecretWithSeedError,
 };
-use twox_core::xxhash3::{CUTOFF, Secret, default_secret};
+use twox_core::xxhash3::{CUTOFF, Key, Secret, default_secret};
 
 /// Calculates the 64-bit hash, of all bytes at once or of chunks one after another. The secret of a stream is
 /// allocated.
@@ -26,6 +26,15 @@ use twox_core::xxhash3::{CUTOFF, Secret, default_secret};
 /// assert_eq!(hasher.finish(), Hasher::oneshot_with_seed(7, b"some bytes"));
 /// ```
 pub type Hasher<A = Global> = BoxedStream<Finalize64, A>;
+
+/// A stream that derives its secret from its seed whenever it has an effect, and allocates nothing for it.
+///
+/// ```text
+/// let mut hasher = LazyHasher::with_seed(alloc, 7);
+/// hasher.write(b"some bytes");
+/// assert_eq!(hasher.finish(), Hasher::oneshot_with_seed(7, b"some bytes"));
+/// ```
+pub type LazyHasher<A = Global> = LazyStream<Finalize64, A>;
 
 /// A stream over a secret of the caller. Allocates nothing.
 ///
@@ -104,9 +113,8 @@ impl Hasher<Global> {
     }
 }
 
-impl<A: Allocator> Hasher<A> {
+impl<K: Key> KeyedStream<Finalize64, K> {
     ghost use Rattle.std.specs.Prelude.{◌≡◌, ℕ, Option, List};
-    ghost use Rattle.std.specs.Box.{boxed_slice_items};
     ghost use Rattle.twox_core.specs.Value.{stream_64};
     ghost use Rattle.twox_core.specs.Represents.{Represents};
     ghost use Rattle.twox_hash.specs.Streams.{value_64};
@@ -118,9 +126,9 @@ impl<A: Allocator> Hasher<A> {
     #[tactic(auto, unfolding(crate::specs::Streams::value_64))]
     pub fn finish(&self) -> u64
         ensures message { (seed : Option ℕ) (s m : List ℕ)
-            → Represents boxed_slice_items self.now seed s m
+            → Represents K.bytes self.now seed s m
             → result ≡ stream_64 seed s m }
-        ensures exact { result ≡ value_64 boxed_slice_items self.now }
+        ensures exact { result ≡ value_64 K.bytes self.now }
     {
         self.inner().finish(Finalize64)
     }
@@ -146,32 +154,31 @@ impl<S: FixedBuffer> RawHasher<S> {
     }
 }
 
-impl<A: Allocator> hash::Hasher for Hasher<A> {
+impl<K: Key> hash::Hasher for KeyedStream<Finalize64, K> {
     ghost use Rattle.std.specs.Prelude.{◌≡◌, ℕ, Option, List};
-    ghost use Rattle.std.specs.Box.{boxed_slice_items};
     ghost use Rattle.twox_core.specs.Value.{stream_64};
     ghost use Rattle.twox_core.specs.Represents.{Represents, TakesPiece};
     ghost use Rattle.twox_core.specs.AfterWrite.{core_after_write};
     ghost use Rattle.twox_hash.specs.Streams.{value_64};
 
-    ghost write = { λ h bytes. core_after_write boxed_slice_items h bytes };
+    ghost write = { λ h bytes. core_after_write K.bytes h bytes };
 
-    ghost finish = { λ h. value_64 boxed_slice_items h };
+    ghost finish = { λ h. value_64 K.bytes h };
 
     fn finish(&self) -> u64
         ensures message { (seed : Option ℕ) (s m : List ℕ)
-            → Represents boxed_slice_items self.now seed s m
+            → Represents K.bytes self.now seed s m
             → result ≡ stream_64 seed s m }
-        ensures exact { result ≡ value_64 boxed_slice_items self.now }
+        ensures exact { result ≡ value_64 K.bytes self.now }
     {
-        Hasher::finish(self)
+        KeyedStream::finish(self)
     }
 
     fn write(&mut self, bytes: &[u8])
-        ensures message { TakesPiece boxed_slice_items self.old self.new bytes.now }
-        ensures exact { self.new ≡ core_after_write boxed_slice_items self.old bytes.now }
+        ensures message { TakesPiece K.bytes self.old self.new bytes.now }
+        ensures exact { self.new ≡ core_after_write K.bytes self.old bytes.now }
     {
-        BoxedStream::write(self, bytes);
+        KeyedStream::write(self, bytes);
     }
 }
 

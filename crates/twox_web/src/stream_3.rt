@@ -102,7 +102,7 @@ fn refusal(secret: &[u8]) -> u32
 /// Returns the size of a stream's record in bytes.
 #[unsafe(no_mangle)]
 pub extern "C" fn twox_xxh3_stream_size() -> usize
-    ensures { result ≡ 688 }
+    ensures { result ≡ 624 }
 {
     size_of::<Stream>()
 }

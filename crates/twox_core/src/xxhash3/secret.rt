@@ -13,13 +13,13 @@ pub const SECRET_MINIMUM_LENGTH: usize = 136;
 /// A borrowed secret of at least 136 bytes.
 #[derive(Clone, Copy)]
 pub struct Secret<'a> {
-    bytes: &'a [u8],
+    pub(crate) bytes: &'a [u8],
     pub ghost long_enough: { 136 ≤ length bytes.now },
 }
 
 /// The secret has fewer than 136 bytes.
 #[derive(Clone, Copy, Debug, PartialEq, Eq)]
-pub struct Error;
+pub struct Error(());
 
 impl fmt::Display for Error {
     ghost use Rattle.std.specs.Prelude.{Some, codes};
@@ -74,7 +74,7 @@ impl<'a> Secret<'a> {
         if bytes.len() >= SECRET_MINIMUM_LENGTH {
             Ok(Secret { bytes })
         } else {
-            Err(Error)
+            Err(Error(()))
         }
     }
 

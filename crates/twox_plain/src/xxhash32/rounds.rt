@@ -9,6 +9,7 @@ ghost use Rattle.twox_plain.specs.Record32.{value_of};
 
 use super::Core;
 use crate::words::{Halves, IntoU32, IntoU64, u32_at, u64_at};
+use twox_words::barriers::hidden_u32;
 
 const PRIME32_1: u32 = 0x9E3779B1;
 
@@ -24,7 +25,16 @@ pub(super) const BYTES_IN_STRIPE: usize = 16;
 
 const STRIPES_IN_BLOCK: usize = 8;
 
-pub(super) const BYTES_IN_BLOCK: usize = 128;
+const BYTES_IN_PAIR: usize = 32;
+
+// True for a compiler that keeps the accumulators of a stream in registers, and makes faster code for stripes that are
+// added in pairs.
+pub(super) const IN_PAIRS: bool = false;
+
+const BYTES_IN_BLOCK: usize = 128;
+
+// Minimum number of bytes that are taken by blocks.
+pub(super) const BYTES_FOR_BLOCKS: usize = BYTES_IN_BLOCK;
 
 const WORDS_IN_BLOCK: usize = 32;
 
@@ -44,6 +54,20 @@ fn add_product(accumulator: u32, product: u32) -> u32
         .wrapping_add(product)
         .rotate_left(13)
         .wrapping_mul(PRIME32_1)
+}
+
+// Does a round with the primes as values that LLVM keeps in registers: as operands they make a loop longer than the
+// processor decodes at once.
+#[inline(always)]
+fn round_by(accumulator: u32, word: u32, prime_1: u32, prime_2: u32) -> u32
+    requires first { prime_1 ≡ PRIME32_1 }
+    requires second { prime_2 ≡ PRIME32_2 }
+    ensures { result ≡ round accumulator word }
+{
+    accumulator
+        .wrapping_add(word.wrapping_mul(prime_2))
+        .rotate_left(13)
+        .wrapping_mul(prime_1)
 }
 
 // Multiplies the words of a block. The products depend on no accumulator, so many are made at once, in vectors, and the
@@ -107,7 +131,7 @@ impl Core {
     // Returns the accumulators before the first stripe.
     #[tactic(auto, unfolding(crate::specs::Core32::core_of_stripes, crate::specs::Xxh32::accumulator, crate::specs::Units::after_units))]
     #[inline(always)]
-    pub(super) fn new(seed: u32) -> Core
+    pub(super) const fn new(seed: u32) -> Core
         ensures { (m : List ℕ) → result ≡ core_of_stripes seed m 0 }
     {
         Core {
@@ -175,6 +199,66 @@ impl Core {
         rest
     }
 
+    // Adds two stripes. The accumulators are hidden from LLVM, which would make a vector of them, and that is slower.
+    #[tactic(auto, unfolding(crate::specs::Core32::core_after_stripes, crate::specs::Units::after_units))]
+    #[inline(always)]
+    fn write_pair(&mut self, pair: &[u8; BYTES_IN_PAIR], prime_1: u32, prime_2: u32)
+        requires first { prime_1 ≡ PRIME32_1 }
+        requires second { prime_2 ≡ PRIME32_2 }
+        ensures { self.new ≡ core_after_stripes self.old pair.now 2 }
+    {
+        let v1 = round_by(self.v1, u32_at(pair, 0), prime_1, prime_2);
+        let v2 = round_by(self.v2, u32_at(pair, 4), prime_1, prime_2);
+        let v3 = round_by(self.v3, u32_at(pair, 8), prime_1, prime_2);
+        let v4 = round_by(self.v4, u32_at(pair, 12), prime_1, prime_2);
+        self.v1 = hidden_u32(round_by(v1, u32_at(pair, 16), prime_1, prime_2));
+        self.v2 = hidden_u32(round_by(v2, u32_at(pair, 20), prime_1, prime_2));
+        self.v3 = hidden_u32(round_by(v3, u32_at(pair, 24), prime_1, prime_2));
+        self.v4 = hidden_u32(round_by(v4, u32_at(pair, 28), prime_1, prime_2));
+    }
+
+    // Adds the whole pairs of stripes of the input, and returns the bytes after them.
+    #[inline(always)]
+    fn write_pairs<'d>(&mut self, input: &'d [u8]) -> &'d [u8]
+        ensures rest { result.now ≡ drop (length input.now / 32 * 2 * 16) input.now }
+        ensures accumulators { self.new ≡
+            core_after_stripes self.old input.now (length input.now / 32 * 2) }
+    {
+        let prime_1 = hidden_u32(PRIME32_1);
+        let prime_2 = hidden_u32(PRIME32_2);
+        let mut rest = input;
+        'each_pair: while let Some((pair, after)) = rest.split_first_chunk::<BYTES_IN_PAIR>() {
+            self.write_pair(pair, prime_1, prime_2);
+            rest = after;
+        }
+        rest
+    }
+
+    // Adds the whole stripes of a stream's input, and returns the bytes after them.
+    #[inline(always)]
+    pub(super) fn write_of_stream<'d>(&mut self, input: &'d [u8]) -> &'d [u8]
+        ensures rest { result.now ≡ drop (length input.now / 16 * 16) input.now }
+        ensures accumulators { self.new ≡
+            core_after_stripes self.old input.now (length input.now / 16) }
+    {
+        if IN_PAIRS {
+            self.write_by_pairs(input)
+        } else {
+            self.write_stripes(input)
+        }
+    }
+
+    // Does the same by pairs. Proved by itself, since `IN_PAIRS` is true only in the crate for cargo.
+    #[inline(always)]
+    fn write_by_pairs<'d>(&mut self, input: &'d [u8]) -> &'d [u8]
+        ensures rest { result.now ≡ drop (length input.now / 16 * 16) input.now }
+        ensures accumulators { self.new ≡
+            core_after_stripes self.old input.now (length input.now / 16) }
+    {
+        let after = self.write_pairs(input);
+        self.write_stripes(after)
+    }
+
     // Adds the whole stripes of the input, and returns the bytes after them. With `BLOCKS` it adds whole blocks first.
     #[inline(always)]
     pub(super) fn write_many<'d, const BLOCKS: bool>(&mut self, input: &'d [u8]) -> &'d [u8]
@@ -188,6 +272,19 @@ impl Core {
         } else {
             self.write_stripes(input)
         }
+    }
+
+    // Returns the accumulators after the whole stripes of the input, taken by blocks, and the bytes after them. A separate
+    // function, so that shorter chunks save no registers for its calls.
+    #[inline(never)]
+    pub(super) fn after_blocks<'d>(self, input: &'d [u8]) -> (Core, &'d [u8])
+        ensures rest { result.1.now ≡ drop (length input.now / 16 * 16) input.now }
+        ensures accumulators { result.0 ≡
+            core_after_stripes self input.now (length input.now / 16) }
+    {
+        let mut core = self;
+        let rest = core.write_many::<true>(input);
+        (core, rest)
     }
 
     // Converges the four accumulators to one value.
@@ -239,7 +336,7 @@ pub(super) fn impl_oneshot(seed: u32, input: &[u8]) -> u32
 {
     if input.len() < BYTES_IN_STRIPE {
         impl_short(seed, input)
-    } else if input.len() < BYTES_IN_BLOCK {
+    } else if input.len() < BYTES_FOR_BLOCKS {
         impl_long::<false>(seed, input)
     } else {
         impl_from_128(seed, input)

@@ -4,7 +4,7 @@ ghost use Rattle.std.specs.Prelude.{◌≡◌, ℕ, ◌+◌, ◌-◌, ◌^◌, �
 ghost use Rattle.twox_plain.specs.Xxh32.{xxh32};
 ghost use Rattle.twox_plain.specs.StateInMemory32.{AfterPiece, AfterRest, record_of, usage_of, total_of};
 
-use super::rounds::{BYTES_IN_BLOCK, BYTES_IN_STRIPE, finish_with};
+use super::rounds::{BYTES_FOR_BLOCKS, BYTES_IN_STRIPE, IN_PAIRS, finish_with};
 use super::{Core, MARK, SavedState, StateInMemory};
 use crate::words::{Halves, IntoU64};
 use twox_words::copies::{copy_front, copy_short};
@@ -16,7 +16,7 @@ impl StateInMemory {
     ///
     /// The caller proves that less than a stripe is buffered.
     #[inline(always)]
-    pub fn of_record(state: SavedState) -> StateInMemory
+    pub const fn of_record(state: SavedState) -> StateInMemory
         requires { state.buffer_usage < 16 }
         ensures record { record_of result ≡ state }
         ensures in_range { usage_of result < 16 }
@@ -28,8 +28,8 @@ impl StateInMemory {
             v2: state.core.v2,
             marked_usage: MARK + state.buffer_usage as u32,
             v3: state.core.v3,
-            total_low: state.total_len.lower_half(),
-            total_high: state.total_len.upper_half(),
+            total_low: (state.total_len % 0x1_0000_0000) as u32,
+            total_high: (state.total_len >> 32) as u32,
             v4: state.core.v4,
             buffer,
         }
@@ -69,10 +69,10 @@ impl StateInMemory {
 
     /// Total bytes hashed, saturating at `u64::MAX`.
     #[inline(always)]
-    pub fn total_len(&self) -> u64
+    pub const fn total_len(&self) -> u64
         ensures { result ≡ total_of self.now }
     {
-        (self.total_high.into_u64() << 32) + self.total_low.into_u64()
+        ((self.total_high as u64) << 32) + self.total_low as u64
     }
 
     // Adds to the number of bytes hashed.
@@ -112,6 +112,41 @@ impl StateInMemory {
         self.v2 = core.v2;
         self.v3 = core.v3;
         self.v4 = core.v4;
+    }
+
+    /// Hashes the bytes of an array. One that fills no stripe is a few moves, since its length is known.
+    ///
+    /// The caller proves that less than a stripe is buffered.
+    #[inline(always)]
+    pub fn add_array<const N: usize>(&mut self, bytes: &[u8; N])
+        requires { usage_of self.old < 16 }
+        ensures exact { record_of self.new ≡ after_write (record_of self.old) bytes.now }
+        ensures message { (m : List ℕ)
+            → Represents (record_of self.old) m → Represents (record_of self.new) (m ++ bytes.now) }
+        ensures seed { self.new.seed ≡ self.old.seed }
+        ensures in_range { usage_of self.new < 16 }
+    {
+        let filled = self.usage();
+        if N < BYTES_IN_STRIPE - filled {
+            self.count(N);
+            self.set_usage(filled + N);
+            self.buffer[filled..filled + N].copy_from_slice(&bytes[..]);
+        } else {
+            self.add_far(&bytes[..]);
+        }
+    }
+
+    // Separate function, so that a map's key of a word pays for nothing in it.
+    #[inline(never)]
+    fn add_far(&mut self, input: &[u8])
+        requires { usage_of self.old < 16 }
+        ensures exact { record_of self.new ≡ after_write (record_of self.old) input.now }
+        ensures message { (m : List ℕ)
+            → Represents (record_of self.old) m → Represents (record_of self.new) (m ++ input.now) }
+        ensures seed { self.new.seed ≡ self.old.seed }
+        ensures in_range { usage_of self.new < 16 }
+    {
+        self.add_piece(input);
     }
 
     /// Hashes a chunk.
@@ -159,7 +194,7 @@ impl StateInMemory {
     fn add_rest<const BLOCKS: bool>(&mut self, input: &[u8])
         ensures { AfterRest self.old input.now self.new }
     {
-        if BLOCKS && input.len() >= BYTES_IN_BLOCK {
+        if BLOCKS && input.len() >= BYTES_FOR_BLOCKS {
             self.add_blocks(input);
         } else {
             self.add_stripes(input);
@@ -175,16 +210,41 @@ impl StateInMemory {
         let mut rest = input;
         if input.len() >= BYTES_IN_STRIPE {
             let mut core = self.core();
-            rest = core.write_many::<false>(input);
+            rest = core.write_of_stream(input);
             self.set_core(core);
         }
         self.keep(rest);
     }
 
-    // Does the same with blocks. A separate function, so that shorter chunks save no registers for its calls.
+    // Does the same with blocks, in a separate function. That takes the accumulators, not the address of the state, if
+    // they may be in registers.
+    #[inline(always)]
+    fn add_blocks(&mut self, input: &[u8])
+        ensures { AfterRest self.old input.now self.new }
+    {
+        if IN_PAIRS {
+            self.add_blocks_by_value(input);
+        } else {
+            self.add_blocks_in_place(input);
+        }
+    }
+
+    // Passes the accumulators to a separate function. Proved by itself, since `IN_PAIRS` is true only in the crate for
+    // cargo.
+    #[inline(always)]
+    #[tactic(auto, unfolding(crate::specs::StateInMemory32::after_rest))]
+    fn add_blocks_by_value(&mut self, input: &[u8])
+        ensures { AfterRest self.old input.now self.new }
+    {
+        let (core, rest) = self.core().after_blocks(input);
+        self.set_core(core);
+        self.keep(rest);
+    }
+
+    // Does the same in a separate function, so that shorter chunks save no registers for its calls.
     #[inline(never)]
     #[tactic(auto, unfolding(crate::specs::StateInMemory32::after_rest))]
-    fn add_blocks(&mut self, input: &[u8])
+    fn add_blocks_in_place(&mut self, input: &[u8])
         ensures { AfterRest self.old input.now self.new }
     {
         let mut core = self.core();

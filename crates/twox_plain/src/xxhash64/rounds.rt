@@ -8,6 +8,7 @@ ghost use Rattle.twox_plain.specs.Record64.{value_of};
 
 use super::Core;
 use crate::words::{IntoU64, u32_at, u64_at};
+use twox_words::barriers::hidden_u64;
 
 const PRIME64_1: u64 = 0x9E3779B185EBCA87;
 
@@ -20,6 +21,11 @@ const PRIME64_4: u64 = 0x85EBCA77C2B2AE63;
 const PRIME64_5: u64 = 0x27D4EB2F165667C5;
 
 pub(super) const BYTES_IN_STRIPE: usize = 32;
+
+const BYTES_IN_PAIR: usize = 64;
+
+// True for a compiler that makes faster code for a stream whose stripes are added in pairs.
+const IN_PAIRS: bool = false;
 
 #[inline(always)]
 fn round(accumulator: u64, word: u64) -> u64
@@ -91,7 +97,7 @@ impl Core {
     // Returns the accumulators before the first stripe.
     #[tactic(auto, unfolding(crate::specs::Core64::core_of_stripes, crate::specs::Xxh64::accumulator, crate::specs::Units::after_units))]
     #[inline(always)]
-    pub(super) fn new(seed: u64) -> Core
+    pub(super) const fn new(seed: u64) -> Core
         ensures { (m : List ℕ) → result ≡ core_of_stripes seed m 0 }
     {
         Core {
@@ -128,6 +134,58 @@ impl Core {
             rest = after;
         }
         rest
+    }
+
+    // Adds two stripes. The accumulators are hidden from LLVM, which would make a vector of them, and that is slower.
+    #[tactic(auto, unfolding(crate::specs::Core64::core_after_stripes, crate::specs::Units::after_units))]
+    #[inline(always)]
+    fn write_pair(&mut self, pair: &[u8; BYTES_IN_PAIR])
+        ensures { self.new ≡ core_after_stripes self.old pair.now 2 }
+    {
+        self.v1 = hidden_u64(round(round(self.v1, u64_at(pair, 0)), u64_at(pair, 32)));
+        self.v2 = hidden_u64(round(round(self.v2, u64_at(pair, 8)), u64_at(pair, 40)));
+        self.v3 = hidden_u64(round(round(self.v3, u64_at(pair, 16)), u64_at(pair, 48)));
+        self.v4 = hidden_u64(round(round(self.v4, u64_at(pair, 24)), u64_at(pair, 56)));
+    }
+
+    // Adds the whole pairs of stripes of the input, and returns the bytes after them.
+    #[inline(always)]
+    fn write_pairs<'d>(&mut self, input: &'d [u8]) -> &'d [u8]
+        ensures rest { result.now ≡ drop (length input.now / 64 * 2 * 32) input.now }
+        ensures accumulators { self.new ≡
+            core_after_stripes self.old input.now (length input.now / 64 * 2) }
+    {
+        let mut rest = input;
+        'each_pair: while let Some((pair, after)) = rest.split_first_chunk::<BYTES_IN_PAIR>() {
+            self.write_pair(pair);
+            rest = after;
+        }
+        rest
+    }
+
+    // Does what `write_many` does, for a stream.
+    #[inline(always)]
+    pub(super) fn write_of_stream<'d>(&mut self, input: &'d [u8]) -> &'d [u8]
+        ensures rest { result.now ≡ drop (length input.now / 32 * 32) input.now }
+        ensures accumulators { self.new ≡
+            core_after_stripes self.old input.now (length input.now / 32) }
+    {
+        if IN_PAIRS {
+            self.write_by_pairs(input)
+        } else {
+            self.write_many(input)
+        }
+    }
+
+    // Does the same by pairs. Proved by itself, since `IN_PAIRS` is true only in the crate for cargo.
+    #[inline(always)]
+    fn write_by_pairs<'d>(&mut self, input: &'d [u8]) -> &'d [u8]
+        ensures rest { result.now ≡ drop (length input.now / 32 * 32) input.now }
+        ensures accumulators { self.new ≡
+            core_after_stripes self.old input.now (length input.now / 32) }
+    {
+        let after = self.write_pairs(input);
+        self.write_many(after)
     }
 
     // Converges the four accumulators to one value.

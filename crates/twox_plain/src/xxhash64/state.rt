@@ -16,7 +16,7 @@ impl StateInMemory {
     ///
     /// The caller proves that less than a stripe is buffered.
     #[inline(always)]
-    pub fn of_record(state: SavedState) -> StateInMemory
+    pub const fn of_record(state: SavedState) -> StateInMemory
         requires { state.buffer_usage < 32 }
         ensures record { record_of result ≡ state }
         ensures in_range { usage_of result < 32 }
@@ -91,6 +91,41 @@ impl StateInMemory {
         self.v4 = core.v4;
     }
 
+    /// Hashes the bytes of an array. One that fills no stripe is a few moves, since its length is known.
+    ///
+    /// The caller proves that less than a stripe is buffered.
+    #[inline(always)]
+    pub fn add_array<const N: usize>(&mut self, bytes: &[u8; N])
+        requires { usage_of self.old < 32 }
+        ensures exact { record_of self.new ≡ after_write (record_of self.old) bytes.now }
+        ensures message { (m : List ℕ)
+            → Represents (record_of self.old) m → Represents (record_of self.new) (m ++ bytes.now) }
+        ensures seed { self.new.seed ≡ self.old.seed }
+        ensures in_range { usage_of self.new < 32 }
+    {
+        let filled = self.usage();
+        if N < BYTES_IN_STRIPE - filled {
+            self.total_len = self.total_len.saturating_add(N.into_u64());
+            self.set_usage(filled + N);
+            self.buffer[filled..filled + N].copy_from_slice(&bytes[..]);
+        } else {
+            self.add_far(&bytes[..]);
+        }
+    }
+
+    // Separate function, so that a map's key of a word pays for nothing in it.
+    #[inline(never)]
+    fn add_far(&mut self, input: &[u8])
+        requires { usage_of self.old < 32 }
+        ensures exact { record_of self.new ≡ after_write (record_of self.old) input.now }
+        ensures message { (m : List ℕ)
+            → Represents (record_of self.old) m → Represents (record_of self.new) (m ++ input.now) }
+        ensures seed { self.new.seed ≡ self.old.seed }
+        ensures in_range { usage_of self.new < 32 }
+    {
+        self.add_piece(input);
+    }
+
     /// Hashes a chunk.
     ///
     /// The caller proves that less than a stripe is buffered.
@@ -132,11 +167,59 @@ impl StateInMemory {
         let mut rest = input;
         if input.len() >= BYTES_IN_STRIPE {
             let mut core = self.core();
-            rest = core.write_many(input);
+            rest = core.write_of_stream(input);
             self.set_core(core);
         }
         copy_front(&mut self.buffer, rest);
         self.set_usage(rest.len());
+    }
+
+    /// Does what `finish` does. The hash of a word or two, such as a map's key, is computed inline, and the others are
+    /// computed by a separate function. A fourth length would make these tests a jump by a table.
+    #[inline(always)]
+    pub fn finish_key(&self) -> u64
+        requires { usage_of self.now < 32 }
+        ensures message { (m : List ℕ) → Represents (record_of self.now) m
+            → result ≡ xxh64 self.now.seed m }
+        ensures exact { result ≡ finish_value (record_of self.now) }
+    {
+        let few = self.usage();
+        if self.total_len == few.into_u64() {
+            if few == 4 {
+                return self.finish_few::<4>();
+            }
+            if few == 8 {
+                return self.finish_few::<8>();
+            }
+            if few == 16 {
+                return self.finish_few::<16>();
+            }
+        }
+        self.finish_any()
+    }
+
+    #[inline(never)]
+    fn finish_any(&self) -> u64
+        requires { usage_of self.now < 32 }
+        ensures message { (m : List ℕ) → Represents (record_of self.now) m
+            → result ≡ xxh64 self.now.seed m }
+        ensures exact { result ≡ finish_value (record_of self.now) }
+    {
+        self.finish()
+    }
+
+    // Returns the hash of `N` bytes.
+    #[tactic(auto, using(crate::proofs::Message64::finish_value_of_message))]
+    #[inline(always)]
+    fn finish_few<const N: usize>(&self) -> u64
+        requires few { N < 32 }
+        requires usage { usage_of self.now ≡ N }
+        requires total { (record_of self.now).total_len ≡ N }
+        ensures message { (m : List ℕ) → Represents (record_of self.now) m
+            → result ≡ xxh64 self.now.seed m }
+        ensures exact { result ≡ finish_value (record_of self.now) }
+    {
+        finish_with(self.seed, N.into_u64(), &self.core(), &self.buffer[..N])
     }
 
     /// Returns the hash of the bytes so far.

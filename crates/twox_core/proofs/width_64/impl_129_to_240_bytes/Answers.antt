@@ -5,7 +5,7 @@ use Rattle.twox_core.specs.Middle.{early, later, value64_129_to_240}
 use Rattle.twox_core.proofs.MixFacts.{sum_below-next, mix-of_key}
 use Rattle.twox_core.proofs.PartFacts.{chunks_at-chunk}
 use Rattle.twox_core.proofs.width_64.impl_129_to_240_bytes.Goals as goal
-use Rattle.twox_core.proofs.width_64.impl_129_to_240_bytes.Goals.{then-c-count, else-c-count}
+use Rattle.twox_core.proofs.width_64.impl_129_to_240_bytes.Goals.{then-input-c, else-input-c}
 
 pub early-init : goal.early-init
 unfolding sum_below
@@ -20,7 +20,7 @@ early-preserved c =
     let i = c.early.c in
     let keys = c.words_for_129_to_240_part1-words.ensures.chunks ∙ ap (λ b. chunks_at b 0 8) c.for_64.ensures in
     let key = chunks_at-chunk s _ 0 8 i (16 * i) [] keys (omega arith) (omega arith) in
-    let here = c.mix_at-acc.ensures ∙ mix-of_key m s _ (16 * i) (16 * i) seed key in
+    let here = c.mix_at.ensures ∙ mix-of_key m s _ (16 * i) (16 * i) seed key in
     omega (arith, here, sum_below-next (early seed s m) i)
 
 pub later-init : goal.later-init
@@ -46,17 +46,17 @@ later-preserved c =
     let i = c.later.c in
     let n = length m / 16 - 8 in
     let sum = sum_below (later seed s m) in
-    elim c.if-c-count.branch [
-      | then-c-count w ↦
+    elim c.if-input-c.branch [
+      | then-input-c w ↦
           let keys = c.words_for_129_to_240_part2-words.ensures.chunks ∙ ap (λ b. chunks_at b 3 8) c.for_64-2.ensures in
           let key = chunks_at-chunk s _ 3 8 i (16 * i + 3) [] keys (omega arith) (omega arith) in
-          let here = w.mix_at-acc-then-c-count.ensures ∙ mix-of_key m s _ (128 + 16 * i) (16 * i + 3) seed key in
-          let low : i < n = omega (arith, w.if-c-count.true) in
+          let here = w.mix_at-then-input-c.ensures ∙ mix-of_key m s _ (128 + 16 * i) (16 * i + 3) seed key in
+          let low : i < n = omega (arith, w.if-input-c.true) in
           let before : sum (i - (i - n)) ≡ sum i = ap sum (omega arith) in
           let after : sum (i + 1 - (i + 1 - n)) ≡ sum (i + 1) = ap sum (omega arith) in
           omega (arith, here, before, after, sum_below-next (later seed s m) i, w.acc-is)
-      | else-c-count w ↦
-          let same : sum (i + 1 - (i + 1 - n)) ≡ sum (i - (i - n)) = ap sum (omega (arith, w.if-c-count.false)) in
+      | else-input-c w ↦
+          let same : sum (i + 1 - (i + 1 - n)) ≡ sum (i - (i - n)) = ap sum (omega (arith, w.if-input-c.false)) in
           omega (arith, same, w.acc-is)
     ]
 
@@ -69,5 +69,5 @@ returns c =
     let all : c.later.c - (c.later.c - (length m / 16 - 8)) ≡ length m / 16 - 8 = omega arith in
     let sums : sum_below (later seed s m) (c.later.c - (c.later.c - (length m / 16 - 8))) ≡ sum_below (later seed s m) (length m / 16 - 8) = ap (sum_below (later seed s m)) all in
     let key = c.words_for_129_to_240_part3-words.ensures ∙ ap (λ b. chunk_at b 119) c.for_64-3.ensures in
-    let last = c.mix_at-acc-2.ensures ∙ mix-of_key m s _ (length m - 16) 119 seed key in
+    let last = c.mix_at-acc.ensures ∙ mix-of_key m s _ (length m - 16) 119 seed key in
     c.avalanche.ensures ∙ ap avalanche (omega (arith, last, sums))

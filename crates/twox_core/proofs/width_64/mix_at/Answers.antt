@@ -1,10 +1,4 @@
-use Rattle.twox_core.proofs.Prelude.{◌+◌, ◌∙◌, ◌≡◌, ap, arith, w64, word64, word_at-drop}
 use Rattle.twox_core.proofs.width_64.mix_at.Goals as goal
 
 pub returns : goal.returns
-returns c =
-    let m = c.args.input.now in
-    let i = c.args.i in
-    let place : 8 + i ≡ i + 8 = omega arith in
-    let second = c.u64_at-2.ensures ∙ ap (λ b. word64 b i) c.requires.from_8 ∙ word_at-drop w64 8 m i ∙ ap (word64 m) place in
-    c.mix_words.ensures m i c.u64_at.ensures second
+returns c = c.mix_words.ensures c.args.input.now c.args.i c.u64_at.ensures c.second_word.ensures

@@ -5,6 +5,7 @@ ghost use Rattle.twox_core.specs.Kernel.{eight};
 ghost use Rattle.twox_core.specs.Steps.{word64};
 
 use std::simd::{u8x32, u8x64, u64x4, u64x8};
+use twox_words::words::bp_as_chunks;
 
 // Returns word `i`, read whole, so that the compiler can load several words at once.
 #[tactic(auto, using(twox_words::proofs::WordFacts::first_chunks_at), unfolding(twox_words::specs::Word::word_at))]
@@ -13,7 +14,7 @@ pub(super) fn word(bytes: &[u8; 64], i: usize) -> u64
     requires { i < 8 }
     ensures { result ≡ word64 bytes.now (8 * i) }
 {
-    let (words, _) = bytes.as_chunks::<8>();
+    let (words, _) = bp_as_chunks::<u8, 8>(bytes);
     u64::from_le_bytes(words[i])
 }
 

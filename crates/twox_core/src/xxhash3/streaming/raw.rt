@@ -11,7 +11,7 @@ use std::marker::Model;
 
 /// A stream of bytes whose value any finalizer (`Finalize`) can return at any moment.
 ///
-/// Its type fixes its size: 672 bytes, of which the buffer is `BUFFERED_BYTES`, and those of the secret buffer.
+/// Its type fixes its size: 608 bytes, of which the buffer is `BUFFERED_BYTES`, and those of the secret buffer.
 #[derive(Drop)]
 pub struct RawHasherCore<S: FixedBuffer> {
     secret_buffer: SecretBuffer<S>,
@@ -60,7 +60,16 @@ impl<S: FixedBuffer> RawHasherCore<S> {
             → (64 ≤ buffered_of self.new) × (buffered_of self.new ≤ 127) }
         ensures exact { self.new ≡ core_after_write S.bytes self.old input.now }
     {
-        self.write_with(Kernel {}, input);
+        self.state.take(input, self.secret_buffer.secret());
+    }
+
+    /// Hashes the bytes of an array after the bytes before, as [`RawHasherCore::write`] does.
+    #[inline(always)]
+    pub fn write_array<const N: usize>(&mut self, bytes: &[u8; N])
+        ensures message { TakesPiece S.bytes self.old self.new bytes.now }
+        ensures exact { self.new ≡ core_after_write S.bytes self.old bytes.now }
+    {
+        self.state.take_array(bytes, self.secret_buffer.secret());
     }
 
     /// Hashes a chunk after the bytes before, with a kernel. Each call may use another kernel.
@@ -88,7 +97,9 @@ impl<S: FixedBuffer> RawHasherCore<S> {
         ensures exact { result
             ≡ core_finish (F.small_of finalize) (F.large_of finalize) S.bytes self.now }
     {
-        self.finish_with(Kernel {}, finalize)
+        let secret = self.secret_buffer.secret();
+        self.state
+            .finish_key(Kernel {}, &finalize, self.secret_buffer.seed(), secret)
     }
 
     /// Does the same as [`RawHasherCore::finish`], with a kernel that the caller chooses. Each call may use another

@@ -1,5 +1,8 @@
 //! A stored secret with its seed, and the errors for a secret of the wrong length.
 
+ghost use Rattle.std.specs.Prelude.{◌≡◌, ◌≤◌, length};
+ghost use Rattle.twox_core.specs.SecretBytes.{secret_bytes};
+
 use super::{ClonedBuffer, FixedBuffer, FixedMutBuffer};
 use crate::xxhash3::{
     DEFAULT_SECRET_LENGTH, DEFAULT_SECRET_RAW, DEFAULT_SEED, DefaultSecret, SECRET_MINIMUM_LENGTH,
@@ -84,6 +87,14 @@ impl<S: FixedBuffer> SecretBuffer<S> {
         secret
     }
 
+    // Shows that the secret has its minimum length.
+    #[inline(always)]
+    pub(super) fn show_length(&self)
+        ensures { 136 ≤ length (S.bytes self.now.secret) }
+    {
+        let _ = &self.seed;
+    }
+
     // Returns the seed, if the buffer was made with one.
     #[inline(always)]
     pub(super) fn seed(&self) -> Option<u64>
@@ -97,8 +108,17 @@ impl<S: FixedBuffer> SecretBuffer<S> {
     pub(super) fn secret(&self) -> Secret<'_>
         ensures { secret_bytes result ≡ S.bytes self.now.secret }
     {
-        Secret::new(self.secret.as_ref()).unwrap()
+        secret_of(self.secret.as_ref())
     }
+}
+
+// Wraps the bytes of a buffer.
+#[inline(always)]
+fn secret_of(bytes: &[u8]) -> Secret<'_>
+    requires { 136 ≤ length bytes.now }
+    ensures { secret_bytes result ≡ bytes.now }
+{
+    Secret::new(bytes).unwrap()
 }
 
 impl<S: FixedMutBuffer> SecretBuffer<S> {
@@ -141,6 +161,24 @@ impl SecretBuffer<DefaultSecret> {
         SecretBuffer {
             seed: Some(DEFAULT_SEED),
             secret: DEFAULT_SECRET_RAW,
+        }
+    }
+}
+
+impl SecretBuffer<&'static DefaultSecret> {
+    ghost use Rattle.std.specs.Prelude.{◌≡◌};
+    ghost use Rattle.twox_core.specs.Secret.{default_secret};
+    ghost use Rattle.twox_core.specs.StreamKey.{StreamKey};
+
+    /// Stores the seed 0, and borrows the default secret.
+    #[tactic(auto, unfolding(crate::specs::Secret::default_secret))]
+    pub const fn borrowed_default() -> SecretBuffer<&'static DefaultSecret>
+        ensures seed { result.seed ≡ Some 0 }
+        ensures secret { result.secret.now ≡ default_secret }
+    {
+        SecretBuffer {
+            seed: Some(DEFAULT_SEED),
+            secret: &DEFAULT_SECRET_RAW,
         }
     }
 }
@@ -237,7 +275,7 @@ impl<S: ClonedBuffer> Clone for SecretBuffer<S> {
 /// The secret has fewer than 136 bytes.
 #[derive(Drop)]
 pub struct SecretTooShortError<S> {
-    secret: S,
+    pub(crate) secret: S,
 }
 
 impl<S> Model for SecretTooShortError<S> {

@@ -4,7 +4,6 @@ ghost use Rattle.std.specs.Prelude.{◌≡◌, ◌/◌, ◌<◌, length};
 ghost use Rattle.twox_core.specs.Long.{stripes_of};
 ghost use Rattle.twox_core.specs.SecretBytes.{secret_bytes};
 
-use crate::xxhash3::parts::array_at;
 use crate::xxhash3::{Secret, StripeAccumulator, Vector};
 use twox_words::words::IntoU64;
 
@@ -14,8 +13,6 @@ use twox_words::words::IntoU64;
 pub struct TakenStripes {
     /// The accumulators, and their place in the secret.
     pub stripes: StripeAccumulator,
-    /// The last stripe, from which a short last stripe of the stream is completed.
-    pub last: [u8; 64],
     /// Their number, saturating at 2^64 - 1.
     pub count: u64,
 }
@@ -29,7 +26,6 @@ impl TakenStripes {
     {
         TakenStripes {
             stripes: StripeAccumulator::new(),
-            last: [0; 64],
             count: 0,
         }
     }
@@ -50,8 +46,5 @@ impl TakenStripes {
         self.stripes.process_piece::<V, MANY>(v, bytes, secret);
         let count = bytes.len() / 64;
         self.count = self.count.saturating_add(count.into_u64());
-        if count > 0 {
-            self.last = *array_at(bytes, 64 * (count - 1));
-        }
     }
 }

@@ -20,13 +20,13 @@ returns c =
     let d = c.args.input.now in
     let rest = c.if-input-ge-BYTES_IN_STRIPE.rest.now in
     let less : length rest < 32 = elim c.if-input-ge-BYTES_IN_STRIPE.branch [
-      | then-input-ge-BYTES_IN_STRIPE w ↦ rw (w.rest-is, w.write_many-rest.ensures.rest) (omega (arith, length-drop (length d / 32 * 32) d))
+      | then-input-ge-BYTES_IN_STRIPE w ↦ rw (w.rest-is, w.write_of_stream-rest.ensures.rest) (omega (arith, length-drop (length d / 32 * 32) d))
       | else-input-ge-BYTES_IN_STRIPE w ↦ rw w.rest-is (omega arith)
     ] in
     let kept = usage_marked (length rest) (omega arith) in
     elim c.if-input-ge-BYTES_IN_STRIPE.branch [
       | then-input-ge-BYTES_IN_STRIPE w ↦ record {
-        exact = rw (c.set_usage.ensures, c.copy_front.ensures, kept, w.rest-is, w.self-is, w.set_core.ensures, w.write_many-rest.ensures.accumulators, w.write_many-rest.ensures.rest, w.core-core.ensures) refl;
+        exact = rw (c.set_usage.ensures, c.copy_front.ensures, kept, w.rest-is, w.self-is, w.set_core.ensures, w.write_of_stream-rest.ensures.accumulators, w.write_of_stream-rest.ensures.rest, w.core-core.ensures) refl;
         seed = rw (c.set_usage.ensures, w.self-is, w.set_core.ensures) refl;
         in_range = rw (c.set_usage.ensures, kept) less;
       }

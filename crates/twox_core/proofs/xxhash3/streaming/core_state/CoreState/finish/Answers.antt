@@ -7,7 +7,7 @@ pub returns-then-self-into_u64-clause-exact : goal.returns-then-self-into_u64-cl
 unfolding state_finish
 returns-then-self-into_u64-clause-exact g c =
     let test : nat_le c.args.self.now.total_bytes 240 ≡ true = grind (arith, nat_tests) in
-    rw test c.finish_short.ensures
+    rw test c.finish_short.ensures.exact
 
 pub returns-clause-exact : goal.returns-clause-exact
 unfolding state_finish end_accumulators end_block
