@@ -1,5 +1,5 @@
 -- Proves that a run with exit status 0 had no error and wrote no error message.
-use Rattle.std.proofs.Common.{◌≡◌, Ok, Err, refl, Result}
+use Rattle.std.proofs.Common.{◌≡◌, ℕ, List, Ok, Err, refl, Result}
 use Rattle.xxh_io.specs.declared.fault.Fault.{Fault}
 use Rattle.xxh_io.specs.declared.fault.Fault.TheVariants.{Usage, BadSeed, BadSize, BadState, OutOfMemory, Digest}
 use Rattle.xxh_io.specs.Process.{EndsAs}
@@ -15,9 +15,9 @@ no-fault (Err BadState) is = cc
 no-fault (Err OutOfMemory) is = cc
 no-fault (Err (Digest e)) is = cc
 
-pub message-nothing : {E : Type 0} (reporting : SinkRules E) (answer : Result (Unit {0}) Fault) (old new : E) → answer ≡ Ok tt → ReportsError reporting answer old new → new ≡ old
-message-nothing reporting (Ok x) old new is message = message
-message-nothing reporting (Err fault) old new is message = cc
+pub message-nothing : {E : Type 0} (reporting : SinkRules E) (reason : List ℕ) (answer : Result (Unit {0}) Fault) (old new : E) → answer ≡ Ok tt → ReportsError reporting reason answer old new → new ≡ old
+message-nothing reporting reason (Ok x) old new is message = message
+message-nothing reporting reason (Err fault) old new is message = cc
 
 pub ends-itself : (answer : Result (Unit {0}) Fault) → EndsAs answer answer
 ends-itself (Ok x) = tt

@@ -24,6 +24,21 @@ text_of (Digest e) = digest_text e
 abbrev pub line_of : Fault → List ℕ
 line_of fault = codes "xxh: " ++ (text_of fault ++ 10 ∷ [])
 
+-- the program's name, the system's message for a read, and a newline
+abbrev pub unread_line : List ℕ → List ℕ
+unread_line reason = codes "xxh: read failed: " ++ (reason ++ 10 ∷ [])
+
+-- the line on standard error; that of a failed read has the system's message
+abbrev pub reported_line : List ℕ → Fault → List ℕ
+reported_line reason Usage = line_of Usage
+reported_line reason BadSeed = line_of BadSeed
+reported_line reason BadSize = line_of BadSize
+reported_line reason BadState = line_of BadState
+reported_line reason OutOfMemory = line_of OutOfMemory
+reported_line reason (Digest ReadFailed) = unread_line reason
+reported_line reason (Digest WriteFailed) = line_of (Digest WriteFailed)
+reported_line reason (Digest TooLong) = line_of (Digest TooLong)
+
 -- 1 for errors of reading or writing, 2 for errors in the arguments, 3 if out of memory
 abbrev pub status_of : Fault → ℕ
 status_of Usage = 2

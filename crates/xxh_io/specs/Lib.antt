@@ -8,6 +8,7 @@ pub mod Hex
 pub mod Kind
 pub mod Pieces
 pub mod Process
+pub mod Refusal
 pub mod Rules
 pub mod Script
 pub mod Reports

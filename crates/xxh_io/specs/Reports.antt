@@ -5,7 +5,7 @@ use Rattle.xxh_io.specs.declared.digest_error.DigestError.TheVariants.{WriteFail
 use Rattle.xxh_io.specs.declared.fault.Fault.{Fault}
 use Rattle.xxh_io.specs.Rules.{SinkRules}
 use Rattle.xxh_io.specs.Digest.{Writes}
-use Rattle.xxh_io.specs.Fault.{line_of, status_of}
+use Rattle.xxh_io.specs.Fault.{reported_line, status_of}
 
 -- all of the bytes were taken, or a beginning of them up to a write that failed, and then nothing more
 abbrev pub TakesOrFails : {E : Type 0} → SinkRules E → List ℕ → E → E → Type 0
@@ -13,10 +13,10 @@ TakesOrFails reporting bytes old new =
     (written : Result (Unit {0}) DigestError) × Writes reporting bytes old new written
     × IfErr written (λ e. e ≡ WriteFailed) × (reporting.has_failed new ≡ is_err written)
 
--- an error's line was written, and nothing without an error
-abbrev pub ReportsError : {E : Type 0} → SinkRules E → Result (Unit {0}) Fault → E → E → Type 0
-ReportsError reporting (Ok x) old new = new ≡ old
-ReportsError reporting (Err fault) old new = TakesOrFails reporting (line_of fault) old new
+-- an error's line was written, and nothing without an error; `reason` is the system's message for a failed read
+abbrev pub ReportsError : {E : Type 0} → SinkRules E → List ℕ → Result (Unit {0}) Fault → E → E → Type 0
+ReportsError reporting reason (Ok x) old new = new ≡ old
+ReportsError reporting reason (Err fault) old new = TakesOrFails reporting (reported_line reason fault) old new
 
 -- the exit status
 abbrev pub status_after : Result (Unit {0}) Fault → ℕ

@@ -1,5 +1,5 @@
 -- What clauses read of the streams in memory.
-use Rattle.std.specs.Prelude.{◌≡◌, ◌≢◌, ℕ, false, ◌⊎◌, ◌+◌, ◌-◌, ◌^◌, ◌<◌, min, List, [], ◌++◌, drop, take, length, slice_index}
+use Rattle.std.specs.Prelude.{◌≡◌, ◌≢◌, ℕ, codes, false, ◌⊎◌, ◌+◌, ◌-◌, ◌^◌, ◌<◌, min, List, [], ◌++◌, drop, take, length, slice_index}
 use Rattle.xxh_io.specs.Rules.{SourceRules, SinkRules}
 use Rattle.xxh_io.specs.declared.script_source.ScriptSource.{ScriptSource}
 use Rattle.xxh_io.specs.declared.script_source.SliceSource.{SliceSource}
@@ -52,6 +52,10 @@ ScriptFails old new =
     × (counted (script_reads old) ≡ script_fail_at old)
     × IsNextRead old new
 
+-- the message for the read that fails
+abbrev pub script_reason : List ℕ
+script_reason = codes "Input/output error"
+
 -- ---- a source of a slice
 
 -- the remaining bytes
@@ -65,7 +69,7 @@ SliceGives old piece new =
 
 -- its rules: no read fails
 abbrev pub slice_reading : SourceRules SliceSource
-slice_reading = record { has_failed = λ _. false; gives = SliceGives; fails = λ _ _. ⊥ }
+slice_reading = record { has_failed = λ _. false; gives = SliceGives; fails = λ _ _. ⊥; reason = λ _. [] }
 
 -- ---- a sink that follows a script
 

@@ -1,12 +1,19 @@
 //! Errors of a command: the line and the exit status of each, and how it is written to standard error.
 
 ghost use Rattle.std.specs.Prelude.{◌≡◌, false};
-ghost use Rattle.xxh_io.specs.Reports.{ReportsError, status_after};
+ghost use Rattle.xxh_io.specs.Fault.{reported_line};
+ghost use Rattle.xxh_io.specs.Refusal.{refusal_text};
+ghost use Rattle.xxh_io.specs.Reports.{ReportsError, TakesOrFails, status_after};
 
 use crate::digest_error::DigestError;
+use crate::refusal::Refusal;
 use crate::streams::Sink;
+use crate::waiting::Waiting;
 use crate::write::write_all;
 use std::alloc::AllocError;
+
+// Capacity for the line of a read that failed.
+const MOST_LINE: usize = 288;
 
 /// The error of a command.
 #[derive(Clone, Copy, Debug, PartialEq, Eq)]
@@ -28,7 +35,7 @@ pub enum Fault {
 impl Fault {
     ghost use Rattle.xxh_io.specs.Fault.{line_of, status_of};
 
-    /// Returns the line for standard error.
+    /// Returns the line for standard error. That of a read that failed lacks the reason.
     pub fn line(self) -> &'static [u8]
         ensures { result.now ≡ line_of self }
     {
@@ -78,18 +85,37 @@ impl From<AllocError> for Fault {
     }
 }
 
-/// Writes the error message, if there is an error, and returns the exit status.
-pub fn conclude<E: Sink>(done: Result<(), Fault>, err: &mut E) -> u8
+/// Writes the error message, if there is an error, and returns the exit status. The message of a read that failed has the
+/// system's reason, `failure`.
+pub fn conclude<E: Sink>(done: Result<(), Fault>, failure: &Refusal, err: &mut E) -> u8
     requires { E.has_failed err.old ≡ false }
-    ensures reports { ReportsError E.Sink done err.old err.new }
+    ensures reports { ReportsError E.Sink (refusal_text failure.now) done err.old err.new }
     ensures status { result ≡ status_after done }
 {
     match done {
         Ok(()) => 0,
         Err(fault) => {
-            // A failure to write the line does not change the status.
-            let _ = write_all(fault.line(), err);
+            report(fault, failure, err);
             fault.status()
+        }
+    }
+}
+
+// Writes the error message by one call. That a write fails changes nothing.
+fn report<E: Sink>(fault: Fault, failure: &Refusal, err: &mut E)
+    requires { E.has_failed err.old ≡ false }
+    ensures { TakesOrFails E.Sink (reported_line (refusal_text failure.now) fault) err.old err.new }
+{
+    match fault {
+        Fault::Digest(DigestError::ReadFailed) => {
+            let mut line = Waiting::<MOST_LINE>::new();
+            line.append(b"xxh: read failed: ");
+            line.append(failure.text());
+            line.append(b"\n");
+            let _ = line.flush(err);
+        }
+        _ => {
+            let _ = write_all(fault.line(), err);
         }
     }
 }

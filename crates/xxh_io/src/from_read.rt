@@ -4,17 +4,20 @@ ghost use Rattle.std.specs.Prelude.{◌≡◌, false, List, ℕ};
 ghost use Rattle.std.specs.List.{concat};
 ghost use Rattle.std.specs.Io.KnownBytes.{Consumes, Keeps};
 ghost use Rattle.xxh_io.specs.Pieces.{Pieces};
-ghost use Rattle.xxh_io.specs.FromRead.{ReadsPiece, has_read_failed, reader_of};
+ghost use Rattle.xxh_io.specs.FromRead.{ReadsPiece, has_read_failed, reader_of, reason_read};
 ghost use Rattle.xxh_io.specs.declared.from_read.FromRead.{FromRead};
 
+use crate::refusal::Refusal;
 use crate::streams::{Failed, Source};
+use crate::words::words_of;
 use std::io::Read;
 
 /// A standard reader as a source. Every error of a read is a failure, including an interruption.
 #[derive(Drop)]
 pub struct FromRead<R> {
     inner: R,
-    failed: bool,
+    // The error of the read that failed.
+    failure: Option<Refusal>,
 }
 
 impl<R: Read> FromRead<R> {
@@ -25,7 +28,7 @@ impl<R: Read> FromRead<R> {
     {
         FromRead {
             inner,
-            failed: false,
+            failure: None,
         }
     }
 
@@ -33,7 +36,7 @@ impl<R: Read> FromRead<R> {
     pub fn into_inner(self) -> R
         ensures { result ≡ reader_of self }
     {
-        let FromRead { inner, failed: _ } = self;
+        let FromRead { inner, failure: _ } = self;
         inner
     }
 }
@@ -46,15 +49,24 @@ impl<R: Read> Source for FromRead<R> {
 
     ghost fails = { λ s t. Keeps (R.remaining (reader_of s)) (R.remaining (reader_of t)) };
 
+    ghost reason = { reason_read };
+
     fn failed(&self) -> bool {
-        self.failed
+        self.failure.is_some()
+    }
+
+    fn failure(&self) -> Refusal {
+        match self.failure {
+            Some(failure) => failure,
+            None => Refusal::new(0, b""),
+        }
     }
 
     fn read(&mut self, buf: &mut [u8]) -> Result<usize, Failed> {
         match self.inner.read(buf) {
             Ok(count) => Ok(count),
-            Err(_) => {
-                self.failed = true;
+            Err(error) => {
+                self.failure = Some(words_of(error));
                 Err(Failed)
             }
         }

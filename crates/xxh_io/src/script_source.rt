@@ -2,12 +2,14 @@
 
 ghost use Rattle.std.specs.Prelude.{◌≡◌, ◌<◌, ◌≤◌, ◌+◌, ◌==◌, [], length, false, take, is_err, IfOk, OnErr, drop, min, slice_index};
 
+use crate::refusal::Refusal;
 use crate::streams::{Failed, Source};
 
 /// A source that returns bytes in chunks of given sizes, and fails at one read. Allocates nothing.
 ///
 /// Read j, counted from 1, fails if j is `fail_at` (0 never fails). Otherwise it returns the next bytes: as many as the
-/// least of `sizes[j - 1]`, the remaining bytes, and the buffer's length. Past the end of `sizes` it returns none.
+/// least of `sizes[j - 1]`, the remaining bytes, and the buffer's length. Past the end of `sizes` it returns none. The
+/// error of the read that fails is `Input/output error`.
 ///
 /// ```
 /// let mut source = ScriptSource::new(b"some bytes", &[4, 1, 5], 3);
@@ -72,7 +74,7 @@ impl<'a> ScriptSource<'a> {
 }
 
 impl Source for ScriptSource<'_> {
-    ghost use Rattle.xxh_io.specs.Script.{counted, next_size, script_fail_at, script_reads, ScriptFails, ScriptGives};
+    ghost use Rattle.xxh_io.specs.Script.{counted, next_size, script_fail_at, script_reads, script_reason, ScriptFails, ScriptGives};
 
     ghost has_failed = { λ s. s.failed };
 
@@ -80,8 +82,14 @@ impl Source for ScriptSource<'_> {
 
     ghost fails = { ScriptFails };
 
+    ghost reason = { λ _. script_reason };
+
     fn failed(&self) -> bool {
         self.failed
+    }
+
+    fn failure(&self) -> Refusal {
+        Refusal::new(5, b"Input/output error")
     }
 
     fn read(&mut self, buf: &mut [u8]) -> Result<usize, Failed>
@@ -135,8 +143,14 @@ impl Source for SliceSource<'_> {
 
     ghost fails = { λ _ _. ⊥ };
 
+    ghost reason = { λ _. [] };
+
     fn failed(&self) -> bool {
         false
+    }
+
+    fn failure(&self) -> Refusal {
+        Refusal::new(0, b"")
     }
 
     fn read(&mut self, buf: &mut [u8]) -> Result<usize, Failed>

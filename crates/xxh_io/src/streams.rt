@@ -1,8 +1,11 @@
 //! Streams to read bytes from and write bytes to.
 
 ghost use Rattle.std.specs.Prelude.{◌≡◌, ◌<◌, ◌≤◌, List, ℕ, Bool, false, length, take, is_err, IfOk, OnErr};
+ghost use Rattle.xxh_io.specs.Refusal.{refusal_text};
 
-/// A read or a write failed, for an unspecified reason.
+use crate::refusal::Refusal;
+
+/// A read or a write failed. [`Source::failure`] has the reason of a read.
 #[derive(Clone, Copy, Debug, PartialEq, Eq)]
 pub struct Failed;
 
@@ -19,9 +22,16 @@ pub trait Source {
     // A read that fails leads from the first source to the second.
     ghost fails: { Self → Self → Type 0 };
 
+    // The system's message for the read that failed.
+    ghost reason: { Self → List ℕ };
+
     /// True if a read has failed.
     fn failed(&self) -> bool
         ensures { result ≡ has_failed self.now };
+
+    /// Returns the system's error of the read that failed.
+    fn failure(&self) -> Refusal
+        ensures { refusal_text result ≡ reason self.now };
 
     /// Reads bytes into the front of the buffer, and returns their number, or 0 at the end of the input.
     ///

@@ -8,6 +8,7 @@ use std::io::{ErrorKind, Read};
 use std::test::Fail;
 use xxh_io::buffered::Buffered;
 use xxh_io::from_read::FromRead;
+use xxh_io::refusal::Refusal;
 use xxh_io::streams::Source;
 
 /// Returns up to three bytes a read, and fails once, at its second read.
@@ -140,7 +141,7 @@ impl Read for FailsAfter {
     fn read(&mut self, buf: &mut [u8]) -> io::Result<usize> {
         self.reads = self.reads.saturating_add(1);
         if self.reads == 2 {
-            return Err(io::Error::from(ErrorKind::Interrupted));
+            return Err(io::Error::from_raw_os_error(116));
         }
         if self.reads > 2 {
             return Ok(0);
@@ -166,10 +167,13 @@ fn fails_second(count: usize, last: u8) -> bool {
         return false;
     }
     let second = r.read(&mut buf);
-    first == Ok(count) && second.is_err() && r.failed()
+    first == Ok(count)
+        && second.is_err()
+        && r.failed()
+        && r.failure() == Refusal::new(116, b"Stale file handle")
 }
 
-// Whatever was read before it, one error is a failure.
+// Whatever was read before it, one error is a failure, with the system's message.
 #[test]
 fn an_error_after_any_bytes_is_a_failure(rt: HostRuntime) {
     for count in [1, 2, 255, 256, 300, 301, 4095, 4096] {

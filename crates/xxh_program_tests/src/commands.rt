@@ -109,7 +109,13 @@ fn ends_that_fail(rt: HostRuntime) -> Result<(), AllocError> {
         "hash 64", "save 32", "save 64", RESUME_32, RESUME_64, "blocks 5",
     ] {
         assert!(rt;
-            reports(rt.alloc(), line, 1, 0, b"xxh: read failed\n")?,
+            reports(
+                rt.alloc(),
+                line,
+                1,
+                0,
+                b"xxh: read failed: Input/output error\n"
+            )?,
             "{line}"
         );
         assert!(rt;

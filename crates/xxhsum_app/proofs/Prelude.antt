@@ -59,7 +59,7 @@ pub use Rattle.xxhsum_program.proofs.ProgressReaderFacts.{inner-pieces}
 pub use Rattle.xxhsum_program.specs.EachHas.{EachHas}
 pub use Rattle.xxhsum_program.specs.Eprints.{EprintsLines}
 pub use Rattle.xxhsum_program.specs.Lines.{PrintsLine}
-pub use Rattle.xxhsum_program.specs.LinesView.{IsGiven}
+pub use Rattle.xxhsum_program.specs.LinesView.{IsGiven, reason_behind}
 pub use Rattle.xxhsum_program.specs.ListMessages.{improper_text, too_long_text}
 pub use Rattle.xxhsum_program.specs.Order.{Effect, effect_of, rules_of}
 pub use Rattle.xxhsum_program.specs.Outcomes.{is_digested}

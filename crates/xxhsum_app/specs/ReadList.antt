@@ -29,7 +29,7 @@ IsFault is_little list number line message =
 abbrev pub SourceSaysNothing : {R : Type 0} → SourceRules R → Bool → List ℕ → R → List ℕ → Type 0
 SourceSaysNothing reading is_little list source message =
     (lines : List (List ℕ)) × (items : List Item) × HaveItems is_little lines items
-    × ((EndsAs reading source lines FailedRead × (message ≡ unread_text list))
+    × (((why : List ℕ) × EndsAs reading source lines (FailedRead why) × (message ≡ unread_text list why))
     ⊎ ((EndsAs reading source lines Endless × (message ≡ too_long_text list (length lines + 1)))
     ⊎ ((line : List ℕ) × ReadsSome reading source (lines ++ line ∷ [])
     × IsFault is_little list (length lines + 1) line message)))

@@ -26,8 +26,8 @@ use xxhsum_program::check::check_lists;
 use xxhsum_program::context::Context;
 use xxhsum_program::hash::hash_names;
 use xxhsum_program::process::{
-    Console, arguments_behind_name, end, eprint_answer, eprint_wrong, perform, program_of,
-    requested_run, waits_for_terminal,
+    Console, arguments_behind_name, end, eprint_answer, eprint_wrong, is_well, perform,
+    print_answer, program_of, requested_run, waits_for_terminal,
 };
 use xxhsum_program::progress_reader::ProgressDisplay;
 use xxhsum_program::stderr::eprint;
@@ -107,7 +107,11 @@ where
     let words = arguments_behind_name(args);
     let parsed = parse_args(default_kind(program), words);
     let Some(found) = requested_run(parsed) else {
-        return Ok(eprint_answer(program, words, parsed, streams.messages()));
+        if is_well(parsed) {
+            return print_answer(program, words, parsed, &mut streams.out);
+        }
+        eprint_answer(program, words, parsed, streams.messages());
+        return Ok(false);
     };
     let (options, place) = found;
     let names = words_behind(words, place);

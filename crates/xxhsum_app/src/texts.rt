@@ -2,6 +2,7 @@
 
 ghost use Rattle.std.specs.Prelude.{◌≡◌, ◌∷◌, ◌++◌, [], false, List, ℕ, IfOk, map};
 ghost use Rattle.xxhsum_program.specs.Files.{files_of, input_of};
+ghost use Rattle.xxh_io.specs.Refusal.{refusal_text};
 ghost use Rattle.xxhsum_app.specs.Prelude.{EachHas, Eprints, one_line};
 ghost use Rattle.xxhsum_app.specs.Finds.{Finds};
 ghost use Rattle.xxhsum_app.specs.Texts.{Breaks, GiveTexts, GivesText, HasNoText, HasText, LackText, LacksOne, unopened_text, unread_text};
@@ -10,9 +11,9 @@ ghost use Rattle.xxhsum_program.specs.ProgressReader.{source_of};
 ghost use Rattle.xxhsum_program.specs.Run.{input_name};
 
 use std::alloc::{AllocError, Global};
+use xxh_io::refusal::Refusal;
 use xxh_io::streams::{Sink, Source};
 use xxhsum_audit::read::read_text;
-use xxhsum_fs::refusal::Refusal;
 use xxhsum_fs::store::Store;
 use xxhsum_program::context::Context;
 use xxhsum_program::progress_reader::{ProgressDisplay, ProgressReader};
@@ -61,13 +62,16 @@ pub(crate) fn eprint_unopened<'a, E: Sink>(name: &'a [u8], refusal: &'a Refusal,
 }
 
 // Reports that a read of the list of this name failed.
-pub(crate) fn eprint_unread<'a, E: Sink>(name: &'a [u8], err: &mut E)
-    ensures { Eprints E.Sink (one_line (unread_text name.now)) err.old err.new }
+pub(crate) fn eprint_unread<'a, E: Sink>(name: &'a [u8], failure: &'a Refusal, err: &mut E)
+    ensures { Eprints E.Sink (one_line (unread_text name.now (refusal_text failure.now)))
+        err.old err.new }
 {
-    let parts: [&[u8]; 3] = [
+    let parts: [&[u8]; 5] = [
         b"Error: Could not read '",
         name,
-        b"': a failure occurred reading the list.",
+        b"': ",
+        failure.text(),
+        b".",
     ];
     eprint_line(&parts, err);
 }
@@ -85,13 +89,13 @@ pub fn text_of<R: Source + Drop, T: TimedSink, E: Sink>(
 ) -> Result<Option<Vec<u8>>, Stop>
     requires { R.has_failed (source_of source) ≡ false }
     ensures { Finds result E.Sink (λ text. HasText R.Source (source_of source) text.items)
-        (λ message. Breaks R.Source (source_of source) × (message ≡ unread_text name.now)) err.old err.new }
+        (Breaks R.Source name.now (source_of source)) err.old err.new }
 {
     let mut source = source;
     match read_text(alloc, &mut source)? {
         Some(text) => Ok(Some(text)),
         None => {
-            eprint_unread(name, err);
+            eprint_unread(name, &source.failure(), err);
             Ok(None)
         }
     }
@@ -139,7 +143,7 @@ fn text_of_input<R: Source + Drop, T: TimedSink, E: Sink>(
     ensures { Finds result E.Sink
         (λ texts. (text : List ℕ) × HasText R.Source input text
         × (map (λ text. text.items) texts.items ≡ text ∷ []))
-        (λ message. Breaks R.Source input × (message ≡ unread_text input_name)) err.old err.new }
+        (Breaks R.Source input_name input) err.old err.new }
 {
     let Some(text) = text_of(alloc, INPUT, progress.watch(input), err)? else {
         return Ok(None);

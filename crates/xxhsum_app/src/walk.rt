@@ -7,9 +7,9 @@ ghost use Rattle.xxhsum_app.specs.WalkLaws.{FindsEachFile, FindsNoOther, FindsOn
 ghost use Rattle.xxhsum_app.specs.Walk.{HasKind, IsInOrder, IsSeen, SeesFolder, SeesOne, WalksAll, WalksSome, below, closed_text, place_of, state_of, tree_of, waiting_in, with_slash};
 
 use std::alloc::{AllocError, Global};
+use xxh_io::refusal::Refusal;
 use xxh_io::streams::Sink;
 use xxhsum_fs::folders::{FolderError, Folders, PathKind};
-use xxhsum_fs::refusal::Refusal;
 use xxhsum_fs::store::Store;
 use xxhsum_program::hash::eprint_outcome;
 use xxhsum_program::outcome::{Outcome, Reason};

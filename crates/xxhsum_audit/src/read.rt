@@ -4,6 +4,7 @@ ghost use Rattle.std.specs.Prelude.{◌≡◌, false, IfOk, MatchOption};
 ghost use Rattle.xxhsum_audit.specs.Read.{BreaksOff, GivesAll};
 
 use std::alloc::{AllocError, Global};
+use xxh_io::heap::buffer;
 use xxh_io::streams::Source;
 
 // Size of the read buffer.
@@ -13,15 +14,17 @@ const OFFERED: usize = 65536;
 /// `AllocError` if out of memory.
 ///
 /// The caller shows that the source has not failed.
+#[inline(never)]
 pub fn read_text<R: Source>(alloc: Global, source: &mut R) -> Result<Option<Vec<u8>>, AllocError>
     requires { R.has_failed source.old ≡ false }
     ensures { IfOk result (λ text. MatchOption text (BreaksOff R.Source source.old source.new)
         (λ bytes. GivesAll R.gives source.old source.new bytes.items)) }
 {
     let mut bytes = Vec::new(alloc);
-    let mut buf = [0; OFFERED];
+    let mut room = buffer(alloc, OFFERED)?;
+    let buf = room.as_mut_slice();
     for _ in 0..u64::MAX {
-        let Ok(count) = source.read(&mut buf) else {
+        let Ok(count) = source.read(buf) else {
             return Ok(None);
         };
         if count == 0 {

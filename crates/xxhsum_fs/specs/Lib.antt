@@ -1,6 +1,5 @@
 pub mod Folders
 pub mod Memory
-pub mod Refusal
 pub mod Rules
 pub mod System
 pub mod Uninterrupted

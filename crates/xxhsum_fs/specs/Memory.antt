@@ -2,8 +2,8 @@
 use Rattle.std.specs.Prelude.{◌≡◌, ℕ, List, Bool, true, false, Option, Some, option_map, find, bytes_eq, unwrap_or, MatchOption, pos}
 use Rattle.xxhsum_fs.specs.declared.memory.MemoryEntry.{MemoryEntry}
 use Rattle.xxhsum_fs.specs.declared.memory.MemoryFiles.{MemoryFiles}
-use Rattle.xxhsum_fs.specs.declared.refusal.Refusal.{Refusal}
-use Rattle.xxhsum_fs.specs.Refusal.{refusal_code}
+use Rattle.xxh_io.specs.declared.refusal.Refusal.{Refusal}
+use Rattle.xxh_io.specs.Refusal.{refusal_code}
 
 -- The entries of the table.
 abbrev pub entries_of : {S : Type 0} → MemoryFiles S → List (MemoryEntry S)

@@ -1,9 +1,9 @@
 -- The rules of the system's files. Nothing is known about their bytes.
 use Rattle.std.specs.Prelude.{◌≡◌, Bool, ℕ, List, Option, pos, IsUtf8}
-use Rattle.xxhsum_fs.specs.Refusal.{refusal_code}
+use Rattle.xxh_io.specs.Refusal.{refusal_code}
 use Rattle.xxh_io.specs.declared.from_read.FromRead.{FromRead}
 use Rattle.xxhsum_fs.specs.declared.folders.PathKind.{PathKind}
-use Rattle.xxhsum_fs.specs.declared.refusal.Refusal.{Refusal}
+use Rattle.xxh_io.specs.declared.refusal.Refusal.{Refusal}
 use Rattle.xxhsum_fs.specs.declared.system.SystemFiles.{SystemFiles}
 
 -- A name may open any file.

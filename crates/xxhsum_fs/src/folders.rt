@@ -3,17 +3,17 @@
 ghost use Rattle.std.specs.Prelude.{◌≡◌, List, ℕ, map, MatchResult};
 ghost use Rattle.xxhsum_fs.specs.Folders.{ClosesFor};
 ghost use Rattle.xxhsum_fs.specs.declared.folders.PathKind.{PathKind};
-ghost use Rattle.xxhsum_fs.specs.declared.refusal.Refusal.{Refusal};
+ghost use Rattle.xxh_io.specs.declared.refusal.Refusal.{Refusal};
 
-use crate::refusal::Refusal;
 use std::alloc::{AllocError, Global};
+use xxh_io::refusal::Refusal;
 
 /// The type of a path, without following links.
 #[derive(Clone, Copy, Debug, PartialEq, Eq)]
 pub enum PathKind {
     /// A directory.
     Folder,
-    /// A file; also a name that is not UTF-8, for which opening returns the error.
+    /// A file; also a name that is not UTF-8, or that has vanished, for which opening returns the error.
     File,
     /// A link, a device, a pipe or a socket.
     Other,

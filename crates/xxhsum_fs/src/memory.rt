@@ -3,8 +3,8 @@
 ghost use Rattle.std.specs.Prelude.{◌≡◌, None, option_copied};
 ghost use Rattle.xxhsum_fs.specs.Memory.{entries_of, entry_named, is_directory_named, LeadsTo, RefusedFor};
 
-use crate::refusal::{MISSING, Refusal};
 use crate::store::Store;
+use xxh_io::refusal::{MISSING, Refusal};
 use xxh_io::streams::Source;
 
 /// A name and its source.

@@ -1,9 +1,9 @@
 //! The trait of file stores.
 
 ghost use Rattle.std.specs.Prelude.{◌≡◌, false, List, ℕ, Bool, Option, IfOk, IfErr};
-ghost use Rattle.xxhsum_fs.specs.declared.refusal.Refusal.{Refusal};
+ghost use Rattle.xxh_io.specs.declared.refusal.Refusal.{Refusal};
 
-use crate::refusal::Refusal;
+use xxh_io::refusal::Refusal;
 use xxh_io::streams::Source;
 
 /// Files by name. A name is bytes, as for the system, and needn't be UTF-8.

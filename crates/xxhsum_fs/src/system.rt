@@ -4,15 +4,15 @@
 ghost use Rattle.xxhsum_fs.specs.System.{AnyAnswer, AnyFile, AnyKind, AnyNames, AnySize, RefusesNoText};
 
 use crate::folders::{FolderError, Folders, PathKind};
-use crate::refusal::Refusal;
 use crate::store::Store;
 use crate::uninterrupted::Uninterrupted;
-use crate::words::words_of;
 use std::alloc::{AllocError, Global};
 use std::fs;
 use std::fs::Files;
 use std::io::Read;
 use xxh_io::from_read::FromRead;
+use xxh_io::refusal::Refusal;
+use xxh_io::words::words_of;
 
 // `EILSEQ`, the system's error number for an illegal byte sequence.
 const NOT_A_TEXT: i32 = 84;
@@ -91,7 +91,15 @@ impl<P: Files> Folders for SystemFiles<'_, P> {
             Ok(found) if found.is_dir() => PathKind::Folder,
             Ok(found) if found.is_file() => PathKind::File,
             Ok(_) => PathKind::Other,
-            Err(error) => PathKind::Unknown(words_of(error)),
+            Err(error) => {
+                // A name that has vanished is reported when it is opened, like one that vanishes later.
+                let refusal = words_of(error);
+                if refusal.is_missing() {
+                    PathKind::File
+                } else {
+                    PathKind::Unknown(refusal)
+                }
+            }
         }
     }
 
@@ -108,6 +116,7 @@ impl<P: Files> Folders for SystemFiles<'_, P> {
 
 // Returns the names in an open directory. Its reads return each name with a NUL at its end, and no read ends within a
 // name.
+#[inline(never)]
 fn names_of<D: Read + Drop>(alloc: Global, dir: D) -> Result<Vec<Vec<u8>>, FolderError> {
     let mut dir = Uninterrupted::new(dir);
     let mut names = Vec::new(alloc);

@@ -1,2 +1,3 @@
+pub mod MessagesFacts
 mod ShownFacts
 pub mod WholeLinesFacts

@@ -1,3 +1,4 @@
+pub mod Messages
 pub mod Shown
 pub mod Visible
 pub mod WholeLines

@@ -1,7 +1,7 @@
 -- Lemmas on the findings of lines and on the end of a list.
 use Rattle.std.proofs.Common.{◌≡◌, ◌⊎◌, ℕ, Bool, true, List, [], ◌∷◌, ◌++◌, refl, sym, ap, subst, ◌∙◌, inl, inr, append-nil, append_assoc}
 use Rattle.xxhsum_program.specs.Prelude.{AllByRecursion, Lacks, Pieces, Report, SourceRules, concat}
-use Rattle.xxhsum_program.proofs.Prelude.{Endless, FailedRead, FailsAfter, Finding, HasRead, IsAtEnd, IsHeld, IsNext, IsRead, Lines, add_up, count_one, end_piece, source_of, waiting}
+use Rattle.xxhsum_program.proofs.Prelude.{Endless, FailedRead, FailsAfter, Finding, HasRead, IsAtEnd, IsHeld, IsNext, IsRead, Lines, add_up, count_one, end_piece, reason_behind, source_of, waiting}
 use Rattle.xxhsum_program.specs.declared.lines.Next.TheVariants as Variant
 use Rattle.xxhsum_program.specs.CheckList.{EndsAs, EndsInLine, EndsWell, HasLines, ReadsSome, with_line_feeds}
 use Rattle.xxhsum_program.proofs.EachFacts.{all-push}
@@ -72,9 +72,9 @@ breaks-endless reading source old new lines (done, read, inl so_far) next ended 
 breaks-endless reading source old new lines (done, read, inr so_far) next ended =
     let never = ended so_far.0 in cc
 
-pub breaks-failed : {R X : Type 0} (reading : SourceRules R) (source : R) (old new : Lines R X) (lines : List (List ℕ)) → Stands reading source old lines → ((from : R) (done : List ℕ) → HasRead reading from done old → IsNext reading from done new Variant.Failed) → (IsAtEnd old → Variant.Failed ≡ Variant.End) → EndsAs reading source lines FailedRead
+pub breaks-failed : {R X : Type 0} (reading : SourceRules R) (source : R) (old new : Lines R X) (lines : List (List ℕ)) → Stands reading source old lines → ((from : R) (done : List ℕ) → HasRead reading from done old → IsNext reading from done new Variant.Failed) → (IsAtEnd old → Variant.Failed ≡ Variant.End) → EndsAs reading source lines (FailedRead (reason_behind reading new))
 breaks-failed reading source old new lines (done, read, inl so_far) next ended =
     let (rest, failed, lacks) = next source done read in
-    (rest, subst (λ (d : List ℕ). FailsAfter reading source (d ++ rest)) so_far.1 failed, lacks, so_far.0)
+    (rest, subst (λ (d : List ℕ). FailsAfter reading source (reason_behind reading new) (d ++ rest)) so_far.1 failed, lacks, so_far.0)
 breaks-failed reading source old new lines (done, read, inr so_far) next ended =
     let never = ended so_far.0 in cc

@@ -21,7 +21,7 @@ passed_over : {S F : Type 0} (files : Files S F) (name : List ℕ) (ignores : Bo
     → HasNoValue files name reason → (ignores && has_no_file reason) ≡ true → IsPassedOver files ignores name
 passed_over files name false reason none is = let no : false ≡ true = is in cc
 passed_over files name true (Why.Unopened refusal) none is = (refl, refusal, none, is)
-passed_over files name true Why.ReadFailed none is = let no : false ≡ true = is in cc
+passed_over files name true (Why.ReadFailed refusal) none is = let no : false ≡ true = is in cc
 passed_over files name true Why.TooLong none is = let no : false ≡ true = is in cc
 
 one-well : {S F : Type 0} (files : Files S F) (options : Options) (line : List ℕ) (report : Report) (finding : Finding)
@@ -54,7 +54,7 @@ at-clean : (ignores : Bool) (end : ListEnd) (findings : List Finding) → Clean 
 at-clean ignores Whole findings clean = clean
 at-clean ignores TooMany findings clean = clean
 at-clean ignores Endless findings clean = let no : true ≡ false = clean.2 in cc
-at-clean ignores FailedRead findings clean = let no : true ≡ false = clean.2 in cc
+at-clean ignores (FailedRead why) findings clean = let no : true ≡ false = clean.2 in cc
 
 pub good-means-equal : {S F R : Type 0} (opening : StoreRules S F) (reading : SourceRules F) (list_reading : SourceRules R) → GoodMeansEqual opening reading list_reading
 good-means-equal opening reading list_reading store options source findings None finds is = let no : false ≡ true = is in cc

@@ -1,7 +1,10 @@
 -- Lemmas on a hashing run, at a name and where it stops.
 use Rattle.std.proofs.Common.{◌≡◌, ℕ, Bool, false, List, [], ◌∷◌, ◌++◌, refl, sym, ap, ◌∙◌, subst, append-nil, append_assoc, Ok, Err, Result, IsErrAnd}
-use Rattle.xxhsum_program.specs.Prelude.{Digested, EachHas, Eprints, EprintsLines, IsDirectory, Kind, OutOfMemory, Outcome, SinkRules, Stop, Style, Took, Unread, WriteFailed}
-use Rattle.xxhsum_program.proofs.Prelude.{EmitsAll, EmitsOrNone, EmitsTo, EndsWith, IsWritten, PrintsLine, StreamRules, Streams, input_events, is_digested, lines_of, name_events, name_messages, streams_of, styled_line}
+use Rattle.xxhsum_program.specs.Prelude.{Digested, EachHas, Eprints, EprintsLines, IsDirectory, Kind, OutOfMemory, Outcome, Refusal, SinkRules, Stop, Style, Took, Unread, WriteFailed}
+use Rattle.xxh_io.specs.Refusal.{refusal_text}
+use Rattle.xxh_io.specs.declared.digest_error.DigestError.{DigestError}
+use Rattle.xxh_io.specs.declared.digest_error.DigestError.TheVariants as Of
+use Rattle.xxhsum_program.proofs.Prelude.{EmitsAll, EmitsOrNone, EmitsTo, EndsWith, IsWritten, PrintsLine, StreamRules, Streams, error_text, input_events, is_digested, lines_of, name_events, name_messages, reason_of, reason_text, streams_of, styled_line}
 use Rattle.xxhsum_program.proofs.OrderFacts.{emits-append, emits-join}
 use Rattle.xxhsum_program.proofs.EachFacts.{EachHas-push}
 use Rattle.xxhsum_program.proofs.OutcomeFacts.{lines-push}
@@ -9,6 +12,12 @@ use Rattle.xxhsum_program.proofs.OutcomeFacts.{lines-push}
 pub is-err : {T : Type 0} (result : Result T Stop) (stop : Stop) → IsErrAnd result (λ e. e ≡ stop) → result ≡ Err stop
 is-err (Ok x) stop is = absurd is
 is-err (Err e) stop is = ap Err is
+
+-- Lemma: the reason as text is the system's message, if a read failed.
+pub reason-says : (e : DigestError) (refusal : Refusal) → reason_text (reason_of e refusal) ≡ error_text e (refusal_text refusal)
+reason-says Of.ReadFailed refusal = refl
+reason-says Of.WriteFailed refusal = refl
+reason-says Of.TooLong refusal = refl
 
 one-message : {E : Type 0} (reporting : SinkRules E) (bytes : List ℕ) (old new : E) → Eprints reporting (bytes ++ []) old new → Eprints reporting bytes old new
 one-message reporting bytes old new = subst (λ b. Eprints reporting b old new) (append-nil bytes)
@@ -36,7 +45,7 @@ names-stop rules comes kind style all names after outcomes name outcome old mid 
 )
 
 -- Lemma: the line of standard input can't be written.
-pub input-stops : {W E : Type 0} (rules : StreamRules W E) (kind : Kind) (style : Style) (name : List ℕ) (value hash : ℕ) (old : Streams W E) (new : W) (stop : Stop) → PrintsLine {T = Unit {0}} rules.writing (styled_line kind style value name) old.out new (Err stop) → EmitsTo {T = Bool} rules (input_events kind style name value (Ok hash) (Err stop)) old (streams_of new old.err) (Err stop)
+pub input-stops : {W E : Type 0} (rules : StreamRules W E) (kind : Kind) (style : Style) (name : List ℕ) (value hash : ℕ) (old : Streams W E) (new : W) (stop : Stop) → PrintsLine {T = Unit {0}} rules.writing (styled_line kind style value name) old.out new (Err stop) → EmitsTo {T = Bool} rules (input_events kind style name value [] (Ok hash) (Err stop)) old (streams_of new old.err) (Err stop)
 input-stops rules kind style name value hash old new WriteFailed refused =
     ([], styled_line kind style value name, old, refl, (refl, refl), refused, refl)
 input-stops rules kind style name value hash old new OutOfMemory same = (same, refl)

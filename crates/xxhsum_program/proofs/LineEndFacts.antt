@@ -1,8 +1,9 @@
 -- A line that is written in two parts, of which either may be refused.
 use Rattle.std.proofs.Common.{◌≡◌, ◌≢◌, ℕ, ◌<◌, List, [], ◌∷◌, ◌++◌, Bool, true, false, Ok, Err, IfErr, codes, nat_eq, ◌||◌, refl, sym, subst, if◌then◌else◌, arith, append-nil, ap, ◌∙◌, Result}
 use Rattle.xxhsum_program.specs.Prelude.{Options, OutOfMemory, Report, SinkRules, Stop, Took, WriteFailed, concat}
-use Rattle.xxhsum_program.proofs.Prelude.{Emits, EmitsTo, Event, FailedRead, Printed, PrintsLine, Refused-join, Refused-more, Reported, StreamRules, Streams, Took-join, is_unverified, streams_of}
-use Rattle.xxhsum_program.specs.ListMessages.{break_events, count_text, line_message, no_line_text, printed_summary, summary_events, summary_text, unverified_line, unverified_text}
+use Rattle.xxhsum_program.proofs.Prelude.{Emits, EmitsTo, Printed, PrintsLine, Refused-join, Refused-more, Reported, StreamRules, Streams, Took-join, is_unverified, streams_of}
+use Rattle.xxhsum_program.specs.ListMessages.{count_text, no_line_text, printed_summary, summary_events, summary_text, unverified_line, unverified_text}
+use Rattle.xxhsum_program.specs.Report.{has_no_line}
 use Rattle.xxhsum_program.proofs.OrderFacts.{emits-join, emits-line}
 
 -- Lemma: a line is refused if its first part is refused.
@@ -22,9 +23,6 @@ line_join writing a b old mid new (Err OutOfMemory) took only prints = cc
 
 -- ---- the end of a list
 
-else-of : {T : Type 0} (count : ℕ) (items : List T) → count ≢ 0 → (if nat_eq count 0 then [] else items) ≡ items
-else-of count items some = grind arith
-
 one-of : (count : ℕ) (silent : Bool) (text : List ℕ) → count ≢ 0 → silent ≡ false → (if nat_eq count 0 || silent then [] else text) ≡ text
 one-of count silent text some speaks = rw speaks (grind arith)
 
@@ -35,32 +33,21 @@ summary-is options report some speaks =
     let different = count_text report.different (codes " computed checksum did NOT match\n") (codes " computed checksums did NOT match\n") in
     one-of report.proper options.is_status_only (concat (improper ∷ unread ∷ different ∷ [])) some speaks ∙ ap (λ bytes. improper ++ (unread ++ bytes)) (append-nil different)
 
-pub no-break : (list : List ℕ) (number : ℕ) (report : Report) → report.proper ≡ 0 → break_events list number report FailedRead ≡ []
-no-break list number report none = rw none refl
-
-pub break-is : (list : List ℕ) (number : ℕ) (report : Report) → 0 < report.proper → break_events list number report FailedRead ≡ Reported (line_message list number (codes "A failure occurred reading the list")) ∷ []
-break-is list number report some =
-    else-of report.proper (Reported (line_message list number (codes "A failure occurred reading the list")) ∷ []) (λ is. omega (arith, some, is))
-
 -- Lemma: a list without a well-formed line is reported, and then its summary is printed.
 pub summary-reported : {W E T : Type 0} (rules : StreamRules W E) (options : Options) (list : List ℕ) (report : Report) (old met : Streams W E) (out : W) (result : Result T Stop)
-    → report.proper ≡ 0 → Emits rules (Reported (no_line_text list)) old met → PrintsLine rules.writing (summary_text options list report) met.out out result → IfErr result (λ stop. stop ≡ WriteFailed)
+    → has_no_line report ≡ true → Emits rules (Reported (no_line_text list)) old met → PrintsLine rules.writing (summary_text options list report) met.out out result → IfErr result (λ stop. stop ≡ WriteFailed)
     → EmitsTo rules (summary_events options list report) old (streams_of out met.err) result
 summary-reported rules options list report old met out result none emits prints only =
     let events : summary_events options list report ≡ Reported (no_line_text list) ∷ Printed (summary_text options list report) ∷ [] = rw none refl in
     subst (λ all. EmitsTo rules all old (streams_of out met.err) result) (sym events)
     (emits-join rules (Reported (no_line_text list) ∷ []) (Printed (summary_text options list report) ∷ []) old met (streams_of out met.err) result (met, emits, (refl, refl)) (emits-line rules (summary_text options list report) met out result prints only))
 
-only-if : {T : Type 0} (count : ℕ) (items : List T) → count ≢ 0 → (if nat_eq count 0 then items else []) ≡ []
-only-if count items some = grind arith
-
 -- Lemma: the summary of any other list is printed.
 pub summary-printed : {W E T : Type 0} (rules : StreamRules W E) (options : Options) (list : List ℕ) (report : Report) (old : Streams W E) (out : W) (result : Result T Stop)
-    → report.proper ≢ 0 → PrintsLine rules.writing (summary_text options list report) old.out out result → IfErr result (λ stop. stop ≡ WriteFailed)
+    → has_no_line report ≡ false → PrintsLine rules.writing (summary_text options list report) old.out out result → IfErr result (λ stop. stop ≡ WriteFailed)
     → EmitsTo rules (summary_events options list report) old (streams_of out old.err) result
 summary-printed rules options list report old out result some prints only =
-    let events : summary_events options list report ≡ Printed (summary_text options list report) ∷ [] =
-    ap (λ (all : List Event). all ++ Printed (summary_text options list report) ∷ []) (only-if report.proper (Reported (no_line_text list) ∷ []) some) in
+    let events : summary_events options list report ≡ Printed (summary_text options list report) ∷ [] = rw some refl in
     subst (λ all. EmitsTo rules all old (streams_of out old.err) result) (sym events) (emits-line rules (summary_text options list report) old out result prints only)
 
 pub unverified_is : (options : Options) (list : List ℕ) (report : Report) → is_unverified options.ignores_missing report ≡ true → unverified_text options list report ≡ unverified_line list

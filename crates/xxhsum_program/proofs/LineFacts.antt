@@ -7,7 +7,7 @@ use Rattle.std.proofs.lemmas.List.{take-take, take_at, take-append-le, drop-take
 use borrow.Rule.Slice.PartMut.{put_mid}
 use Rattle.xxhsum_line.proofs.LackFacts.{at_place, lacks_before, lacks_both, lacks_by_place}
 use Rattle.xxhsum_program.specs.declared.lines.Next.TheVariants as Variant
-use Rattle.xxhsum_program.specs.LinesView.{HasRead, IsAtEnd, IsBeforeLineFeed, IsHeld, IsNext, IsTaken, ReadsBehind, StopsAt, line_of, most_reads_left, waiting}
+use Rattle.xxhsum_program.specs.LinesView.{HasRead, IsAtEnd, IsBeforeLineFeed, IsHeld, IsNext, IsTaken, ReadsBehind, StopsAt, line_of, most_reads_left, reason_behind, waiting}
 
 -- ---- parts of the buffered bytes
 
@@ -76,7 +76,7 @@ reads-on {R} reading from old new done w piece ended count going size read gave 
 -- ---- the next line, end or error
 
 -- Lemma: an error is the same for any type of result.
-pub fails-alike : {R X U : Type 0} (reading : SourceRules R) (from : R) (done : List ℕ) (new : Lines R X) (e : Failed) (result : Result U Failed) → FailsAfter reading from (done ++ waiting new) × Lacks 10 (waiting new) → IsErrAnd result (λ f. f ≡ e) → ReadsBehind reading from done new result
+pub fails-alike : {R X U : Type 0} (reading : SourceRules R) (from : R) (done : List ℕ) (new : Lines R X) (e : Failed) (result : Result U Failed) → FailsAfter reading from (reason_behind reading new) (done ++ waiting new) × Lacks 10 (waiting new) → IsErrAnd result (λ f. f ≡ e) → ReadsBehind reading from done new result
 fails-alike reading from done new e (Ok x) read is = absurd is
 fails-alike reading from done new e (Err f) read is = read
 
@@ -179,7 +179,7 @@ inside-ends reading from done reads lines is_long ended none (removed, read, lac
 pub inside-fails : {R X : Type 0} (reading : SourceRules R) (from : R) (done : List ℕ) (reads : ℕ) (e : Failed) (old new : Lines R X) → IsEmptied reading from done reads old → ((from : R) (done : List ℕ) → HasRead reading from done old → ReadsBehind {T = Unit {0}} reading from done new (Err e)) → IsNext reading from done new Variant.Failed
 inside-fails reading from done reads e old new (removed, read, lacks, long, most) behind =
     let failed = behind from (done ++ removed) read in
-    (removed ++ waiting new, subst (λ bytes. FailsAfter reading from bytes) (append_assoc done removed (waiting new)) failed.0, lacks_both 10 removed (waiting new) lacks failed.1)
+    (removed ++ waiting new, subst (λ bytes. FailsAfter reading from (reason_behind reading new) bytes) (append_assoc done removed (waiting new)) failed.0, lacks_both 10 removed (waiting new) lacks failed.1)
 
 -- Lemma: the line is complete after a read that returns its newline.
 pub inside-found : {R X : Type 0} (reading : SourceRules R) (from : R) (done : List ℕ) (reads len : ℕ) (old mid new : Lines R X) → IsEmptied reading from done reads old → ((from : R) (done : List ℕ) → HasRead reading from done old → HasRead reading from done mid) → StopsAt (Some len) mid → IsTaken 0 (len + 1) true mid new → IsNext reading from done new Variant.Line

@@ -38,12 +38,12 @@ pub use Rattle.xxhsum_program.specs.GoodList.{GoodMeansEqual, IsPassedOver, IsWe
 pub use Rattle.xxhsum_program.specs.HashNames.{EndsWith, SaysInput, input_events, name_events}
 pub use Rattle.xxhsum_program.specs.Joined.{joined}
 pub use Rattle.xxhsum_program.specs.Lines.{PrintsLine, lines_of, name_messages}
-pub use Rattle.xxhsum_program.specs.LinesView.{HasRead, IsAtEnd, IsGiven, IsHeld, IsNext, IsRead, most_reads_left, waiting}
+pub use Rattle.xxhsum_program.specs.LinesView.{HasRead, IsAtEnd, IsGiven, IsHeld, IsNext, IsRead, most_reads_left, reason_behind, waiting}
 pub use Rattle.xxhsum_program.specs.ListEnd.{Endless, FailedRead, ListEnd, TooMany, Whole, report_at}
 pub use Rattle.xxhsum_program.specs.ListLines.{FailsAfter, IsLastLine, end_piece}
 pub use Rattle.xxhsum_program.specs.ListMessages.{finding_events, numbered}
 pub use Rattle.xxhsum_program.specs.Order.{Emits, EmitsAll, EmitsOrNone, EmitsTo, Event, Printed, Reported, StreamRules, effect_of, printed_of, rules_of}
-pub use Rattle.xxhsum_program.specs.Outcomes.{Comes, HasNoValue, IsValueOf, are_digested, has_no_file, is_digested, reason_text}
+pub use Rattle.xxhsum_program.specs.Outcomes.{Comes, HasNoValue, IsValueOf, are_digested, error_text, has_no_file, is_digested, reason_of, reason_text}
 pub use Rattle.xxhsum_program.specs.Prelude.{AllByRecursion, EachHas, Eprints, EprintsLines, Lacks, NoneEmpty, OutOfMemory, Outcome, Pieces, ProgressReader, Refused, SinkRules, SourceRules, Stop, Took, WriteFailed, concat, files_of}
 pub use Rattle.xxhsum_program.specs.Progress.{cleared, count_after, empty_line, left_text, line_text, progress_line, rate_of, shown_text}
 pub use Rattle.xxhsum_program.specs.ProgressReader.{progress_reading, source_of}

@@ -160,7 +160,7 @@ holds_just_lines reading source texts all holds = (
       let begin = reads_begin reading source texts lines rest has_ended all holds reads in
       let others = all_right lines begin.1.0 (subst (AllByRecursion IsLine) begin.1.1 all) in
       not_too_long begin.1.0 rest begin.0 others begin.1.2 long,
-  λ bytes failed. (holds.0 failed.0 failed.1 failed.2 failed.3).1 failed.4,
+  λ why bytes failed. (holds.0 failed.0 failed.1 failed.2 failed.3).1 why failed.4,
 )
 
 pub holds_printed_lines : {R : Type 0} (reading : SourceRules R) → HoldsPrintedLines reading
@@ -207,8 +207,8 @@ checks_printed opening reading list_reading store is_little entries source findi
 checks_printed opening reading list_reading store is_little entries source findings Endless all few holds (lines, each, (has_ended, rest, reads, endless)) =
     let long : BeginsTooLong rest = (rest, [], sym (append-nil rest), endless.0, omega (arith, endless.1), omega (arith, endless.1)) in
     absurd ((holds_printed_lines list_reading is_little entries source all holds).2 has_ended lines rest reads long)
-checks_printed opening reading list_reading store is_little entries source findings FailedRead all few holds (lines, each, (rest, failed, behind, are)) =
-    absurd ((holds_printed_lines list_reading is_little entries source all holds).3 (with_line_feeds lines ++ rest) failed)
+checks_printed opening reading list_reading store is_little entries source findings (FailedRead why) all few holds (lines, each, (rest, failed, behind, are)) =
+    absurd ((holds_printed_lines list_reading is_little entries source all holds).3 why (with_line_feeds lines ++ rest) failed)
 
 -- ---- a source of a slice
 
@@ -216,9 +216,9 @@ pub slices_hold : (source : SliceSource) → Holds slice_reading source (slice_r
 slices_hold source = (
   λ pieces met some read. (
     (slice_rest met, slice-pieces source met pieces read),
-    λ cant.
+    λ why cant.
         elim cant [
-          | inl failed ↦ false≢true failed
+          | inl failed ↦ false≢true failed.0
           | inr fails ↦ fails.1
         ],
   ),

@@ -58,11 +58,10 @@ lines-stop is_finding reading rules options list source old mid new before after
       emits-stop (Unit {0}) Report rules (numbered events 1 (findings ++ finding ∷ [])) old new WriteFailed (subst (λ all. EmitsTo {T = Unit {0}} rules all old new (Err WriteFailed)) (sym all) (emits-join {T = Unit {0}} rules (numbered events 1 findings) (events number finding) old mid new (Err WriteFailed) emits refused)),
     )
 
--- Lemma: the events of the end of a list, with equal numbers and reports.
-pub emits-break : {W E : Type 0} (rules : StreamRules W E) (list : List ℕ) (end : ListEnd) (m n : ℕ) (r s : Report) (old new : Streams W E) → m ≡ n
-    → r ≡ s → EmitsAll rules (break_events list m r end) old new → EmitsAll rules (break_events list n s end) old new
-emits-break rules list end m n r s old new numbers reports emits =
-    subst (λ k. EmitsAll rules (break_events list k s end) old new) numbers (subst (λ x. EmitsAll rules (break_events list m x end) old new) reports emits)
+-- Lemma: the events of the end of a list, with equal numbers.
+pub emits-break : {W E : Type 0} (rules : StreamRules W E) (list : List ℕ) (end : ListEnd) (m n : ℕ) (old new : Streams W E) → m ≡ n
+    → EmitsAll rules (break_events list m end) old new → EmitsAll rules (break_events list n end) old new
+emits-break rules list end m n old new numbers emits = subst (λ k. EmitsAll rules (break_events list k end) old new) numbers emits
 
 -- ---- after the lines
 
@@ -71,6 +70,12 @@ pub check-begins-not : {R W E : Type 0} (is_finding : List ℕ → Finding → T
     → ListChecked is_finding reading rules options list source here here (Err OutOfMemory)
 check-begins-not is_finding reading rules options list source here =
     ([], None, ([], tt, (false, [], ([], source, tt, refl, inl (tt, refl)))), tt, (refl, refl))
+
+-- Lemma: out of memory before the first line is read.
+pub lines-begin-not : {R W E : Type 0} (is_finding : List ℕ → Finding → Type 0) (reading : SourceRules R) (rules : StreamRules W E) (options : Options) (list : List ℕ) (source : R) (here : Streams W E)
+    → LinesChecked is_finding reading rules options list source here here (Err OutOfMemory)
+lines-begin-not is_finding reading rules options list source here =
+    ([], None, ([], tt, (false, [], ([], source, tt, refl, inl (tt, refl)))), refl, (refl, refl))
 
 -- Lemma: the check stops before its end.
 pub check-stops : {R W E : Type 0} (is_finding : List ℕ → Finding → Type 0) (reading : SourceRules R) (rules : StreamRules W E) (options : Options) (list : List ℕ) (source : R) (old new : Streams W E) (stop : Stop)

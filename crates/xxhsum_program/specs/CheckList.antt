@@ -49,8 +49,8 @@ EndsAs reading source lines Whole = EndsWell reading source lines
 EndsAs reading source lines TooMany = ReadsSome reading source lines × (length lines ≡ 2 ^ 64 - 2)
 EndsAs reading source lines Endless =
     (has_ended : Bool) × (rest : List ℕ) × ReadsLines reading source has_ended lines rest × IsEndless rest
-EndsAs reading source lines FailedRead =
-    (rest : List ℕ) × FailsAfter reading source (with_line_feeds lines ++ rest)
+EndsAs reading source lines (FailedRead why) =
+    (rest : List ℕ) × FailsAfter reading source why (with_line_feeds lines ++ rest)
     × Lacks 10 rest × AllByRecursion (Lacks 10) lines
 
 -- The first lines of a source, or all of them and the way in which they end.

@@ -1,6 +1,6 @@
 -- The command of the arguments.
-use Rattle.std.specs.Prelude.{◌≡◌, ℕ, Bool, true, false, ◌&&◌, ◌||◌, not, List, [], ◌∷◌, ◌++◌, Option, Some, None, codes, drop, get_or, length, nat_eq, if◌then◌else◌}
-use Rattle.xxhsum_program.specs.Prelude.{Options, concat, one_line}
+use Rattle.std.specs.Prelude.{◌≡◌, ℕ, Bool, true, false, ◌&&◌, ◌||◌, not, List, [], ◌∷◌, ◌++◌, Option, Some, None, Result, Ok, Err, codes, drop, get_or, length, nat_eq, if◌then◌else◌}
+use Rattle.xxhsum_program.specs.Prelude.{Eprints, Options, SinkRules, Stop, WriteFailed, concat, one_line}
 use Rattle.xxhsum_program.specs.declared.process.Interactive.{Interactive}
 use Rattle.xxhsum_program.specs.declared.usage.TheConstants.{ABOUT, BEFORE, BEHIND, NO_BENCHMARK, TITLE}
 use Rattle.xxhsum_program.specs.Arguments.{IsLastPart}
@@ -11,9 +11,10 @@ use Rattle.xxhsum_options.specs.declared.table.TheConstants.{ROWS}
 use Rattle.xxhsum_options.specs.declared.options.ParsedArgs.{ParsedArgs}
 use Rattle.xxhsum_options.specs.declared.options.ParsedArgs.TheVariants.{Run, Benchmark, Version, Help, WrongOption, NulsInList, WalkBesideLists, WalkOfNothing, InputBesideNames, NumberTooLarge}
 
--- A text that is reported, with the program's result, or the options and the arguments of a run that reads files.
+-- A text that is printed, or reported as an error, or the options and the arguments of a run that reads files.
 pub data Command : Type 0 where
-  Answers : List ℕ → Bool → Command
+  Tells : List ℕ → Command
+  Answers : List ℕ → Command
   Reads : Options → List (List ℕ) → Command
 
 -- The name of the program: the last part of its path, or `xxhsum` if there is no path.
@@ -48,7 +49,7 @@ abbrev pub waits_for_terminal : Interactive → Options → List (List ℕ) → 
 waits_for_terminal interactive options names =
     has_none names && not (is_tree options) && not options.takes_terminal && interactive.input
 
--- The text that is reported if no run is requested. `is_well` is true if that is a success.
+-- The text that is printed or reported if no run is requested. It is printed if `is_well` is true.
 abbrev pub answer_text : List ℕ → List (List ℕ) → ParsedArgs → List ℕ
 answer_text program words Version = one_line (concat (program ∷ TITLE.now ∷ []))
 answer_text program words Help = usage_text program
@@ -77,6 +78,11 @@ is_well InputBesideNames = false
 is_well (Run options place) = false
 is_well NumberTooLarge = false
 
+-- The text is printed. If that fails, the run has failed.
+abbrev pub PrintsAnswer : {W : Type 0} → SinkRules W → List ℕ → W → W → Result Bool Stop → Type 0
+PrintsAnswer writing text old new result =
+    Eprints writing text old new × (result ≡ (if writing.has_failed new then Err WriteFailed else Ok true))
+
 -- The options of a requested run, and the index of the argument that its names begin at.
 abbrev pub requested_run : ParsedArgs → Option (Options × ℕ)
 requested_run (Run options place) = Some (options, place)
@@ -93,11 +99,12 @@ requested_run NumberTooLarge = None
 -- The command of a run with these options and names.
 abbrev pub command_of_run : Interactive → List ℕ → Options → List (List ℕ) → Command
 command_of_run interactive program options names =
-    if waits_for_terminal interactive options names then Answers (wrong_text (codes "Wrong parameters") program) false
+    if waits_for_terminal interactive options names then Answers (wrong_text (codes "Wrong parameters") program)
     else Reads options names
 
 abbrev pub command_from : Interactive → List ℕ → List (List ℕ) → ParsedArgs → Option (Options × ℕ) → Command
-command_from interactive program words parsed None = Answers (answer_text program words parsed) (is_well parsed)
+command_from interactive program words parsed None =
+    let text = answer_text program words parsed in if is_well parsed then Tells text else Answers text
 command_from interactive program words parsed (Some run) = command_of_run interactive program run.0 (drop run.1 words)
 
 -- The command of the arguments after the program's name.

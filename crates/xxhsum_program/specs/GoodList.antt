@@ -1,7 +1,7 @@
 -- Laws of good lists, and of lines that are printed as OK.
 use Rattle.std.specs.Prelude.{◌≡◌, ◌⊎◌, ◌++◌, ℕ, Bool, true, List, Option, codes}
 use Rattle.xxhsum_program.specs.Prelude.{AllByRecursion, Files, Kind, Options, Refusal, SourceRules, StoreRules, files_of, one_line}
-use Rattle.xxhsum_fs.specs.Refusal.{is_missing}
+use Rattle.xxh_io.specs.Refusal.{is_missing}
 use Rattle.xxhsum_line.specs.Entry.{Says, SaysNothing, is_comment}
 use Rattle.xxhsum_program.specs.CheckList.{FindsLines, MeetsLines, is_good_list}
 use Rattle.xxhsum_program.specs.Findings.{Finding, IsFinding}

@@ -35,14 +35,14 @@ SaysNames files effect kind style names =
 -- ---- the events of standard input
 
 -- Standard input has its line, or its message; if out of memory for its line, neither.
-abbrev pub read_events : Kind → Style → List ℕ → ℕ → Result ℕ DigestError → List Event
-read_events kind style name value (Ok hash) = Printed (styled_line kind style value name) ∷ []
-read_events kind style name value (Err e) = Reported (input_message e) ∷ []
+abbrev pub read_events : Kind → Style → List ℕ → ℕ → List ℕ → Result ℕ DigestError → List Event
+read_events kind style name value why (Ok hash) = Printed (styled_line kind style value name) ∷ []
+read_events kind style name value why (Err e) = Reported (input_message name e why) ∷ []
 
-abbrev pub input_events : Kind → Style → List ℕ → ℕ → Result ℕ DigestError → Result Bool Stop → List Event
-input_events kind style name value read (Ok all) = read_events kind style name value read
-input_events kind style name value read (Err WriteFailed) = read_events kind style name value read
-input_events kind style name value read (Err OutOfMemory) = []
+abbrev pub input_events : Kind → Style → List ℕ → ℕ → List ℕ → Result ℕ DigestError → Result Bool Stop → List Event
+input_events kind style name value why read (Ok all) = read_events kind style name value why read
+input_events kind style name value why read (Err WriteFailed) = read_events kind style name value why read
+input_events kind style name value why read (Err OutOfMemory) = []
 
 -- A source is read to its end, or a read fails; then its line or its message is written. The result is true if it was
 -- read to its end.
@@ -51,4 +51,5 @@ SaysInput input end effect kind style name =
     (pieces : List (List ℕ)) × (read : Result ℕ DigestError)
     × ReadsTo input.reading most_reads pieces input.source end read
     × IfOk effect.result (λ all. all ≡ is_ok read)
-    × HasEvents effect (input_events kind style name (value_of kind 0 (concat pieces)) read effect.result)
+    × HasEvents effect
+    (input_events kind style name (value_of kind 0 (concat pieces)) (input.reading.reason end) read effect.result)

@@ -3,12 +3,12 @@ use Rattle.std.specs.Prelude.{◌≡◌, ℕ, List, [], ◌∷◌, ◌++◌, cod
 use Rattle.xxhsum_program.specs.Prelude.{Digested, IsDirectory, OutOfMemory, Outcome, Reason, Refused, SinkRules, Stop, Took, Unread, WriteFailed, concat}
 use Rattle.xxh_io.specs.declared.digest_error.DigestError.{DigestError}
 use Rattle.xxhsum_program.specs.declared.outcome.Reason.TheVariants as Why
-use Rattle.xxhsum_program.specs.Outcomes.{reason_of, reason_text}
+use Rattle.xxhsum_program.specs.Outcomes.{error_text, reason_text}
 
 -- The step that failed for a file.
 abbrev pub step_text : Reason → List ℕ
 step_text (Why.Unopened refusal) = codes "open"
-step_text Why.ReadFailed = codes "read"
+step_text (Why.ReadFailed refusal) = codes "read"
 step_text Why.TooLong = codes "read"
 
 -- The messages about a name: one if it has no value.
@@ -19,9 +19,10 @@ name_messages name (Unread reason) =
     concat (codes "Error: Could not " ∷ step_text reason ∷ codes " '" ∷ name ∷ codes "': " ∷ reason_text reason
     ∷ codes ". " ∷ []) ∷ []
 
--- The message about standard input, if a read failed.
-abbrev pub input_message : DigestError → List ℕ
-input_message e = concat (codes "Error: " ∷ reason_text (reason_of e) ∷ codes "." ∷ [])
+-- The message about standard input, if it was not read to its end; `why` is the system's message for the read.
+abbrev pub input_message : List ℕ → DigestError → List ℕ → List ℕ
+input_message name e why =
+    concat (codes "Error: Could not read '" ∷ name ∷ codes "': " ∷ error_text e why ∷ codes "." ∷ [])
 
 -- The lists of all names, joined in the order of the names.
 abbrev pub lines_of : {T U : Type 0} → (List ℕ → T → List U) → List (List ℕ) → List T → List U

@@ -63,11 +63,15 @@ HasRead reading from done lines =
     × Pieces reading.gives from (pieces ++ end_piece lines.has_ended) (source_of lines.source)
     × (concat pieces ≡ done ++ waiting lines)
 
+-- The system's message for the read that failed.
+abbrev pub reason_behind : {R X : Type 0} → SourceRules R → Lines R X → List ℕ
+reason_behind reading lines = reading.reason (source_of lines.source)
+
 -- Reads returned `done` and the buffered bytes. On an error, the next read failed, and no line feed is buffered.
 abbrev pub ReadsBehind : {R X T : Type 0} → SourceRules R → R → List ℕ → Lines R X → Result T Failed → Type 0
 ReadsBehind reading from done new (Ok x) = HasRead reading from done new
 ReadsBehind reading from done new (Err e) =
-    FailsAfter reading from (done ++ waiting new) × Lacks 10 (waiting new)
+    FailsAfter reading from (reason_behind reading new) (done ++ waiting new) × Lacks 10 (waiting new)
 
 -- The line was read after the bytes `done`, with its line feed or as the last line.
 abbrev pub IsRead : {R X : Type 0} → SourceRules R → R → List ℕ → List ℕ → Lines R X → Type 0
@@ -84,4 +88,4 @@ IsNext reading from done new Variant.Endless =
     (removed : List ℕ) × HasRead reading from (done ++ removed) new × IsEndless (removed ++ waiting new)
 IsNext reading from done new Variant.End = HasRead reading from done new × IsAtEnd new
 IsNext reading from done new Variant.Failed =
-    (rest : List ℕ) × FailsAfter reading from (done ++ rest) × Lacks 10 rest
+    (rest : List ℕ) × FailsAfter reading from (reason_behind reading new) (done ++ rest) × Lacks 10 rest

@@ -22,12 +22,14 @@ IsEndless bytes = Lacks 10 bytes × (2 ^ 64 - 2 ≤ length bytes)
 abbrev pub end_piece : Bool → List (List ℕ)
 end_piece has_ended = if has_ended then [] ∷ [] else []
 
--- The source has failed before, or its read fails.
-abbrev pub CantRead : {R : Type 0} → SourceRules R → R → Type 0
-CantRead {R} reading met = (reading.has_failed met ≡ true) ⊎ ((end : R) × reading.fails met end)
+-- The source has failed before, or its read fails. The system's message for it is `why`.
+abbrev pub CantRead : {R : Type 0} → SourceRules R → R → List ℕ → Type 0
+CantRead {R} reading met why =
+    ((reading.has_failed met ≡ true) × (why ≡ reading.reason met))
+    ⊎ ((end : R) × reading.fails met end × (why ≡ reading.reason end))
 
--- Reads returned these bytes, and the next one failed.
-abbrev pub FailsAfter : {R : Type 0} → SourceRules R → R → List ℕ → Type 0
-FailsAfter {R} reading from bytes =
+-- Reads returned these bytes, and the next one failed, with the message `why`.
+abbrev pub FailsAfter : {R : Type 0} → SourceRules R → R → List ℕ → List ℕ → Type 0
+FailsAfter {R} reading from why bytes =
     (pieces : List (List ℕ)) × (met : R) × NoneEmpty pieces × Pieces reading.gives from pieces met
-    × CantRead reading met × (concat pieces ≡ bytes)
+    × CantRead reading met why × (concat pieces ≡ bytes)

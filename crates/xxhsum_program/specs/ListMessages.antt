@@ -2,13 +2,13 @@
 -- the names have. Lines of a list are numbered from 1.
 use Rattle.std.specs.Prelude.{ℕ, ◌+◌, Bool, List, [], ◌∷◌, ◌++◌, Option, Some, None, ◌&&◌, ◌||◌, codes, decimal, length, nat_eq, if◌then◌else◌}
 use Rattle.xxhsum_program.specs.Prelude.{Found, Options, Refusal, Report, concat, one_line}
-use Rattle.xxhsum_fs.specs.Refusal.{refusal_text}
+use Rattle.xxh_io.specs.Refusal.{refusal_text}
 use Rattle.xxhsum_program.specs.declared.entry.Found.TheVariants.{Same, Different, Unread}
-use Rattle.xxhsum_program.specs.Findings.{Finding, Ignored, Improper, Proper, TooLong, report_of}
+use Rattle.xxhsum_program.specs.Findings.{Finding, Ignored, Improper, Proper, TooLong}
 use Rattle.xxhsum_program.specs.ListEnd.{ListEnd, Whole, TooMany, Endless, FailedRead, report_at}
 use Rattle.xxhsum_program.specs.Order.{Event, Printed, Reported}
 use Rattle.xxhsum_program.specs.Outcomes.{has_no_file, reason_text}
-use Rattle.xxhsum_program.specs.Report.{is_unverified}
+use Rattle.xxhsum_program.specs.Report.{has_no_line, is_unverified}
 
 -- ---- a line
 
@@ -93,27 +93,23 @@ no_line_text list = list ++ codes ": no properly formatted xxHash checksum lines
 
 -- ---- the events of a list, as far as its check has come: to the end of its lines, or to the summary after them
 
--- The list breaks off at the line of this number. If a read failed and no line was well-formed, only the summary
--- reports it.
-abbrev pub break_events : List ℕ → ℕ → Report → ListEnd → List Event
-break_events list number report Whole = []
-break_events list number report TooMany = []
-break_events list number report Endless = Reported (too_long_text list number) ∷ []
-break_events list number report FailedRead =
-    if nat_eq report.proper 0
-    then []
-    else Reported (line_message list number (codes "A failure occurred reading the list")) ∷ []
+-- The list breaks off at the line of this number.
+abbrev pub break_events : List ℕ → ℕ → ListEnd → List Event
+break_events list number Whole = []
+break_events list number TooMany = []
+break_events list number Endless = Reported (too_long_text list number) ∷ []
+break_events list number (FailedRead why) = Reported (line_message list number why) ∷ []
 
--- A list without a well-formed line is reported; then the summary is printed.
+-- A list without a well-formed line is reported, unless it broke off before its first line; then the summary is printed.
 abbrev pub summary_events : Options → List ℕ → Report → List Event
 summary_events options list report =
-    (if nat_eq report.proper 0 then Reported (no_line_text list) ∷ [] else [])
+    (if has_no_line report then Reported (no_line_text list) ∷ [] else [])
     ++ Printed (summary_text options list report) ∷ []
 
 abbrev pub stop_events : Options → List ℕ → List Finding → Option ListEnd → List Event
 stop_events options list findings None = []
 stop_events options list findings (Some end) =
-    break_events list (length findings + 1) (report_of options.ignores_missing findings) end
+    break_events list (length findings + 1) end
 
 abbrev pub end_events : Options → List ℕ → List Finding → Option ListEnd → List Event
 end_events options list findings None = []

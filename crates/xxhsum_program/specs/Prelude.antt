@@ -5,7 +5,7 @@ pub use Rattle.xxh_io.specs.Pieces.{NoneEmpty, Pieces}
 pub use Rattle.xxh_io.specs.Rules.{SinkRules, SourceRules}
 pub use Rattle.xxh_io.specs.declared.kind.Kind.{Kind}
 pub use Rattle.xxhsum_fs.specs.Rules.{FolderRules, StoreRules}
-pub use Rattle.xxhsum_fs.specs.declared.refusal.Refusal.{Refusal}
+pub use Rattle.xxh_io.specs.declared.refusal.Refusal.{Refusal}
 pub use Rattle.xxhsum_line.specs.Escapes.{one_line}
 pub use Rattle.xxhsum_line.specs.Parts.{Lacks}
 pub use Rattle.xxhsum_line.specs.declared.printed.Shape.{Shape}

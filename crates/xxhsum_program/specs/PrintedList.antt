@@ -73,7 +73,7 @@ ReadsPrintedLines {R} reading =
 abbrev pub Holds : {R : Type 0} → SourceRules R → R → List ℕ → Type 0
 Holds {R} reading source text =
     ((pieces : List (List ℕ)) (met : R) → NoneEmpty pieces → Pieces reading.gives source pieces met
-    → ((more : List ℕ) × (text ≡ concat pieces ++ more)) × ¬ CantRead reading met)
+    → ((more : List ℕ) × (text ≡ concat pieces ++ more)) × ((why : List ℕ) → ¬ CantRead reading met why))
     × ((pieces : List (List ℕ)) (end : R) → NoneEmpty pieces → Pieces reading.gives source (pieces ++ [] ∷ []) end
     → concat pieces ≡ text)
 
@@ -85,7 +85,7 @@ HasJustLines reading source texts =
     × ((lines : List (List ℕ)) → ReadsSome reading source lines → (others : List (List ℕ)) × (texts ≡ lines ++ others))
     × ((has_ended : Bool) (lines : List (List ℕ)) (rest : List ℕ) → ReadsLines reading source has_ended lines rest
     → ¬ BeginsTooLong rest)
-    × ((bytes : List ℕ) → ¬ FailsAfter reading source bytes)
+    × ((why bytes : List ℕ) → ¬ FailsAfter reading source why bytes)
 
 -- A source that holds a printed list has the lines of its entries, and no others.
 abbrev pub HoldsPrintedLines : {R : Type 0} → SourceRules R → Type 0

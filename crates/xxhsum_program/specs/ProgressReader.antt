@@ -39,4 +39,5 @@ progress_reading reading = record {
   has_failed = λ progress_reader. reading.has_failed (source_of progress_reader);
   gives = λ old piece new. reading.gives (source_of old) piece (source_of new);
   fails = λ old new. reading.fails (source_of old) (source_of new);
+  reason = λ progress_reader. reading.reason (source_of progress_reader);
 }

@@ -2,7 +2,7 @@
 use Rattle.std.specs.Prelude.{◌≡◌, ℕ, Bool, true, false, List, [], codes, MatchBool, Result, Ok, Err}
 use Rattle.xxhsum_program.specs.Prelude.{Eprints, Files, Input, Options, OutOfMemory, Stop, Streams, Style, Took, WriteFailed}
 use Rattle.xxhsum_program.specs.CheckList.{SaysList, SaysLists}
-use Rattle.xxhsum_program.specs.Command.{Answers, Command, Reads, has_none}
+use Rattle.xxhsum_program.specs.Command.{Answers, Command, PrintsAnswer, Reads, Tells, has_none}
 use Rattle.xxhsum_program.specs.Finish.{IsWritten, end_after}
 use Rattle.xxhsum_program.specs.HashNames.{SaysInput, SaysNames}
 use Rattle.xxhsum_program.specs.Order.{Effect, StreamRules}
@@ -35,10 +35,14 @@ unfoldable pub PerformsAs : {S F R W E : Type 0} → Files S F → Input R → E
 PerformsAs files input effect options names =
     MatchBool (has_none names) (PerformsInput files input effect options) (PerformsOn files effect options names)
 
--- A text is reported and nothing is printed, or files are read as `performs` states.
+-- A text is printed and nothing is reported; or it is reported, nothing is printed, and the run fails; or files are read
+-- as `performs` states.
 abbrev pub DoesCommand : {W E : Type 0} → (Options → List (List ℕ) → Type 0) → Effect W E → Command → Type 0
-DoesCommand performs effect (Answers text good) =
-    (effect.result ≡ Ok good) × (effect.new.out ≡ effect.old.out)
+DoesCommand performs effect (Tells text) =
+    PrintsAnswer effect.rules.writing text effect.old.out effect.new.out effect.result
+    × (err_of effect.new ≡ err_of effect.old)
+DoesCommand performs effect (Answers text) =
+    (effect.result ≡ Ok false) × (effect.new.out ≡ effect.old.out)
     × Eprints effect.rules.reporting text (err_of effect.old) (err_of effect.new)
 DoesCommand performs effect (Reads options words) = performs options words
 

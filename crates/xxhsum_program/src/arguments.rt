@@ -6,6 +6,7 @@ ghost use Rattle.xxhsum_program.specs.Arguments.{AreArguments, AnyArgument, AnyE
 use std::alloc::{AllocError, Global};
 use std::env::FillError;
 use std::rt::Env;
+use xxh_io::heap::buffer;
 
 // The first capacity that is tried for an argument, and how often it is doubled.
 const FIRST_ROOM: usize = 256;
@@ -89,7 +90,7 @@ fn argument<A: Arguments>(
 {
     let mut room = FIRST_ROOM;
     for _ in 0..MOST_ROOMS {
-        let mut bytes = vec![in alloc; 0u8; room]?;
+        let mut bytes = buffer(alloc, room)?;
         match arguments.fill(index, bytes.as_mut_slice()) {
             Ok(len) => {
                 bytes.truncate(len);

@@ -7,11 +7,11 @@ ghost use Rattle.xxhsum_program.specs.Files.{files_of, input_of};
 ghost use Rattle.xxhsum_program.specs.Findings.{Finding, Improper, IsFinding, TooLong, count_one, count_proper, no_findings, with_broken_end};
 ghost use Rattle.xxhsum_program.specs.Lines.{PrintsLine};
 ghost use Rattle.xxhsum_program.specs.LinesView.{IsGiven};
-ghost use Rattle.xxhsum_program.specs.ListEnd.{FailedRead, ListEnd};
-ghost use Rattle.xxhsum_program.specs.ListMessages.{break_events, count_text, finding_events, found_text, is_silent, line_message, lines_events, list_events, printed_summary, summary_events, summary_text, unread_text, unverified_line, unverified_text};
+ghost use Rattle.xxhsum_program.specs.ListEnd.{ListEnd};
+ghost use Rattle.xxhsum_program.specs.ListMessages.{count_text, finding_events, found_text, is_silent, line_message, lines_events, list_events, printed_summary, summary_events, summary_text, unread_text, unverified_line, unverified_text};
 ghost use Rattle.xxhsum_program.specs.Order.{Emits, EmitsAll, EmitsTo, Reported, effect_of, rules_of};
 ghost use Rattle.xxhsum_program.specs.ProgressReader.{source_of};
-ghost use Rattle.xxhsum_program.specs.Report.{is_good, is_unverified, passes};
+ghost use Rattle.xxhsum_program.specs.Report.{has_no_line, is_good, is_unverified, passes};
 
 use crate::context::Context;
 use crate::entry::{Found, compare};
@@ -25,6 +25,7 @@ use crate::streams::Streams;
 use crate::terminal::TimedSink;
 use itoa::Buffer;
 use std::alloc::{AllocError, Global};
+use xxh_io::heap::buffer;
 use xxh_io::streams::{Sink, Source};
 use xxh_io::waiting::Waiting;
 use xxhsum_fs::store::Store;
@@ -103,6 +104,13 @@ impl Report {
             && !self.is_broken
     }
 
+    // True if the list has no well-formed line, and didn't break off before its first line except comments.
+    fn has_no_line(&self) -> bool
+        ensures { result ≡ has_no_line self.now }
+    {
+        self.proper == 0 && !(self.is_broken && self.improper == 0)
+    }
+
     // True if `--ignore-missing` is given and no file matches.
     fn is_unverified(&self, ignores_missing: bool) -> bool
         ensures { result ≡ is_unverified ignores_missing self.now }
@@ -117,9 +125,6 @@ impl Report {
         self.is_good(options.is_strict) && !self.is_unverified(options.ignores_missing)
     }
 }
-
-// The message about a list whose read failed.
-const READ_FAILED: &[u8] = b"A failure occurred reading the list";
 
 // The message about a line longer than 32,767 bytes.
 const TOO_LONG: &[u8] = b"Line too long";
@@ -165,6 +170,7 @@ impl<S: Store, T: TimedSink> ListCheck<'_, S, T> {
     }
 
     // Checks the lines of `source`: up to its end, to a line without an end, or to the last line number.
+    #[inline(never)]
     fn check_lines<R: Source + Drop, W: Output, E: Sink>(
         &self,
         source: ProgressReader<R, T>,
@@ -180,14 +186,16 @@ impl<S: Store, T: TimedSink> ListCheck<'_, S, T> {
             streams.old streams.new result }
         ensures works { IfOk result (λ _. W.has_failed streams.new.out ≡ false) }
     {
+        let mut room = buffer(self.alloc, OFFERED)?;
+        let buf = room.as_mut_slice();
         let mut lines = Lines::new(source);
         let mut report = Report::new();
-        let mut buf = [0; OFFERED];
         for number in 1..u64::MAX {
             match lines.next() {
                 Next::End => return Ok(report),
                 Next::Failed => {
-                    self.report_failure(number, &report, streams);
+                    let failure = lines.failure();
+                    self.report_line(number, failure.text(), streams);
                     return Ok(report.with_broken_end());
                 }
                 Next::Endless => {
@@ -199,7 +207,7 @@ impl<S: Store, T: TimedSink> ListCheck<'_, S, T> {
                         number,
                         text: lines.line(),
                     };
-                    self.check_line(line, &mut report, &mut buf, streams)?;
+                    self.check_line(line, &mut report, buf, streams)?;
                 }
             }
         }
@@ -320,24 +328,6 @@ impl<S: Store, T: TimedSink> ListCheck<'_, S, T> {
         }
     }
 
-    // Reports that a read of the list failed. If the list has no well-formed line so far, only the summary reports it.
-    fn report_failure<W: Output, E: Sink>(
-        &self,
-        number: u64,
-        report: &Report,
-        streams: &mut Streams<W, E>,
-    )
-        requires { W.has_failed streams.old.out ≡ false }
-        ensures emits { EmitsAll (rules_of W.Sink W.held W.has_lost E.Sink)
-            (break_events self.now.name.now number report.now FailedRead)
-            streams.old streams.new }
-        ensures works { W.has_failed streams.new.out ≡ false }
-    {
-        if report.proper > 0 {
-            self.report_line(number, READ_FAILED, streams);
-        }
-    }
-
     // Returns the line "no file was verified".
     fn unverified_line(&self) -> Result<Vec<u8>, AllocError>
         ensures { IfOk result (λ line. line.items ≡ unverified_line self.now.name.now) }
@@ -345,7 +335,7 @@ impl<S: Store, T: TimedSink> ListCheck<'_, S, T> {
         line_of(self.alloc, &[self.name, b": no file was verified"])
     }
 
-    // Reports a list without a well-formed line, and prints the summary of a list.
+    // Reports a list without a well-formed line, unless it broke off before, and prints the summary of a list.
     fn sum_up<W: Output, E: Sink>(
         &self,
         report: &Report,
@@ -359,7 +349,7 @@ impl<S: Store, T: TimedSink> ListCheck<'_, S, T> {
             streams.old streams.new result }
         ensures works { IfOk result (λ _. W.has_failed streams.new.out ≡ false) }
     {
-        if report.proper == 0 {
+        if report.has_no_line() {
             streams.report(&[
                 self.name,
                 b": no properly formatted xxHash checksum lines found",

@@ -11,7 +11,7 @@ ghost use Rattle.xxhsum_program.specs.ProgressReader.{source_of};
 ghost use Rattle.xxhsum_program.specs.Run.{style_of};
 
 use crate::context::Context;
-use crate::outcome::{OFFERED, Outcome, Reason, outcome_of};
+use crate::outcome::{OFFERED, Outcome, outcome_of, reason_of};
 use crate::progress_reader::ProgressReader;
 use crate::stderr::eprint_line;
 use crate::stdout::print;
@@ -34,6 +34,7 @@ use xxhsum_output::output::Output;
 ///
 /// Both errors end the run at once; the lines before it are written. [`Stop::WriteFailed`] if a write of a line fails,
 /// and [`Stop::OutOfMemory`] if memory for a line runs out.
+#[inline(never)]
 pub fn hash_names<S: Store, T: TimedSink, W: Output, E: Sink>(
     context: &Context<'_, S, T>,
     names: &[Vec<u8>],
@@ -65,6 +66,7 @@ pub fn hash_names<S: Store, T: TimedSink, W: Output, E: Sink>(
 /// # Errors
 ///
 /// [`Stop::WriteFailed`] if a write of the line fails, and [`Stop::OutOfMemory`] if memory for it runs out.
+#[inline(never)]
 pub fn hash_input<R: Source, T: TimedSink, W: Output, E: Sink>(
     alloc: Global,
     options: Options,
@@ -84,7 +86,14 @@ pub fn hash_input<R: Source, T: TimedSink, W: Output, E: Sink>(
             Ok(true)
         }
         Err(error) => {
-            streams.report(&[b"Error: ", Reason::from(error).text(), b"."]);
+            let reason = reason_of(error, input.failure());
+            streams.report(&[
+                b"Error: Could not read '",
+                name,
+                b"': ",
+                reason.text(),
+                b".",
+            ]);
             Ok(false)
         }
     }

@@ -4,6 +4,7 @@ ghost use Rattle.std.specs.Prelude.{◌≡◌, ◌+◌, ◌-◌, ◌<◌, ◌≤
 
 use crate::progress_reader::ProgressReader;
 use crate::terminal::TimedSink;
+use xxh_io::refusal::Refusal;
 use xxh_io::streams::{Failed, Source};
 
 const BUFFER: usize = 65536;
@@ -46,7 +47,8 @@ pub struct Lines<R, T> {
 
 impl<R: Source + Drop, T: TimedSink> Lines<R, T> {
     ghost use Rattle.xxhsum_line.specs.Parts.{Lacks};
-    ghost use Rattle.xxhsum_program.specs.LinesView.{HasRead, IsAtEnd, IsBeforeLineFeed, IsGiven, IsHeld, IsNext, IsTaken, ReadsBehind, StopsAt, most_reads_left, waiting};
+    ghost use Rattle.xxh_io.specs.Refusal.{refusal_text};
+    ghost use Rattle.xxhsum_program.specs.LinesView.{HasRead, IsAtEnd, IsBeforeLineFeed, IsGiven, IsHeld, IsNext, IsTaken, ReadsBehind, StopsAt, most_reads_left, reason_behind, waiting};
     ghost use Rattle.xxhsum_program.specs.ProgressReader.{source_of};
 
     /// Returns the lines of a source that has not been read yet.
@@ -174,6 +176,13 @@ impl<R: Source + Drop, T: TimedSink> Lines<R, T> {
                 }
             },
         }
+    }
+
+    /// Returns the system's error of the read that failed.
+    pub fn failure(&self) -> Refusal
+        ensures { refusal_text result ≡ reason_behind R.Source self.now }
+    {
+        self.source.failure()
     }
 
     /// Returns the current line without its line feed, or `None` if it is longer than 32,767 bytes.

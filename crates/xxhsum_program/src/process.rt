@@ -5,7 +5,7 @@ ghost use Rattle.xxhsum_program.specs.Files.{files_of, input_of};
 ghost use Rattle.xxhsum_program.specs.Joined.{joined};
 ghost use Rattle.xxhsum_program.specs.Order.{effect_of, rules_of};
 ghost use Rattle.xxhsum_program.specs.Run.{Ends, PerformsAs, end_text, status_of, stop_text};
-ghost use Rattle.xxhsum_program.specs.Command.{IsProgram, answer_text, has_none, is_tree, is_well, requested_run, shows_progress, usage_text, waits_for_terminal, wrong_text};
+ghost use Rattle.xxhsum_program.specs.Command.{IsProgram, PrintsAnswer, answer_text, has_none, is_tree, is_well, requested_run, shows_progress, usage_text, waits_for_terminal, wrong_text};
 ghost use Rattle.xxhsum_program.specs.Prelude.{Eprints, Stop};
 
 use crate::arguments::last_part;
@@ -113,30 +113,60 @@ pub fn waits_for_terminal(interactive: Interactive, options: Options, names: &[V
     has_none(names) && !is_tree(options) && !options.takes_terminal && interactive.input
 }
 
-/// Handles arguments that ask for no run: writes help, version or an error, and returns whether all is well. Writes
-/// nothing for a run.
-pub fn eprint_answer<E: Sink>(
+/// True if the arguments ask for the help or the version, which belong on standard output.
+pub fn is_well(parsed: ParsedArgs) -> bool
+    ensures { result ≡ is_well parsed }
+{
+    match parsed {
+        ParsedArgs::Version | ParsedArgs::Help => true,
+        ParsedArgs::Run { .. }
+        | ParsedArgs::Benchmark
+        | ParsedArgs::WrongOption { .. }
+        | ParsedArgs::NulsInList
+        | ParsedArgs::WalkBesideLists
+        | ParsedArgs::WalkOfNothing
+        | ParsedArgs::InputBesideNames
+        | ParsedArgs::NumberTooLarge => false,
+    }
+}
+
+/// Prints the help or the version on standard output.
+///
+/// # Errors
+///
+/// [`Stop::WriteFailed`] if a write to it fails.
+pub fn print_answer<W: Sink>(
     program: &[u8],
     words: &[Vec<u8>],
     parsed: ParsedArgs,
-    err: &mut E,
-) -> bool
-    ensures well { result ≡ is_well parsed }
-    ensures reports { Eprints E.Sink
+    out: &mut W,
+) -> Result<bool, Stop>
+    ensures { PrintsAnswer W.Sink
+        (answer_text program.now (map (λ word. word.items) words.now) parsed)
+        out.old out.new result }
+{
+    eprint_answer(program, words, parsed, out);
+    if out.failed() {
+        Err(Stop::WriteFailed)
+    } else {
+        Ok(true)
+    }
+}
+
+/// Handles arguments that ask for no run: writes help, version or an error. Writes nothing for a run.
+pub fn eprint_answer<E: Sink>(program: &[u8], words: &[Vec<u8>], parsed: ParsedArgs, err: &mut E)
+    ensures { Eprints E.Sink
         (answer_text program.now (map (λ word. word.items) words.now) parsed) err.old err.new }
 {
     match parsed {
         ParsedArgs::Version => {
             eprint_line(&[program, TITLE], err);
-            true
         }
         ParsedArgs::Help => {
             eprint_usage(program, err);
-            true
         }
         ParsedArgs::Benchmark => {
             eprint_line(&[program, NO_BENCHMARK], err);
-            false
         }
         ParsedArgs::WrongOption { at } => {
             eprint_wrong(
@@ -144,7 +174,6 @@ pub fn eprint_answer<E: Sink>(
                 program,
                 err,
             );
-            false
         }
         ParsedArgs::NulsInList => {
             eprint_wrong(
@@ -152,7 +181,6 @@ pub fn eprint_answer<E: Sink>(
                 program,
                 err,
             );
-            false
         }
         ParsedArgs::WalkBesideLists => {
             eprint_wrong(
@@ -160,20 +188,16 @@ pub fn eprint_answer<E: Sink>(
                 program,
                 err,
             );
-            false
         }
         ParsedArgs::WalkOfNothing => {
             eprint_wrong(&[b"Wrong parameters: '-r' without a FILE"], program, err);
-            false
         }
         ParsedArgs::InputBesideNames => {
             eprint(INPUT_BESIDE_NAMES, err);
-            false
         }
-        ParsedArgs::Run { .. } => false,
+        ParsedArgs::Run { .. } => {}
         ParsedArgs::NumberTooLarge => {
             eprint(b"Error: numeric value too large \n", err);
-            false
         }
     }
 }

@@ -1,13 +1,15 @@
 //! Progress of long files, on standard error if it is a terminal.
 
-ghost use Rattle.std.specs.Prelude.{◌≡◌, ◌<◌};
+ghost use Rattle.std.specs.Prelude.{◌≡◌, ◌<◌, ◌≤◌, ◌+◌, ◌++◌, length};
+ghost use Rattle.xxh_io.specs.Waiting.{waiting_bytes, waiting_count};
 ghost use Rattle.xxhsum_program.specs.Eprints.{Eprints};
 ghost use Rattle.xxhsum_program.specs.Progress.{Shows, ShowsSometime, begun, bytes_expected, bytes_read, cleared, end_of, is_shown, left_text, progress_line, rate_of, rate_text};
 
-use crate::stderr::{eprint, eprint_parts};
+use crate::stderr::eprint;
 use crate::terminal::TimedSink;
 use itoa::Buffer;
 use xxh_io::streams::Sink;
+use xxh_io::waiting::Waiting;
 
 // Bytes between two progress lines: 64 MiB.
 const STEP: u64 = 67108864;
@@ -15,6 +17,9 @@ const STEP: u64 = 67108864;
 const MIB: u64 = 1048576;
 
 const KIB: u64 = 1024;
+
+// Maximum length of a progress line with its control sequences, in bytes.
+const MOST_LINE: usize = 128;
 
 // Clears the line: a carriage return, and ECMA-48's EL, which erases from there on.
 const CLEARED: &[u8] = b"\r\x1b[K";
@@ -110,36 +115,53 @@ fn show_between<E: Sink>(before: u64, count: u64, size: Option<u64>, millis: u64
 {
     if before / STEP < count / STEP {
         let rate = rate_of(count, millis);
-        show_rate(count, rate, end);
-        show_left(size, count, rate, end);
-        eprint(ENDED, end);
+        // One write, so that several programs on a terminal don't mix their lines.
+        let mut line = Waiting::<MOST_LINE>::new();
+        put_rate(count, rate, &mut line);
+        put_left(size, count, rate, &mut line);
+        line.append(ENDED);
+        eprint_once(line, end);
     }
 }
 
-// Shows `count` and the rate.
-fn show_rate<E: Sink>(count: u64, rate: u64, end: &mut E)
-    ensures { Eprints E.Sink (rate_text count rate) end.old end.new }
+// Writes the line, unless a write has failed before.
+fn eprint_once<E: Sink>(line: Waiting<MOST_LINE>, end: &mut E)
+    ensures { Eprints E.Sink (waiting_bytes line) end.old end.new }
 {
-    let mut digits = Buffer::new();
-    let mut rate_digits = Buffer::new();
-    let number = digits.format(count / MIB).as_bytes();
-    let speed = rate_digits.format(rate / KIB).as_bytes();
-    let parts: [&[u8]; 6] = [CLEARED, ONE_ROW, number, b" MiB, ", speed, b" MiB/s"];
-    eprint_parts(&parts, end);
+    let mut line = line;
+    if !end.failed() {
+        let _ = line.flush(end);
+    }
 }
 
-// Shows the seconds left, if the size is known.
-fn show_left<E: Sink>(size: Option<u64>, count: u64, rate: u64, end: &mut E)
-    ensures { Eprints E.Sink (left_text size count rate) end.old end.new }
+// Appends `count` and the rate to an empty line.
+fn put_rate(count: u64, rate: u64, line: &mut Waiting<MOST_LINE>)
+    requires { waiting_count line.old ≡ 0 }
+    ensures bytes { waiting_bytes line.new ≡ rate_text count rate }
+    ensures short { waiting_count line.new ≤ 61 }
+{
+    line.append(CLEARED);
+    line.append(ONE_ROW);
+    line.append(Buffer::new().format(count / MIB).as_bytes());
+    line.append(b" MiB, ");
+    line.append(Buffer::new().format(rate / KIB).as_bytes());
+    line.append(b" MiB/s");
+}
+
+// Appends the seconds left, if the size is known.
+fn put_left(size: Option<u64>, count: u64, rate: u64, line: &mut Waiting<MOST_LINE>)
+    requires { waiting_count line.old ≤ 61 }
+    ensures bytes { waiting_bytes line.new ≡ waiting_bytes line.old ++ left_text size count rate }
+    ensures short { waiting_count line.new ≤ 90 }
 {
     let Some(size) = size else {
         return;
     };
     if rate > 0 {
-        let mut digits = Buffer::new();
         let seconds = size.saturating_sub(count) / KIB / rate;
-        let number = digits.format(seconds).as_bytes();
-        eprint_parts(&[b", ", number, b" s left"], end);
+        line.append(b", ");
+        line.append(Buffer::new().format(seconds).as_bytes());
+        line.append(b" s left");
     }
 }
 

@@ -14,9 +14,9 @@ use crate::progress::{Progress, time_of};
 use crate::terminal::TimedSink;
 use xxh_io::digest_error::DigestError;
 use xxh_io::kind::Kind;
+use xxh_io::refusal::Refusal;
 use xxh_io::streams::{Failed, Source};
 use xxh_program::program::value_of_source;
-use xxhsum_fs::refusal::Refusal;
 use xxhsum_fs::store::Store;
 use xxhsum_options::options::Options;
 
@@ -66,8 +66,14 @@ impl<R: Source, T: TimedSink> Source for ProgressReader<R, T> {
 
     ghost fails = { λ old new. R.fails (source_of old) (source_of new) };
 
+    ghost reason = { λ progress_reader. R.reason (source_of progress_reader) };
+
     fn failed(&self) -> bool {
         self.source.failed()
+    }
+
+    fn failure(&self) -> Refusal {
+        self.source.failure()
     }
 
     fn read(&mut self, buf: &mut [u8]) -> Result<usize, Failed>

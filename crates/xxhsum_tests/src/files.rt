@@ -2,10 +2,10 @@
 
 use crate::entry::entry;
 use std::test::Fail;
+use xxh_io::refusal::Refusal;
 use xxh_io::script_source::{ScriptSource, SliceSource};
 use xxh_io::streams::Source;
 use xxhsum_fs::memory::{MemoryEntry, MemoryFiles};
-use xxhsum_fs::refusal::Refusal;
 use xxhsum_fs::store::Store;
 use xxhsum_fs::system::SystemFiles;
 

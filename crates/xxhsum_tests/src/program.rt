@@ -24,7 +24,7 @@ const CHECKED: &[u8] =
     b"a: OK\nb: FAILED\nL:4: Could not open or read 'gone': No such file or directory.\nb: OK\n1 line is improperly formatted\n1 listed file could not be read\n1 computed checksum did NOT match\n";
 
 // The message for the file whose second read fails, as in docs/XXHSUM.md.
-const BAD: &[u8] = b"Error: Could not read 'bad': a failure occurred reading the input file. \n";
+const BAD: &[u8] = b"Error: Could not read 'bad': Input/output error. \n";
 
 const NO_TERMINAL: Interactive = Interactive {
     input: false,
@@ -134,7 +134,7 @@ fn standard_input_has_its_line(rt: HostRuntime) -> Result<(), AllocError> {
         (
             2,
             b"",
-            b"Error: a failure occurred reading the input file.\n",
+            b"Error: Could not read 'stdin': Input/output error.\n",
         ),
     ] {
         let progress = ProgressDisplay::new(Terminal::new(rt.stderr(), &rt), NO_TERMINAL, options);

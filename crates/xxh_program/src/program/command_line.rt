@@ -39,7 +39,7 @@ const BLOCKS_WRITE: usize = 6400;
 /// | status | line on `err` |
 /// |---|---|
 /// | 0 | none |
-/// | 1 | `xxh: read failed`, `xxh: write failed` or `xxh: too long` |
+/// | 1 | `xxh: read failed: ` and the system's reason, `xxh: write failed` or `xxh: too long` |
 /// | 2 | `xxh: usage: ..`, `xxh: bad seed`, `xxh: bad size` or `xxh: bad state` |
 /// | 3 | `xxh: out of memory` |
 ///
@@ -57,14 +57,14 @@ pub fn run<R: Source, W: Sink, E: Sink>(
     ensures { (answer : Result (Unit {0}) Fault)
         × Performs (filter_of R.Source W.Sink r.old r.new out.old out.new)
         (command_of words.now) answer
-        × ReportsError E.Sink answer err.old err.new
+        × ReportsError E.Sink (R.reason r.new) answer err.old err.new
         × (result ≡ status_after answer) }
 {
     let answer = match parse(words) {
         Ok(command) => perform(alloc, command, r, out),
         Err(fault) => Err(fault),
     };
-    conclude(answer, err)
+    conclude(answer, &r.failure(), err)
 }
 
 // Uses large buffers, to reduce system calls for small blocks.

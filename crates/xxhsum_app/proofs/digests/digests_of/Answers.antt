@@ -53,9 +53,14 @@ returns g c =
     let all = sym (so_far.parts ∙ ap (λ s. so_far.done ++ s) c.in_default.ensures ∙ append-nil so_far.done) in
     (so_far.rows, subst (λ s. AreRows (files_of g.S.Store g.S.File.Source c.args.context.now.store.now) c.args.kind s so_far.rows) all so_far.are, so_far.holds, so_far.reports)
 
+pub returns-in_err-room : goal.returns-in_err-room
+returns-in_err-room g c =
+    let sides = by_path (items_of c.args.lines.now) (texts_of c.args.names.now) in
+    fails-rows _ _ c.from_residual.result c.from_residual.ensures.0 ([], ([], sides, refl, refl, reports-nothing g.E.Sink c.args.err.now))
+
 pub returns-in_err-add_side : goal.returns-in_err-add_side
 returns-in_err-add_side g c =
     let so_far = c.loop-side.invariant in
     let left = by_path (items_of c.loop-side.lines_left.now) (texts_of c.loop-side.names_left.now) in
-    fails-rows _ _ c.from_residual.result c.from_residual.ensures.0
+    fails-rows _ _ c.from_residual-in_err-add_side.result c.from_residual-in_err-add_side.ensures.0
     (so_far.rows, (so_far.done, left, so_far.parts, so_far.are, rw append-nil at (lines-more g.E.Sink (messages_in so_far.rows) [] _ _ _ so_far.reports c.in_err-add_side.ensures)))

@@ -1,5 +1,5 @@
 use Rattle.std.proofs.Common.{◌+◌, ◌∷◌, ◌++◌, [], ap, arith, inl, inr, length, map, refl, subst, true, false}
-use Rattle.xxhsum_app.proofs.Prelude.{IsGiven, TakesLine, breaks-endless, breaks-failed, ends-well, entry_item, improper_text, length_push, some-read, source_of, stands-line, stands-new, too_long_text, unread_text}
+use Rattle.xxhsum_app.proofs.Prelude.{IsGiven, TakesLine, breaks-endless, breaks-failed, ends-well, entry_item, improper_text, length_push, reason_behind, some-read, source_of, stands-line, stands-new, too_long_text, unread_text}
 use Rattle.xxhsum_app.proofs.ReadListFacts.{have-entries-more}
 use Rattle.xxhsum_app.proofs.read_list.read_lines.Goals as goal
 
@@ -37,7 +37,8 @@ pub returns-in-Failed : goal.returns-in-Failed
 returns-in-Failed g c =
     let so_far = c.loop-number.invariant in
     let ends = breaks-failed g.R.Source (source_of c.args.source) c.loop-number.lines c.next.new.self so_far.read so_far.stands c.in-Failed.ensures.next c.in-Failed.ensures.ended in
-    (unread_text c.args.list.now, (so_far.read, map entry_item c.loop-number.entries.items, so_far.entries, inl (ends, refl)), rw so_far.silent at c.eprint_unread.ensures)
+    let why = reason_behind g.R.Source c.next.new.self in
+    (unread_text c.args.list.now why, (so_far.read, map entry_item c.loop-number.entries.items, so_far.entries, inl (why, ends, refl)), rw (c.failure.ensures, so_far.silent) at c.eprint_unread.ensures)
 
 pub returns-in-Endless : goal.returns-in-Endless
 returns-in-Endless g c =

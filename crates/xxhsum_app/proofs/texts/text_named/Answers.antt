@@ -5,7 +5,7 @@ use Rattle.xxhsum_app.proofs.texts.text_named.Goals as goal
 pub returns-in-Ok : goal.returns-in-Ok
 returns-in-Ok g c =
     let opened = c.in-Ok.ensures.opens in
-    finds-as g.E.Sink _ _ _ _ _ _ (λ text has. (source_of c.in-Ok.file, opened, has)) (λ text breaks. inr (source_of c.in-Ok.file, opened, breaks.0, breaks.1)) c.text_of.result c.text_of.ensures
+    finds-as g.E.Sink _ _ _ _ _ _ (λ text has. (source_of c.in-Ok.file, opened, has)) (λ text breaks. inr (source_of c.in-Ok.file, opened, breaks)) c.text_of.result c.text_of.ensures
 
 pub returns-in-Err : goal.returns-in-Err
 returns-in-Err g c =

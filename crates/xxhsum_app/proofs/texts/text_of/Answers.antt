@@ -1,5 +1,5 @@
 use Rattle.std.proofs.Common.{rules}
-use Rattle.xxhsum_app.proofs.Prelude.{refl, unread_text}
+use Rattle.xxhsum_app.proofs.Prelude.{refl, source_of, unread_text}
 use Rattle.xxhsum_app.proofs.ProgressTextFacts.{inner-breaks, inner-text}
 use Rattle.xxhsum_app.proofs.texts.text_of.Goals as goal
 
@@ -9,4 +9,6 @@ returns-in-Some g c =
 
 pub returns : goal.returns
 returns g c =
-    (unread_text c.args.name.now, (inner-breaks g.R.Source c.args.source (c.read_text.new.source, search rules), refl), c.eprint_unread.ensures)
+    let name = c.args.name.now in
+    let message = unread_text name (g.R.Source.reason (source_of c.read_text.new.source)) in
+    (message, inner-breaks g.R.Source name message c.args.source (c.read_text.new.source, search rules, refl), rw c.failure.ensures at c.eprint_unread.ensures)

@@ -9,4 +9,4 @@ returns-in-Ok-clause-checks g c =
 
 pub returns-in-Err-clause-checks : goal.returns-in-Err-clause-checks
 returns-in-Err-clause-checks g c =
-    (Unopened c.in-Err.refusal, c.in-Err.ensures.refuses, (tt, refl), (c.report.new.self, rw c.text.ensures at c.report.ensures.reports, (refl, refl)))
+    (Unopened c.in-Err.refusal, c.in-Err.ensures.refuses, (tt, refl), (c.report.new.self, rw c.text.ensures.text at c.report.ensures.reports, (refl, refl)))

@@ -1,12 +1,14 @@
-use Rattle.xxhsum_program.proofs.Prelude.{Err, Ok, PrintsLine, refl, rules_of, streams_of, style_of, styled_line, subst}
+use Rattle.xxhsum_program.proofs.Prelude.{◌∙◌, ◌≡◌, Err, Ok, PrintsLine, ap, error_text, reason_text, refl, rules_of, source_of, streams_of, style_of, styled_line, subst}
 use Rattle.xxhsum_program.proofs.EprintFacts.{reports-nothing}
-use Rattle.xxhsum_program.proofs.HashFacts.{input-stops, is-err}
+use Rattle.xxhsum_program.proofs.HashFacts.{input-stops, is-err, reason-says}
 use Rattle.xxhsum_program.proofs.hash.hash_input.Goals as goal
 
 pub returns-in-Err : goal.returns-in-Err
 returns-in-Err g c =
     let read = c.in-Err.ensures.value in
-    let emits = rw (c.text.ensures, c.from.ensures) at c.report.ensures.reports in
+    let why : reason_text c.reason_of-reason.result ≡ error_text c.in-Err.error (g.R.Source.reason (source_of c.value.new.self)) =
+    ap reason_text c.reason_of-reason.ensures ∙ reason-says c.in-Err.error c.failure.result ∙ ap (error_text c.in-Err.error) c.failure.ensures in
+    let emits = rw (c.text.ensures, why) at c.report.ensures.reports in
     (read.0, Err c.in-Err.error, read.1, refl, (c.report.new.self, emits, (refl, refl)))
 
 pub returns-in_ok-print_value-in-Ok : goal.returns-in_ok-print_value-in-Ok

@@ -1,6 +1,6 @@
-//! Errors of opening a file.
+//! Errors of the system.
 
-ghost use Rattle.std.specs.Prelude.{◌≡◌, ◌≤◌, take};
+ghost use Rattle.std.specs.Prelude.{◌≡◌, ◌≤◌, length, take};
 
 // Capacity for the system's message, which is shorter.
 const TEXT_ROOM: usize = 256;
@@ -8,7 +8,7 @@ const TEXT_ROOM: usize = 256;
 /// `ENOENT`, the system's error number for a missing file.
 pub const MISSING: i32 = 2;
 
-/// The error for a file that couldn't be opened: the system's error number and message.
+/// An error of opening or reading a file: the system's error number and message.
 #[derive(Clone, Copy, Debug, PartialEq, Eq)]
 pub struct Refusal {
     code: i32,
@@ -18,7 +18,7 @@ pub struct Refusal {
 }
 
 impl Refusal {
-    ghost use Rattle.xxhsum_fs.specs.Refusal.{is_missing, refusal_code, refusal_text};
+    ghost use Rattle.xxh_io.specs.Refusal.{is_missing, refusal_code, refusal_text};
 
     /// Creates the error of this error number, for example 2, and the first 256 bytes of this message.
     pub fn new(code: i32, words: &[u8]) -> Refusal
@@ -40,7 +40,8 @@ impl Refusal {
 
     /// Returns the system's message, for example `No such file or directory`.
     pub fn text(&self) -> &[u8]
-        ensures { result.now ≡ refusal_text self.now }
+        ensures text { result.now ≡ refusal_text self.now }
+        ensures short { length result.now ≤ 256 }
     {
         &self.text[..self.len]
     }

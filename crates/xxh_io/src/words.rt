@@ -2,7 +2,7 @@
 
 ghost use Rattle.std.specs.Prelude.{◌≡◌, ◌≤◌, pos, unwrap_or};
 ghost use Rattle.std.specs.IoError.{raw_os_error};
-ghost use Rattle.xxhsum_fs.specs.Refusal.{refusal_code};
+ghost use Rattle.xxh_io.specs.Refusal.{refusal_code};
 
 use crate::refusal::Refusal;
 use std::fmt::Write;
@@ -32,8 +32,8 @@ impl Write for Words {
     }
 }
 
-// Returns the error with the system's error number and message; the number is 0 if the error is not the system's.
-pub(crate) fn words_of(error: io::Error) -> Refusal
+/// Returns the error with the system's error number and message; the number is 0 if the error is not the system's.
+pub fn words_of(error: io::Error) -> Refusal
     ensures { refusal_code result ≡ unwrap_or (raw_os_error error) (pos 0) }
 {
     let code = error.raw_os_error().unwrap_or(0);

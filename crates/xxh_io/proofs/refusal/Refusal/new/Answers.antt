@@ -1,7 +1,7 @@
 use Rattle.std.proofs.Common.{◌≡◌, ℕ, ◌++◌, List, length, take, min, ap, subst, ◌∙◌, arith}
 use Rattle.std.proofs.Math.Seq.{take-append_seam}
 use Rattle.std.proofs.lemmas.List.{length-take-le, take_min}
-use Rattle.xxhsum_fs.proofs.refusal.Refusal.new.Goals as goal
+use Rattle.xxh_io.proofs.refusal.Refusal.new.Goals as goal
 
 -- Lemma: a copy of the first 256 bytes, or of all of them if there are fewer, is the stored text.
 kept : (front rest words : List ℕ) (len : ℕ) → len ≡ min (length words) 256 → front ≡ take len words → take len (front ++ rest) ≡ take 256 words
