@@ -1,44 +1,96 @@
-"""An eraser from a folder of its parts, which may be wrong: each in a process of its own."""
-import json
+"""The eraser as it is, or with changed parts: its modules, loaded from their sources."""
+import contextlib
+import functools
 import os
-import subprocess
+import signal
 import sys
-
-CRATES = os.path.join(os.path.dirname(os.path.dirname(os.path.dirname(os.path.abspath(__file__)))), 'crates')
-# Erases each of a list of sources as a file of this name, without the counts of edits.
-EACH = '''
-import importlib.machinery, importlib.util, json, sys
+import types
 from collections import Counter
-sys.dont_write_bytecode = True
-loader = importlib.machinery.SourceFileLoader('erase', sys.argv[1])
-module = importlib.util.module_from_spec(importlib.util.spec_from_loader('erase', loader))
-loader.exec_module(module)
 
-def one(file, source):
-    package = module.PROGRAM_PACKAGE if file.startswith('xxh') else module.LIBRARY_PACKAGE
+RUST = os.path.dirname(os.path.dirname(os.path.abspath(__file__)))
+CRATES = os.path.join(os.path.dirname(RUST), 'crates')
+# In an order in which each imports only those before it.
+PARTS = ('tokens', 'contracts', 'forms', 'items', 'edits', 'names', 'own', 'packages', 'stored', 'erase')
+SECONDS = 2
+
+
+def path_of(part):
+    return os.path.join(RUST, 'erase') if part == 'erase' else os.path.join(RUST, 'eraser', f'{part}.py')
+
+
+@functools.cache
+def source_of(part):
+    with open(path_of(part), encoding='utf-8') as file:
+        return file.read()
+
+
+@functools.cache
+def code_of(part, source):
+    return compile(source, path_of(part), 'exec')
+
+
+@contextlib.contextmanager
+def limits():
+    """A weakened eraser may not end, and may take all memory."""
+    def stop(*_):
+        raise TimeoutError
+    signal.signal(signal.SIGALRM, stop)
+    signal.setitimer(signal.ITIMER_REAL, SECONDS)
     try:
-        return 'erased', module.as_rust(file, module.read('case', source), Counter(), package)
-    except module.Refused as reason:
-        return 'refused', str(reason)
-    except Exception as fault:
-        return 'failed', repr(fault)
-
-print(json.dumps([one(file, source) for file, source in json.load(sys.stdin)]))
-'''
+        yield
+    finally:
+        signal.setitimer(signal.ITIMER_REAL, 0)
 
 
 class Eraser:
-    def __init__(self, parts):
-        self.parts, self.program = parts, os.path.join(os.path.dirname(parts), 'erase')
+    def __init__(self, **changed):
+        """`changed` has the source of each changed part."""
+        others = {part: sys.modules.pop(part, None) for part in PARTS}
+        for part in PARTS:
+            module = sys.modules[part] = types.ModuleType(part)
+            module.__file__ = path_of(part)
+            exec(code_of(part, changed.get(part, source_of(part))), module.__dict__)
+            setattr(self, part, module)
+        for part, other in others.items():
+            sys.modules.pop(part)
+            if other:
+                sys.modules[part] = other
 
-    def each(self, sources):
-        """For each pair of a file's name and its source: 'erased' and the Rust, or 'refused' and the reason."""
-        done = subprocess.run([sys.executable, '-c', EACH, self.program], input=json.dumps(sources),
-                              capture_output=True, text=True)
-        return json.loads(done.stdout) if done.returncode == 0 else [('failed', done.stderr[-300:])] * len(sources)
+    def package_of(self, file):
+        return self.packages.PROGRAM_PACKAGE if file.startswith('xxh') else self.packages.LIBRARY_PACKAGE
 
-    def tree(self, folder, crates=CRATES, *words):
-        """Writes the erased crates there, with `--programs` those of the programs. Returns the error message if it
-        fails."""
-        done = subprocess.run([sys.executable, self.program, *words, '--to', folder, '--from', crates], stderr=subprocess.PIPE, text=True)
-        return done.stderr if done.returncode else ''
+    def one(self, file, source, spans):
+        """'erased' and the Rust of a source that is read as a file of this name, or 'refused' and the reason. `spans` are
+        the toolchain's tokens, or its refusal."""
+        try:
+            if isinstance(spans, str):
+                raise self.tokens.Refused(spans)
+            with limits():
+                tokens, items = self.erase.read(file, source, spans), self.items.Items()
+                items.learn(file, tokens)
+                return 'erased', self.erase.as_rust(file, tokens, Counter(), items, self.package_of(file))
+        except self.tokens.Refused as reason:
+            return 'refused', str(reason)
+        except Exception as fault:
+            return 'failed', repr(fault)
+
+    def tree(self, texts, spans, package):
+        """The files of a tree, or the refusal as a text."""
+        self.erase.toolchain_tokens = lambda _: spans
+        try:
+            return self.erase.erased(texts, package)
+        except self.tokens.Refused as reason:
+            return str(reason)
+
+
+def spans_of(eraser, sources):
+    """The toolchain's tokens of each source, by name, or its refusal."""
+    try:
+        return eraser.tokens.toolchain_tokens(sources)
+    except eraser.tokens.Refused as reason:
+        if len(sources) == 1:
+            return {name: str(reason) for name in sources}
+    names = list(sources)
+    half = len(names) // 2
+    return {**spans_of(eraser, {name: sources[name] for name in names[:half]}),
+            **spans_of(eraser, {name: sources[name] for name in names[half:]})}

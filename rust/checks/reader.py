@@ -16,30 +16,46 @@ SAVED = ('saved_text', 'xxhash32/saved', 'xxhash64/saved')
 BRACKETS = {'(': ')', '[': ']', '{': '}'}
 LITERAL = re.compile(r"""[bc]?r(?P<fence>\#*)".*?"(?P=fence) | [bc]?"(?:[^"\\]|\\.)*" | b?'(?:[^'\\\n]|\\x..|\\u\{\w+\}|\\.)'
                          | '?\w+""", re.S | re.X)
+ANTT = re.compile(r'"(?:[^"\\\n]|\\.)*"|--[^\n]*|\{-|[(){}.;,@"«»]|[^\s(){}.;,@"«»]+')
 BLOCK_COMMENT = re.compile(r'/\*|\*/')
 
 
 def rows_of(text):
-    """The tokens of a text without white space and comments. In a contract's braces `--` begins a comment too."""
-    found, at, braces, in_contract = [], 0, 0, False
+    """The tokens of a text without white space and comments. What a contract's braces hold is one token."""
+    found, at, in_contract = [], 0, False
     while at < len(text):
         if text[at].isspace():
             at += 1
-        elif text.startswith('//', at) or in_contract and braces and text.startswith('--', at):
+        elif text.startswith('//', at):
             at = (text + '\n').index('\n', at)
         elif text.startswith('/*', at):
             at = behind_comment(text, at)
+        elif in_contract and text[at] == '{':
+            end = behind_antt(text, at)
+            found += ['{', text[at + 1:end - 1], '}']
+            at, in_contract = end, text[end:].lstrip().startswith('=')
         else:
-            match = None if in_contract and braces and text[at] in '\'"' else LITERAL.match(text, at)
+            match = LITERAL.match(text, at)
             word = match[0] if match else text[at]
             at += len(word)
             found.append(word)
-            if in_contract:
-                braces += {'{': 1, '}': -1}.get(word, 0)
-                in_contract = not (word == '}' and braces == 0 or word == ';' and braces == 0)
-            elif word in ('requires', 'ensures', 'ghost'):
-                in_contract, braces = True, 0
+            in_contract = word in ('requires', 'ensures', 'ghost') or in_contract and word != ';'
+            if word == 'use' and found[-2:-1] == ['ghost']:
+                in_contract = False
     return found
+
+
+def behind_antt(text, at):
+    """The place after the brace that closes the one at `at`. In a contract a name is any run of characters without spaces
+    and brackets, so `--` begins a comment only where a name could begin; a text in quotes ends on its line."""
+    depth = 0
+    for part in ANTT.finditer(text, at):
+        if part[0].startswith('{-'):
+            raise ValueError('a comment in braces in a contract')
+        depth += {'{': 1, '}': -1}.get(part[0], 0)
+        if not depth:
+            return part.end()
+    raise ValueError('a contract without an end')
 
 
 def behind_comment(text, at):
@@ -97,85 +113,77 @@ def drop_at(words, at):
     return 2 if words[at:at + 2] == [':', 'Drop'] and (words[at + 2] in ('>', ',') or is_of_trait) else 0
 
 
-KERNELS = '''#[cfg(all(not(miri), target_arch = "x86_64"))] pub type Kernel = lanes4::Impl;
-#[cfg(all(not(miri), target_arch = "aarch64", target_endian = "little", target_feature = "neon"))] pub type Kernel = halves4::Impl;
-#[cfg(not(any(all(not(miri), target_arch = "x86_64"),
-    all(not(miri), target_arch = "aarch64", target_endian = "little", target_feature = "neon"))))] pub type Kernel = scalar::Impl;'''
-KERNEL_32 = '''if input.len() >= crate::kernels::STRIPES_32 {
-    let (stripes, rest) = input.split_at(input.len() / BYTES_IN_BLOCK * BYTES_IN_BLOCK);
-    *self = crate::kernels::stripes_32(*self, stripes); return rest; } let mut rest = input; 'each_block'''
-STREAM = '''while let Some((stripe, after)) = rest.split_first_chunk::<BYTES_IN_STRIPE>() { core.write(stripe);
-core.v1 = crate::rattle::opaque_WORD(core.v1); core.v2 = crate::rattle::opaque_WORD(core.v2);
-core.v3 = crate::rattle::opaque_WORD(core.v3); core.v4 = crate::rattle::opaque_WORD(core.v4); rest = after; }'''
-LONG_INPUT = '''if secret.len() == DEFAULT_SECRET_LENGTH { if is_widened(input) { oneshot_by_eight_lanes(secret, input) }
-else { oneshot_above_240::<DefaultLength>(secret, input) } } else { oneshot_long_of_any_length(secret, input) }'''
-WORD = 'bytes[i], bytes[i + 1], bytes[i + 2], bytes[i + 3]'
 # The text of a file, the erased text in its place, and the files in which that is allowed.
 REPLACEMENTS = [(rows_of(old), rows_of(new), files) for old, new, files in (
-    (f'u32::from_le_bytes([{WORD}])', 'u32::from_le_bytes(*crate::rattle::array_at(bytes, i))', 'twox_words/words'),
-    (f'u64::from_le_bytes([{WORD}, bytes[i + 4], bytes[i + 5], bytes[i + 6], bytes[i + 7],])',
-     'u64::from_le_bytes(*crate::rattle::array_at(bytes, i))', 'twox_words/words'),
-    ('items.as_chunks()', 'crate::rattle::as_chunks(items)', 'twox_words/words/chunks'),
-    ('bytes.as_chunks::<8>()', 'crate::rattle::as_chunks::<_, 8>(bytes)', 'twox_core/xxhash3/large/word'),
-    ('mod word;', 'mod word; use crate::rattle::simd;', 'twox_core/xxhash3/large'),
+    ('std::alloc', 'crate::rattle', '*'), ('std::boxed', 'crate::buffers', '*'),
     ('std::simd', 'super::simd', 'twox_core/xxhash3/large/*'), ('std::simd', 'crate::rattle::simd', 'twox_core/xxhash3/derivation'),
-    ('mod parts;', 'pub(crate) mod parts;', 'twox_core/xxhash3'),
-    ('pub type Kernel = lanes4::Impl;', KERNELS, 'twox_core/xxhash3/large'),
-    (LONG_INPUT, 'crate::kernels::long_64(input, secret)', 'twox_core/width_64'),
-    (LONG_INPUT, 'crate::kernels::long_128(input, secret)', 'twox_core/width_128'),
-    ('oneshot_above_240::<Derived>(', 'oneshot_long(', 'twox_core/width_64'),
-    ('oneshot_above_240::<Derived>(', 'oneshot_long(', 'twox_core/width_128'),
-    ("pub struct Secret<'a> { bytes", "pub struct Secret<'a> { pub(crate) bytes", 'twox_core/xxhash3/secret'),
-    ('let mut acc = input.len()', 'crate::rattle::expect_middle(input, from_8); let mut acc = input.len()', 'twox_core/width_64'),
-    ('acc = acc.wrapping_add(mix_at(input, from_8, 16 * c, &words[c], seed));',
-     'acc = crate::rattle::opaque_u64(acc.wrapping_add(mix_at(input, from_8, 16 * c, &words[c], seed)));', 'twox_core/width_64'),
-    ("let mut rest = input; 'each_block", KERNEL_32, 'twox_plain/xxhash32/rounds'),
-    ('rest = core.write_many::<false>(input);', STREAM.replace('WORD', 'u32'), 'twox_plain/xxhash32/state'),
-    ('rest = core.write_many(input);', STREAM.replace('WORD', 'u64'), 'twox_plain/xxhash64/state'),
-    ('let last = from.len() - N;', 'let last = crate::rattle::opaque_usize(from.len() - N);', 'twox_words/copies'),
-    ('#[inline]', '#[inline(always)]', 'twox_core/xxhash3/large/four'), ('#[inline]', '#[inline(always)]', 'twox_core/xxhash3/large/lanes4'),
-    ('#[inline(never)] fn impl_long', '#[inline(always)] fn impl_long', 'twox_plain/xxhash64/rounds'),
-    ('input.len() >= BYTES_IN_BLOCK', 'input.len() >= crate::kernels::STRIPES_32', 'twox_plain/xxhash32/state'),
-    ('input.len() < BYTES_IN_BLOCK', 'input.len() < crate::kernels::STRIPES_32', 'twox_plain/xxhash32/rounds'),
-    ('std::boxed::BoxedSlice', 'crate::rattle::BoxedSlice', '*'),
-    ('use std::marker::Model;', '', '*'), ('marker::{Model, PhantomData}', 'marker::PhantomData', '*'),
+    ('use std::marker::Model;', '', '*'), ('marker::{Model, PhantomData}', 'marker::{PhantomData}', '*'),
     ('fn fmt<W: fmt::Write>(&self, f: &mut fmt::Formatter<W>)', "fn fmt(&self, f: &mut fmt::Formatter<'_>)", '*'),
-    ('Clone for', 'TryClone for', '*'), ('fn clone(&self) -> Result', 'fn try_clone(&self) -> Result', '*'),
-    ('.clone()?', '.try_clone()?', '*'), ('+ Clone', '+ TryClone', '*'),
-    ('const _: () = prove!(size_of', '#[cfg(target_pointer_width = "64")] const _: () = assert!(size_of', '*'),
-    ('const _: () = prove!(BUFFERED_BYTES', 'const _: () = assert!(BUFFERED_BYTES', 'twox_core/xxhash3/streaming/core_state'),
+    ('pub mod barriers;', 'pub use crate::rattle::barriers;', 'twox_words'), ('mod buffers;', 'use crate::buffers;', 'twox_core/xxhash3/streaming'),
     ('pub mod by_stripes; mod saved_text;', '', 'twox_plain'), ('mod build_hashers;', '', '*'), ('mod saved;', '', '*'),
     ('pub use build_hashers::{RandomState, State};', '', '*'), ('pub use saved::FormError;', '', '*'),
+    ('#[inline]', '#[inline(always)]', 'twox_core/xxhash3/large/four'), ('#[inline]', '#[inline(always)]', 'twox_core/xxhash3/large/lanes4'),
+    *(('#[inline(never)] fn impl_129_to_240_bytes', '#[inline] fn impl_129_to_240_bytes', f'twox_core/width_{bits}') for bits in (64, 128)),
+    ('#[inline(never)] fn impl_long', '#[inline(always)] fn impl_long', 'twox_plain/xxhash64/rounds'),
     *((f'#[inline(never)] {head}', f'#[inline(always)] {head}', 'twox_core/xxhash3/*') for head in (
         'fn take_stripes<V', 'fn take_many_stripes<V', 'pub(super) fn take_many_blocks<V', 'fn write_through<V')),
+    *((begin, f'{begin} where S: FixedBuffer', file) for begin, file in (
+        ('Result<SecretBuffer<S>, SecretTooShortError<S>>', 'twox_core/xxhash3/streaming/secret_buffer'),
+        ("fn secret(&self) -> Secret<'_>", 'twox_core/xxhash3/streaming/secret_buffer'),
+        ('pub fn write(&mut self, input: &[u8])', 'twox_core/xxhash3/streaming/raw'),
+        ('pub fn write_with(&mut self, v: impl Vector, input: &[u8])', 'twox_core/xxhash3/streaming/raw'),
+        ('pub fn write_array<const N: usize>(&mut self, bytes: &[u8; N])', 'twox_core/xxhash3/streaming/raw'),
+        ('-> F::Output', 'twox_core/xxhash3/streaming/raw'),
+        ('pub fn write(&mut self, input: &[u8])', 'twox_hash/streams'),
+        ('pub fn write_array<const N: usize>(&mut self, bytes: &[u8; N])', 'twox_hash/streams'))),
+    *((old, old.replace('S: FixedBuffer', 'S'), file) for old, file in (
+        ('pub struct SecretBuffer<S: FixedBuffer>', 'twox_core/xxhash3/streaming/secret_buffer'),
+        ('impl<S: FixedBuffer> SecretBuffer<S>', 'twox_core/xxhash3/streaming/secret_buffer'),
+        ('pub struct RawHasherCore<S: FixedBuffer>', 'twox_core/xxhash3/streaming/raw'),
+        ('impl<S: FixedBuffer> RawHasherCore<S>', 'twox_core/xxhash3/streaming/raw'),
+        ('pub struct RawStream<F: Finalize, S: FixedBuffer>', 'twox_hash/streams'),
+        ('impl<F: Finalize, S: FixedBuffer> RawStream<F, S>', 'twox_hash/streams'))),
 )]
+# What the body of a function becomes, or the value of a constant or a type, by the file and the name.
+OWN = {
+    'twox_words/words': {'u32_at': 'crate::rattle::u32_at(bytes, i)', 'u64_at': 'crate::rattle::u64_at(bytes, i)'},
+    'twox_words/words/chunks': {'bp_as_chunks': 'crate::rattle::as_chunks::<T, N>(items)'},
+    'twox_words/copies': {'copy_ends': 'crate::rattle::copy_ends::<N>(to, from)'},
+    'twox_plain/xxhash32/rounds': {'IN_PAIRS': 'crate::kernels::IN_PAIRS', 'BYTES_FOR_BLOCKS': 'crate::kernels::BYTES_FOR_BLOCKS',
+                                   'write_blocks': 'crate::kernels::write_blocks_32(self, input)'},
+    'twox_plain/xxhash64/rounds': {'IN_PAIRS': 'crate::kernels::IN_PAIRS'},
+    'twox_core/width_64': {'oneshot_long': 'crate::kernels::long_64(secret, input)', 'second_word': 'crate::rattle::second_word(input, from_8, i)',
+                           'oneshot_long_derived': 'crate::kernels::long_derived_64(seed, input)'},
+    'twox_core/width_128': {'oneshot_long': 'crate::kernels::long_128(secret, input)',
+                            'oneshot_long_derived': 'crate::kernels::long_derived_128(seed, input)'},
+    'twox_core/xxhash3/parts': {'expect_middle': 'crate::kernels::expect_middle(input, secret)'},
+    'twox_core/xxhash3/large': {'Kernel': 'crate::kernels::Kernel'},
+    'twox_core/xxhash3/streaming/core_state': {'write_by_default': 'crate::kernels::write(self, input, secret)'},
+    'twox_core/xxhash3/streaming/secret_buffer': {'secret_of': 'crate::buffers::secret_of(bytes)'},
+}
 # The same for the programs.
 PORTS = ('memchr', 'itoa', 'serde_json')
 OF_RATTLE = {'std::alloc': 'crate::rattle', **{f'std::{name}': f'crate::rattle::{name}' for name in ('io', 'env', 'fs', 'rt', 'process')}}
 IN_PROGRAMS = [(rows_of(old), rows_of(new), files) for old, new, files in (
     *((old, new, '*') for old, new in OF_RATTLE.items()),
     *((f'{name}::', f'crate::rattle::{name}::', '*') for name in PORTS),
-    ('use std::{fmt, io};', 'use crate::rattle::io; use std::fmt;', 'xxhsum_fs/words'),
+    ('use std::{fmt, io};', 'use crate::rattle::io; use std::fmt;', 'xxh_io/words'),
     ('b" 0.1.0 of twox_hash, with the messages of xxhsum 0.8.1 and the options and lines of 0.8.3"',
      'b" 0.1.0 of twox_hash, compiled by rustc from proved source, with the messages of xxhsum 0.8.1 and the options and lines of 0.8.3"',
      'xxhsum_program/usage'),
-    ('write!(words, "{error}")', 'write!(words, "{}", io::Shown(&error))', 'xxhsum_fs/words'),
-    ('vec![in alloc; 0u8; room]', 'Vec::filled(alloc, 0u8, room)', 'xxhsum_program/arguments'),
+    ('write!(words, "{error}")', 'write!(words, "{}", io::Shown(&error))', 'xxh_io/words'),
     ('fn fmt<W: fmt::Write>(&self, f: &mut fmt::Formatter<W>)', "fn fmt(&self, f: &mut fmt::Formatter<'_>)", '*'),
     ('= str::from_utf8', '= std::str::from_utf8', 'xxhsum_fs/system'),
-    ('fn main(rt: HostRuntime)', 'pub fn main(rt: HostRuntime)', 'xxh'),
-    ('fn main(rt: HostRuntime)', 'pub fn main(rt: HostRuntime)', 'xxhsum'),
 )]
-PRELUDE = {'AllocGlobal', 'HostRuntime', 'String', 'Vec'}
+PRELUDE = {'AllocGlobal', 'Clone', 'HostRuntime', 'String', 'Vec', 'prove', 'vec'}
 # What may not stay in an erased file.
-GONE = {'prove', 'requires', 'ensures', 'ghost', 'tactic', 'Model', 'Drop'}
+GONE = {'requires', 'ensures', 'ghost', 'tactic', 'Model', 'Drop'}
 # Files of the library that are erased for the programs, or not at all.
-NOT_OF_LIBRARY = {'by_stripes', 'saved_text', 'build_hashers', 'saved'}
+NOT_OF_LIBRARY = {'barriers', 'buffers', 'by_stripes', 'saved_text', 'build_hashers', 'saved'}
 # The files of the programs' tree that come from no file of the crates.
 ROOTS = {
     'mod': ' '.join(f'pub mod {crate};' for crate in ('twox_hash', 'twox_plain', *OF_PROGRAMS)),
-    'twox_hash': 'pub use crate::erased::twox_hash::*; pub use super::twox_plain::{xxhash32, xxhash64}; '
-                 'pub use crate::streams::{self as xxhash3, xxhash3_128, xxhash3_64};',
+    'twox_hash': 'pub use crate::erased::twox_hash::*; pub use super::twox_plain::{xxhash32, xxhash64};',
     'twox_plain': 'pub use crate::erased::twox_plain::*; mod saved_text; pub mod xxhash32; pub mod xxhash64;',
     **{f'twox_plain/xxhash{bits}': f'pub use crate::erased::twox_plain::xxhash{bits}::*; mod saved; pub use saved::FormError;'
        for bits in (32, 64)},
@@ -193,7 +201,7 @@ class Tree:
     roots: dict
 
 
-LIBRARY = Tree('erased', CRATES, REPLACEMENTS, GONE | NOT_OF_LIBRARY, [rows_of(f'std::{name}') for name in ('alloc', 'boxed', 'simd')],
+LIBRARY = Tree('erased', CRATES, REPLACEMENTS, GONE | NOT_OF_LIBRARY - {'barriers', 'buffers'}, [rows_of(f'std::{name}') for name in ('alloc', 'boxed', 'simd')],
                {'mod': ' '.join(f'pub mod {crate};' for crate in CRATES)})
 PROGRAMS = Tree('programs', (*CRATES, *OF_PROGRAMS), IN_PROGRAMS, GONE, [rows_of(name) for name in (*OF_RATTLE, '= str::from_utf8')], ROOTS)
 
@@ -208,25 +216,41 @@ def replacements_at(words, at, crate, file, tree):
     if before != ':' and words[at + 1:at + 3] == [':', ':']:
         if words[at] in ('crate', *tree.crates):
             yield 1, ['crate', ':', ':', tree.module, ':', ':', crate if words[at] == 'crate' else words[at]]
-        if tree is LIBRARY and words[at:at + 4] == ['std', ':', ':', 'alloc']:
-            end = behind(words, at + 6) if words[at + 6] == '{' else at + 7
-            names = [word for word in words[at + 6:end] if word not in '{},']
-            yield end - at, rows_of(f'crate::rattle::{{{", ".join([*names, "TryClone"])}}}')
 
 
-def behind_prelude(wanted):
-    """The place after an import of names of Rattle's prelude at the beginning of a file of the programs."""
-    begin = rows_of('use crate::rattle::prelude::')
-    if wanted[:len(begin)] != begin:
-        return 0
-    end = wanted.index(';')
-    return end + 1 if {word for word in wanted[len(begin):end] if word not in '{},'} <= PRELUDE else 0
+def behind_imports(wanted, file):
+    """The place after the imports of names of Rattle's prelude, and of vectors, at the beginning of a file."""
+    begin, place = rows_of('use crate::rattle::prelude::'), 0
+    if wanted[:len(begin)] == begin:
+        end = wanted.index(';')
+        place = end + 1 if {word for word in wanted[len(begin):end] if word not in '{},'} <= PRELUDE else 0
+    vectors = rows_of('use crate::rattle::simd;')
+    is_above = file == 'twox_core/xxhash3/large' and wanted[place:place + len(vectors)] == vectors
+    return place + len(vectors) if is_above else place
+
+
+def with_own_items(words, file):
+    """The tokens of a source with the items that the crate has in a form of its own."""
+    for name, text in OWN.get(file, {}).items():
+        at, = (i for i, word in enumerate(words) if word in ('fn', 'const', 'type') and words[i + 1] == name and words[i - 1] != '<')
+        if words[at] == 'fn':
+            while words[at] != '(':
+                at += 1
+            at = behind(words, at)
+            while words[at] != '{':
+                at += contract_at(words, at) or 1
+            begin, end = at, behind(words, at) - 1
+        else:
+            begin = words.index('=', at)
+            end = words.index(';', begin)
+        words = [*words[:begin + 1], *rows_of(text), *words[end:]]
+    return words
 
 
 def unexplained(source, erased, crate, file, tree):
     """The furthest place that nothing explains, as the tokens of both from there on; or None."""
-    words, wanted = [*rows_of(source), *[''] * 8], rows_of(erased)
-    begin = behind_prelude(wanted) if tree is PROGRAMS else 0
+    words, wanted = [*with_own_items(rows_of(source), file), *[''] * 8], rows_of(erased)
+    begin = behind_imports(wanted, file)
     end, waiting, seen, furthest = len(words) - 8, [(0, begin)], set(), (0, 0)
     while waiting:
         at, place = waiting.pop()

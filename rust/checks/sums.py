@@ -11,6 +11,9 @@ SUMS = os.path.join(os.path.dirname(os.path.abspath(__file__)), 'sums')
 # Target -> the name of Debian's compiler and of its C library for that processor, and the emulator. Node runs wasm32.
 TARGETS = {
     'x86_64-unknown-linux-gnu': ('', '', ''),
+    # The code needs no system. Here a program of Linux calls it.
+    'x86_64-unknown-none': ('', '', ''),
+    'x86_64-fortanix-unknown-sgx': ('', '', ''),
     'aarch64-unknown-linux-gnu': ('aarch64-linux-gnu', 'arm64', 'qemu-aarch64'),
     'i686-unknown-linux-gnu': ('i686-linux-gnu', 'i386', 'qemu-i386'),
     'armv7-unknown-linux-gnueabihf': ('arm-linux-gnueabihf', 'armhf', 'qemu-arm'),
@@ -46,6 +49,16 @@ def sum_of(room, target, flags=''):
     return must([*([emulator] if emulator else []), program]).strip()
 
 
+def has_no_cpuid(room):
+    """SGX forbids the instruction, which the program for Linux has if it compiles the erased source."""
+    found = {}
+    for target in ('x86_64-fortanix-unknown-sgx', 'x86_64-unknown-linux-gnu'):
+        sum_of(room, target, '--cfg twox_hash_no_assembly')
+        code = must(['objdump', '-d', os.path.join(room.path, 'target', target, 'release', 'libsums.a')])
+        found[target] = code.count('\tcpuid')
+    want(list(map(bool, found.values())) == [False, True], f'{found}')
+
+
 def is_the_sum(room, target, wanted, flags=''):
     found = sum_of(room, target, flags)
     want(found == wanted, f'{found}, not {wanted}')
@@ -60,6 +73,7 @@ def check_sums_of_targets(report, path):
         report.attempt(f'18,802 hashes for {target}', is_the_sum, room, target, wanted)
     for target in ('x86_64-unknown-linux-gnu', 'aarch64-unknown-linux-gnu'):
         report.attempt('.. by the erased source', is_the_sum, room, target, wanted, '--cfg twox_hash_no_assembly')
+    report.attempt('no cpuid in SGX', has_no_cpuid, room)
     report.attempt('another sum is noticed', notices_another, room, wanted)
 
 

@@ -1,9 +1,14 @@
 """Removes contracts from a file: clauses, ghost items, tactics, models, and `Drop` of a type."""
-from tokens import Refused, Token, closing, following, preceding
+import re
+
+from tokens import CLOSE, OPEN, Refused, Token, closing, following, preceding
 
 KEPT_ATTRIBUTES = {'inline', 'repr', 'must_use', 'cold', 'derive'}
 # `Hash`, `PartialOrd` and `Ord` are absent: it is not stated that Rattle's derives do what Rust's do.
 KEPT_DERIVES = {'Clone', 'Copy', 'Debug', 'PartialEq', 'Eq'}
+# Tokens that are read alike whatever is beside them.
+SEPARATE = {*OPEN, *CLOSE, ',', ';'}
+FENCE = re.compile(r'(//[/!] )```(\w*)')
 
 
 def refuse(token, why):
@@ -100,6 +105,21 @@ def drop_models(tokens):
         drop(tokens, first_with_comments(tokens, first), end)
 
 
+def drop_imports_of_models(tokens):
+    """Drops `use .. Model;`, and `Model` of a group. Only contracts speak of models."""
+    for i, token in enumerate(tokens):
+        if token.kind != 'word' or token.text != 'Model':
+            continue
+        before, after = tokens[preceding(tokens, i)].text, tokens[following(tokens, i)].text
+        if (before, after) == (':', ';'):
+            first = next(k for k in range(i, -1, -1) if tokens[k].text == 'use')
+            drop(tokens, first, following(tokens, i))
+        elif (before, after) == ('{', ','):
+            drop(tokens, i, following(tokens, following(tokens, i)) - 1)
+        else:
+            refuse(token, 'a `Model` of an unknown form')
+
+
 def drop_attributes(tokens):
     i = 0
     while i < len(tokens):
@@ -112,8 +132,8 @@ def drop_attributes(tokens):
             name, end = tokens[following(tokens, begin)].text, closing(tokens, begin)
             if name == 'tactic':
                 drop(tokens, i, end)
-            elif name not in KEPT_ATTRIBUTES:
-                refuse(tokens[i], f'the attribute `{name}`')
+            elif name not in KEPT_ATTRIBUTES or name == 'repr' and [token.text for token in tokens[begin + 2:end]] != ['(', 'C', ')']:
+                refuse(tokens[i], f'the attribute `{"".join(token.text for token in tokens[begin + 1:end])}`')
             elif name == 'derive':
                 drop_derive(tokens, i, begin, end)
             i = end
@@ -141,7 +161,7 @@ def drop_bounds(tokens):
         if token.kind != 'word' or token.text != 'Drop':
             continue
         before, after = preceding(tokens, i), following(tokens, i)
-        if tokens[before].text not in ('+', ':') or tokens[after].text not in ('>', ',', '+', '{', ';'):
+        if tokens[before].text not in ('+', ':') or tokens[before - 1].text == ':' or tokens[after].text not in ('>', ',', '+', '{', ';'):
             refuse(token, '`Drop` of an unknown form')
         if tokens[before].text == ':' and tokens[after].text not in ('>', ',') and not is_supertrait(tokens, before, after):
             refuse(token, '`Drop` as a bound of an unknown form')
@@ -154,13 +174,36 @@ def is_supertrait(tokens, before, after):
     return tokens[after].text == '{' and tokens[name].kind == 'word' and tokens[preceding(tokens, name)].text == 'trait'
 
 
+def check_ends(tokens):
+    """Refuses two tokens that removed ones separated, and that would be read as others without a space."""
+    for i, token in enumerate(tokens):
+        before = next((k for k in range(i - 1, -1, -1) if tokens[k].kind != 'gone'), i)
+        if token.kind in ('gone', 'space') or before in (i, i - 1) or tokens[before].kind == 'space':
+            continue
+        if tokens[before].text not in SEPARATE and token.text not in SEPARATE | {'>'}:
+            refuse(token, f'`{tokens[before].text}` beside `{token.text}` after a removal')
+
+
+def label_examples(tokens):
+    """An example without a language would be compiled by rustdoc, and is Rattle."""
+    begins = False
+    for token in tokens:
+        fence = FENCE.fullmatch(token.text) if token.kind == 'comment' else None
+        if fence:
+            begins = not begins
+            token.text = fence[1] + ('```rattle' if begins and not fence[2] else '```' + fence[2])
+
+
 def without_contracts(tokens):
     """The tokens without contracts, with `gone` tokens in their places."""
     drop_clauses(tokens)
     drop_ghosts(tokens)
     drop_models(tokens)
+    drop_imports_of_models(tokens)
     drop_attributes(tokens)
     drop_bounds(tokens)
+    check_ends(tokens)
+    label_examples(tokens)
     return tokens
 
 

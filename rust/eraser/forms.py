@@ -1,48 +1,42 @@
-"""The forms that the eraser supports. Any other form in a source is refused, with its line."""
+"""The forms that the eraser supports. Any other form in a source is refused, with its line. What a call means is not
+tested here: the toolchain names each function that is called (callees.py)."""
 import os
 from collections import Counter, namedtuple
 
-from tokens import Refused, closing
+from tokens import CLOSE, OPEN, Refused, closing
 
-# Words of Rust with a meaning of their own for which there is no rule.
-REFUSED_WORDS = {
-    'async', 'await', 'dyn', 'extern', 'macro_rules', 'static', 'stringify', 'union', 'transmute', 'size_of_val', 'align_of',
-    'type_name', 'offset_of', 'try', 'yield', 'become', 'loop',
-}
+# Rust's keywords, those that are written as names included. The library's sources have some of them.
+KEYWORDS = set("""as async await become box break const continue crate do dyn else enum extern false final fn for gen if
+impl in let loop macro macro_rules match mod move mut override priv pub ref return self Self static struct super trait true
+try type typeof union unsafe unsized use virtual where while yield""".split())
+KEPT_KEYWORDS = set("""as break const continue crate else enum false fn for if impl in let match mod mut pub return self Self
+struct super trait true type unsafe use where while""".split())
+# The functions of Rust's prelude that return a layout. `size_of` has a rule of its own.
+LAYOUTS = {'size_of_val', 'align_of', 'align_of_val'}
 MACROS = {'prove'}
 STD = {'alloc', 'boxed', 'error', 'fmt', 'hash', 'marker', 'simd', 'slice'}
 # What the programs have in addition.
-PROGRAM_WORDS = {'loop'}
+PROGRAM_KEYWORDS = {'loop'}
 PROGRAM_MACROS = {'json', 'matches', 'vec', 'write'}
 PROGRAM_STD = {'cmp', 'env', 'fs', 'io', 'process', 'rt'}
-# Calls of the standard library whose contract in Rattle is what Rust's documentation states.
-CALLS = {
-    'add', 'as_array', 'as_chunks', 'as_mut_ptr', 'as_mut_slice', 'as_slice', 'cast', 'clone', 'copy_from_slice', 'copy_to_slice',
-    'first_chunk', 'first_chunk_mut', 'into', 'is_empty', 'last_chunk', 'last_chunk_mut', 'len', 'rotate_left', 'saturating_add',
-    'saturating_sub', 'shuffle', 'split_at', 'split_at_mut', 'split_first_chunk', 'swap_bytes', 'swizzle', 'to_array',
-    'to_le_bytes', 'unwrap', 'wrapping_add', 'wrapping_mul', 'wrapping_neg', 'wrapping_sub', 'write_str', 'is_some', 'is_none',
-    'is_err', 'is_ok', 'as_ref', 'as_mut',
-}
-# Calls of the programs: of Rust's standard library with that contract, and of rust/programs/src/rattle instead.
-PROGRAM_CALLS = {
-    'as_bytes', 'as_millis', 'as_str', 'checked_mul', 'cmp', 'copy_within', 'ends_with', 'enumerate', 'first', 'get',
-    'is_ascii_digit', 'is_dir', 'is_file', 'iter', 'kind', 'max', 'min', 'ok', 'ok_or', 'parse', 'partition_point',
-    'raw_os_error', 'rev', 'reverse', 'saturating_mul', 'sort_unstable', 'sort_unstable_by', 'split', 'split_first',
-    'starts_with', 'strip_prefix', 'strip_suffix', 'swap', 'take_while', 'unwrap_or',
-    'alloc', 'arg', 'as_array', 'as_u64', 'collect', 'extend_from_slice', 'format', 'is_memory', 'is_terminal', 'monotonic',
-    'open_dir', 'pop', 'push', 'stderr', 'stdin', 'stdout', 'to_string', 'truncate',
-}
 # Methods that a trait adds to a type of the standard library. None may be a method that the type has, now or later.
 ADDED_METHODS = {
     'first_u32', 'last_u32', 'first_u64', 'last_u64', 'upper_half', 'lower_half', 'into_u32', 'into_u64', 'into_u128',
     'as_ref', 'as_mut',
 }
+# Methods that a type may have twice: its own and those of Rust's trait `Hasher`, and of `Debug` and `Display`.
+TWICE = {'write', 'finish', 'fmt'}
+# The types whose size is tested, with `repr(C)` and fields with the same layout in both languages.
+SIZES = {('twox_plain/src/xxhash32.rt', 'StateInMemory'), ('twox_plain/src/xxhash64.rt', 'StateInMemory'),
+         ('twox_core/src/xxhash3/streaming/core_state.rt', 'CoreState')}
 # Casts to a type whose width is the machine's, or from one: their places, their number, and why no value is lost on 32
 # bits.
 CASTS = {
     ('twox_words/src/words/widening.rt', 'self as u64'): (1, 'a usize has at most 64 bits'),
     ('twox_words/src/words/halves.rt', ') as u64'): (2, 'the halves of a u128'),
     ('twox_plain/src/xxhash32/state.rt', ') as usize'): (1, 'less than 2^32, from a u32'),
+    ('twox_plain/src/xxhash32/state.rt', 'total_high as u64'): (1, 'a u32'),
+    ('twox_plain/src/xxhash32/state.rt', 'total_low as u64'): (1, 'a u32'),
     ('twox_plain/src/xxhash64/state.rt', ') as usize'): (1, 'less than 2^32, from a u32'),
     ('twox_core/src/xxhash3/streaming/core_state.rt', 'total_bytes as usize'): (1, 'at most 240, as was tested'),
     **{('twox_plain/src/xxhash32/saved.rt', f'{name} as u64'): (1, 'a u32') for name in ('v1', 'v2', 'v3', 'v4', 'seed')},
@@ -53,9 +47,9 @@ CASTS = {
 }
 UNSAFE = {'twox_words/src/words/chunks.rt': 1}
 
-Forms = namedtuple('Forms', 'refused macros std calls')
-LIBRARY_FORMS = Forms(REFUSED_WORDS, MACROS, STD, CALLS)
-PROGRAM_FORMS = Forms(REFUSED_WORDS - PROGRAM_WORDS, MACROS | PROGRAM_MACROS, STD | PROGRAM_STD, CALLS | PROGRAM_CALLS)
+Forms = namedtuple('Forms', 'keywords macros std')
+LIBRARY_FORMS = Forms(KEPT_KEYWORDS, MACROS, STD)
+PROGRAM_FORMS = Forms(KEPT_KEYWORDS | PROGRAM_KEYWORDS, MACROS | PROGRAM_MACROS, STD | PROGRAM_STD)
 
 
 def refuse(token, why):
@@ -66,47 +60,50 @@ def is_of_programs(file):
     return file.startswith('xxh') or os.path.basename(file) in ('saved_text.rt', 'saved.rt')
 
 
-def check_forms(tokens, file):
-    """Refuses forms without a rule, in a file without contracts."""
+def texts_of(code):
+    return [token.text for token in code]
+
+
+def check_forms(tokens, file, items):
+    """Refuses forms without a rule, in a file without contracts. `items` are those of all sources."""
     code = [token for token in tokens if not token.is_blank()]
     known = PROGRAM_FORMS if is_of_programs(file) else LIBRARY_FORMS
+    opened = []
     for i, token in enumerate(code):
-        before = code[i - 1].text if i else ''
-        after = code[i + 1].text if i + 1 < len(code) else ''
         if token.kind == 'word':
-            check_word(token, before, after, code, i, known)
-        elif token.kind == 'mark' and token.text == '.' and after == '.' and before != '.':
-            check_range(code, i)
+            check_word(token, texts_of(code[max(i - 6, 0):i]), texts_of(code[i + 1:i + 5]), file, known)
+        elif token.kind == 'mark' and token.text == '.' and code[i + 1].text == '.' and code[i - 1].text != '.':
+            check_range(code, i, opened[-1] if opened else 0)
+        elif token.kind == 'mark' and token.text in OPEN:
+            opened.append(i)
+        elif token.kind == 'mark' and token.text in CLOSE:
+            opened.pop()
+    check_std(code, known.std)
     check_casts(code, file)
+    items.check(file, code)
     wanted = UNSAFE.get(file, 0)
-    found = sum(token.text == 'unsafe' for token in code)
+    found = texts_of(code).count('unsafe')
     if found != wanted:
         raise Refused(f'{found} times `unsafe`, not {wanted}')
 
 
-def check_word(token, before, after, code, i, known):
-    word = token.text
-    if word in known.refused:
+def check_word(token, before, after, file, known):
+    """`before` and `after` are the six tokens before a word, and the four after it."""
+    word, last, path = token.text, before[-1] if before else '', after[:2] == [':', ':']
+    if word in KEYWORDS - known.keywords or word in LAYOUTS:
         refuse(token, f'`{word}`')
-    if after == '!' and code[i + 2].text in '([{' and word not in known.macros and word not in ('if', 'while', 'return'):
+    if after[:1] == ['!'] and after[1] in OPEN and word not in known.macros | {'if', 'while', 'return'}:
         refuse(token, f'the macro `{word}!`')
-    if word == 'prove' and [one.text for one in code[i - 6:i]] != ['const', '_', ':', '(', ')', '=']:
+    if word == 'prove' and before != ['const', '_', ':', '(', ')', '=']:
         refuse(token, 'a `prove!` that is no constant')
-    if word == 'std' and (before == ':' or code[i + 1].text + code[i + 2].text != '::'):
-        refuse(token, '`std` that begins no path')
-    if word == 'std':
-        check_std(code, i, known.std)
-    begins_path = after == ':' and code[i + 2].text == ':' and before != ':'
-    if word in ('core', 'alloc', 'erased', 'rattle') and (before in ('mod', 'as') or begins_path):
+    if word in ('core', 'alloc', 'erased', 'rattle') and (last in ('mod', 'as') or path and last != ':'):
         refuse(token, f'`{word}` as the name of a module')
-    if before == '.' and code[i - 2].text != '.' and after in ('(', ':') and word not in known.calls | DEFINED:
-        refuse(token, f'the call `{word}`')
-    if before == '.' and word == 'clone' and [one.text for one in code[i + 1:i + 4]] != ['(', ')', '?']:
+    if word == 'clone' and (last, *after[:3]) not in (('.', '(', ')', '?'), ('fn', '(', '&', 'self')):
         refuse(token, 'a `clone` whose answer is not tested for memory at once')
-    if word == 'Drop' and after == 'for':
-        refuse(token, 'an `impl Drop`: when it runs can differ')
-    if word == 'size_of':
-        check_size(token, code, i)
+    if word in ('Clone', 'Drop') and path:
+        refuse(token, f'a function of `{word}` by its path')
+    if word == 'size_of' and (after[:3] != [':', ':', '<'] or (file, after[3]) not in SIZES):
+        refuse(token, f'`size_of` of `{after[-1]}`, which is not in the list')
 
 
 def check_casts(code, file):
@@ -120,64 +117,34 @@ def check_casts(code, file):
                 refuse(token, f'the cast `{text}`')
 
 
-def check_std(code, i, known):
-    names, at = [], i + 3
-    if code[at].text == '{':
-        while code[at].text != '}':
-            at += 1
-            if code[at].kind == 'word':
-                names.append(code[at])
-    else:
-        names = [code[at]]
-    for name in names:
-        if name.text not in known:
-            refuse(name, f'`std::{name.text}`')
-
-
-def check_range(code, i):
-    """Refuses a range without an end, except in an index and as the rest of a pattern."""
-    end = i + 2 + (code[i + 2].text == '=')
-    if code[end].text in (')', '{') and code[i - 1].text not in (',', '('):
-        refuse(code[i], 'a range without an end')
-
-
-def check_size(token, code, i):
-    name = code[i + 4].text
-    if [one.text for one in code[i + 1:i + 4]] != [':', ':', '<'] or name not in FIXED_LAYOUT:
-        refuse(token, f'`size_of` of `{name}`, which has no `repr(C)`')
-
-
-# The functions and the `repr(C)` types of all sources, which `learn` collects.
-DEFINED, FIXED_LAYOUT = set(), set()
-
-
-def learn(tokens):
-    """Collects the names that a file defines, and refuses a method that a type of the standard library may have."""
-    code = [token for token in tokens if not token.is_blank()]
+def check_std(code, known):
     for i, token in enumerate(code):
-        if token.kind != 'word':
+        if token.text != 'std' or token.kind != 'word':
             continue
-        if token.text == 'fn' and code[i + 1].kind == 'word':
-            DEFINED.add(code[i + 1].text)
-        if token.text == 'repr' and [one.text for one in code[i + 1:i + 4]] == ['(', 'C', ')']:
-            FIXED_LAYOUT.add(next(one.text for one, before in zip(code[i:], code[i - 1:]) if before.text == 'struct'))
-        if token.text == 'for' and code[i - 1].kind in ('word', 'mark') and is_foreign(code, i + 1):
-            check_added_methods(code, i)
+        if code[i - 1].text == ':' or texts_of(code[i + 1:i + 3]) != [':', ':']:
+            refuse(token, '`std` that begins no path')
+        names = code[i + 3:closing(code, i + 3)] if code[i + 3].text == '{' else code[i + 3:i + 4]
+        for name in names:
+            if name.kind == 'word' and name.text not in known:
+                refuse(name, f'`std::{name.text}`')
 
 
-PRIMITIVES = {'u8', 'u16', 'u32', 'u64', 'u128', 'usize', 'i8', 'i16', 'i32', 'i64', 'i128', 'isize', 'bool', 'char', 'str'}
+def ends_value(token):
+    return token.kind in ('string', 'char') or token.text in (')', ']') or (
+        token.kind == 'word' and token.text not in KEYWORDS - {'self', 'true', 'false'})
 
 
-def is_foreign(code, i):
-    """True if the type of an `impl` begins as one of the standard library: a primitive, a reference, an array."""
-    return code[i].text in PRIMITIVES or code[i].text in ('&', '[', '(')
+def begins_value(token):
+    return token.kind in ('string', 'char') or token.text in ('(', '[', '*', '-', '&') or (
+        token.kind == 'word' and token.text not in KEYWORDS - {'self', 'true', 'false', 'crate', 'super'})
 
 
-def check_added_methods(code, i):
-    while i < len(code) and code[i].text not in ('{', ';', 'in'):
-        i += 1
-    if i == len(code) or code[i].text != '{':
-        return
-    for at in range(i, closing(code, i)):
-        if code[at].text == 'fn' and code[at + 1].text not in ADDED_METHODS:
-            refuse(code[at], f'the method `{code[at + 1].text}` of a type of the standard library')
+def check_range(code, i, opener):
+    """Refuses `..` except with two ends, in an index, as the rest of a pattern, and before the rest of a struct."""
+    end = i + 2 + (code[i + 2].text == '=')
+    has_ends = ends_value(code[i - 1]) and begins_value(code[end])
+    is_index = code[opener].text == '[' and ends_value(code[opener - 1])
+    is_rest = code[i - 1].text in (',', '@', *OPEN) and code[end].text in (',', *CLOSE)
+    is_update = code[opener].text == '{' and code[i - 1].text == ',' and '[' not in texts_of(code[i:closing(code, opener)])
+    if not (has_ends or is_index or is_rest or is_update):
+        refuse(code[i], 'a range without an end')

@@ -1,7 +1,14 @@
-"""Rattle's tokens. A contract is one token including its braces, so later passes don't look inside."""
+"""Rattle's tokens, as the toolchain reads them. A contract is one token including its braces, so later passes don't look
+inside."""
+import json
+import os
 import re
+import shutil
+import subprocess
+import tempfile
 from dataclasses import dataclass
 
+# Splits code that has no contract and no comment: the code of one of the toolchain's tokens, or the pattern of an edit.
 CODE = re.compile(r"""
     (?P<space>\s+)
   | (?P<comment>//[^\n]*)
@@ -13,12 +20,9 @@ CODE = re.compile(r"""
 """, re.X | re.S)
 OPEN = {'(': ')', '[': ']', '{': '}'}
 CLOSE = set(OPEN.values())
-# A contract's text is antt, whose comments begin with `--`. Text that could hide a brace is refused.
-UNCLEAR_IN_CONTRACTS = re.compile(r'"|//|/\*|\{-|-\}|\'[{}]')
-PLAIN_STRING = re.compile(r'"(?:(?!--)[^"\\{}\n])*"')
-CLAUSE = re.compile(r'(requires|ensures)\b\*?\s*(\w+\s*)?(?=\{)')
-GHOST_USE = re.compile(r'ghost\s+use\b([^;"]*);')
-GHOST_ITEM = re.compile(r'ghost\s+\w+\s*([:=])\s*(?=\{)')
+BLOCK_COMMENT = re.compile(r'/\*|\*/')
+# Control characters but a line feed, marks of direction, and line ends that only one of the languages knows.
+NO_TEXT = re.compile('[\x00-\x09\x0b-\x1f\x7f\x85\u200e\u200f\u2028-\u202e\u2066-\u2069\ufeff]')
 
 
 class Refused(Exception):
@@ -35,80 +39,108 @@ class Token:
         return self.kind in ('space', 'comment', 'gone')
 
 
-def end_of_nested_comment(text, start):
-    depth, at = 0, start
-    for mark in re.finditer(r'/\*|\*/', text[start:]):
-        depth += 1 if mark[0] == '/*' else -1
-        at = start + mark.end()
-        if depth == 0:
-            return at
-    raise Refused('a comment without an end')
-
-
-def end_of_contract(text, start):
-    """The place after the brace that closes the one at `start`."""
-    depth, at = 0, start
-    while at < len(text):
-        if text.startswith('--', at):
-            at = text.find('\n', at)
-            if at < 0:
-                break
-            continue
-        string = PLAIN_STRING.match(text, at)
-        if string:
-            at = string.end()
-            continue
-        if UNCLEAR_IN_CONTRACTS.match(text, at):
-            raise Refused(f'{text[at:at + 2]!r} in a contract')
-        depth += {'{': 1, '}': -1}.get(text[at], 0)
-        at += 1
-        if depth == 0:
-            return at
-    raise Refused('a contract without an end')
-
-
-def contract(text, start, word):
-    """The kind of the contract that begins at `start`, and the place after it."""
-    if word != 'ghost':
-        found = CLAUSE.match(text, start)
-        if not found:
-            raise Refused(f'`{word}` that begins no clause')
-        return 'clause', end_of_contract(text, found.end())
-    found = GHOST_USE.match(text, start)
-    if found:
-        if '--' in found[1] or UNCLEAR_IN_CONTRACTS.search(found[1]):
-            raise Refused('a comment in a `ghost use`')
-        return 'use', found.end()
-    found = GHOST_ITEM.match(text, start)
+def rattle():
+    found = shutil.which('rt')
     if not found:
-        raise Refused('a `ghost` of an unknown form')
-    end = end_of_contract(text, found.end())
-    after = re.compile(r'\s*(.)', re.S).match(text, end)
-    if not after or after[1] not in ';,' or (after[1] == ',' and found[1] != ':'):
-        raise Refused('a `ghost` of an unknown form')
-    return ('item' if after[1] == ';' else 'field'), after.end()
+        raise Refused('the sources have changed since they were erased: this needs the toolchain `rt`')
+    return os.path.join(os.path.dirname(os.path.realpath(found)), 'rattle')
 
 
-def lex(text):
-    """The tokens of a file. Joined, they are the file."""
-    tokens, at, line = [], 0, 1
+def toolchain_tokens(texts):
+    """The toolchain's tokens of each file, by name: line, first byte, end, kind and text. Comments are none."""
+    with tempfile.TemporaryDirectory() as folder:
+        paths = [os.path.join(folder, f'{number}.rt') for number in range(len(texts))]
+        for path, text in zip(paths, texts.values()):
+            with open(path, 'w', encoding='utf-8', newline='') as file:
+                file.write(text)
+        done = subprocess.run([rattle(), 'fmt', '--tokens', *paths], capture_output=True, text=True)
+    if done.returncode:
+        reason = re.search(r'(\d+)\.rt:(.*)', done.stderr)
+        raise Refused(f'{list(texts)[int(reason[1])]}: line {reason[2]}' if reason else done.stderr[:300])
+    found = []
+    for line in done.stdout.splitlines():
+        if line.startswith('file '):
+            found.append([])
+        else:
+            number, start, end, kind, text = line.split(' ', 4)
+            found[-1].append((int(number), int(start), int(end), kind, json.loads(text)))
+    return dict(zip(texts, found))
+
+
+def lex(text, spans):
+    """The tokens of a file, of which the toolchain's are given. Joined, they are the file."""
+    if bad := NO_TEXT.search(text):
+        raise Refused(f'line {text.count(chr(10), 0, bad.start()) + 1}: the character {bad[0]!r}')
+    data, tokens, at, i, line = text.encode(), [], 0, 0, 1
+    while i < len(spans):
+        first = spans[i]
+        tokens += blanks(data[at:first[1]].decode(), line)
+        kind, after = contract(spans, i)
+        at, i, line = spans[after - 1][2], after, first[0]
+        part = data[first[1]:at].decode()
+        tokens += [Token(kind, part, line)] if kind else parts_of_code(part, first)
+        line += part.count('\n')
+    return tokens + blanks(data[at:].decode(), line)
+
+
+def contract(spans, i):
+    """The kind of the contract that begins at `spans[i]`, or '' for code, and the place after it."""
+    line, _, _, kind, word = spans[i]
+    if kind in ('Code', 'Literal') and not (word == 'ghost' and spans[i + 1][3] == 'Head'):
+        return '', i + 1
+    if kind == 'Code':
+        end = next(k for k in range(i, len(spans)) if spans[k][3:] == ('Code', ';'))
+        return 'use', end + 1
+    if kind != 'Head':
+        raise Refused(f'line {line}: the toolchain reads no code here')
+    end = next(k for k in range(i, len(spans)) if spans[k][3] == 'End') + 1
+    if word in ('requires', 'ensures'):
+        return 'clause', end
+    if word != 'ghost' or spans[end][3:] not in (('Code', ';'), ('Code', ',')):
+        raise Refused(f'line {line}: a `ghost` of an unknown form')
+    return ('item' if spans[end][4] == ';' else 'field'), end + 1
+
+
+def parts_of_code(part, span):
+    """The tokens of one of the toolchain's, whose name may not be in « »."""
+    if part != span[4]:
+        raise Refused(f'line {span[0]}: the name {part}')
+    return split(part, span[0])
+
+
+def split(text, line):
+    found, at = [], 0
     while at < len(text):
-        try:
-            if text.startswith('/*', at):
-                kind, end = 'comment', end_of_nested_comment(text, at)
-            else:
-                found = CODE.match(text, at)
-                kind, end = found.lastgroup, found.end()
-                if kind == 'hashes':
-                    kind = 'string'
-                if kind == 'word' and found[0] in ('requires', 'ensures', 'ghost'):
-                    kind, end = contract(text, at, found[0])
-        except Refused as reason:
-            raise Refused(f'line {line}: {reason}') from None
-        tokens.append(Token(kind, text[at:end], line))
-        line += text.count('\n', at, end)
-        at = end
-    return tokens
+        match = CODE.match(text, at)
+        found.append(Token('string' if match.lastgroup == 'hashes' else match.lastgroup, match[0], line))
+        line, at = line + match[0].count('\n'), match.end()
+    return found
+
+
+def blanks(text, line):
+    """The white space and the comments between two of the toolchain's tokens."""
+    found, at = [], 0
+    while at < len(text):
+        if text.startswith('/*', at):
+            kind, end = 'comment', end_of_nested_comment(text, at, line)
+        elif text.startswith('//', at):
+            kind, end = 'comment', (text + '\n').index('\n', at)
+        else:
+            kind, end = 'space', at + len(text[at:]) - len(text[at:].lstrip(' \n'))
+        if end == at:
+            raise Refused(f'line {line}: {text[at]!r} between tokens')
+        found.append(Token(kind, text[at:end], line))
+        line, at = line + text.count('\n', at, end), end
+    return found
+
+
+def end_of_nested_comment(text, start, line):
+    depth = 0
+    for mark in BLOCK_COMMENT.finditer(text, start):
+        depth += 1 if mark[0] == '/*' else -1
+        if depth == 0:
+            return mark.end()
+    raise Refused(f'line {line}: a comment without an end')
 
 
 def following(tokens, i):

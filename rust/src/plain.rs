@@ -4,15 +4,14 @@
 /// Defines the module of a plain hash.
 macro_rules! plain_hash {
     (
-        $name:literal, $alias:ident, $module:ident, $word:ty, $stripe:literal, $record:ident,
-        $oneshot:ident,
-        $initial:expr,
+        $name:literal, $alias:ident, $module:ident, $word:ty, $stripe:literal,
         $($example:literal)*
     ) => {
         use core::fmt;
         use core::hash::{self, BuildHasher};
 
-        use crate::library::{self, $record};
+        use crate::erased::twox_plain::$module as source;
+        use crate::rattle;
 
         #[doc = concat!($name, " of all bytes at once, or of bytes that come in pieces.")]
         ///
@@ -25,8 +24,8 @@ macro_rules! plain_hash {
         ///
         /// Two hashers are equal if they have the same seed and have hashed the same bytes; hashed bytes that are
         /// still in memory are compared too.
-        #[derive(Clone, PartialEq)]
-        pub struct Hasher($record);
+        #[derive(PartialEq)]
+        pub struct Hasher(source::Hasher);
 
         impl Hasher {
             /// Hashes all bytes at once.
@@ -40,7 +39,7 @@ macro_rules! plain_hash {
             #[must_use]
             #[inline]
             pub fn oneshot(seed: $word, data: &[u8]) -> $word {
-                library::$oneshot(data, seed)
+                source::Hasher::oneshot(seed, data)
             }
 
             /// Creates a hasher of no bytes, also in a `static`.
@@ -52,9 +51,9 @@ macro_rules! plain_hash {
             /// assert_eq!(hasher.seed(), 7);
             /// ```
             #[must_use]
+            #[inline]
             pub const fn with_seed(seed: $word) -> Self {
-                // Constants, since the source's own start is no `const fn`: a test compares both.
-                Self($record::of_parts(0, seed, $initial(seed), [0; $stripe], 0))
+                Self(source::Hasher::with_seed(seed))
             }
 
             /// Returns the seed of the hasher.
@@ -63,7 +62,7 @@ macro_rules! plain_hash {
             #[doc = concat!("assert_eq!(twox_hash::", stringify!($alias), "::with_seed(7).seed(), 7);")]
             /// ```
             pub const fn seed(&self) -> $word {
-                self.0.seed
+                self.0.seed()
             }
 
             /// Total bytes hashed, saturating at `u64::MAX`.
@@ -76,76 +75,47 @@ macro_rules! plain_hash {
             /// assert_eq!(hasher.total_len(), 10);
             /// ```
             pub const fn total_len(&self) -> u64 {
-                self.0.counted()
+                self.0.total_len()
             }
+        }
 
-            // Separate functions, so that a map's key of a word pays for nothing in them.
-            #[inline(never)]
-            fn write_far(&mut self, word: u64) {
-                self.0.add_piece(&word.to_ne_bytes());
-            }
-
-            #[inline(never)]
-            fn finish_far(&self) -> u64 {
-                self.0.finish().into()
+        impl Clone for Hasher {
+            #[inline]
+            fn clone(&self) -> Self {
+                Self(rattle::allocated(rattle::Clone::clone(&self.0)))
             }
         }
 
         /// Creates a hasher with the seed 0.
         impl Default for Hasher {
+            #[inline]
             fn default() -> Self {
                 Self::with_seed(0)
             }
         }
 
         impl hash::Hasher for Hasher {
-            #[inline]
-            fn write(&mut self, data: &[u8]) {
-                self.0.add_piece(data);
-            }
-
-            // A map's key is a word, and its hash needs no stream.
-            #[inline(always)]
-            fn write_u64(&mut self, word: u64) {
-                if self.0.counted() == 0 {
-                    self.0.keep_first(word);
-                } else {
-                    self.write_far(word);
-                }
-            }
-
-            #[inline(always)]
-            fn write_usize(&mut self, word: usize) {
-                hash::Hasher::write(self, &word.to_ne_bytes());
-            }
-
-            #[inline(always)]
-            fn finish(&self) -> u64 {
-                match self.0.only_word() {
-                    Some(word) => library::$oneshot(word, self.0.seed).into(),
-                    None => self.finish_far(),
-                }
-            }
+            hasher_calls!(inline);
         }
 
         impl fmt::Debug for Hasher {
             fn fmt(&self, f: &mut fmt::Formatter<'_>) -> fmt::Result {
-                let Self(record) = self;
+                let record = self.0.to_state();
                 let accumulators = Accumulators {
-                    acc1: record.v1,
-                    acc2: record.v2,
-                    acc3: record.v3,
-                    acc4: record.v4,
+                    acc1: record.core.v1,
+                    acc2: record.core.v2,
+                    acc3: record.core.v3,
+                    acc4: record.core.v4,
                 };
                 let buffer = Buffer {
-                    offset: record.buffer_usage(),
+                    offset: record.buffer_usage,
                     data: words(&record.buffer),
                 };
                 f.debug_struct("Hasher")
                     .field("seed", &record.seed)
                     .field("accumulators", &accumulators)
                     .field("buffer", &buffer)
-                    .field("length", &record.counted())
+                    .field("length", &record.total_len)
                     .finish()
             }
         }
@@ -169,11 +139,7 @@ macro_rules! plain_hash {
         // The buffer as words of the processor.
         fn words(buffer: &[u8; $stripe]) -> [$word; 4] {
             const BYTES: usize = $stripe / 4;
-            core::array::from_fn(|i| {
-                let mut word = [0; BYTES];
-                word.copy_from_slice(&buffer[i * BYTES..][..BYTES]);
-                <$word>::from_ne_bytes(word)
-            })
+            core::array::from_fn(|i| <$word>::from_ne_bytes(*crate::rattle::array_at(buffer, i * BYTES)))
         }
 
         /// Builds hashers of one seed, for example for a map.
@@ -199,6 +165,7 @@ macro_rules! plain_hash {
         impl BuildHasher for State {
             type Hasher = Hasher;
 
+            #[inline]
             fn build_hasher(&self) -> Hasher {
                 Hasher::with_seed(self.0)
             }
@@ -259,18 +226,14 @@ macro_rules! plain_hash {
         #[cfg(feature = "serialize")]
         impl serde::Serialize for Hasher {
             fn serialize<S: serde::Serializer>(&self, serializer: S) -> Result<S::Ok, S::Error> {
-                let Self(record) = self;
+                let record = self.0.to_state();
+                let source::Core { v1, v2, v3, v4 } = record.core;
                 let saved = Saved {
-                    total_len: record.counted(),
+                    total_len: record.total_len,
                     seed: record.seed,
-                    core: Core {
-                        v1: record.v1,
-                        v2: record.v2,
-                        v3: record.v3,
-                        v4: record.v4,
-                    },
+                    core: Core { v1, v2, v3, v4 },
                     buffer: record.buffer,
-                    buffer_usage: record.buffer_usage(),
+                    buffer_usage: record.buffer_usage,
                 };
                 saved.serialize(serializer)
             }
@@ -282,35 +245,15 @@ macro_rules! plain_hash {
             fn deserialize<D: serde::Deserializer<'de>>(deserializer: D) -> Result<Self, D::Error> {
                 let saved = Saved::deserialize(deserializer)?;
                 let Core { v1, v2, v3, v4 } = saved.core;
-                let record = $record::of_parts(
-                    saved.total_len,
-                    saved.seed,
-                    [v1, v2, v3, v4],
-                    saved.buffer,
-                    saved.buffer_usage,
-                );
-                if record.is_reachable() {
-                    Ok(Self(record))
-                } else {
-                    Err(serde::de::Error::custom(concat!(
-                        "no bytes lead to this record of ",
-                        $name
-                    )))
-                }
-            }
-        }
-
-        #[cfg(test)]
-        mod tests {
-            use super::*;
-
-            #[test]
-            fn with_seed_is_what_the_library_starts_with() {
-                let turns = (0..1000).map(|i| (0x9e37_79b9_7f4a_7c15_u64.wrapping_mul(i)) as $word);
-                for seed in turns.chain([<$word>::MAX, <$word>::MAX / 2]) {
-                    let started = crate::erased::twox_plain::$module::Hasher::with_seed(seed).to_state();
-                    assert_eq!(Hasher::with_seed(seed).0.record(), started);
-                }
+                let record = source::SavedState {
+                    total_len: saved.total_len,
+                    seed: saved.seed,
+                    core: source::Core { v1, v2, v3, v4 },
+                    buffer: saved.buffer,
+                    buffer_usage: saved.buffer_usage,
+                };
+                let text = concat!("no bytes lead to this record of ", $name);
+                source::Hasher::from_state(record).map(Self).map_err(|_| serde::de::Error::custom(text))
             }
         }
     };

@@ -9,13 +9,18 @@
 
 pub mod simd;
 
-#[cfg(feature = "alloc")]
-use alloc::boxed::Box;
-use core::marker::PhantomData;
-
 /// Out of memory.
 #[derive(Clone, Copy, Debug, PartialEq, Eq)]
 pub struct AllocError;
+
+/// Returns what was allocated. Out of memory, Rust's allocator ends the program, so nothing below returns the error.
+#[inline(always)]
+pub fn allocated<T>(result: Result<T, AllocError>) -> T {
+    match result {
+        Ok(value) => value,
+        Err(AllocError) => unreachable!(),
+    }
+}
 
 /// A source of memory. Here it is always the global allocator.
 pub trait Allocator {}
@@ -26,60 +31,57 @@ pub struct Global;
 
 impl Allocator for Global {}
 
+/// The names of Rattle's prelude that Rust's lacks, or uses for something else.
+pub mod prelude {
+    pub(crate) use super::{prove, Clone};
+}
+
 /// A copy that may need memory: Rattle's `Clone`. "`Ok` of an equal value, or `Err` if an allocation failed."
-pub trait TryClone: Sized {
-    fn try_clone(&self) -> Result<Self, AllocError>;
+pub trait Clone: Sized {
+    fn clone(&self) -> Result<Self, AllocError>;
 }
 
-impl<T: Clone> TryClone for T {
-    #[inline(always)]
-    fn try_clone(&self) -> Result<T, AllocError> {
-        Ok(self.clone())
-    }
-}
-
-/// An allocated slice.
-pub struct BoxedSlice<T, A> {
-    #[cfg(feature = "alloc")]
-    items: Box<[T]>,
-    #[cfg(not(feature = "alloc"))]
-    items: [T; 0],
-    allocator: PhantomData<A>,
-}
-
-impl<T: Copy, A: Allocator> BoxedSlice<T, A> {
-    /// "`Ok` of a slice with these items, or `Err` if an allocation failed."
-    #[cfg(feature = "alloc")]
-    pub fn from_slice(_: A, items: &[T]) -> Result<Self, AllocError> {
-        Ok(BoxedSlice {
-            items: items.into(),
-            allocator: PhantomData,
-        })
-    }
-
-    #[cfg(not(feature = "alloc"))]
-    pub fn from_slice(_: A, _: &[T]) -> Result<Self, AllocError> {
-        Err(AllocError)
-    }
-
-    /// "The items."
-    pub fn as_slice(&self) -> &[T] {
-        &self.items
-    }
-
-    /// "The items, to be written."
-    pub fn as_mut_slice(&mut self) -> &mut [T] {
-        &mut self.items
+impl Clone for Global {
+    fn clone(&self) -> Result<Self, AllocError> {
+        Ok(Global)
     }
 }
 
-impl<T: Clone, A: TryClone> TryClone for BoxedSlice<T, A> {
-    fn try_clone(&self) -> Result<Self, AllocError> {
-        Ok(BoxedSlice {
-            items: self.items.clone(),
-            allocator: PhantomData,
-        })
-    }
+/// Tests a constant when it is compiled. The proved layouts are those of targets with 64 bits, so a size is tested there.
+macro_rules! prove {
+    (size_of $($rest:tt)*) => {
+        assert!(cfg!(not(target_pointer_width = "64")) || size_of $($rest)*)
+    };
+    ($holds:expr) => {
+        assert!($holds)
+    };
+}
+pub(crate) use prove;
+
+/// Returns the four-byte word at byte `i`, low byte first, by one test and one load.
+///
+/// # Panics
+///
+/// Panics if the slice ends before.
+#[inline(always)]
+pub fn u32_at(bytes: &[u8], i: usize) -> u32 {
+    u32::from_le_bytes(*array_at(bytes, i))
+}
+
+/// Returns the eight-byte word at byte `i`, low byte first, by one test and one load.
+///
+/// # Panics
+///
+/// Panics if the slice ends before.
+#[inline(always)]
+pub fn u64_at(bytes: &[u8], i: usize) -> u64 {
+    u64::from_le_bytes(*array_at(bytes, i))
+}
+
+/// Returns the second word of the 16 bytes at `i`. `kernels::expect_middle` has tested the length of the input.
+#[inline(always)]
+pub fn second_word(input: &[u8], _: &[u8], i: usize) -> u64 {
+    u64_at(input, i + 8)
 }
 
 /// `slice::as_chunks`, which is stable from rustc 1.88 on: "the first `N * (len / N)` items as arrays, and the rest".
@@ -95,10 +97,6 @@ pub fn as_chunks<T, const N: usize>(items: &[T]) -> (&[[T; N]], &[T]) {
 }
 
 /// Returns the `N` bytes from byte `i` on.
-///
-/// # Panics
-///
-/// Panics if the slice ends before.
 #[inline(always)]
 pub fn array_at<const N: usize>(bytes: &[u8], i: usize) -> &[u8; N] {
     match bytes[i..].first_chunk() {
@@ -107,23 +105,35 @@ pub fn array_at<const N: usize>(bytes: &[u8], i: usize) -> &[u8; N] {
     }
 }
 
-/// Tests what the callers are proved to pass: an input of 129 bytes or more, and the rest after its first eight.
+/// Copies the first `N` bytes and the last `N` bytes. The place of the last ones is hidden from the optimizer: it would take
+/// it for one that may lie before the slice, and load the other fields of a record again after each copy.
+///
+/// # Panics
+///
+/// Panics if the slices are not equally long, or shorter than `N` bytes.
 #[inline(always)]
-pub fn expect_middle(input: &[u8], from_8: &[u8]) {
-    if from_8.len() < 121 || input.len() <= from_8.len() {
+pub fn copy_ends<const N: usize>(to: &mut [u8], from: &[u8]) {
+    if to.len() != from.len() || from.len() < N {
         out_of_bounds();
+    }
+    to[..N].copy_from_slice(&from[..N]);
+    let last = barriers::hidden_usize(from.len() - N);
+    // SAFETY: `last + N` is the length of both, and an array of bytes has no alignment.
+    unsafe {
+        *to.as_mut_ptr().add(last).cast::<[u8; N]>() = *from.as_ptr().add(last).cast::<[u8; N]>();
     }
 }
 
 #[cold]
 #[inline(never)]
-fn out_of_bounds() -> ! {
+pub fn out_of_bounds() -> ! {
     panic!("the source reads bytes that aren't there")
 }
 
 /// Defines an identity whose result is hidden from the optimizer. It emits no instruction.
-macro_rules! opaque {
+macro_rules! hidden {
     ($(#[$meta:meta])* $name:ident, $word:ty, $template:literal) => {
+        /// Returns the word.
         $(#[$meta])*
         #[inline(always)]
         #[allow(unused_mut, reason = "not every target has the barrier")]
@@ -138,9 +148,10 @@ macro_rules! opaque {
     };
 }
 
-#[cfg(target_arch = "aarch64")]
-opaque! { opaque_u32, u32, "/* {0:w} */" }
-#[cfg(not(target_arch = "aarch64"))]
-opaque! { opaque_u32, u32, "/* {0:e} */" }
-opaque! { opaque_u64, u64, "/* {0} */" }
-opaque! { opaque_usize, usize, "/* {0} */" }
+/// Identities of `twox_words::barriers`.
+pub mod barriers {
+    hidden! { #[cfg(target_arch = "aarch64")] hidden_u32, u32, "/* {0:w} */" }
+    hidden! { #[cfg(not(target_arch = "aarch64"))] hidden_u32, u32, "/* {0:e} */" }
+    hidden! { hidden_u64, u64, "/* {0} */" }
+    hidden! { hidden_usize, usize, "/* {0} */" }
+}

@@ -2,22 +2,11 @@
 //! XXH32.
 
 plain_hash! {
-    "XXH32", XxHash32, xxhash32, u32, 16, Record32,
-    xxh32,
-    initial_accumulators,
+    "XXH32", XxHash32, xxhash32, u32, 16,
     "let mut hasher = XxHash32::with_seed(1234);"
     "hasher.write(b\"some\");"
     "hasher.write(b\" bytes\");"
     "assert_eq!(hasher.finish_32(), XxHash32::oneshot(1234, b\"some bytes\"));"
-}
-
-const fn initial_accumulators(seed: u32) -> [u32; 4] {
-    [
-        seed.wrapping_add(0x2423_4428),
-        seed.wrapping_add(0x85eb_ca77),
-        seed,
-        seed.wrapping_add(0x61c8_864f),
-    ]
 }
 
 impl Hasher {
@@ -31,7 +20,7 @@ impl Hasher {
     #[must_use]
     #[inline]
     pub fn finish_32(&self) -> u32 {
-        hash::Hasher::finish(self) as u32
+        self.0.finish_32()
     }
 
     /// Returns the low 32 bits of [`total_len`](Self::total_len), which the hash uses.

@@ -1,11 +1,8 @@
 // SPDX-License-Identifier: MIT
 //! XXH3 128-bit.
 
-use crate::library;
-
 xxh3_hashers! {
-    "XXH3 of 128 bits", XxHash3_128, xxhash3_128, u128, finish_128, "",
-    xxh3_128, xxh3_128_with_seed, xxh3_128_with_secret, xxh3_128_with_seed_and_secret
+    "XXH3 of 128 bits", XxHash3_128, xxhash3_128, u128, finish_128, ""
 }
 
 #[cfg(feature = "alloc")]
@@ -22,13 +19,13 @@ impl Hasher {
     /// ```
     #[inline]
     pub fn write(&mut self, input: &[u8]) {
-        self.stream.write(input);
+        self.0.write(input);
     }
 
     /// Returns the hash of the bytes written so far. More can be written afterwards.
     #[inline]
     pub fn finish_128(&self) -> u128 {
-        self.stream.finish_128()
+        self.0.finish_128()
     }
 }
 

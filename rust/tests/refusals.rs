@@ -1,6 +1,6 @@
 // SPDX-License-Identifier: MIT
 //! What is refused, the error texts, and what is returned in the errors.
-#![cfg(feature = "alloc")]
+#![cfg(all(feature = "alloc", feature = "xxhash3_64", feature = "xxhash3_128"))]
 
 use twox_hash::xxhash3_64::{RawHasher, SecretBuffer};
 use twox_hash::{XxHash3_128, XxHash3_64};
@@ -67,5 +67,41 @@ unsafe impl twox_hash::xxhash3_64::FixedBuffer for Shrinking {}
 fn a_buffer_that_breaks_its_promise_is_noticed() {
     use std::hash::Hasher as _;
     let buffer = SecretBuffer::new(7, Shrinking(192.into())).ok().unwrap();
-    RawHasher::new(buffer).write(b"some bytes");
+    let mut hasher = RawHasher::new(buffer);
+    hasher.write(b"some bytes");
+    let _ = hasher.finish();
+}
+
+/// A secret whose clone has another length.
+struct Recut(&'static [u8], usize);
+
+impl AsRef<[u8]> for Recut {
+    fn as_ref(&self) -> &[u8] {
+        self.0
+    }
+}
+
+impl Clone for Recut {
+    fn clone(&self) -> Self {
+        Recut(&self.0[..self.1], self.1)
+    }
+}
+
+// SAFETY: none, as above.
+unsafe impl twox_hash::xxhash3_64::FixedBuffer for Recut {}
+
+#[test]
+fn a_clone_of_another_length_is_refused_or_hashes_by_its_own_secret() {
+    use std::hash::Hasher as _;
+    static SECRET: [u8; 192] = [9; 192];
+    for length in [0, 135, 136, 191] {
+        let buffer = SecretBuffer::new(7, Recut(&SECRET, length)).ok().unwrap();
+        let mut clone = RawHasher::new(buffer).clone();
+        let value = std::panic::catch_unwind(move || {
+            clone.write(&[1; 1000]);
+            clone.finish()
+        });
+        let by_its_own = XxHash3_64::oneshot_with_seed_and_secret(7, &SECRET[..length], &[1; 1000]);
+        assert_eq!(value.ok(), by_its_own.ok());
+    }
 }

@@ -1,6 +1,6 @@
 // SPDX-License-Identifier: MIT
 //! Saved hashers of XXH32 and XXH64: which texts are accepted, and which are refused.
-#![cfg(feature = "serialize")]
+#![cfg(all(feature = "serialize", feature = "xxhash32", feature = "xxhash64"))]
 
 use std::hash::Hasher as _;
 use twox_hash::{XxHash32, XxHash64};

@@ -1,6 +1,13 @@
 // SPDX-License-Identifier: MIT
 //! Properties of the types: bounds, sizes, constants, and hashers in maps.
-#![cfg(all(feature = "std", feature = "random"))]
+#![cfg(all(
+    feature = "std",
+    feature = "random",
+    feature = "xxhash32",
+    feature = "xxhash64",
+    feature = "xxhash3_64",
+    feature = "xxhash3_128"
+))]
 
 use std::collections::HashMap;
 use std::fmt::Debug;
@@ -35,6 +42,14 @@ fn types_have_the_impls_of_the_original() {
     moves_between_threads::<XxHash3_64>();
     moves_between_threads::<XxHash3_128>();
     moves_between_threads::<xxhash3_64::RawHasher<&'static [u8; 192]>>();
+    moves_between_threads::<xxhash3_128::RawHasher<Box<[u8]>>>();
+    moves_between_threads::<xxhash3_64::SecretBuffer<Box<[u8]>>>();
+    moves_between_threads::<xxhash3_64::OneshotWithSecretError>();
+    moves_between_threads::<xxhash3_64::SecretTooShortError<Box<[u8]>>>();
+    moves_between_threads::<xxhash3_128::SecretWithSeedError<[u8; 3]>>();
+    moves_between_threads::<xxhash32::State>();
+    moves_between_threads::<xxhash64::State>();
+    moves_between_threads::<xxhash32::RandomState>();
     moves_between_threads::<xxhash64::RandomState>();
 }
 
@@ -42,16 +57,23 @@ fn types_have_the_impls_of_the_original() {
 fn sizes_are_those_of_the_page() {
     assert_eq!(size_of::<XxHash32>(), 48);
     assert_eq!(size_of::<XxHash64>(), 88);
-    assert_eq!(size_of::<XxHash3_64>(), 696);
-    assert_eq!(size_of::<XxHash3_128>(), 696);
-    assert_eq!(size_of::<xxhash3_64::RawHasher<&[u8; 192]>>(), 688);
-    assert_eq!(size_of::<xxhash3_64::SecretBuffer<&[u8; 192]>>(), 16);
+    assert_eq!(size_of::<XxHash3_64>(), 784);
+    assert_eq!(size_of::<XxHash3_128>(), 784);
+    assert_eq!(size_of::<xxhash3_64::RawHasher<&[u8; 192]>>(), 632);
+    assert_eq!(size_of::<xxhash3_64::SecretBuffer<&[u8; 192]>>(), 24);
 }
 
 #[test]
 fn constants_hold_hashers() {
     static PLAIN: XxHash64 = XxHash64::with_seed(7);
     const SECRET: xxhash3_64::SecretBuffer<&[u8; 192]> = xxhash3_64::SecretBuffer::default();
+    const SEEDS: (u32, u64) = (XxHash32::with_seed(7).seed(), XxHash64::with_seed(8).seed());
+    const LENGTHS: (u64, u32, u64) = (
+        XxHash32::with_seed(7).total_len(),
+        XxHash32::with_seed(7).total_len_32(),
+        XxHash64::with_seed(7).total_len(),
+    );
+    assert_eq!((SEEDS, LENGTHS), ((7, 8), (0, 0, 0)));
     assert_eq!(PLAIN.finish(), XxHash64::oneshot(7, b""));
     assert_eq!(
         xxhash3_64::RawHasher::new(SECRET).finish(),

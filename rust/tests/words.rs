@@ -1,6 +1,12 @@
 // SPDX-License-Identifier: MIT
 //! Whole words, such as a map's keys: their bytes are hashed, first, later and saved.
-#![cfg(all(feature = "std", feature = "random"))]
+#![cfg(all(
+    feature = "std",
+    feature = "random",
+    feature = "xxhash32",
+    feature = "xxhash64",
+    feature = "xxhash3_64"
+))]
 
 use std::hash::{BuildHasher, Hasher};
 

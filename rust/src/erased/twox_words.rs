@@ -3,7 +3,8 @@
 
 //! Little-endian words, which every hash of this repository reads, and copies of a few bytes.
 //!
-//! `twox_hash` re-exports `words`. `copies` exists only for speed.
+//! `twox_hash` re-exports `words`. `barriers` and `copies` exist only for speed.
 
+pub use crate::rattle::barriers;
 pub mod copies;
 pub mod words;

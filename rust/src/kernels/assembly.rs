@@ -8,7 +8,7 @@
 
 use crate::erased::twox_core::width_128::Wide;
 use crate::erased::twox_core::xxhash3::{CoreState, Secret};
-use crate::erased::twox_plain::xxhash32::{Core, StateInMemory};
+use crate::erased::twox_plain::xxhash32::{Core, SavedState, StateInMemory};
 #[cfg(target_arch = "x86_64")]
 use crate::processor::{level, Level, IS_BUILT_FOR_V3, IS_BUILT_FOR_V4};
 
@@ -34,13 +34,13 @@ macro_rules! exports {
         $(mod $name {
             use super::*;
             extern "C" {
-                #[link_name = concat!("twox_rust_5_", stringify!($name))]
+                #[link_name = concat!("twox_rust_6_", stringify!($name))]
                 pub fn base($(_: $kind),*) -> $answer;
                 #[cfg(target_arch = "x86_64")]
-                #[link_name = concat!("twox_rust_5_", stringify!($name), "_v3")]
+                #[link_name = concat!("twox_rust_6_", stringify!($name), "_v3")]
                 pub fn v3($(_: $kind),*) -> $answer;
                 #[cfg(target_arch = "x86_64")]
-                #[link_name = concat!("twox_rust_5_", stringify!($name), "_v4")]
+                #[link_name = concat!("twox_rust_6_", stringify!($name), "_v4")]
                 pub fn v4($(_: $kind),*) -> $answer;
             }
         })*
@@ -121,7 +121,7 @@ fn level_to_v3() -> Level {
 
 /// Returns the 64-bit hash of more than 240 bytes.
 #[inline(always)]
-pub fn long_64(input: &[u8], secret: Secret<'_>) -> u64 {
+pub fn long_64(secret: Secret<'_>, input: &[u8]) -> u64 {
     let secret = secret.bytes;
     let answer = call!(
         level_for_input(),
@@ -133,7 +133,7 @@ pub fn long_64(input: &[u8], secret: Secret<'_>) -> u64 {
 
 /// Returns the 128-bit hash of more than 240 bytes.
 #[inline(always)]
-pub fn long_128(input: &[u8], secret: Secret<'_>) -> Wide {
+pub fn long_128(secret: Secret<'_>, input: &[u8]) -> Wide {
     let mut value = Wide { low: 0, high: 0 };
     let (start, length) = (secret.bytes.as_ptr(), secret.bytes.len());
     let code = call!(
@@ -146,7 +146,7 @@ pub fn long_128(input: &[u8], secret: Secret<'_>) -> Wide {
 
 /// Hashes a chunk after the bytes before.
 #[inline(always)]
-pub fn write(core: &mut CoreState, secret: Secret<'_>, input: &[u8]) {
+pub fn write(core: &mut CoreState, input: &[u8], secret: Secret<'_>) {
     let secret = secret.bytes;
     let (start, length) = (secret.as_ptr(), secret.len());
     let code = call!(
@@ -156,16 +156,29 @@ pub fn write(core: &mut CoreState, secret: Secret<'_>, input: &[u8]) {
     expect_done(code);
 }
 
-/// Minimum number of bytes of whole stripes of XXH32 for which [`stripes_32`] is called.
-pub const STRIPES_32: usize = 512;
+/// Minimum number of bytes that XXH32 takes by blocks.
+pub const BYTES_FOR_BLOCKS: usize = 1024;
 
-/// Returns the accumulators of XXH32 after whole stripes. They are passed by value: if the address of a stream's record
-/// left its caller, the record would stay in memory.
+/// Adds the whole blocks of 128 bytes of the input, and returns the bytes after them.
+#[inline(always)]
+pub fn write_blocks_32<'d>(core: &mut Core, input: &'d [u8]) -> &'d [u8] {
+    let (blocks, rest) = input.split_at(input.len() / 128 * 128);
+    *core = after_stripes_32(core.v1, core.v2, core.v3, core.v4, blocks);
+    rest
+}
+
+/// Returns the accumulators of XXH32 after whole stripes. They are passed as words: if the address of a stream's record left
+/// its caller, the record would stay in memory.
 #[cold]
 #[inline(never)]
-pub fn stripes_32(core: Core, stripes: &[u8]) -> Core {
-    let mut record =
-        StateInMemory::of_parts(0, 0, [core.v1, core.v2, core.v3, core.v4], [0; 16], 0);
+fn after_stripes_32(v1: u32, v2: u32, v3: u32, v4: u32, stripes: &[u8]) -> Core {
+    let mut record = StateInMemory::of_record(SavedState {
+        total_len: 0,
+        seed: 0,
+        core: Core { v1, v2, v3, v4 },
+        buffer: [0; 16],
+        buffer_usage: 0,
+    });
     let code = call!(
         level_to_v3(),
         xxh32_write(&mut record, stripes.as_ptr(), stripes.len())

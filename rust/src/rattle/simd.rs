@@ -1,6 +1,6 @@
 // SPDX-License-Identifier: MIT
-//! The vectors of `std::simd` that the source uses: in registers on x86-64 and on 64-bit ARM, elsewhere and under Miri as
-//! arrays. "An operation on vectors is the operation on words in each lane, modulo 2 to the width."
+//! The vectors of `std::simd` that the source uses: in registers on x86-64 with SSE2 and on 64-bit ARM, elsewhere and under
+//! Miri as arrays. "An operation on vectors is the operation on words in each lane, modulo 2 to the width."
 #![allow(
     unused_macros,
     unused_imports,
@@ -17,11 +17,11 @@ mod registers;
     target_feature = "neon"
 ))]
 mod neon;
-#[cfg(all(not(miri), target_arch = "x86_64"))]
+#[cfg(all(not(miri), target_arch = "x86_64", target_feature = "sse2"))]
 pub mod x86_64;
 
 #[cfg(not(any(
-    all(not(miri), target_arch = "x86_64"),
+    all(not(miri), target_arch = "x86_64", target_feature = "sse2"),
     all(
         not(miri),
         target_arch = "aarch64",
@@ -39,5 +39,10 @@ pub use arrays::*;
 pub use neon::*;
 #[cfg(all(not(miri), target_arch = "x86_64", target_feature = "avx2"))]
 pub use x86_64::avx2::*;
-#[cfg(all(not(miri), target_arch = "x86_64", not(target_feature = "avx2")))]
+#[cfg(all(
+    not(miri),
+    target_arch = "x86_64",
+    target_feature = "sse2",
+    not(target_feature = "avx2")
+))]
 pub use x86_64::sse2::*;

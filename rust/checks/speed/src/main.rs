@@ -14,7 +14,7 @@ use std::hint::black_box;
 use std::time::{Duration, Instant};
 
 const SEED: u64 = 0x1234_5678_9abc_def0;
-const LENGTHS: [usize; 17] = [
+const LENGTHS: [usize; 22] = [
     0,
     1,
     4,
@@ -22,18 +22,26 @@ const LENGTHS: [usize; 17] = [
     16,
     17,
     32,
+    48,
     64,
+    96,
     128,
     129,
+    160,
+    200,
     240,
     241,
+    256,
     512,
     1 << 10,
     16 << 10,
     64 << 10,
     1 << 20,
 ];
+/// Chunks of 8 KiB, and of shorter streams.
 const PIECES: [usize; 13] = [1, 4, 8, 16, 24, 32, 40, 64, 128, 240, 256, 1000, 4096];
+const SHORT_PIECES: [usize; 5] = [8, 16, 32, 40, 64];
+const SHORT_STREAMS: [usize; 6] = [16, 32, 64, 256, 1024, 4096];
 // A turn takes some 20 microseconds, so that one without an interruption is among a few hundred.
 const TURN: Duration = Duration::from_micros(20);
 
@@ -330,11 +338,19 @@ fn oneshots(measure: Measure, bytes: &[u8]) {
 
 fn streams(measure: Measure, bytes: &[u8]) {
     let names = ["XXH32", "XXH64", "XXH3 64", "XXH3 64, raw"];
-    for piece in PIECES {
+    let long = PIECES.map(|piece| (8192, piece));
+    let short = SHORT_STREAMS
+        .iter()
+        .flat_map(|length| SHORT_PIECES.map(|piece| (*length, piece)));
+    for (length, piece) in long
+        .into_iter()
+        .chain(short.filter(|(length, piece)| piece <= length))
+    {
         let peers = peers(ours::streams(piece), peer::streams(piece), || {
             theirs::streams(piece)
         });
-        rows(&names, &format!("8192 by {piece}"), measure, bytes, peers);
+        let of = format!("{length} by {piece}");
+        rows(&names, &of, measure, &bytes[..length], peers);
     }
 }
 

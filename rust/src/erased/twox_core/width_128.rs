@@ -7,8 +7,8 @@ use crate::erased::twox_core::xxhash3::primes::{PRIME_MX2, PRIME32_2, PRIME64_1,
 use crate::erased::twox_core::xxhash3::{
     Algorithm, AnyLength, CUTOFF, DEFAULT_SECRET_LENGTH, DEFAULT_SEED, DefaultLength, Derived,
     Finalize, Kernel, MANY_BYTES, Secret, Vector, avalanche, avalanche_xxh64, chunks_17_to_128,
-    default_secret, derived_secret, full_product, impl_1_to_3_bytes_combined, is_widened, mix_step,
-    oneshot_widened, pairs_of_u64_bytes, to_u64s,
+    default_secret, derived_secret, expect_middle, full_product, impl_1_to_3_bytes_combined,
+    is_widened, mix_step, oneshot_widened, pairs_of_u64_bytes, to_u64s,
 };
 use crate::erased::twox_words::words::{Halves, IntoU64, IntoU128, bp_as_chunks, u32_at, u64_at};
 
@@ -40,27 +40,25 @@ impl Finalize for Finalize128 {
 
 /// Returns the value with the default secret and the seed 0.
 ///
-/// Inputs above 64 bytes are a separate call: they need more registers than are free, so the shortest inputs save none.
+/// Each range above 64 bytes is a separate call: they need more registers than are free, so shorter inputs save none.
 #[inline(always)]
 pub fn oneshot(input: &[u8]) -> Wide {
     if input.len() <= 16 {
         impl_0_to_16_bytes(default_secret(), DEFAULT_SEED, input)
     } else if input.len() <= 64 {
         impl_17_to_64_bytes(default_secret(), DEFAULT_SEED, input)
-    } else {
-        oneshot_from_65(input)
-    }
-}
-
-#[inline(never)]
-fn oneshot_from_65(input: &[u8]) -> Wide {
-    if input.len() <= 128 {
-        impl_65_to_128_bytes(default_secret(), DEFAULT_SEED, input)
+    } else if input.len() <= 128 {
+        oneshot_65_to_128(input)
     } else if input.len() <= CUTOFF {
         impl_129_to_240_bytes(default_secret(), DEFAULT_SEED, input)
     } else {
         oneshot_long(default_secret(), input)
     }
+}
+
+#[inline(never)]
+fn oneshot_65_to_128(input: &[u8]) -> Wide {
+    impl_65_to_128_bytes(default_secret(), DEFAULT_SEED, input)
 }
 
 /// Returns the value with a seed: up to 240 bytes with the default secret, above that with the one derived from the
@@ -71,21 +69,19 @@ pub fn oneshot_with_seed(seed: u64, input: &[u8]) -> Wide {
         impl_0_to_16_bytes(default_secret(), seed, input)
     } else if input.len() <= 64 {
         impl_17_to_64_bytes(default_secret(), seed, input)
-    } else {
-        oneshot_with_seed_from_65(input, seed)
-    }
-}
-
-// The seed comes last, as in C's calls, so no register moves on the way.
-#[inline(never)]
-fn oneshot_with_seed_from_65(input: &[u8], seed: u64) -> Wide {
-    if input.len() <= 128 {
-        impl_65_to_128_bytes(default_secret(), seed, input)
+    } else if input.len() <= 128 {
+        oneshot_with_seed_65_to_128(input, seed)
     } else if input.len() <= CUTOFF {
         impl_129_to_240_bytes(default_secret(), seed, input)
     } else {
         oneshot_long_with_seed(seed, input)
     }
+}
+
+// The seed comes last, as in C's calls, so no register moves on the way.
+#[inline(never)]
+fn oneshot_with_seed_65_to_128(input: &[u8], seed: u64) -> Wide {
+    impl_65_to_128_bytes(default_secret(), seed, input)
 }
 
 /// Returns the value with a secret and the seed 0.
@@ -95,20 +91,18 @@ pub fn oneshot_with_secret(secret: Secret<'_>, input: &[u8]) -> Wide {
         impl_0_to_16_bytes(secret, DEFAULT_SEED, input)
     } else if input.len() <= 64 {
         impl_17_to_64_bytes(secret, DEFAULT_SEED, input)
-    } else {
-        oneshot_with_secret_from_65(input, secret)
-    }
-}
-
-#[inline(never)]
-fn oneshot_with_secret_from_65(input: &[u8], secret: Secret<'_>) -> Wide {
-    if input.len() <= 128 {
-        impl_65_to_128_bytes(secret, DEFAULT_SEED, input)
+    } else if input.len() <= 128 {
+        oneshot_with_secret_65_to_128(input, secret)
     } else if input.len() <= CUTOFF {
         impl_129_to_240_bytes(secret, DEFAULT_SEED, input)
     } else {
         oneshot_long(secret, input)
     }
+}
+
+#[inline(never)]
+fn oneshot_with_secret_65_to_128(input: &[u8], secret: Secret<'_>) -> Wide {
+    impl_65_to_128_bytes(secret, DEFAULT_SEED, input)
 }
 
 /// Returns the value above 240 bytes, with a secret. No seed is used, so it is the value for every seed.
@@ -117,7 +111,7 @@ fn oneshot_with_secret_from_65(input: &[u8], secret: Secret<'_>) -> Wide {
 /// nothing is divided or tested for it.
 #[inline(never)]
 pub fn oneshot_long(secret: Secret<'_>, input: &[u8]) -> Wide {
-    crate::kernels::long_128(input, secret)
+    crate::kernels::long_128(secret, input)
 }
 
 // A tail call, so that the default length keeps no register for the division.
@@ -165,8 +159,7 @@ fn oneshot_long_with_seed(seed: u64, input: &[u8]) -> Wide {
 // The derived secret is on the stack. Built in place, it is known to have 192 bytes, so nothing tests that.
 #[inline(never)]
 fn oneshot_long_derived(seed: u64, input: &[u8]) -> Wide {
-    let secret = derived_secret(seed);
-    oneshot_long(Secret::new(&secret).unwrap(), input)
+    crate::kernels::long_derived_128(seed, input)
 }
 
 // Hashes inputs that eight lanes take. A separate function, so that callers with fewer bytes save no register for this
@@ -380,8 +373,9 @@ fn mix_last(accumulators: Accumulators, secret: Secret<'_>, seed: u64, input: &[
     finalize_medium(accumulators, input.len().into_u64(), seed)
 }
 
-#[inline(never)]
+#[inline]
 fn impl_129_to_240_bytes(secret: Secret<'_>, seed: u64, input: &[u8]) -> Wide {
+    expect_middle(input, secret);
     let pairs = pairs_of_u64_bytes(input);
     let Accumulators {
         mut first,

@@ -7,9 +7,10 @@ use crate::erased::twox_core::xxhash3::primes::{PRIME_MX2, PRIME64_1};
 use crate::erased::twox_core::xxhash3::{
     Algorithm, AnyLength, CUTOFF, DEFAULT_SECRET_LENGTH, DEFAULT_SEED, DefaultLength, Derived,
     Finalize, Kernel, MANY_BYTES, Secret, Vector, avalanche, avalanche_xxh64, chunks_17_to_128,
-    default_secret, derived_secret, fold, impl_1_to_3_bytes_combined, is_widened, mix_step,
-    mix_words, oneshot_widened,
+    default_secret, derived_secret, expect_middle, fold, impl_1_to_3_bytes_combined, is_widened,
+    mix_step, mix_words, oneshot_widened,
 };
+use crate::erased::twox_words::barriers::hidden_u64;
 use crate::erased::twox_words::words::{Halves, IntoU64, u32_at, u64_at};
 
 /// Finalizes 64-bit values, of short and of long inputs.
@@ -84,7 +85,7 @@ pub fn oneshot_with_seed(seed: u64, input: &[u8]) -> u64 {
 /// nothing is divided or tested for it.
 #[inline(never)]
 pub fn oneshot_long(secret: Secret<'_>, input: &[u8]) -> u64 {
-    crate::kernels::long_64(input, secret)
+    crate::kernels::long_64(secret, input)
 }
 
 // A tail call, so that the default length keeps no register for the division.
@@ -130,8 +131,7 @@ fn oneshot_long_with_seed(seed: u64, input: &[u8]) -> u64 {
 // The derived secret is on the stack. Built in place, it is known to have 192 bytes, so nothing tests that.
 #[inline(never)]
 fn oneshot_long_derived(seed: u64, input: &[u8]) -> u64 {
-    let secret = derived_secret(seed);
-    oneshot_long(Secret::new(&secret).unwrap(), input)
+    crate::kernels::long_derived_64(seed, input)
 }
 
 // Hashes inputs that eight lanes take. A separate function, so that callers with fewer bytes save no register for this
@@ -251,28 +251,34 @@ fn add_both_ends(sum: u64, secret: Secret<'_>, seed: u64, input: &[u8], c: usize
 // Mixes the 16 bytes at `i` with 16 bytes of the secret. The second word is read from `from_8`.
 #[inline(always)]
 fn mix_at(input: &[u8], from_8: &[u8], i: usize, words: &[u8; 16], seed: u64) -> u64 {
-    mix_words(u64_at(input, i), u64_at(from_8, i), words, seed)
+    mix_words(u64_at(input, i), second_word(input, from_8, i), words, seed)
+}
+
+// Returns the second word of the 16 bytes at `i`, read from `from_8`.
+#[inline(always)]
+fn second_word(input: &[u8], from_8: &[u8], i: usize) -> u64 {
+    crate::rattle::second_word(input, from_8, i)
 }
 
 // `from_8` is the input from byte 8 on. In its own function LLVM can't see that the two words of a chunk are adjacent;
 // it would make vectors of them, and taking the words out again costs more than it saves.
-#[inline(never)]
+#[inline]
 fn impl_129_to_240_bytes(secret: Secret<'_>, seed: u64, input: &[u8], from_8: &[u8]) -> u64 {
-    crate::rattle::expect_middle(input, from_8);
+    expect_middle(input, secret);
     let mut acc = input.len().into_u64().wrapping_mul(PRIME64_1);
 
     let words = secret.for_64().words_for_129_to_240_part1();
     'early: for c in 0..8 {
-        acc = crate::rattle::opaque_u64(acc.wrapping_add(mix_at(input, from_8, 16 * c, &words[c], seed)));
+        acc = hidden_u64(acc.wrapping_add(mix_at(input, from_8, 16 * c, &words[c], seed)));
     }
     acc = avalanche(acc);
 
     // LLVM knows this number of iterations, so it doesn't make vectors of them either.
     let words = secret.for_64().words_for_129_to_240_part2();
-    let count = input.len() / 16 - 8;
     'later: for c in 0..7 {
-        if c < count {
-            acc = acc.wrapping_add(mix_at(input, from_8, 128 + 16 * c, &words[c], seed));
+        if input.len() >= 144 + 16 * c {
+            let sum = acc.wrapping_add(mix_at(input, from_8, 128 + 16 * c, &words[c], seed));
+            acc = hidden_u64(sum);
         }
     }
 

@@ -25,11 +25,13 @@ pub use mixing::{
     avalanche, avalanche_xxh64, fold, full_product, impl_1_to_3_bytes_combined, mix_step,
     mix_words, to_u64s,
 };
+pub(crate) use parts::expect_middle;
 pub use parts::{chunks_17_to_128, pairs_of_u64_bytes, stripes_with_tail};
 pub use secret::{OneshotWithSecretError, SECRET_MINIMUM_LENGTH, Secret};
 pub use streaming::{
-    AllocRawHasher, BUFFERED_BYTES, ClonedBuffer, CoreState, FixedBuffer, FixedMutBuffer,
-    RawHasherCore, SecretBuffer, SecretTooShortError, SecretWithSeedError, TakenStripes,
+    AllocRawHasher, BUFFERED_BYTES, ClonedBuffer, ClonedKey, CoreState, FixedBuffer,
+    FixedMutBuffer, Key, KeyedCore, LazyKey, RawHasherCore, SecretBuffer, SecretTooShortError,
+    SecretWithSeedError, TakenStripes,
 };
 pub(crate) use stripes::MANY_BYTES;
 pub use stripes::StripeAccumulator;

@@ -3,15 +3,15 @@
 
 //! XXH3 128-bit.
 
-use crate::erased::twox_hash::streams::{BoxedStream, RawStream};
-use crate::rattle::{Allocator, Global, TryClone};
+use crate::erased::twox_hash::streams::{BoxedStream, KeyedStream, LazyStream, RawStream};
+use crate::rattle::Global;
 use crate::erased::twox_core::width_128;
 pub use crate::erased::twox_core::width_128::Finalize128;
 pub use crate::erased::twox_core::xxhash3::{
     ClonedBuffer, DEFAULT_SECRET_LENGTH, FixedBuffer, FixedMutBuffer, OneshotWithSecretError,
     SECRET_MINIMUM_LENGTH, SecretBuffer, SecretTooShortError, SecretWithSeedError,
 };
-use crate::erased::twox_core::xxhash3::{CUTOFF, Secret, default_secret};
+use crate::erased::twox_core::xxhash3::{CUTOFF, Key, Secret, default_secret};
 use crate::erased::twox_words::words::IntoU128;
 
 /// Calculates the 128-bit hash, of all bytes at once or of chunks one after another. The secret of a stream is
@@ -24,6 +24,15 @@ use crate::erased::twox_words::words::IntoU128;
 /// assert_eq!(hasher.finish_128(), Hasher::oneshot_with_seed(7, b"some bytes"));
 /// ```
 pub type Hasher<A = Global> = BoxedStream<Finalize128, A>;
+
+/// A stream that derives its secret from its seed whenever it has an effect, and allocates nothing for it.
+///
+/// ```text
+/// let mut hasher = LazyHasher::with_seed(alloc, 7);
+/// hasher.write(b"some bytes");
+/// assert_eq!(hasher.finish_128(), Hasher::oneshot_with_seed(7, b"some bytes"));
+/// ```
+pub type LazyHasher<A = Global> = LazyStream<Finalize128, A>;
 
 /// A stream over a secret of the caller. Allocates nothing.
 ///
@@ -84,7 +93,7 @@ impl Hasher<Global> {
     }
 }
 
-impl<A: Allocator> Hasher<A> {
+impl<K: Key> KeyedStream<Finalize128, K> {
     /// Returns the hash of the bytes written so far. More can be written afterwards. Up to 240 bytes it uses the
     /// default secret and the seed or, if the stream was made with only a secret, that secret and the seed 0; above
     /// that it uses the stream's secret and no seed.

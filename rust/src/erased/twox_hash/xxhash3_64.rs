@@ -3,8 +3,8 @@
 
 //! XXH3 64-bit.
 
-use crate::erased::twox_hash::streams::{BoxedStream, RawStream};
-use crate::rattle::{Allocator, Global, TryClone};
+use crate::erased::twox_hash::streams::{BoxedStream, KeyedStream, LazyStream, RawStream};
+use crate::rattle::Global;
 use std::hash;
 use crate::erased::twox_core::width_64;
 pub use crate::erased::twox_core::width_64::Finalize64;
@@ -12,7 +12,7 @@ pub use crate::erased::twox_core::xxhash3::{
     ClonedBuffer, DEFAULT_SECRET_LENGTH, FixedBuffer, FixedMutBuffer, OneshotWithSecretError,
     SECRET_MINIMUM_LENGTH, SecretBuffer, SecretTooShortError, SecretWithSeedError,
 };
-use crate::erased::twox_core::xxhash3::{CUTOFF, Secret, default_secret};
+use crate::erased::twox_core::xxhash3::{CUTOFF, Key, Secret, default_secret};
 
 /// Calculates the 64-bit hash, of all bytes at once or of chunks one after another. The secret of a stream is
 /// allocated.
@@ -24,6 +24,15 @@ use crate::erased::twox_core::xxhash3::{CUTOFF, Secret, default_secret};
 /// assert_eq!(hasher.finish(), Hasher::oneshot_with_seed(7, b"some bytes"));
 /// ```
 pub type Hasher<A = Global> = BoxedStream<Finalize64, A>;
+
+/// A stream that derives its secret from its seed whenever it has an effect, and allocates nothing for it.
+///
+/// ```text
+/// let mut hasher = LazyHasher::with_seed(alloc, 7);
+/// hasher.write(b"some bytes");
+/// assert_eq!(hasher.finish(), Hasher::oneshot_with_seed(7, b"some bytes"));
+/// ```
+pub type LazyHasher<A = Global> = LazyStream<Finalize64, A>;
 
 /// A stream over a secret of the caller. Allocates nothing.
 ///
@@ -84,7 +93,7 @@ impl Hasher<Global> {
     }
 }
 
-impl<A: Allocator> Hasher<A> {
+impl<K: Key> KeyedStream<Finalize64, K> {
     /// Returns the hash of the bytes written so far. More can be written afterwards. Up to 240 bytes it uses the
     /// default secret and the seed or, if the stream was made with only a secret, that secret and the seed 0; above
     /// that it uses the stream's secret and no seed.
@@ -104,13 +113,13 @@ impl<S: FixedBuffer> RawHasher<S> {
     }
 }
 
-impl<A: Allocator> hash::Hasher for Hasher<A> {
+impl<K: Key> hash::Hasher for KeyedStream<Finalize64, K> {
     fn finish(&self) -> u64 {
-        Hasher::finish(self)
+        KeyedStream::finish(self)
     }
 
     fn write(&mut self, bytes: &[u8]) {
-        BoxedStream::write(self, bytes);
+        KeyedStream::write(self, bytes);
     }
 }
 

@@ -3,12 +3,13 @@
 
 //! The implementation of XXH64 (the xxHash specification, "XXH64 algorithm description").
 
+use crate::rattle::prelude::{Clone, prove};
 mod rounds;
 mod state;
 
 use crate::erased::twox_plain::words::IntoU64;
 use rounds::{BYTES_IN_STRIPE, impl_oneshot};
-use crate::rattle::{AllocError, TryClone};
+use crate::rattle::AllocError;
 use std::error::Error;
 use std::{fmt, hash};
 
@@ -45,7 +46,8 @@ impl Hasher {
     }
 
     /// Creates a hasher that has hashed no bytes.
-    pub fn with_seed(seed: u64) -> Hasher {
+    #[inline]
+    pub const fn with_seed(seed: u64) -> Hasher {
         Hasher {
             state: StateInMemory::of_record(SavedState {
                 total_len: 0,
@@ -58,12 +60,12 @@ impl Hasher {
     }
 
     /// Returns the seed of the hasher.
-    pub fn seed(&self) -> u64 {
+    pub const fn seed(&self) -> u64 {
         self.state.seed
     }
 
     /// Total bytes hashed, saturating at `u64::MAX`.
-    pub fn total_len(&self) -> u64 {
+    pub const fn total_len(&self) -> u64 {
         self.state.total_len
     }
 
@@ -71,13 +73,21 @@ impl Hasher {
     ///
     /// Bytes of the buffer that are not in use have no effect: two hashers that differ only in them still do so after
     /// the same write.
+    #[inline]
     pub fn write(&mut self, input: &[u8]) {
         self.state.add_piece(input);
     }
 
+    /// Hashes the bytes of an array after the bytes before, as [`Hasher::write`] does.
+    #[inline(always)]
+    pub fn write_array<const N: usize>(&mut self, bytes: &[u8; N]) {
+        self.state.add_array(bytes);
+    }
+
     /// Returns the hash of the bytes written so far. More can be written afterwards.
+    #[inline]
     pub fn finish(&self) -> u64 {
-        self.state.finish()
+        self.state.finish_key()
     }
 
     /// Returns the record of everything that the hasher holds, with every byte of the buffer.
@@ -116,8 +126,8 @@ impl Default for Hasher {
 }
 
 /// Copies the record. Allocates nothing.
-impl TryClone for Hasher {
-    fn try_clone(&self) -> Result<Hasher, AllocError> {
+impl Clone for Hasher {
+    fn clone(&self) -> Result<Hasher, AllocError> {
         Ok(Hasher { state: self.state })
     }
 }
@@ -235,5 +245,4 @@ pub struct StateInMemory {
     pub buffer: [u8; BYTES_IN_STRIPE],
 }
 
-#[cfg(target_pointer_width = "64")]
-const _: () = assert!(size_of::<StateInMemory>() == 88);
+const _: () = prove!(size_of::<StateInMemory>() == 88);

@@ -48,9 +48,7 @@ pub fn copy_front(to: &mut [u8], from: &[u8]) {
 // within its slice.
 #[inline(always)]
 fn copy_ends<const N: usize>(to: &mut [u8], from: &[u8]) {
-    let last = crate::rattle::opaque_usize(from.len() - N);
-    copy_chunk::<N>(to, from);
-    copy_chunk::<N>(&mut to[last..], &from[last..]);
+    crate::rattle::copy_ends::<N>(to, from)
 }
 
 // Copies the first `N` bytes.

@@ -17,7 +17,7 @@ pub use widening::{IntoU32, IntoU64, IntoU128};
 /// The caller proves that the slice has eight bytes from `i` on, so the load has no test.
 #[inline]
 pub fn u64_at(bytes: &[u8], i: usize) -> u64 {
-    u64::from_le_bytes(*crate::rattle::array_at(bytes, i))
+    crate::rattle::u64_at(bytes, i)
 }
 
 /// Returns the four-byte word at byte `i`, low byte first.
@@ -25,7 +25,7 @@ pub fn u64_at(bytes: &[u8], i: usize) -> u64 {
 /// The caller proves that the slice has four bytes from `i` on, so the load has no test.
 #[inline]
 pub fn u32_at(bytes: &[u8], i: usize) -> u32 {
-    u32::from_le_bytes(*crate::rattle::array_at(bytes, i))
+    crate::rattle::u32_at(bytes, i)
 }
 
 /// Words at both ends of a slice of bytes, low byte first.

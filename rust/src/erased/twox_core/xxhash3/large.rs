@@ -4,6 +4,7 @@
 //! XXH3 above 240 bytes, over any kernel: the xxHash specification, "XXH3 algorithm description (for large
 //! inputs)".
 
+use crate::rattle::simd;
 mod ending;
 mod four;
 pub mod halves4;
@@ -14,8 +15,6 @@ pub mod scalar;
 pub mod split2;
 mod word;
 
-use crate::rattle::simd;
-
 use super::parts::array_at;
 use super::stripes::{
     BYTES_IN_BLOCK, MANY_BYTES, STRIPES_IN_BLOCK, StripeAccumulator, start_widened,
@@ -24,16 +23,7 @@ use super::{Secret, Vector};
 use crate::erased::twox_words::words::IntoU64;
 
 /// The kernel of every call that names none.
-#[cfg(all(not(miri), target_arch = "x86_64"))]
-pub type Kernel = lanes4::Impl;
-
-/// The kernel of every call that names none.
-#[cfg(all(not(miri), target_arch = "aarch64", target_endian = "little", target_feature = "neon"))]
-pub type Kernel = halves4::Impl;
-
-/// The kernel of every call that names none.
-#[cfg(not(any(all(not(miri), target_arch = "x86_64"), all(not(miri), target_arch = "aarch64", target_endian = "little", target_feature = "neon"))))]
-pub type Kernel = scalar::Impl;
+pub type Kernel = crate::kernels::Kernel;
 
 /// The values of an input: one for short inputs and one for long ones.
 ///

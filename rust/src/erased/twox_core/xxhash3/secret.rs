@@ -19,7 +19,7 @@ pub struct Secret<'a> {
 
 /// The secret has fewer than 136 bytes.
 #[derive(Clone, Copy, Debug, PartialEq, Eq)]
-pub struct Error;
+pub struct Error(());
 
 impl fmt::Display for Error {
     fn fmt(&self, f: &mut fmt::Formatter<'_>) -> fmt::Result {
@@ -58,7 +58,7 @@ impl<'a> Secret<'a> {
         if bytes.len() >= SECRET_MINIMUM_LENGTH {
             Ok(Secret { bytes })
         } else {
-            Err(Error)
+            Err(Error(()))
         }
     }
 

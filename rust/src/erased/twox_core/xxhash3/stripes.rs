@@ -145,7 +145,8 @@ impl StripeAccumulator {
 }
 
 // Returns the accumulators after the stripes. A separate function, so that callers stay small.
-#[inline(always)] fn take_stripes<V: Vector>(
+#[inline(always)]
+fn take_stripes<V: Vector>(
     from: StripeAccumulator,
     v: V,
     bytes: &[u8],
@@ -157,7 +158,8 @@ impl StripeAccumulator {
 }
 
 // Takes the stripes of many bytes. A separate function, so that callers stay small.
-#[inline(always)] fn take_many_stripes<V: Vector>(
+#[inline(always)]
+fn take_many_stripes<V: Vector>(
     taken: &mut StripeAccumulator,
     v: V,
     bytes: &[u8],

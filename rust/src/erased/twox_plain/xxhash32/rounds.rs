@@ -5,6 +5,7 @@
 
 use super::Core;
 use crate::erased::twox_plain::words::{Halves, IntoU32, IntoU64, u32_at, u64_at};
+use crate::erased::twox_words::barriers::hidden_u32;
 
 const PRIME32_1: u32 = 0x9E3779B1;
 
@@ -20,7 +21,16 @@ pub(super) const BYTES_IN_STRIPE: usize = 16;
 
 const STRIPES_IN_BLOCK: usize = 8;
 
-pub(super) const BYTES_IN_BLOCK: usize = 128;
+const BYTES_IN_PAIR: usize = 32;
+
+// True for a compiler that keeps the accumulators of a stream in registers, and makes faster code for stripes that are
+// added in pairs.
+pub(super) const IN_PAIRS: bool = crate::kernels::IN_PAIRS;
+
+const BYTES_IN_BLOCK: usize = 128;
+
+// Minimum number of bytes that are taken by blocks.
+pub(super) const BYTES_FOR_BLOCKS: usize = crate::kernels::BYTES_FOR_BLOCKS;
 
 const WORDS_IN_BLOCK: usize = 32;
 
@@ -36,6 +46,16 @@ fn add_product(accumulator: u32, product: u32) -> u32 {
         .wrapping_add(product)
         .rotate_left(13)
         .wrapping_mul(PRIME32_1)
+}
+
+// Does a round with the primes as values that LLVM keeps in registers: as operands they make a loop longer than the
+// processor decodes at once.
+#[inline(always)]
+fn round_by(accumulator: u32, word: u32, prime_1: u32, prime_2: u32) -> u32 {
+    accumulator
+        .wrapping_add(word.wrapping_mul(prime_2))
+        .rotate_left(13)
+        .wrapping_mul(prime_1)
 }
 
 // Multiplies the words of a block. The products depend on no accumulator, so many are made at once, in vectors, and the
@@ -85,7 +105,7 @@ fn avalanche(mut value: u32) -> u32 {
 impl Core {
     // Returns the accumulators before the first stripe.
     #[inline(always)]
-    pub(super) fn new(seed: u32) -> Core {
+    pub(super) const fn new(seed: u32) -> Core {
         Core {
             v1: seed.wrapping_add(PRIME32_1).wrapping_add(PRIME32_2),
             v2: seed.wrapping_add(PRIME32_2),
@@ -118,17 +138,7 @@ impl Core {
     // Adds the whole blocks of the input, and returns the bytes after them.
     #[inline(always)]
     fn write_blocks<'d>(&mut self, input: &'d [u8]) -> &'d [u8] {
-        if input.len() >= crate::kernels::STRIPES_32 {
-            let (stripes, rest) = input.split_at(input.len() / BYTES_IN_BLOCK * BYTES_IN_BLOCK);
-            *self = crate::kernels::stripes_32(*self, stripes);
-            return rest;
-        }
-        let mut rest = input;
-        'each_block: while let Some((block, after)) = rest.split_first_chunk::<BYTES_IN_BLOCK>() {
-            self.write_block(block);
-            rest = after;
-        }
-        rest
+        crate::kernels::write_blocks_32(self, input)
     }
 
     // Adds the whole stripes of the input, and returns the bytes after them. The loop keeps the rest and no count, so
@@ -143,6 +153,43 @@ impl Core {
         rest
     }
 
+    // Adds two stripes. The accumulators are hidden from LLVM, which would make a vector of them, and that is slower.
+    #[inline(always)]
+    fn write_pair(&mut self, pair: &[u8; BYTES_IN_PAIR], prime_1: u32, prime_2: u32) {
+        let v1 = round_by(self.v1, u32_at(pair, 0), prime_1, prime_2);
+        let v2 = round_by(self.v2, u32_at(pair, 4), prime_1, prime_2);
+        let v3 = round_by(self.v3, u32_at(pair, 8), prime_1, prime_2);
+        let v4 = round_by(self.v4, u32_at(pair, 12), prime_1, prime_2);
+        self.v1 = hidden_u32(round_by(v1, u32_at(pair, 16), prime_1, prime_2));
+        self.v2 = hidden_u32(round_by(v2, u32_at(pair, 20), prime_1, prime_2));
+        self.v3 = hidden_u32(round_by(v3, u32_at(pair, 24), prime_1, prime_2));
+        self.v4 = hidden_u32(round_by(v4, u32_at(pair, 28), prime_1, prime_2));
+    }
+
+    // Adds the whole pairs of stripes of the input, and returns the bytes after them.
+    #[inline(always)]
+    fn write_pairs<'d>(&mut self, input: &'d [u8]) -> &'d [u8] {
+        let prime_1 = hidden_u32(PRIME32_1);
+        let prime_2 = hidden_u32(PRIME32_2);
+        let mut rest = input;
+        'each_pair: while let Some((pair, after)) = rest.split_first_chunk::<BYTES_IN_PAIR>() {
+            self.write_pair(pair, prime_1, prime_2);
+            rest = after;
+        }
+        rest
+    }
+
+    // Adds the whole stripes of a stream's input, and returns the bytes after them.
+    #[inline(always)]
+    pub(super) fn write_of_stream<'d>(&mut self, input: &'d [u8]) -> &'d [u8] {
+        if IN_PAIRS {
+            let after = self.write_pairs(input);
+            self.write_stripes(after)
+        } else {
+            self.write_stripes(input)
+        }
+    }
+
     // Adds the whole stripes of the input, and returns the bytes after them. With `BLOCKS` it adds whole blocks first.
     #[inline(always)]
     pub(super) fn write_many<'d, const BLOCKS: bool>(&mut self, input: &'d [u8]) -> &'d [u8] {
@@ -152,6 +199,15 @@ impl Core {
         } else {
             self.write_stripes(input)
         }
+    }
+
+    // Returns the accumulators after the whole stripes of the input, taken by blocks, and the bytes after them. A separate
+    // function, so that shorter chunks save no registers for its calls.
+    #[inline(never)]
+    pub(super) fn after_blocks<'d>(self, input: &'d [u8]) -> (Core, &'d [u8]) {
+        let mut core = self;
+        let rest = core.write_many::<true>(input);
+        (core, rest)
     }
 
     // Converges the four accumulators to one value.
@@ -194,7 +250,7 @@ pub(super) fn finish_with(seed: u32, len: u64, core: &Core, rest: &[u8]) -> u32 
 pub(super) fn impl_oneshot(seed: u32, input: &[u8]) -> u32 {
     if input.len() < BYTES_IN_STRIPE {
         impl_short(seed, input)
-    } else if input.len() < crate::kernels::STRIPES_32 {
+    } else if input.len() < BYTES_FOR_BLOCKS {
         impl_long::<false>(seed, input)
     } else {
         impl_from_128(seed, input)

@@ -3,7 +3,7 @@
 
 //! A stream of XXH32: its accumulators, the buffered bytes of the next stripe, and the length.
 
-use super::rounds::{BYTES_IN_BLOCK, BYTES_IN_STRIPE, finish_with};
+use super::rounds::{BYTES_FOR_BLOCKS, BYTES_IN_STRIPE, IN_PAIRS, finish_with};
 use super::{Core, MARK, SavedState, StateInMemory};
 use crate::erased::twox_plain::words::{Halves, IntoU64};
 use crate::erased::twox_words::copies::{copy_front, copy_short};
@@ -13,7 +13,7 @@ impl StateInMemory {
     ///
     /// The caller proves that less than a stripe is buffered.
     #[inline(always)]
-    pub fn of_record(state: SavedState) -> StateInMemory {
+    pub const fn of_record(state: SavedState) -> StateInMemory {
         let buffer = state.buffer;
         StateInMemory {
             v1: state.core.v1,
@@ -21,8 +21,8 @@ impl StateInMemory {
             v2: state.core.v2,
             marked_usage: MARK + state.buffer_usage as u32,
             v3: state.core.v3,
-            total_low: state.total_len.lower_half(),
-            total_high: state.total_len.upper_half(),
+            total_low: (state.total_len % 0x1_0000_0000) as u32,
+            total_high: (state.total_len >> 32) as u32,
             v4: state.core.v4,
             buffer,
         }
@@ -55,8 +55,8 @@ impl StateInMemory {
 
     /// Total bytes hashed, saturating at `u64::MAX`.
     #[inline(always)]
-    pub fn total_len(&self) -> u64 {
-        (self.total_high.into_u64() << 32) + self.total_low.into_u64()
+    pub const fn total_len(&self) -> u64 {
+        ((self.total_high as u64) << 32) + self.total_low as u64
     }
 
     // Adds to the number of bytes hashed.
@@ -85,6 +85,27 @@ impl StateInMemory {
         self.v2 = core.v2;
         self.v3 = core.v3;
         self.v4 = core.v4;
+    }
+
+    /// Hashes the bytes of an array. One that fills no stripe is a few moves, since its length is known.
+    ///
+    /// The caller proves that less than a stripe is buffered.
+    #[inline(always)]
+    pub fn add_array<const N: usize>(&mut self, bytes: &[u8; N]) {
+        let filled = self.usage();
+        if N < BYTES_IN_STRIPE - filled {
+            self.count(N);
+            self.set_usage(filled + N);
+            self.buffer[filled..filled + N].copy_from_slice(&bytes[..]);
+        } else {
+            self.add_far(&bytes[..]);
+        }
+    }
+
+    // Separate function, so that a map's key of a word pays for nothing in it.
+    #[inline(never)]
+    fn add_far(&mut self, input: &[u8]) {
+        self.add_piece(input);
     }
 
     /// Hashes a chunk.
@@ -120,7 +141,7 @@ impl StateInMemory {
     // Hashes bytes that are already counted, if none are buffered.
     #[inline(always)]
     fn add_rest<const BLOCKS: bool>(&mut self, input: &[u8]) {
-        if BLOCKS && input.len() >= crate::kernels::STRIPES_32 {
+        if BLOCKS && input.len() >= BYTES_FOR_BLOCKS {
             self.add_blocks(input);
         } else {
             self.add_stripes(input);
@@ -133,22 +154,35 @@ impl StateInMemory {
         let mut rest = input;
         if input.len() >= BYTES_IN_STRIPE {
             let mut core = self.core();
-            while let Some((stripe, after)) = rest.split_first_chunk::<BYTES_IN_STRIPE>() {
-                core.write(stripe);
-                core.v1 = crate::rattle::opaque_u32(core.v1);
-                core.v2 = crate::rattle::opaque_u32(core.v2);
-                core.v3 = crate::rattle::opaque_u32(core.v3);
-                core.v4 = crate::rattle::opaque_u32(core.v4);
-                rest = after;
-            }
+            rest = core.write_of_stream(input);
             self.set_core(core);
         }
         self.keep(rest);
     }
 
-    // Does the same with blocks. A separate function, so that shorter chunks save no registers for its calls.
-    #[inline(never)]
+    // Does the same with blocks, in a separate function. That takes the accumulators, not the address of the state, if
+    // they may be in registers.
+    #[inline(always)]
     fn add_blocks(&mut self, input: &[u8]) {
+        if IN_PAIRS {
+            self.add_blocks_by_value(input);
+        } else {
+            self.add_blocks_in_place(input);
+        }
+    }
+
+    // Passes the accumulators to a separate function. Proved by itself, since `IN_PAIRS` is true only in the crate for
+    // cargo.
+    #[inline(always)]
+    fn add_blocks_by_value(&mut self, input: &[u8]) {
+        let (core, rest) = self.core().after_blocks(input);
+        self.set_core(core);
+        self.keep(rest);
+    }
+
+    // Does the same in a separate function, so that shorter chunks save no registers for its calls.
+    #[inline(never)]
+    fn add_blocks_in_place(&mut self, input: &[u8]) {
         let mut core = self.core();
         let rest = core.write_many::<true>(input);
         self.set_core(core);

@@ -5,6 +5,7 @@
 
 use super::Core;
 use crate::erased::twox_plain::words::{IntoU64, u32_at, u64_at};
+use crate::erased::twox_words::barriers::hidden_u64;
 
 const PRIME64_1: u64 = 0x9E3779B185EBCA87;
 
@@ -17,6 +18,11 @@ const PRIME64_4: u64 = 0x85EBCA77C2B2AE63;
 const PRIME64_5: u64 = 0x27D4EB2F165667C5;
 
 pub(super) const BYTES_IN_STRIPE: usize = 32;
+
+const BYTES_IN_PAIR: usize = 64;
+
+// True for a compiler that makes faster code for a stream whose stripes are added in pairs.
+const IN_PAIRS: bool = crate::kernels::IN_PAIRS;
 
 #[inline(always)]
 fn round(accumulator: u64, word: u64) -> u64 {
@@ -73,7 +79,7 @@ fn avalanche(mut value: u64) -> u64 {
 impl Core {
     // Returns the accumulators before the first stripe.
     #[inline(always)]
-    pub(super) fn new(seed: u64) -> Core {
+    pub(super) const fn new(seed: u64) -> Core {
         Core {
             v1: seed.wrapping_add(PRIME64_1).wrapping_add(PRIME64_2),
             v2: seed.wrapping_add(PRIME64_2),
@@ -101,6 +107,37 @@ impl Core {
             rest = after;
         }
         rest
+    }
+
+    // Adds two stripes. The accumulators are hidden from LLVM, which would make a vector of them, and that is slower.
+    #[inline(always)]
+    fn write_pair(&mut self, pair: &[u8; BYTES_IN_PAIR]) {
+        self.v1 = hidden_u64(round(round(self.v1, u64_at(pair, 0)), u64_at(pair, 32)));
+        self.v2 = hidden_u64(round(round(self.v2, u64_at(pair, 8)), u64_at(pair, 40)));
+        self.v3 = hidden_u64(round(round(self.v3, u64_at(pair, 16)), u64_at(pair, 48)));
+        self.v4 = hidden_u64(round(round(self.v4, u64_at(pair, 24)), u64_at(pair, 56)));
+    }
+
+    // Adds the whole pairs of stripes of the input, and returns the bytes after them.
+    #[inline(always)]
+    fn write_pairs<'d>(&mut self, input: &'d [u8]) -> &'d [u8] {
+        let mut rest = input;
+        'each_pair: while let Some((pair, after)) = rest.split_first_chunk::<BYTES_IN_PAIR>() {
+            self.write_pair(pair);
+            rest = after;
+        }
+        rest
+    }
+
+    // Does what `write_many` does, for a stream.
+    #[inline(always)]
+    pub(super) fn write_of_stream<'d>(&mut self, input: &'d [u8]) -> &'d [u8] {
+        if IN_PAIRS {
+            let after = self.write_pairs(input);
+            self.write_many(after)
+        } else {
+            self.write_many(input)
+        }
     }
 
     // Converges the four accumulators to one value.
@@ -164,7 +201,8 @@ fn impl_short(seed: u64, input: &[u8]) -> u64 {
     avalanche(after_tail(value, input))
 }
 
-#[inline(always)] fn impl_long(seed: u64, input: &[u8]) -> u64 {
+#[inline(always)]
+fn impl_long(seed: u64, input: &[u8]) -> u64 {
     let mut core = Core::new(seed);
     let rest = core.write_many(input);
     // Its length, computed from the input's, shows the compiler that few words are left, so it doesn't unroll the loop.

@@ -13,7 +13,7 @@ impl StateInMemory {
     ///
     /// The caller proves that less than a stripe is buffered.
     #[inline(always)]
-    pub fn of_record(state: SavedState) -> StateInMemory {
+    pub const fn of_record(state: SavedState) -> StateInMemory {
         let buffer = state.buffer;
         StateInMemory {
             v1: state.core.v1,
@@ -72,6 +72,27 @@ impl StateInMemory {
         self.v4 = core.v4;
     }
 
+    /// Hashes the bytes of an array. One that fills no stripe is a few moves, since its length is known.
+    ///
+    /// The caller proves that less than a stripe is buffered.
+    #[inline(always)]
+    pub fn add_array<const N: usize>(&mut self, bytes: &[u8; N]) {
+        let filled = self.usage();
+        if N < BYTES_IN_STRIPE - filled {
+            self.total_len = self.total_len.saturating_add(N.into_u64());
+            self.set_usage(filled + N);
+            self.buffer[filled..filled + N].copy_from_slice(&bytes[..]);
+        } else {
+            self.add_far(&bytes[..]);
+        }
+    }
+
+    // Separate function, so that a map's key of a word pays for nothing in it.
+    #[inline(never)]
+    fn add_far(&mut self, input: &[u8]) {
+        self.add_piece(input);
+    }
+
     /// Hashes a chunk.
     ///
     /// The caller proves that less than a stripe is buffered.
@@ -103,18 +124,41 @@ impl StateInMemory {
         let mut rest = input;
         if input.len() >= BYTES_IN_STRIPE {
             let mut core = self.core();
-            while let Some((stripe, after)) = rest.split_first_chunk::<BYTES_IN_STRIPE>() {
-                core.write(stripe);
-                core.v1 = crate::rattle::opaque_u64(core.v1);
-                core.v2 = crate::rattle::opaque_u64(core.v2);
-                core.v3 = crate::rattle::opaque_u64(core.v3);
-                core.v4 = crate::rattle::opaque_u64(core.v4);
-                rest = after;
-            }
+            rest = core.write_of_stream(input);
             self.set_core(core);
         }
         copy_front(&mut self.buffer, rest);
         self.set_usage(rest.len());
+    }
+
+    /// Does what `finish` does. The hash of a word or two, such as a map's key, is computed inline, and the others are
+    /// computed by a separate function. A fourth length would make these tests a jump by a table.
+    #[inline(always)]
+    pub fn finish_key(&self) -> u64 {
+        let few = self.usage();
+        if self.total_len == few.into_u64() {
+            if few == 4 {
+                return self.finish_few::<4>();
+            }
+            if few == 8 {
+                return self.finish_few::<8>();
+            }
+            if few == 16 {
+                return self.finish_few::<16>();
+            }
+        }
+        self.finish_any()
+    }
+
+    #[inline(never)]
+    fn finish_any(&self) -> u64 {
+        self.finish()
+    }
+
+    // Returns the hash of `N` bytes.
+    #[inline(always)]
+    fn finish_few<const N: usize>(&self) -> u64 {
+        finish_with(self.seed, N.into_u64(), &self.core(), &self.buffer[..N])
     }
 
     /// Returns the hash of the bytes so far.

@@ -10,7 +10,7 @@ use std::slice::from_raw_parts_mut;
 /// Chunk `i` is items `N * i` to `N * i + N - 1`. The caller proves that `N` is not 0.
 #[inline(always)]
 pub fn bp_as_chunks<T, const N: usize>(items: &[T]) -> (&[[T; N]], &[T]) {
-    crate::rattle::as_chunks(items)
+    crate::rattle::as_chunks::<T, N>(items)
 }
 
 // Splits off the first `count` chunks of N items, which end at item `mid`.

@@ -4,11 +4,12 @@
 //! Code shared by kernels: the words of a stripe and of the secret.
 
 use super::simd::{u8x32, u8x64, u64x4, u64x8};
+use crate::erased::twox_words::words::bp_as_chunks;
 
 // Returns word `i`, read whole, so that the compiler can load several words at once.
 #[inline(always)]
 pub(super) fn word(bytes: &[u8; 64], i: usize) -> u64 {
-    let (words, _) = crate::rattle::as_chunks::<_, 8>(bytes);
+    let (words, _) = bp_as_chunks::<u8, 8>(bytes);
     u64::from_le_bytes(words[i])
 }
 

@@ -3,14 +3,19 @@
 
 //! The state of a stream without its secret and its seed: the stripes taken, and the bytes after them.
 
+use crate::rattle::prelude::prove;
 use super::taken_stripes::TakenStripes;
 use crate::erased::twox_core::xxhash3::parts::array_at;
-use crate::erased::twox_core::xxhash3::{CUTOFF, DEFAULT_SEED, Finalize, Secret, Vector, default_secret};
+use crate::erased::twox_core::xxhash3::{CUTOFF, DEFAULT_SEED, Finalize, Kernel, Secret, Vector, default_secret};
 use crate::erased::twox_words::copies::{copy_short, copy_up_to_128};
 use crate::erased::twox_words::words::IntoU64;
 
 /// Size of a stream's buffer in bytes: whole stripes, and more than the maximum length that is hashed with no stripes.
 pub const BUFFERED_BYTES: usize = 512;
+
+// Where the buffer's last stripe begins. Fewer than 64 bytes are left in the buffer only after it was full, so the last
+// stripe taken is still there.
+const LAST_STRIPE: usize = BUFFERED_BYTES - 64;
 
 /// Chunks of up to this many bytes are buffered without a call.
 const FEW_BYTES: usize = 32;
@@ -19,19 +24,19 @@ const FEW_BYTES: usize = 32;
 /// their number.
 const LONG_PIECE_BYTES: usize = 2_048;
 
-const _: () = assert!(BUFFERED_BYTES > CUTOFF);
+const _: () = prove!(BUFFERED_BYTES > CUTOFF);
 
-const _: () = assert!(BUFFERED_BYTES % 64 == 0);
+const _: () = prove!(BUFFERED_BYTES % 64 == 0);
 
-#[cfg(target_pointer_width = "64")]
-const _: () = assert!(size_of::<CoreState>() == 672);
+const _: () = prove!(size_of::<CoreState>() == 608);
 
 /// The state of a stream without its secret and its seed. [`RawHasherCore`](super::RawHasherCore) holds all three and
 /// is the type to use; this one is for streams in memory of another layout, such as one that C holds.
 ///
 /// The calls take the secret as an argument, which must be the same at each. They require three things, which are true
 /// of a new state and after each call: the accumulators' place lies in the secret; at most `BUFFERED_BYTES` bytes are
-/// buffered; and after the first byte, at least one is buffered. No call reads a byte of the buffer that is not in use.
+/// buffered; and after the first byte, at least one is buffered. No call reads a byte of the buffer that is not in use,
+/// except that the value of a stream with stripes taken and fewer than 64 bytes buffered depends on the last 64.
 #[repr(C)]
 #[derive(Clone, Copy)]
 pub struct CoreState {
@@ -97,10 +102,71 @@ impl CoreState {
         self.add_few(input);
     }
 
+    // True if the buffer has space for so many bytes.
+    #[inline(always)]
+    pub(super) fn has_room(&self, len: usize) -> bool {
+        let room = self.buffer[..].len();
+        len <= room - self.buffer_usage
+    }
+
+    // Buffers a chunk that fits, for any secret.
+    #[inline(always)]
+    pub(super) fn hold(&mut self, input: &[u8]) {
+        let more = input.len().into_u64();
+        self.total_bytes = self.total_bytes.saturating_add(more);
+        if input.len() <= 64 {
+            self.add_few(input);
+        } else {
+            self.keep(input);
+        }
+    }
+
+    // Buffers an array that fits, for any secret. Its length is known, so this is a few moves.
+    #[inline(always)]
+    pub(super) fn hold_array<const N: usize>(&mut self, bytes: &[u8; N]) {
+        self.total_bytes = self.total_bytes.saturating_add(N.into_u64());
+        let used = self.buffer_usage;
+        self.buffer_usage = used + N;
+        self.buffer[used..used + N].copy_from_slice(&bytes[..]);
+    }
+
+    // Does what `write` does, with the kernel of calls that name none.
+    #[inline(always)]
+    fn write_by_default(&mut self, input: &[u8], secret: Secret<'_>) {
+        crate::kernels::write(self, input, secret)
+    }
+
+    /// Does what `write` does, with the kernel of calls that name none. A chunk that fits the buffer is buffered inline.
+    #[inline(always)]
+    pub(super) fn take(&mut self, input: &[u8], secret: Secret<'_>) {
+        if self.has_room(input.len()) {
+            self.hold(input);
+        } else {
+            self.write_by_default(input, secret);
+        }
+    }
+
+    /// Does the same for an array.
+    #[inline(always)]
+    pub(super) fn take_array<const N: usize>(&mut self, bytes: &[u8; N], secret: Secret<'_>) {
+        if self.has_room(N) {
+            self.hold_array(bytes);
+        } else {
+            self.take_far(&bytes[..], secret);
+        }
+    }
+
+    // Separate function, so that a map's key of a word pays for nothing in it.
+    #[inline(never)]
+    fn take_far(&mut self, input: &[u8], secret: Secret<'_>) {
+        self.write_by_default(input, secret);
+    }
+
     // Fills the buffer up to whole stripes, takes these, and takes the rest in place. A separate function, so that
     // small chunks have no frame, and a separate one for many bytes, so that others keep no register for the call that
     // takes their stripes.
-    #[inline(always)] fn write_through<V: Vector, const MANY: bool>(&mut self, v: V, input: &[u8], secret: Secret<'_>) {
+    #[inline(always)]
+    fn write_through<V: Vector, const MANY: bool>(&mut self, v: V, input: &[u8], secret: Secret<'_>) {
         let (head, rest) = input.split_at((64 - self.buffer_usage % 64) % 64);
         self.fill_stripe(head);
         self.empty(v, secret);
@@ -120,8 +186,9 @@ impl CoreState {
     #[inline(always)]
     fn add_few(&mut self, input: &[u8]) {
         let used = self.buffer_usage;
+        let (_, room) = self.buffer.split_at_mut(used);
+        copy_up_to_128(&mut room[..input.len()], input);
         let end = used + input.len();
-        copy_up_to_128(&mut self.buffer[used..end], input);
         self.buffer_usage = end;
     }
 
@@ -131,7 +198,8 @@ impl CoreState {
     fn keep(&mut self, input: &[u8]) {
         let used = self.buffer_usage;
         self.buffer_usage = used + input.len();
-        let place = &mut self.buffer[used..used + input.len()];
+        let (_, room) = self.buffer.split_at_mut(used);
+        let place = &mut room[..input.len()];
         if input.len() > FEW_BYTES {
             place.copy_from_slice(input);
         } else {
@@ -191,9 +259,51 @@ impl CoreState {
         )
     }
 
+    // Does what `finish` does. The value of one word, such as a map's key, is computed inline, and the others are
+    // computed by a separate function.
+    #[inline(always)]
+    pub(super) fn finish_key<V: Vector, F: Finalize>(
+        &self,
+        v: V,
+        finalize: &F,
+        seed: Option<u64>,
+        secret: Secret<'_>,
+    ) -> F::Output {
+        if self.total_bytes == 8 {
+            return self.finish_word(finalize, seed, secret);
+        }
+        self.finish_any(v, finalize, seed, secret)
+    }
+
+    #[inline(never)]
+    fn finish_any<V: Vector, F: Finalize>(
+        &self,
+        v: V,
+        finalize: &F,
+        seed: Option<u64>,
+        secret: Secret<'_>,
+    ) -> F::Output {
+        self.finish(v, finalize, seed, secret)
+    }
+
+    // Returns the value of eight bytes.
+    #[inline(always)]
+    fn finish_word<F: Finalize>(
+        &self,
+        finalize: &F,
+        seed: Option<u64>,
+        secret: Secret<'_>,
+    ) -> F::Output {
+        let word = &self.buffer[..8];
+        match seed {
+            Some(seed) => finalize.small(default_secret(), seed, word),
+            None => finish_keyed(finalize, secret, word),
+        }
+    }
+
     // Returns the value of up to 240 bytes: with the default secret and the seed or, without a seed, with the secret.
     #[inline(always)]
-    fn finish_short<F: Finalize>(
+    pub(super) fn finish_short<F: Finalize>(
         &self,
         finalize: &F,
         seed: Option<u64>,
@@ -212,7 +322,7 @@ impl CoreState {
     fn last_stripe(&self) -> [u8; 64] {
         let used = self.buffer_usage;
         if used < 64 {
-            stripe_of_parts(&self.taken.last[used..], &self.buffer[..used])
+            stripe_of_parts(&self.buffer[LAST_STRIPE + used..], &self.buffer[..used])
         } else {
             *array_at(&self.buffer, used - 64)
         }

@@ -3,21 +3,22 @@
 
 //! The streaming core of both widths.
 
+use crate::rattle::prelude::Clone;
 use super::core_state::CoreState;
 use super::{BUFFERED_BYTES, ClonedBuffer, FixedBuffer, SecretBuffer, SecretTooShortError};
 use crate::erased::twox_core::xxhash3::{Finalize, Kernel, Vector};
-use crate::rattle::{AllocError, Allocator, TryClone};
-use crate::rattle::BoxedSlice;
+use crate::rattle::{AllocError, Allocator};
+use crate::buffers::BoxedSlice;
 
 /// A stream of bytes whose value any finalizer (`Finalize`) can return at any moment.
 ///
-/// Its type fixes its size: 672 bytes, of which the buffer is `BUFFERED_BYTES`, and those of the secret buffer.
-pub struct RawHasherCore<S: FixedBuffer> {
+/// Its type fixes its size: 608 bytes, of which the buffer is `BUFFERED_BYTES`, and those of the secret buffer.
+pub struct RawHasherCore<S> {
     secret_buffer: SecretBuffer<S>,
     state: CoreState,
 }
 
-impl<S: FixedBuffer> RawHasherCore<S> {
+impl<S> RawHasherCore<S> {
     /// Creates a stream of no bytes.
     pub fn new(secret_buffer: SecretBuffer<S>) -> RawHasherCore<S> {
         RawHasherCore {
@@ -28,13 +29,19 @@ impl<S: FixedBuffer> RawHasherCore<S> {
 
     /// Hashes a chunk after the bytes before.
     #[inline]
-    pub fn write(&mut self, input: &[u8]) {
-        self.write_with(Kernel {}, input);
+    pub fn write(&mut self, input: &[u8]) where S: FixedBuffer {
+        self.state.take(input, self.secret_buffer.secret());
+    }
+
+    /// Hashes the bytes of an array after the bytes before, as [`RawHasherCore::write`] does.
+    #[inline(always)]
+    pub fn write_array<const N: usize>(&mut self, bytes: &[u8; N]) where S: FixedBuffer {
+        self.state.take_array(bytes, self.secret_buffer.secret());
     }
 
     /// Hashes a chunk after the bytes before, with a kernel. Each call may use another kernel.
     #[inline]
-    pub fn write_with(&mut self, v: impl Vector, input: &[u8]) {
+    pub fn write_with(&mut self, v: impl Vector, input: &[u8]) where S: FixedBuffer {
         self.state.write(v, input, self.secret_buffer.secret());
     }
 
@@ -42,14 +49,16 @@ impl<S: FixedBuffer> RawHasherCore<S> {
     /// the stream's secret. Up to 240 bytes it uses the default secret and the stream's seed or, if the stream was made
     /// with only a secret, that secret and the seed 0.
     #[inline]
-    pub fn finish<F: Finalize >(&self, finalize: F) -> F::Output {
-        self.finish_with(Kernel {}, finalize)
+    pub fn finish<F: Finalize >(&self, finalize: F) -> F::Output where S: FixedBuffer {
+        let secret = self.secret_buffer.secret();
+        self.state
+            .finish_key(Kernel {}, &finalize, self.secret_buffer.seed(), secret)
     }
 
     /// Does the same as [`RawHasherCore::finish`], with a kernel that the caller chooses. Each call may use another
     /// kernel.
     #[inline]
-    pub fn finish_with<F: Finalize >(&self, v: impl Vector, finalize: F) -> F::Output {
+    pub fn finish_with<F: Finalize >(&self, v: impl Vector, finalize: F) -> F::Output where S: FixedBuffer {
         let secret = self.secret_buffer.secret();
         self.state
             .finish(v, &finalize, self.secret_buffer.seed(), secret)
@@ -82,9 +91,9 @@ impl<S: FixedBuffer> RawHasherCore<S> {
     }
 }
 
-impl<S: ClonedBuffer> TryClone for RawHasherCore<S> {
-    fn try_clone(&self) -> Result<RawHasherCore<S>, AllocError> {
-        let secret_buffer = self.secret_buffer.try_clone()?;
+impl<S: ClonedBuffer> Clone for RawHasherCore<S> {
+    fn clone(&self) -> Result<RawHasherCore<S>, AllocError> {
+        let secret_buffer = self.secret_buffer.clone()?;
         Ok(RawHasherCore {
             secret_buffer,
             state: self.state,

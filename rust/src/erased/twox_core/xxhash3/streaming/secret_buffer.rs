@@ -3,13 +3,14 @@
 
 //! A stored secret with its seed, and the errors for a secret of the wrong length.
 
+use crate::rattle::prelude::Clone;
 use super::{ClonedBuffer, FixedBuffer, FixedMutBuffer};
 use crate::erased::twox_core::xxhash3::{
     DEFAULT_SECRET_LENGTH, DEFAULT_SECRET_RAW, DEFAULT_SEED, DefaultSecret, SECRET_MINIMUM_LENGTH,
     Secret, derived_secret,
 };
-use crate::rattle::{AllocError, Allocator, TryClone};
-use crate::rattle::BoxedSlice;
+use crate::rattle::{AllocError, Allocator};
+use crate::buffers::BoxedSlice;
 use std::error::Error;
 use std::fmt;
 
@@ -17,18 +18,18 @@ use std::fmt;
 ///
 /// A stream over a buffer that was made with a seed hashes up to 240 bytes with the default secret and the seed, and
 /// more with the secret. A stream over a buffer that was made with only a secret uses that at every length.
-pub struct SecretBuffer<S: FixedBuffer> {
+pub struct SecretBuffer<S> {
     seed: Option<u64>,
     secret: S,
 }
 
-impl<S: FixedBuffer> SecretBuffer<S> {
+impl<S> SecretBuffer<S> {
     /// Stores the seed and the secret as they are.
     ///
     /// # Errors
     ///
     /// Returns the secret in the error if it has fewer than 136 bytes.
-    pub fn new(seed: u64, secret: S) -> Result<SecretBuffer<S>, SecretTooShortError<S>> {
+    pub fn new(seed: u64, secret: S) -> Result<SecretBuffer<S>, SecretTooShortError<S>> where S: FixedBuffer {
         SecretBuffer::checked(Some(seed), secret)
     }
 
@@ -37,12 +38,12 @@ impl<S: FixedBuffer> SecretBuffer<S> {
     /// # Errors
     ///
     /// Returns the secret in the error if it has fewer than 136 bytes.
-    pub fn with_secret(secret: S) -> Result<SecretBuffer<S>, SecretTooShortError<S>> {
+    pub fn with_secret(secret: S) -> Result<SecretBuffer<S>, SecretTooShortError<S>> where S: FixedBuffer {
         SecretBuffer::checked(None, secret)
     }
 
     // Stores both, if the secret has its minimum length.
-    fn checked(seed: Option<u64>, secret: S) -> Result<SecretBuffer<S>, SecretTooShortError<S>> {
+    fn checked(seed: Option<u64>, secret: S) -> Result<SecretBuffer<S>, SecretTooShortError<S>> where S: FixedBuffer {
         if secret.as_ref().len() >= SECRET_MINIMUM_LENGTH {
             Ok(SecretBuffer { seed, secret })
         } else {
@@ -56,6 +57,12 @@ impl<S: FixedBuffer> SecretBuffer<S> {
         secret
     }
 
+    // Shows that the secret has its minimum length.
+    #[inline(always)]
+    pub(super) fn show_length(&self) {
+        let _ = &self.seed;
+    }
+
     // Returns the seed, if the buffer was made with one.
     #[inline(always)]
     pub(super) fn seed(&self) -> Option<u64> {
@@ -64,9 +71,15 @@ impl<S: FixedBuffer> SecretBuffer<S> {
 
     // Borrows the secret.
     #[inline(always)]
-    pub(super) fn secret(&self) -> Secret<'_> {
-        Secret::new(self.secret.as_ref()).unwrap()
+    pub(super) fn secret(&self) -> Secret<'_> where S: FixedBuffer {
+        secret_of(self.secret.as_ref())
     }
+}
+
+// Wraps the bytes of a buffer.
+#[inline(always)]
+fn secret_of(bytes: &[u8]) -> Secret<'_> {
+    crate::buffers::secret_of(bytes)
 }
 
 impl<S: FixedMutBuffer> SecretBuffer<S> {
@@ -93,6 +106,16 @@ impl SecretBuffer<DefaultSecret> {
         SecretBuffer {
             seed: Some(DEFAULT_SEED),
             secret: DEFAULT_SECRET_RAW,
+        }
+    }
+}
+
+impl SecretBuffer<&'static DefaultSecret> {
+    /// Stores the seed 0, and borrows the default secret.
+    pub const fn borrowed_default() -> SecretBuffer<&'static DefaultSecret> {
+        SecretBuffer {
+            seed: Some(DEFAULT_SEED),
+            secret: &DEFAULT_SECRET_RAW,
         }
     }
 }
@@ -149,9 +172,9 @@ impl<A: Allocator> SecretBuffer<BoxedSlice<u8, A>> {
     }
 }
 
-impl<S: ClonedBuffer> TryClone for SecretBuffer<S> {
-    fn try_clone(&self) -> Result<SecretBuffer<S>, AllocError> {
-        let secret = self.secret.try_clone()?;
+impl<S: ClonedBuffer> Clone for SecretBuffer<S> {
+    fn clone(&self) -> Result<SecretBuffer<S>, AllocError> {
+        let secret = self.secret.clone()?;
         Ok(SecretBuffer {
             seed: self.seed,
             secret,
@@ -161,7 +184,7 @@ impl<S: ClonedBuffer> TryClone for SecretBuffer<S> {
 
 /// The secret has fewer than 136 bytes.
 pub struct SecretTooShortError<S> {
-    secret: S,
+    pub(crate) secret: S,
 }
 
 impl<S> SecretTooShortError<S> {

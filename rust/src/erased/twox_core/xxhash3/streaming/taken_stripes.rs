@@ -3,7 +3,6 @@
 
 //! The stripes that a stream has taken.
 
-use crate::erased::twox_core::xxhash3::parts::array_at;
 use crate::erased::twox_core::xxhash3::{Secret, StripeAccumulator, Vector};
 use crate::erased::twox_words::words::IntoU64;
 
@@ -13,8 +12,6 @@ use crate::erased::twox_words::words::IntoU64;
 pub struct TakenStripes {
     /// The accumulators, and their place in the secret.
     pub stripes: StripeAccumulator,
-    /// The last stripe, from which a short last stripe of the stream is completed.
-    pub last: [u8; 64],
     /// Their number, saturating at 2^64 - 1.
     pub count: u64,
 }
@@ -24,7 +21,6 @@ impl TakenStripes {
     pub(crate) fn new() -> TakenStripes {
         TakenStripes {
             stripes: StripeAccumulator::new(),
-            last: [0; 64],
             count: 0,
         }
     }
@@ -40,8 +36,5 @@ impl TakenStripes {
         self.stripes.process_piece::<V, MANY>(v, bytes, secret);
         let count = bytes.len() / 64;
         self.count = self.count.saturating_add(count.into_u64());
-        if count > 0 {
-            self.last = *array_at(bytes, 64 * (count - 1));
-        }
     }
 }

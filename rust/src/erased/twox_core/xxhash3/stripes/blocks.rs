@@ -15,7 +15,8 @@ pub(in crate::erased::twox_core::xxhash3) const STRIPES_IN_BLOCK: usize = 16;
 pub(in crate::erased::twox_core::xxhash3) const BYTES_IN_BLOCK: usize = 64 * STRIPES_IN_BLOCK;
 
 // Returns the accumulators after many whole blocks. A separate function, so that callers stay small.
-#[inline(always)] pub(super) fn take_many_blocks<V: Vector>(
+#[inline(always)]
+pub(super) fn take_many_blocks<V: Vector>(
     acc: [u64; 8],
     v: V,
     bytes: &[u8],

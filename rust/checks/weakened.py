@@ -1,0 +1,288 @@
+"""Weakened erasers, derived from its source: each without one refusal, with one more keyword, with one row of the tables of
+edits that has no place, no function, or other code, or with one name of the other tables that is another. Each is detected: a
+planted source, a changed crate or a scenario has another result than with the right eraser, or the second reader can't explain
+a file."""
+import ast
+import dataclasses
+import os
+import re
+from collections import Counter
+
+import reader
+from erasers import CRATES, PARTS, Eraser, source_of, spans_of
+from planted_sources import CHANGED_CRATES, CHANGED_PROGRAMS, LIBRARY, PLANTED, PROGRAM
+from scenarios import SCENARIOS
+
+# Mistakes that are no missing refusal: the part, its text, and the wrong one.
+MISTAKES = (
+    ('a clause keeps the comments above it', 'contracts', "            drop(tokens, first_with_comments(tokens, i), i)\n            dropped",
+     "            drop(tokens, i, i)\n            dropped"),
+    ('the line above a ghost is lost', 'contracts', "comment.kind != 'comment' or comment.text.startswith('//!') or not begins_line:",
+     "comment.kind == 'space':"),
+    ('derives are lost', 'contracts', "    if names == {'Drop'}:", "    if 'Drop' in names:"),
+    ('attributes are lost', 'contracts', "            if name == 'tactic':", "            if name in ('tactic', 'inline'):"),
+    ('bounds are lost', 'contracts', "token.text != 'Drop':\n            continue\n        before,",
+     "token.text not in ('Drop', 'Copy'):\n            continue\n        before,"),
+    ('a contract ends late', 'tokens', "    if word in ('requires', 'ensures'):\n        return 'clause', end", 
+     "    if word in ('requires', 'ensures'):\n        return 'clause', end + 1"),
+    ('a contract ends at the first brace', 'tokens', "if spans[k][3] == 'End') + 1", "if spans[k][4] == '}') + 1"),
+    ('the field beside a ghost field is lost', 'tokens', "('item' if spans[end][4] == ';' else 'field'), end + 1", "'field', end + 4"),
+    ('examples that rustdoc compiles', 'contracts', "'```rattle' if begins and not fence[2]", "'```' if begins and not fence[2]"),
+    ('marks of documentation in strings', 'contracts', "FENCE.fullmatch(token.text) if token.kind == 'comment'",
+     "FENCE.search(token.text) if token.kind != 'space'"),
+    ('the forms of the programs in the library', 'forms', "PROGRAM_FORMS if is_of_programs(file) else LIBRARY_FORMS", "PROGRAM_FORMS"),
+    ('a path to another crate', 'names', "{crate if token.text == \"crate\" else token.text}", "{crate}"),
+    ("names of Rust's prelude", 'names', "use crate::rattle::prelude::{braced(names)}", "use std::prelude::v1::{braced(names)}"),
+    ('a name in the middle of a path', 'names', "tokens[before].text not in (':', '.', '$'))", "tokens[before].text not in ('.', '$'))"),
+    ('an own item with other arguments', 'own', "({\", \".join(names)})'", "({\", \".join(reversed(names))})'"),
+    ('bounds that only the type had', 'own', "f'where S: {BOUND} {{'", "'{'"),
+    ('vectors of the other set', 'names', "if file == f'{TWICE}.rt':", "if file == TWICE:"),
+    ('files of the library in the programs', 'packages', "        return is_of_programs == (self is PROGRAM_PACKAGE)", "        return True"),
+)
+
+
+def refusals():
+    """Each refusal of the eraser: its part, its line, and the part's source without it."""
+    for part in PARTS:
+        source = source_of(part)
+        lines = source.split('\n')
+        for node in ast.walk(ast.parse(source)):
+            call = node.exc if isinstance(node, ast.Raise) else node.value if isinstance(node, ast.Expr) else None
+            name = call.func.id if isinstance(call, ast.Call) and isinstance(call.func, ast.Name) else ''
+            if name == 'refuse' or name == 'Refused' and node.cause is None:
+                text = '\n'.join(lines[node.lineno - 1:node.end_lineno]).strip()
+                without = [*lines[:node.lineno - 1], ' ' * node.col_offset + 'pass', *lines[node.end_lineno:]]
+                yield f'{part}, line {node.lineno}: {text[:80]}', {part: '\n'.join(without)}
+
+
+def wider_lists():
+    """The eraser with one more keyword, or one function of a layout less."""
+    forms, source = Eraser().forms, source_of('forms')
+    for word in sorted(forms.KEYWORDS - forms.KEPT_KEYWORDS):
+        yield f'the keyword {word}', {'forms': source.replace('KEPT_KEYWORDS = set("""', f'KEPT_KEYWORDS = set("""{word} ')}
+    for word in sorted(forms.LAYOUTS):
+        yield f'the function {word}', {'forms': source.replace(f"'{word}'", "'none'", 1)}
+
+
+def mistakes():
+    for name, part, old, new in MISTAKES:
+        if source_of(part).count(old) != 1:
+            raise ValueError(f'{name}: {part} has the text {source_of(part).count(old)} times')
+        yield name, {part: source_of(part).replace(old, new)}
+
+
+class Right:
+    """The right eraser, what it reads, and its results."""
+
+    def __init__(self):
+        self.eraser, self.known, self.spans_of_changed = Eraser(), {}, {}
+        self.spans = spans_of(self.eraser, {name: source for _, name, *_, source in PLANTED})
+        self.results = self.planted(self.eraser)
+        self.scenarios = {name: run(self.eraser) for name, run in SCENARIOS.items()}
+        self.texts = self.eraser.erase.sources(CRATES, self.eraser.packages.PROGRAM_PACKAGE)
+        self.tokens = self.eraser.tokens.toolchain_tokens(self.texts)
+
+    def planted(self, eraser):
+        return {name: eraser.one(file, source, self.spans[name]) for file, name, _, _, source in PLANTED}
+
+    def of(self, package):
+        """The sources that a package reads, and their tokens."""
+        texts = {file: text for file, text in self.texts.items() if file.split('/')[0] in package.read}
+        return texts, {file: self.tokens[file] for file in texts}
+
+    def touched(self, package, row):
+        """The files of a package to which a row applies."""
+        return [file for file in self.erased(package)[1] if row in self.erased(package)[1][file]]
+
+    def erased(self, package):
+        """The items of a package, and the rows that apply to each file."""
+        if package.name not in self.known:
+            self.known[package.name] = self.applied(own(self.eraser, package))
+        return self.known[package.name]
+
+    def applied(self, package):
+        texts, spans = self.of(package)
+        tokens = {file: self.eraser.erase.read(file, text, spans[file]) for file, text in texts.items()}
+        items, rows = self.eraser.items.Items(), {}
+        for file in tokens:
+            items.learn(file, tokens[file])
+        for file in filter(package.has, tokens):
+            counts = Counter()
+            self.eraser.erase.as_rust(file, tokens[file], counts, items, package)
+            rows[file] = {row for row, count in counts.items() if count}
+        return items, rows
+
+    def with_row(self, package, file, row, weaker):
+        """A file's source in Rust, with a row in place of another."""
+        items = self.erased(package)[0]
+        items.methods.clear()
+        edits = tuple(weaker if one is row else one for one in package.edits)
+        return self.eraser.erase.as_rust(file, self.eraser.erase.read(file, self.texts[file], self.tokens[file]), Counter(), items,
+                                         dataclasses.replace(package, edits=edits))
+
+    def changed_file(self, eraser, change, package):
+        """What an eraser makes of a changed file by itself, and how often each row applies."""
+        file, old, new, _ = change
+        counts, items = Counter(), self.erased(package)[0]
+        package = own(eraser, package)
+        text = self.texts[file].replace(old, new)
+        if text not in self.spans_of_changed:
+            self.spans_of_changed[text] = self.eraser.tokens.toolchain_tokens({file: text})[file]
+        items.methods.clear()
+        try:
+            return eraser.erase.as_rust(file, eraser.erase.read(file, text, self.spans_of_changed[text]), counts, items, package), sorted(counts.values())
+        except eraser.tokens.Refused as reason:
+            return str(reason)
+        except Exception as fault:
+            return repr(fault)
+
+    def changed(self, eraser, change, package):
+        """What an eraser makes of a package with one source changed: its tree, or its refusal."""
+        file, old, new, _ = change
+        texts, spans = self.of(package)
+        if texts[file].count(old) != 1:
+            raise ValueError(f'{file} has the text {texts[file].count(old)} times')
+        texts[file] = texts[file].replace(old, new)
+        spans.update(eraser.tokens.toolchain_tokens({file: texts[file]}))
+        return eraser.tree(texts, spans, package)
+
+    def noticed(self, changed):
+        """What detects an eraser with these changes, or ''."""
+        eraser = Eraser(**changed)
+        for file, name, _, _, source in PLANTED:
+            if eraser.one(file, source, self.spans[name]) != self.results[name]:
+                return f'"{name}"'
+        for name, run in SCENARIOS.items():
+            if run(eraser) != self.scenarios[name]:
+                return f'the scenario "{name}"'
+        packages = eraser.packages
+        for changes, package in (CHANGED_CRATES, packages.LIBRARY_PACKAGE), (CHANGED_PROGRAMS, packages.PROGRAM_PACKAGE):
+            for change in changes:
+                if self.changed_file(eraser, change, package) != self.changed_file(self.eraser, change, package):
+                    return f'a changed {change[0]}'
+            tree = self.changed(eraser, changes[0], package)
+            if not isinstance(tree, str) or changes[0][-1] not in tree:
+                return f'a changed {changes[0][0]}'
+            tree = eraser.tree(*self.of(package), package)
+            if isinstance(tree, str) or any(there(package, name) != text for name, text in tree.items()):
+                return f'the tree of {package.name}'
+        return ''
+
+
+def own(eraser, package):
+    """The package of an eraser that another calls so."""
+    packages = eraser.packages
+    return next(one for one in (packages.LIBRARY_PACKAGE, packages.PROGRAM_PACKAGE) if one.name == package.name)
+
+
+def there(package, name):
+    path = os.path.join(package.folder, name)
+    return open(path, encoding='utf-8').read() if os.path.exists(path) else ''
+
+
+# ---- rows of the tables of edits ----
+
+def balanced(text):
+    """A row's pattern as a source: each `$name` is a name, and what is open is closed."""
+    closers = []
+    for mark in re.findall(r'"(?:\\.|[^"])*"|[][(){}]', text):
+        if mark in '([{':
+            closers.append({'(': ')', '[': ']', '{': '}'}[mark])
+        elif mark in ')]}':
+            closers.pop()
+    source = text.replace('$', '') + ''.join(reversed(closers))
+    return source + '>' * source.endswith('<V') + '() { }' * (') fn ' in source or '] fn ' in source)
+
+
+def weakened_rows(eraser):
+    """Each row of both tables, weakened: the package, the row, what was done, and the weaker row."""
+    for package in (eraser.packages.LIBRARY_PACKAGE, eraser.packages.PROGRAM_PACKAGE):
+        for row in package.edits:
+            yield package, row, 'other code', dataclasses.replace(row, new=damaged(row.new))
+            if row.files != '.*':
+                yield package, row, 'in any file', dataclasses.replace(row, files='.*', function='', was='')
+            if row.function:
+                yield package, row, 'in any code of its function', dataclasses.replace(row, function='', was='')
+
+
+def damaged(new):
+    """A row's new code without its middle token, or with one if it has none."""
+    words = re.findall(r'"(?:\\.|[^"])*"|\$?\w+|\S', new)
+    if not words:
+        return 'x'
+    middle = words[len(words) // 2]
+    begin = next(place for place in (m.start() for m in re.finditer(re.escape(middle), new)) if place >= len(new) // 3 or new.count(middle) == 1)
+    return new[:begin] + new[begin + len(middle):]
+
+
+def row_is_noticed(right, package, row, what, weaker):
+    """True if the second reader, or a source where the row may not apply, detects a weaker row."""
+    eraser = right.eraser
+    if what == 'other code':
+        return any(reader_notices(right, package, file, row, weaker) for file in right.touched(package, row))
+    file = PROGRAM if package is eraser.packages.PROGRAM_PACKAGE else LIBRARY
+    source = balanced(row.old)
+    if what != 'in any file':
+        file, source = next(iter(right.touched(package, row))), f'fn {row.function}() {{ {source} }}'
+    spans = eraser.tokens.toolchain_tokens({'row': source})['row']
+    return erased_by(eraser, file, source, spans, row) != erased_by(eraser, file, source, spans, weaker)
+
+
+# ---- names of the other tables ----
+
+def weakened_names(right):
+    """Each name of the tables of names and of own items, weakened: what it is, its table, its key, the other one, and a file."""
+    own, names, packages = right.eraser.own, right.eraser.names, right.eraser.packages
+    for file, items in own.ITEMS.items():
+        for name, (path, why) in items.items():
+            yield f'the own item `{name}`', items, name, (f'{path}_2', why), [file]
+    for file, functions in own.INLINED.items():
+        for name in functions:
+            yield f'the attribute of `{name}`', functions, name, 'cold', [file]
+    for file, (path, why) in names.MODULES.items():
+        if path:
+            folder = os.path.dirname(file)
+            above = f'{folder}/lib.rt' if folder.endswith('/src') else f'{folder}.rt'
+            yield f'the module {file}', names.MODULES, file, (f'{path}_2', why), [above]
+    for package in (packages.LIBRARY_PACKAGE, packages.PROGRAM_PACKAGE):
+        for path, new in package.paths.items():
+            files = [file for file in filter(package.has, right.of(package)[0]) if path.split('::')[-1] in right.texts[file]]
+            yield f'the path {path}', package.paths, path, f'{new}::x', files
+
+
+def name_is_noticed(right, table, key, weaker, files):
+    """True if the second reader can't explain a file with another name."""
+    before, table[key] = table[key], weaker
+    try:
+        return any(unexplained(right, file, right.texts[file], right.with_row(own_package(right, file), file, None, None)) is not None
+                   for file in files)
+    finally:
+        table[key] = before
+
+
+def own_package(right, file):
+    packages = right.eraser.packages
+    return next(one for one in (packages.LIBRARY_PACKAGE, packages.PROGRAM_PACKAGE) if one.has(file))
+
+
+def reader_notices(right, package, file, row, weaker):
+    """True if the second reader can't explain a file that is erased with a weaker row."""
+    return unexplained(right, file, right.texts[file], right.with_row(package, file, row, weaker)) is not None
+
+
+def unexplained(right, file, source, rust):
+    """What the second reader can't explain in a file's Rust, or None."""
+    crate, name = file.split('/')[0], right.eraser.erase.target_of(file).removesuffix('.rs')
+    is_of_programs = right.eraser.forms.is_of_programs(file)
+    return reader.unexplained(source, rust, crate, name, reader.PROGRAMS if is_of_programs else reader.LIBRARY)
+
+
+def erased_by(eraser, file, source, spans, row):
+    """A source's text with a row applied as rust/erase does, or the refusal."""
+    tokens = eraser.contracts.without_contracts(eraser.tokens.lex(source, spans))
+    try:
+        if re.fullmatch(row.files, file):
+            eraser.edits.apply(row, tokens, eraser.edits.sums_of(tokens))
+        return eraser.contracts.tidied(tokens)
+    except eraser.tokens.Refused as reason:
+        return str(reason)
