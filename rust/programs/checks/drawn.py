@@ -7,7 +7,7 @@ from report import want
 from tools import write
 
 SECONDS = 30
-# Only the version of these programs has this, in a line that is also in the help.
+# Only the version of these programs has this, in a line that is also in the help and in usage errors.
 MADE_BY = b' compiled by rustc from proved source,'
 SHOWN = 300
 STATES = {
@@ -98,7 +98,7 @@ def drawn_xxhsum(draw, lists, room):
 def did(program, name, words, given, room):
     done = subprocess.run([name, *words], executable=program, input=given, capture_output=True, cwd=room, timeout=SECONDS)
     want(b'panicked' not in done.stderr and done.returncode >= 0, f'{words}: {done.returncode}, {done.stderr[:SHOWN]}')
-    return done.stdout, done.stderr.replace(MADE_BY, b''), done.returncode
+    return done.stdout.replace(MADE_BY, b''), done.stderr.replace(MADE_BY, b''), done.returncode
 
 
 def compare(ours, proved, draw, name, words, given, room):

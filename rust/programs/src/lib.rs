@@ -5,12 +5,10 @@
 //! |---|---|
 //! | [`programs`] | the proved crates of the programs without their contracts, written by `rust/erase --programs` |
 //! | [`rattle`] | the parts of Rattle's standard library that they call. Nothing there is proved |
-//! | [`streams`] | XXH3 by the kernels of the crate next to this package |
 //! | the others | files of that crate, which has no public name for the programs |
 #![deny(rust_2018_idioms, unsafe_op_in_unsafe_fn)]
 
 pub mod rattle;
-pub mod streams;
 
 #[rustfmt::skip]
 #[allow(
@@ -32,6 +30,7 @@ pub mod programs;
     missing_docs,
     unused_imports,
     unused_labels,
+    unused_variables,
     clippy::all,
     reason = "whole crates of Rattle, of which the programs call a part"
 )]
@@ -41,13 +40,14 @@ mod erased;
 #[path = "../../src/kernels.rs"]
 mod kernels;
 
-#[path = "../../src/library.rs"]
-mod library;
+#[path = "../../src/buffers.rs"]
+mod buffers;
 
-#[path = "../../src/streams.rs"]
-mod stream;
-
-#[cfg(all(target_arch = "x86_64", not(miri)))]
+#[cfg(all(
+    target_arch = "x86_64",
+    target_feature = "sse2",
+    not(any(miri, target_env = "sgx"))
+))]
 #[allow(dead_code, reason = "some builds need no question for the processor")]
 #[path = "../../src/processor.rs"]
 mod processor;

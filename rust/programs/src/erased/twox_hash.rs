@@ -4,4 +4,3 @@
 pub use crate::erased::twox_hash::*;
 
 pub use super::twox_plain::{xxhash32, xxhash64};
-pub use crate::streams::{self as xxhash3, xxhash3_128, xxhash3_64};

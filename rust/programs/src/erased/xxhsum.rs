@@ -6,11 +6,13 @@
 use crate::rattle::prelude::HostRuntime;
 use crate::rattle::io::IsTerminal;
 use crate::rattle::process::ExitCode;
+use crate::rattle::rt::Env;
 use crate::programs::xxh_io::from_read::FromRead;
 use crate::programs::xxh_io::from_write::FromWrite;
 use crate::programs::xxhsum_app::run::run;
 use crate::programs::xxhsum_fs::system::SystemFiles;
 use crate::programs::xxhsum_fs::uninterrupted::Uninterrupted;
+use crate::programs::xxhsum_output::messages::Messages;
 use crate::programs::xxhsum_output::visible::Visible;
 use crate::programs::xxhsum_output::whole_lines::WholeLines;
 use crate::programs::xxhsum_program::arguments::ProcessArguments;
@@ -25,15 +27,16 @@ pub fn main(rt: HostRuntime) -> ExitCode {
         input: FromRead::new(Uninterrupted::new(rt.stdin())),
         interactive: Interactive {
             input: rt.stdin().is_terminal(),
-            errors: shows_errors,
+            errors: shows_errors && !is_dumb(&rt),
         },
         terminal: Terminal::new(rt.stderr(), &rt),
     };
-    // On a terminal control characters are made visible, and each line is written at once.
+    // On a terminal control characters are made visible, and each line is written at once. Each message is one write.
     let output = Visible::new(FromWrite::new(rt.stdout()), shows_output);
+    let messages = Messages::new(WholeLines::new(FromWrite::new(rt.stderr()), true));
     let mut streams = Streams::new(
         WholeLines::new(output, !shows_output),
-        Visible::new(FromWrite::new(rt.stderr()), shows_errors),
+        Visible::new(messages, shows_errors),
     );
     ExitCode::from(run(
         rt.alloc(),
@@ -42,4 +45,13 @@ pub fn main(rt: HostRuntime) -> ExitCode {
         console,
         &mut streams,
     ))
+}
+
+// True if the terminal has no control sequences, by the environment variable `TERM`.
+fn is_dumb<P: Env>(process: &P) -> bool {
+    let mut term = [0; 4];
+    match process.var("TERM", &mut term) {
+        Ok(4) => term == *b"dumb",
+        _ => false,
+    }
 }

@@ -5,8 +5,6 @@
 
 pub mod folders;
 pub mod memory;
-pub mod refusal;
 pub mod store;
 pub mod system;
 pub mod uninterrupted;
-mod words;

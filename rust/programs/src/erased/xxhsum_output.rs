@@ -3,6 +3,7 @@
 
 //! The streams that `xxhsum` writes to: a sink that buffers lines and writes them whole.
 
+pub mod messages;
 pub mod output;
 pub mod visible;
 pub mod whole_lines;

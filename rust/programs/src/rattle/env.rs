@@ -14,7 +14,7 @@ pub enum FillError {
     TooLong,
 }
 
-/// A process with arguments.
+/// A process with arguments and environment variables.
 pub trait Env {
     /// Returns the argument of this index, the program's name first.
     fn argument(&self, index: usize) -> Option<&[u8]>;
@@ -27,6 +27,40 @@ pub trait Env {
         front.copy_from_slice(bytes);
         Ok(bytes.len())
     }
+
+    /// "Copies the value of an environment variable to the front of `buf`, and returns its length." It returns
+    /// `NotPresent` if there is none, and `TooLong` if it is longer than `buf`.
+    fn var(&self, name: &str, buf: &mut [u8]) -> Result<usize, FillError> {
+        let bytes = variable(name).ok_or(FillError::NotPresent)?;
+        let front = buf.get_mut(..bytes.len()).ok_or(FillError::TooLong)?;
+        front.copy_from_slice(bytes);
+        Ok(bytes.len())
+    }
+}
+
+/// Returns the value of an environment variable, whose name has at most 31 bytes. Rust's library copies it to allocated
+/// memory.
+#[cfg(unix)]
+fn variable(name: &str) -> Option<&'static [u8]> {
+    use core::ffi::{c_char, CStr};
+    extern "C" {
+        fn getenv(name: *const c_char) -> *const c_char;
+    }
+    let mut text = [0; 32];
+    text[..31]
+        .get_mut(..name.len())?
+        .copy_from_slice(name.as_bytes());
+    // SAFETY: the name has a NUL at its end, and nothing changes the environment.
+    unsafe {
+        let value = getenv(text.as_ptr().cast());
+        (!value.is_null()).then(|| CStr::from_ptr(value).to_bytes())
+    }
+}
+
+/// The programs read variables only for terminals, and have none on other systems.
+#[cfg(not(unix))]
+fn variable(_name: &str) -> Option<&'static [u8]> {
+    None
 }
 
 /// The arguments as texts.

@@ -65,15 +65,7 @@ fn as_of_posix(error: Error) -> Error {
     error
 }
 
-#[cfg(all(
-    target_os = "linux",
-    any(
-        target_arch = "x86_64",
-        target_arch = "aarch64",
-        target_arch = "x86",
-        target_arch = "arm"
-    )
-))]
+#[cfg(all(target_os = "linux", not(twox_programs_read_dir)))]
 mod dir {
     //! Directories by the system's own call, which needs no memory.
 
@@ -84,15 +76,39 @@ mod dir {
 
     use crate::rattle::io::{Error, Read, Result};
 
-    /// The number of the call `getdents64`, and the flag that refuses everything except directories.
-    #[cfg(target_arch = "x86_64")]
-    const GETDENTS64: (c_long, c_int) = (217, 0o200_000);
-    #[cfg(target_arch = "x86")]
-    const GETDENTS64: (c_long, c_int) = (220, 0o200_000);
-    #[cfg(target_arch = "aarch64")]
-    const GETDENTS64: (c_long, c_int) = (61, 0o40_000);
-    #[cfg(target_arch = "arm")]
-    const GETDENTS64: (c_long, c_int) = (217, 0o40_000);
+    /// The number of the call `getdents64`. Processors that Linux supports since 2009 share one.
+    const GETDENTS64: c_long = if cfg!(any(target_arch = "x86_64", target_arch = "arm")) {
+        217
+    } else if cfg!(any(
+        target_arch = "x86",
+        target_arch = "m68k",
+        target_arch = "s390x"
+    )) {
+        220
+    } else if cfg!(any(target_arch = "powerpc", target_arch = "powerpc64")) {
+        202
+    } else if cfg!(any(target_arch = "sparc", target_arch = "sparc64")) {
+        154
+    } else if cfg!(any(target_arch = "mips", target_arch = "mips32r6")) {
+        4219
+    } else if cfg!(any(target_arch = "mips64", target_arch = "mips64r6")) {
+        5308
+    } else {
+        61
+    };
+
+    /// The flag that refuses everything except directories.
+    const O_DIRECTORY: c_int = if cfg!(any(
+        target_arch = "aarch64",
+        target_arch = "arm",
+        target_arch = "m68k",
+        target_arch = "powerpc",
+        target_arch = "powerpc64"
+    )) {
+        0o40_000
+    } else {
+        0o200_000
+    };
 
     extern "C" {
         fn syscall(number: c_long, ...) -> c_long;
@@ -114,7 +130,7 @@ mod dir {
         pub fn open(path: &str) -> Result<Dir> {
             let folder = OpenOptions::new()
                 .read(true)
-                .custom_flags(GETDENTS64.1)
+                .custom_flags(O_DIRECTORY)
                 .open(path)?;
             Ok(Dir(folder))
         }
@@ -126,24 +142,22 @@ mod dir {
             // The names have fewer bytes than their records, so they fit the buffer.
             let room = buf.len().min(records.0.len());
             // SAFETY: the call writes at most `room` bytes there.
-            let count = unsafe {
-                syscall(
-                    GETDENTS64.0,
-                    self.0.as_raw_fd(),
-                    records.0.as_mut_ptr(),
-                    room,
-                )
-            };
+            let count =
+                unsafe { syscall(GETDENTS64, self.0.as_raw_fd(), records.0.as_mut_ptr(), room) };
             let count = usize::try_from(count).map_err(|_| Error::last_os_error())?;
-            let mut rest = records.0.get(..count).unwrap_or(&[]);
-            let mut len = 0;
-            while let Some((name, others)) = first_name(rest) {
-                buf[len..len + name.len()].copy_from_slice(name);
-                len += name.len();
-                rest = others;
-            }
-            Ok(len)
+            Ok(copy_names(records.0.get(..count).unwrap_or(&[]), buf))
         }
+    }
+
+    /// Copies the names of the records to the buffer, which is at least as long as the records. Returns their length.
+    fn copy_names(records: &[u8], buf: &mut [u8]) -> usize {
+        let (mut rest, mut len) = (records, 0);
+        while let Some((name, others)) = first_name(rest) {
+            buf[len..len + name.len()].copy_from_slice(name);
+            len += name.len();
+            rest = others;
+        }
+        len
     }
 
     /// Returns the name of the first record with its NUL, and the records after it.
@@ -153,63 +167,128 @@ mod dir {
         let end = name.iter().position(|byte| *byte == 0)?;
         Some((&name[..=end], &records[usize::from(length)..]))
     }
+
+    #[cfg(test)]
+    mod tests {
+        use super::*;
+
+        /// Returns a record as the system writes it: an inode, an offset, the length, a type, and a name with a NUL,
+        /// padded to a multiple of 8.
+        fn record(inode: u64, kind: u8, name: &[u8]) -> std::vec::Vec<u8> {
+            let length = (NAME + name.len() + 1).next_multiple_of(8);
+            let mut record = std::vec::Vec::from(inode.to_ne_bytes());
+            record.extend(u64::MAX.to_ne_bytes());
+            record.extend(u16::try_from(length).unwrap().to_ne_bytes());
+            record.push(kind);
+            record.extend(name);
+            record.resize(length, 0);
+            record
+        }
+
+        /// File systems that don't know a type or an inode write 0.
+        #[test]
+        fn a_name_counts_whatever_its_type_and_inode_are() {
+            let mut records = std::vec::Vec::new();
+            let mut names = std::vec::Vec::new();
+            for (inode, kind, length) in [
+                (1, 8, 1),
+                (0, 8, 2),
+                (2, 0, 3),
+                (0, 0, 4),
+                (3, 255, 236),
+                (u64::MAX, 4, 237),
+                (4, 10, 255),
+                (5, 8, 5),
+            ] {
+                let name = std::vec![b'n'; length];
+                records.extend(record(inode, kind, &name));
+                names.extend(name);
+                names.push(0);
+            }
+            let mut buf = std::vec![0; records.len()];
+            let len = copy_names(&records, &mut buf);
+            assert_eq!(buf[..len], names);
+        }
+    }
 }
 
-#[cfg(not(all(
-    target_os = "linux",
-    any(
-        target_arch = "x86_64",
-        target_arch = "aarch64",
-        target_arch = "x86",
-        target_arch = "arm"
-    )
-)))]
+#[cfg(any(not(target_os = "linux"), twox_programs_read_dir))]
 mod dir {
-    //! Directories by Rust's library.
+    //! Directories by Rust's library, which ends a directory at an error as if it had no more names. So all names are
+    //! read when a directory is opened, again if a signal interrupts that, and after an error none is open.
 
     use std::fs::ReadDir;
+    use std::panic::{catch_unwind, set_hook, take_hook, AssertUnwindSafe};
 
     use crate::rattle::io::{ErrorKind, Read, Result};
 
-    /// An open directory.
+    /// The names of a directory, each with a NUL at its end.
     pub struct Dir {
-        entries: ReadDir,
-        // A name that didn't fit the last read, with its NUL.
-        waiting: std::vec::Vec<u8>,
+        names: std::vec::Vec<u8>,
+        // The length of the names that were read.
+        read: usize,
     }
 
     impl Dir {
         /// Opens a directory.
         pub fn open(path: &str) -> Result<Dir> {
-            Ok(Dir {
-                entries: std::fs::read_dir(path)?,
-                waiting: std::vec::Vec::new(),
-            })
+            loop {
+                match names_in(path) {
+                    Err(error) if error.kind() == ErrorKind::Interrupted => {}
+                    names => {
+                        return Ok(Dir {
+                            names: names?,
+                            read: 0,
+                        })
+                    }
+                }
+            }
         }
     }
 
     impl Read for Dir {
         fn read(&mut self, buf: &mut [u8]) -> Result<usize> {
-            let mut len = 0;
-            loop {
-                let Some(room) = buf[len..].get_mut(..self.waiting.len()) else {
-                    return if len > 0 {
-                        Ok(len)
-                    } else {
-                        Err(ErrorKind::InvalidInput.into())
-                    };
+            let rest = &self.names[self.read..];
+            let most = &rest[..rest.len().min(buf.len())];
+            let Some(end) = most.iter().rposition(|byte| *byte == 0) else {
+                return if rest.is_empty() {
+                    Ok(0)
+                } else {
+                    Err(ErrorKind::InvalidInput.into())
                 };
-                room.copy_from_slice(&self.waiting);
-                len += self.waiting.len();
-                self.waiting.clear();
-                let Some(entry) = self.entries.next() else {
-                    return Ok(len);
-                };
-                self.waiting
-                    .extend_from_slice(entry?.file_name().as_encoded_bytes());
-                self.waiting.push(0);
-            }
+            };
+            buf[..=end].copy_from_slice(&most[..=end]);
+            self.read += end + 1;
+            Ok(end + 1)
         }
+    }
+
+    /// An open directory.
+    struct Entries(Option<ReadDir>);
+
+    impl Drop for Entries {
+        /// Closes the directory. If that fails, Rust's library panics, but all names are known.
+        fn drop(&mut self) {
+            let hook = take_hook();
+            set_hook(Box::new(|_| {}));
+            let _ = catch_unwind(AssertUnwindSafe(|| drop(self.0.take())));
+            set_hook(hook);
+        }
+    }
+
+    /// Returns the names in a directory.
+    fn names_in(path: &str) -> Result<std::vec::Vec<u8>> {
+        let mut entries = Entries(Some(std::fs::read_dir(path)?));
+        let mut names = std::vec::Vec::new();
+        for entry in entries.0.iter_mut().flatten() {
+            let name = entry?.file_name();
+            let name = name.as_encoded_bytes();
+            let is_room = names.try_reserve(name.len() + 1);
+            is_room.map_err(|_| ErrorKind::OutOfMemory)?;
+            names.extend_from_slice(name);
+            names.push(0);
+        }
+        Ok(names)
     }
 }
 
@@ -245,7 +324,7 @@ mod tests {
         let path = std::env::temp_dir().join(format!("twox-programs-{}", std::process::id()));
         std::fs::create_dir(&path).unwrap();
         let mut wanted: std::vec::Vec<_> = (0..3000)
-            .map(|number| format!("{number}-{}", "n".repeat(number % 200)))
+            .map(|number| format!("{number:04}-{}", "n".repeat(number % 251)))
             .collect();
         for name in &wanted {
             std::fs::write(path.join(name), "").unwrap();

@@ -7,6 +7,9 @@
 use std::fmt;
 pub use std::io::{Error, ErrorKind, Read, Result, Write};
 
+#[cfg(unix)]
+use super::process::progress_line;
+
 /// The text of an error: "the system's message, and ` (os error N)`". That of Rust's library is the same, but allocates
 /// memory, and stops the process if there is none.
 pub struct Shown<'a>(pub &'a Error);
@@ -124,6 +127,7 @@ macro_rules! output {
             /// "`Ok` of how many bytes of the front were written, or `Err`, and none was."
             #[cfg(unix)]
             fn write(&mut self, bytes: &[u8]) -> Result<usize> {
+                progress_line::note(bytes);
                 self.inner().write(bytes)
             }
 

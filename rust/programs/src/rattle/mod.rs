@@ -23,5 +23,7 @@ pub use crate::crate_files::rattle::*;
 /// The names of Rattle's prelude that Rust's lacks, or uses for something else.
 pub mod prelude {
     pub use super::rt::{AllocGlobal, HostRuntime};
+    pub(crate) use super::vec::vec;
     pub use super::vec::{String, Vec};
+    pub(crate) use crate::crate_files::rattle::prelude::{prove, Clone};
 }

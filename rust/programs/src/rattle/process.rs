@@ -86,16 +86,76 @@ impl Arguments {
 #[cfg(unix)]
 pub unsafe fn run(argc: i32, argv: *const *const c_char, main: fn(HostRuntime) -> ExitCode) -> i32 {
     const SIGPIPE: i32 = 13;
-    const SIG_IGN: usize = 1;
-    extern "C" {
-        fn signal(number: i32, handler: usize) -> usize;
-    }
     // SAFETY: it changes no memory of the process. A write to a pipe without a reader then fails instead of ending the
     // process.
     unsafe { signal(SIGPIPE, SIG_IGN) };
+    progress_line::clear_at_signals();
     // SAFETY: these are the arguments of C's `main`.
     let arguments = unsafe { Arguments::new(usize::try_from(argc).unwrap_or(0), argv) };
     i32::from(main(HostRuntime::new(arguments)).status())
+}
+
+#[cfg(unix)]
+const SIG_IGN: usize = 1;
+
+#[cfg(unix)]
+extern "C" {
+    fn signal(number: i32, handler: usize) -> usize;
+}
+
+#[cfg(unix)]
+pub(super) mod progress_line {
+    //! A progress line, which ends with a carriage return, is cleared if a signal ends the program.
+
+    use core::ffi::c_void;
+    use std::io::IsTerminal;
+    use std::sync::atomic::{AtomicBool, Ordering};
+
+    use super::{signal, SIG_IGN};
+
+    const SIG_DFL: usize = 0;
+    const SIGINT: i32 = 2;
+    const SIGTERM: i32 = 15;
+    // A carriage return, and the control sequence that erases the line from there on.
+    const CLEARED: &[u8] = b"\r\x1b[K";
+
+    static IS_SHOWN: AtomicBool = AtomicBool::new(false);
+
+    extern "C" {
+        fn raise(number: i32) -> i32;
+        fn write(descriptor: i32, bytes: *const c_void, size: usize) -> isize;
+    }
+
+    /// Remembers if the last bytes that were written are a progress line.
+    pub fn note(bytes: &[u8]) {
+        IS_SHOWN.store(bytes.ends_with(b"\r"), Ordering::Relaxed);
+    }
+
+    /// Clears the line at the signals by which users end programs, unless they are ignored.
+    pub fn clear_at_signals() {
+        if !std::io::stderr().is_terminal() {
+            return;
+        }
+        for number in [SIGINT, SIGTERM] {
+            // SAFETY: the handler only calls functions that a handler may call.
+            unsafe {
+                if signal(number, end as extern "C" fn(i32) as usize) == SIG_IGN {
+                    signal(number, SIG_IGN);
+                }
+            }
+        }
+    }
+
+    extern "C" fn end(number: i32) {
+        // SAFETY: these functions may be called by a handler, and `write` reads the bytes of `CLEARED`.
+        unsafe {
+            if IS_SHOWN.load(Ordering::Relaxed) {
+                write(2, CLEARED.as_ptr().cast(), CLEARED.len());
+            }
+            signal(number, SIG_DFL);
+            raise(number);
+        }
+    }
 }
 
 /// Defines `main`: C's on a Unix, and otherwise Rust's.

@@ -9,6 +9,14 @@ use super::{AllocError, Global};
 #[derive(Debug, PartialEq, Eq, PartialOrd, Ord)]
 pub struct Vec<T>(std::vec::Vec<T>);
 
+/// Rattle's `vec!` of an item, filled `len` times.
+macro_rules! vec {
+    (in $alloc:expr; $item:expr; $len:expr) => {
+        $crate::rattle::vec::Vec::filled($alloc, $item, $len)
+    };
+}
+pub(crate) use vec;
+
 impl<T> Vec<T> {
     /// "No items." It takes no memory.
     pub fn new(_: Global) -> Self {
@@ -48,7 +56,7 @@ impl<T> Vec<T> {
 }
 
 impl<T: Copy> Vec<T> {
-    /// `vec![in alloc; item; len]`: "`Ok` of `len` times the item, or `Err` if an allocation failed."
+    /// "`Ok` of `len` times the item, or `Err` if an allocation failed."
     pub fn filled(alloc: Global, item: T, len: usize) -> Result<Self, AllocError> {
         let mut items = Vec::new(alloc);
         items.0.try_reserve_exact(len).map_err(|_| AllocError)?;

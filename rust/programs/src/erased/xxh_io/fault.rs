@@ -4,9 +4,14 @@
 //! Errors of a command: the line and the exit status of each, and how it is written to standard error.
 
 use crate::programs::xxh_io::digest_error::DigestError;
+use crate::programs::xxh_io::refusal::Refusal;
 use crate::programs::xxh_io::streams::Sink;
+use crate::programs::xxh_io::waiting::Waiting;
 use crate::programs::xxh_io::write::write_all;
 use crate::rattle::AllocError;
+
+// Capacity for the line of a read that failed.
+const MOST_LINE: usize = 288;
 
 /// The error of a command.
 #[derive(Clone, Copy, Debug, PartialEq, Eq)]
@@ -26,7 +31,7 @@ pub enum Fault {
 }
 
 impl Fault {
-    /// Returns the line for standard error.
+    /// Returns the line for standard error. That of a read that failed lacks the reason.
     pub fn line(self) -> &'static [u8] {
         match self {
             Fault::Usage => {
@@ -64,14 +69,30 @@ impl From<AllocError> for Fault {
     }
 }
 
-/// Writes the error message, if there is an error, and returns the exit status.
-pub fn conclude<E: Sink>(done: Result<(), Fault>, err: &mut E) -> u8 {
+/// Writes the error message, if there is an error, and returns the exit status. The message of a read that failed has the
+/// system's reason, `failure`.
+pub fn conclude<E: Sink>(done: Result<(), Fault>, failure: &Refusal, err: &mut E) -> u8 {
     match done {
         Ok(()) => 0,
         Err(fault) => {
-            // A failure to write the line does not change the status.
-            let _ = write_all(fault.line(), err);
+            report(fault, failure, err);
             fault.status()
+        }
+    }
+}
+
+// Writes the error message by one call. That a write fails changes nothing.
+fn report<E: Sink>(fault: Fault, failure: &Refusal, err: &mut E) {
+    match fault {
+        Fault::Digest(DigestError::ReadFailed) => {
+            let mut line = Waiting::<MOST_LINE>::new();
+            line.append(b"xxh: read failed: ");
+            line.append(failure.text());
+            line.append(b"\n");
+            let _ = line.flush(err);
+        }
+        _ => {
+            let _ = write_all(fault.line(), err);
         }
     }
 }

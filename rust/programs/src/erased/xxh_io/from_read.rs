@@ -3,13 +3,16 @@
 
 //! Standard readers as sources.
 
+use crate::programs::xxh_io::refusal::Refusal;
 use crate::programs::xxh_io::streams::{Failed, Source};
+use crate::programs::xxh_io::words::words_of;
 use crate::rattle::io::Read;
 
 /// A standard reader as a source. Every error of a read is a failure, including an interruption.
 pub struct FromRead<R> {
     inner: R,
-    failed: bool,
+    // The error of the read that failed.
+    failure: Option<Refusal>,
 }
 
 impl<R: Read> FromRead<R> {
@@ -17,27 +20,34 @@ impl<R: Read> FromRead<R> {
     pub fn new(inner: R) -> FromRead<R> {
         FromRead {
             inner,
-            failed: false,
+            failure: None,
         }
     }
 
     /// Returns the reader.
     pub fn into_inner(self) -> R {
-        let FromRead { inner, failed: _ } = self;
+        let FromRead { inner, failure: _ } = self;
         inner
     }
 }
 
 impl<R: Read> Source for FromRead<R> {
     fn failed(&self) -> bool {
-        self.failed
+        self.failure.is_some()
+    }
+
+    fn failure(&self) -> Refusal {
+        match self.failure {
+            Some(failure) => failure,
+            None => Refusal::new(0, b""),
+        }
     }
 
     fn read(&mut self, buf: &mut [u8]) -> Result<usize, Failed> {
         match self.inner.read(buf) {
             Ok(count) => Ok(count),
-            Err(_) => {
-                self.failed = true;
+            Err(error) => {
+                self.failure = Some(words_of(error));
                 Err(Failed)
             }
         }

@@ -3,12 +3,14 @@
 
 //! Sources in memory, which expose their bytes: one that follows a script, and one over a slice.
 
+use crate::programs::xxh_io::refusal::Refusal;
 use crate::programs::xxh_io::streams::{Failed, Source};
 
 /// A source that returns bytes in chunks of given sizes, and fails at one read. Allocates nothing.
 ///
 /// Read j, counted from 1, fails if j is `fail_at` (0 never fails). Otherwise it returns the next bytes: as many as the
-/// least of `sizes[j - 1]`, the remaining bytes, and the buffer's length. Past the end of `sizes` it returns none.
+/// least of `sizes[j - 1]`, the remaining bytes, and the buffer's length. Past the end of `sizes` it returns none. The
+/// error of the read that fails is `Input/output error`.
 ///
 /// ```rattle
 /// let mut source = ScriptSource::new(b"some bytes", &[4, 1, 5], 3);
@@ -62,6 +64,10 @@ impl Source for ScriptSource<'_> {
         self.failed
     }
 
+    fn failure(&self) -> Refusal {
+        Refusal::new(5, b"Input/output error")
+    }
+
     fn read(&mut self, buf: &mut [u8]) -> Result<usize, Failed> {
         let size = self.next_size(buf.len());
         self.reads = self.reads.saturating_add(1);
@@ -91,6 +97,10 @@ impl<'a> SliceSource<'a> {
 impl Source for SliceSource<'_> {
     fn failed(&self) -> bool {
         false
+    }
+
+    fn failure(&self) -> Refusal {
+        Refusal::new(0, b"")
     }
 
     fn read(&mut self, buf: &mut [u8]) -> Result<usize, Failed> {

@@ -3,7 +3,9 @@
 
 //! Streams to read bytes from and write bytes to.
 
-/// A read or a write failed, for an unspecified reason.
+use crate::programs::xxh_io::refusal::Refusal;
+
+/// A read or a write failed. [`Source::failure`] has the reason of a read.
 #[derive(Clone, Copy, Debug, PartialEq, Eq)]
 pub struct Failed;
 
@@ -13,6 +15,9 @@ pub struct Failed;
 pub trait Source {
     /// True if a read has failed.
     fn failed(&self) -> bool;
+
+    /// Returns the system's error of the read that failed.
+    fn failure(&self) -> Refusal;
 
     /// Reads bytes into the front of the buffer, and returns their number, or 0 at the end of the input.
     ///

@@ -5,6 +5,7 @@
 
 use crate::rattle::prelude::Vec;
 use crate::rattle::AllocError;
+use crate::programs::xxh_io::heap::buffer;
 use crate::programs::xxh_io::kind::Kind;
 use crate::programs::xxh_io::streams::Sink;
 use crate::programs::xxhsum_audit::digest::FileDigest;
@@ -19,6 +20,7 @@ use crate::programs::xxhsum_program::terminal::TimedSink;
 
 // Hashes names and merges them with lines, both in order. A name with a line is hashed by the line's algorithm, other
 // names by `kind`. A name without a digest is reported, and its line is left out.
+#[inline(never)]
 pub(crate) fn digests_of<'n, S: Store, T: TimedSink, E: Sink>(
     context: &Context<'_, S, T>,
     kind: Kind,
@@ -32,11 +34,12 @@ pub(crate) fn digests_of<'n, S: Store, T: TimedSink, E: Sink>(
         added: Vec::new(context.alloc),
         is_complete: true,
     };
-    let mut buf = [0; OFFERED];
+    let mut room = buffer(context.alloc, OFFERED)?;
+    let buf = room.as_mut_slice();
     let mut lines_left = lines;
     let mut names_left = names;
     while let Some(side) = first_by_path(lines_left, names_left) {
-        add_side(context, kind, side, &mut buf, &mut compared, err)?;
+        add_side(context, kind, side, buf, &mut compared, err)?;
         lines_left = &lines_left[side.lines()..];
         names_left = &names_left[side.names()..];
     }

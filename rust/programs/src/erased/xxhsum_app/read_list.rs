@@ -39,7 +39,8 @@ pub(crate) fn read_list<S: Store, T: TimedSink, E: Sink>(
     }
 }
 
-// Returns the entries of a source, which is reported by this name.
+// Returns the entries of a source, which is reported by this name. Separate function so that callers keep no stack frame.
+#[inline(never)]
 fn read_lines<R: Source , T: TimedSink, E: Sink>(
     alloc: Global,
     is_little: bool,
@@ -53,7 +54,7 @@ fn read_lines<R: Source , T: TimedSink, E: Sink>(
         match lines.next() {
             Next::End => return Ok(Some(entries)),
             Next::Failed => {
-                eprint_unread(list, err);
+                eprint_unread(list, &lines.failure(), err);
                 return Ok(None);
             }
             Next::Endless => {

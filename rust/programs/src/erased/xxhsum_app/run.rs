@@ -19,8 +19,8 @@ use crate::programs::xxhsum_program::check::check_lists;
 use crate::programs::xxhsum_program::context::Context;
 use crate::programs::xxhsum_program::hash::hash_names;
 use crate::programs::xxhsum_program::process::{
-    Console, arguments_behind_name, end, eprint_answer, eprint_wrong, perform, program_of,
-    requested_run, waits_for_terminal,
+    Console, arguments_behind_name, end, eprint_answer, eprint_wrong, is_well, perform,
+    print_answer, program_of, requested_run, waits_for_terminal,
 };
 use crate::programs::xxhsum_program::progress_reader::ProgressDisplay;
 use crate::programs::xxhsum_program::stderr::eprint;
@@ -79,7 +79,11 @@ where
     let words = arguments_behind_name(args);
     let parsed = parse_args(default_kind(program), words);
     let Some(found) = requested_run(parsed) else {
-        return Ok(eprint_answer(program, words, parsed, streams.messages()));
+        if is_well(parsed) {
+            return print_answer(program, words, parsed, &mut streams.out);
+        }
+        eprint_answer(program, words, parsed, streams.messages());
+        return Ok(false);
     };
     let (options, place) = found;
     let names = words_behind(words, place);

@@ -5,9 +5,9 @@
 
 use crate::rattle::prelude::Vec;
 use crate::rattle::{AllocError, Global};
+use crate::programs::xxh_io::refusal::Refusal;
 use crate::programs::xxh_io::streams::{Sink, Source};
 use crate::programs::xxhsum_audit::read::read_text;
-use crate::programs::xxhsum_fs::refusal::Refusal;
 use crate::programs::xxhsum_fs::store::Store;
 use crate::programs::xxhsum_program::context::Context;
 use crate::programs::xxhsum_program::progress_reader::{ProgressDisplay, ProgressReader};
@@ -50,11 +50,13 @@ pub(crate) fn eprint_unopened<'a, E: Sink>(name: &'a [u8], refusal: &'a Refusal,
 }
 
 // Reports that a read of the list of this name failed.
-pub(crate) fn eprint_unread<'a, E: Sink>(name: &'a [u8], err: &mut E) {
-    let parts: [&[u8]; 3] = [
+pub(crate) fn eprint_unread<'a, E: Sink>(name: &'a [u8], failure: &'a Refusal, err: &mut E) {
+    let parts: [&[u8]; 5] = [
         b"Error: Could not read '",
         name,
-        b"': a failure occurred reading the list.",
+        b"': ",
+        failure.text(),
+        b".",
     ];
     eprint_line(&parts, err);
 }
@@ -74,7 +76,7 @@ pub fn text_of<R: Source , T: TimedSink, E: Sink>(
     match read_text(alloc, &mut source)? {
         Some(text) => Ok(Some(text)),
         None => {
-            eprint_unread(name, err);
+            eprint_unread(name, &source.failure(), err);
             Ok(None)
         }
     }

@@ -5,9 +5,9 @@
 
 use crate::rattle::prelude::Vec;
 use crate::rattle::{AllocError, Global};
+use crate::programs::xxh_io::refusal::Refusal;
 use crate::programs::xxh_io::streams::Sink;
 use crate::programs::xxhsum_fs::folders::{FolderError, Folders, PathKind};
-use crate::programs::xxhsum_fs::refusal::Refusal;
 use crate::programs::xxhsum_fs::store::Store;
 use crate::programs::xxhsum_program::hash::eprint_outcome;
 use crate::programs::xxhsum_program::outcome::{Outcome, Reason};

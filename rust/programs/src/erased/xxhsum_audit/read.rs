@@ -5,6 +5,7 @@
 
 use crate::rattle::prelude::Vec;
 use crate::rattle::{AllocError, Global};
+use crate::programs::xxh_io::heap::buffer;
 use crate::programs::xxh_io::streams::Source;
 
 // Size of the read buffer.
@@ -14,11 +15,13 @@ const OFFERED: usize = 65536;
 /// `AllocError` if out of memory.
 ///
 /// The caller shows that the source has not failed.
+#[inline(never)]
 pub fn read_text<R: Source>(alloc: Global, source: &mut R) -> Result<Option<Vec<u8>>, AllocError> {
     let mut bytes = Vec::new(alloc);
-    let mut buf = [0; OFFERED];
+    let mut room = buffer(alloc, OFFERED)?;
+    let buf = room.as_mut_slice();
     for _ in 0..u64::MAX {
-        let Ok(count) = source.read(&mut buf) else {
+        let Ok(count) = source.read(buf) else {
             return Ok(None);
         };
         if count == 0 {

@@ -4,15 +4,15 @@
 //! The names in directories.
 
 use crate::rattle::prelude::Vec;
-use crate::programs::xxhsum_fs::refusal::Refusal;
 use crate::rattle::{AllocError, Global};
+use crate::programs::xxh_io::refusal::Refusal;
 
 /// The type of a path, without following links.
 #[derive(Clone, Copy, Debug, PartialEq, Eq)]
 pub enum PathKind {
     /// A directory.
     Folder,
-    /// A file; also a name that is not UTF-8, for which opening returns the error.
+    /// A file; also a name that is not UTF-8, or that has vanished, for which opening returns the error.
     File,
     /// A link, a device, a pipe or a socket.
     Other,

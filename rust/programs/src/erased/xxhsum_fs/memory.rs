@@ -3,8 +3,8 @@
 
 //! Files in memory, for tests: a table of names and of their sources.
 
-use crate::programs::xxhsum_fs::refusal::{MISSING, Refusal};
 use crate::programs::xxhsum_fs::store::Store;
+use crate::programs::xxh_io::refusal::{MISSING, Refusal};
 use crate::programs::xxh_io::streams::Source;
 
 /// A name and its source.

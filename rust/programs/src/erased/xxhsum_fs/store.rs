@@ -3,7 +3,7 @@
 
 //! The trait of file stores.
 
-use crate::programs::xxhsum_fs::refusal::Refusal;
+use crate::programs::xxh_io::refusal::Refusal;
 use crate::programs::xxh_io::streams::Source;
 
 /// Files by name. A name is bytes, as for the system, and needn't be UTF-8.

@@ -6,15 +6,15 @@
 
 use crate::rattle::prelude::Vec;
 use crate::programs::xxhsum_fs::folders::{FolderError, Folders, PathKind};
-use crate::programs::xxhsum_fs::refusal::Refusal;
 use crate::programs::xxhsum_fs::store::Store;
 use crate::programs::xxhsum_fs::uninterrupted::Uninterrupted;
-use crate::programs::xxhsum_fs::words::words_of;
 use crate::rattle::{AllocError, Global};
 use crate::rattle::fs;
 use crate::rattle::fs::Files;
 use crate::rattle::io::Read;
 use crate::programs::xxh_io::from_read::FromRead;
+use crate::programs::xxh_io::refusal::Refusal;
+use crate::programs::xxh_io::words::words_of;
 
 // `EILSEQ`, the system's error number for an illegal byte sequence.
 const NOT_A_TEXT: i32 = 84;
@@ -79,7 +79,15 @@ impl<P: Files> Folders for SystemFiles<'_, P> {
             Ok(found) if found.is_dir() => PathKind::Folder,
             Ok(found) if found.is_file() => PathKind::File,
             Ok(_) => PathKind::Other,
-            Err(error) => PathKind::Unknown(words_of(error)),
+            Err(error) => {
+                // A name that has vanished is reported when it is opened, like one that vanishes later.
+                let refusal = words_of(error);
+                if refusal.is_missing() {
+                    PathKind::File
+                } else {
+                    PathKind::Unknown(refusal)
+                }
+            }
         }
     }
 
@@ -96,6 +104,7 @@ impl<P: Files> Folders for SystemFiles<'_, P> {
 
 // Returns the names in an open directory. Its reads return each name with a NUL at its end, and no read ends within a
 // name.
+#[inline(never)]
 fn names_of<D: Read >(alloc: Global, dir: D) -> Result<Vec<Vec<u8>>, FolderError> {
     let mut dir = Uninterrupted::new(dir);
     let mut names = Vec::new(alloc);

@@ -67,7 +67,7 @@ pub struct Options {
 pub enum ParsedArgs {
     /// Digests of the named files, or a comparison. The names are the arguments from this index on.
     Run { options: Options, names_from: usize },
-    /// A benchmark, by `-b` or `--bench-all`.
+    /// A benchmark, by `-b`, `--bench-all` or `--benchmark-all`.
     Benchmark,
     /// The program's version.
     Version,

@@ -45,7 +45,7 @@ pub const NO_LETTER: u8 = b'-';
 
 /// All options except those whose letter takes a number: the letter after `-`, the name after `--`, its effect, and its
 /// text in the help, which is empty if the help has no line for it.
-pub const ROWS: [(u8, &str, Action, &str); 19] = [
+pub const ROWS: [(u8, &str, Action, &str); 20] = [
     (
         b'c',
         "check",
@@ -147,6 +147,12 @@ pub const ROWS: [(u8, &str, Action, &str); 19] = [
     (
         b'b',
         "bench-all",
+        Action::Returns(ParsedArgs::Benchmark),
+        "",
+    ),
+    (
+        b'-',
+        "benchmark-all",
         Action::Returns(ParsedArgs::Benchmark),
         "",
     ),

@@ -7,6 +7,7 @@ use crate::rattle::prelude::Vec;
 use crate::rattle::{AllocError, Global};
 use crate::rattle::env::FillError;
 use crate::rattle::rt::Env;
+use crate::programs::xxh_io::heap::buffer;
 
 // The first capacity that is tried for an argument, and how often it is doubled.
 const FIRST_ROOM: usize = 256;
@@ -66,7 +67,7 @@ fn argument<A: Arguments>(
 ) -> Result<Option<Vec<u8>>, AllocError> {
     let mut room = FIRST_ROOM;
     for _ in 0..MOST_ROOMS {
-        let mut bytes = Vec::filled(alloc, 0u8, room)?;
+        let mut bytes = buffer(alloc, room)?;
         match arguments.fill(index, bytes.as_mut_slice()) {
             Ok(len) => {
                 bytes.truncate(len);

@@ -16,6 +16,7 @@ use crate::programs::xxhsum_program::streams::Streams;
 use crate::programs::xxhsum_program::terminal::TimedSink;
 use crate::rattle::itoa::Buffer;
 use crate::rattle::{AllocError, Global};
+use crate::programs::xxh_io::heap::buffer;
 use crate::programs::xxh_io::streams::{Sink, Source};
 use crate::programs::xxh_io::waiting::Waiting;
 use crate::programs::xxhsum_fs::store::Store;
@@ -86,6 +87,11 @@ impl Report {
             && !self.is_broken
     }
 
+    // True if the list has no well-formed line, and didn't break off before its first line except comments.
+    fn has_no_line(&self) -> bool {
+        self.proper == 0 && !(self.is_broken && self.improper == 0)
+    }
+
     // True if `--ignore-missing` is given and no file matches.
     fn is_unverified(&self, ignores_missing: bool) -> bool {
         ignores_missing && self.same == 0
@@ -96,9 +102,6 @@ impl Report {
         self.is_good(options.is_strict) && !self.is_unverified(options.ignores_missing)
     }
 }
-
-// The message about a list whose read failed.
-const READ_FAILED: &[u8] = b"A failure occurred reading the list";
 
 // The message about a line longer than 32,767 bytes.
 const TOO_LONG: &[u8] = b"Line too long";
@@ -134,19 +137,22 @@ impl<S: Store, T: TimedSink> ListCheck<'_, S, T> {
     }
 
     // Checks the lines of `source`: up to its end, to a line without an end, or to the last line number.
+    #[inline(never)]
     fn check_lines<R: Source , W: Output, E: Sink>(
         &self,
         source: ProgressReader<R, T>,
         streams: &mut Streams<W, E>,
     ) -> Result<Report, Stop> {
+        let mut room = buffer(self.alloc, OFFERED)?;
+        let buf = room.as_mut_slice();
         let mut lines = Lines::new(source);
         let mut report = Report::new();
-        let mut buf = [0; OFFERED];
         for number in 1..u64::MAX {
             match lines.next() {
                 Next::End => return Ok(report),
                 Next::Failed => {
-                    self.report_failure(number, &report, streams);
+                    let failure = lines.failure();
+                    self.report_line(number, failure.text(), streams);
                     return Ok(report.with_broken_end());
                 }
                 Next::Endless => {
@@ -158,7 +164,7 @@ impl<S: Store, T: TimedSink> ListCheck<'_, S, T> {
                         number,
                         text: lines.line(),
                     };
-                    self.check_line(line, &mut report, &mut buf, streams)?;
+                    self.check_line(line, &mut report, buf, streams)?;
                 }
             }
         }
@@ -243,31 +249,19 @@ impl<S: Store, T: TimedSink> ListCheck<'_, S, T> {
         }
     }
 
-    // Reports that a read of the list failed. If the list has no well-formed line so far, only the summary reports it.
-    fn report_failure<W: Output, E: Sink>(
-        &self,
-        number: u64,
-        report: &Report,
-        streams: &mut Streams<W, E>,
-    ) {
-        if report.proper > 0 {
-            self.report_line(number, READ_FAILED, streams);
-        }
-    }
-
     // Returns the line "no file was verified".
     fn unverified_line(&self) -> Result<Vec<u8>, AllocError> {
         line_of(self.alloc, &[self.name, b": no file was verified"])
     }
 
-    // Reports a list without a well-formed line, and prints the summary of a list.
+    // Reports a list without a well-formed line, unless it broke off before, and prints the summary of a list.
     fn sum_up<W: Output, E: Sink>(
         &self,
         report: &Report,
         unverified: &[u8],
         streams: &mut Streams<W, E>,
     ) -> Result<(), Stop> {
-        if report.proper == 0 {
+        if report.has_no_line() {
             streams.report(&[
                 self.name,
                 b": no properly formatted xxHash checksum lines found",

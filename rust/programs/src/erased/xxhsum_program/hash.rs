@@ -5,7 +5,7 @@
 
 use crate::rattle::prelude::Vec;
 use crate::programs::xxhsum_program::context::Context;
-use crate::programs::xxhsum_program::outcome::{OFFERED, Outcome, Reason, outcome_of};
+use crate::programs::xxhsum_program::outcome::{OFFERED, Outcome, outcome_of, reason_of};
 use crate::programs::xxhsum_program::progress_reader::ProgressReader;
 use crate::programs::xxhsum_program::stderr::eprint_line;
 use crate::programs::xxhsum_program::stdout::print;
@@ -28,6 +28,7 @@ use crate::programs::xxhsum_output::output::Output;
 ///
 /// Both errors end the run at once; the lines before it are written. [`Stop::WriteFailed`] if a write of a line fails,
 /// and [`Stop::OutOfMemory`] if memory for a line runs out.
+#[inline(never)]
 pub fn hash_names<S: Store, T: TimedSink, W: Output, E: Sink>(
     context: &Context<'_, S, T>,
     names: &[Vec<u8>],
@@ -51,6 +52,7 @@ pub fn hash_names<S: Store, T: TimedSink, W: Output, E: Sink>(
 /// # Errors
 ///
 /// [`Stop::WriteFailed`] if a write of the line fails, and [`Stop::OutOfMemory`] if memory for it runs out.
+#[inline(never)]
 pub fn hash_input<R: Source, T: TimedSink, W: Output, E: Sink>(
     alloc: Global,
     options: Options,
@@ -64,7 +66,14 @@ pub fn hash_input<R: Source, T: TimedSink, W: Output, E: Sink>(
             Ok(true)
         }
         Err(error) => {
-            streams.report(&[b"Error: ", Reason::from(error).text(), b"."]);
+            let reason = reason_of(error, input.failure());
+            streams.report(&[
+                b"Error: Could not read '",
+                name,
+                b"': ",
+                reason.text(),
+                b".",
+            ]);
             Ok(false)
         }
     }

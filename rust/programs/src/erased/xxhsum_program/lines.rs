@@ -5,6 +5,7 @@
 
 use crate::programs::xxhsum_program::progress_reader::ProgressReader;
 use crate::programs::xxhsum_program::terminal::TimedSink;
+use crate::programs::xxh_io::refusal::Refusal;
 use crate::programs::xxh_io::streams::{Failed, Source};
 
 const BUFFER: usize = 65536;
@@ -135,6 +136,11 @@ impl<R: Source , T: TimedSink> Lines<R, T> {
                 }
             },
         }
+    }
+
+    /// Returns the system's error of the read that failed.
+    pub fn failure(&self) -> Refusal {
+        self.source.failure()
     }
 
     /// Returns the current line without its line feed, or `None` if it is longer than 32,767 bytes.

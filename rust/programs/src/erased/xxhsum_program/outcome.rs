@@ -8,7 +8,8 @@ use crate::programs::xxhsum_program::progress_reader::ProgressDisplay;
 use crate::programs::xxhsum_program::terminal::TimedSink;
 use crate::programs::xxh_io::digest_error::DigestError;
 use crate::programs::xxh_io::kind::Kind;
-use crate::programs::xxhsum_fs::refusal::Refusal;
+use crate::programs::xxh_io::refusal::Refusal;
+use crate::programs::xxh_io::streams::Source;
 use crate::programs::xxhsum_fs::store::Store;
 
 /// Size of the buffer for each read of a file, in bytes.
@@ -31,7 +32,7 @@ pub enum Reason {
     /// The file could not be opened.
     Unopened { refusal: Refusal },
     /// A read of the file failed.
-    ReadFailed,
+    ReadFailed { refusal: Refusal },
     /// The file is too long: 2^64 - 1 reads did not reach its end.
     TooLong,
 }
@@ -51,15 +52,14 @@ impl Reason {
     pub(crate) fn is_missing(&self) -> bool {
         match self {
             Reason::Unopened { refusal } => refusal.is_missing(),
-            Reason::ReadFailed | Reason::TooLong => false,
+            Reason::ReadFailed { .. } | Reason::TooLong => false,
         }
     }
 
-    // Returns the reason as text: the system's message if the file can't be opened.
+    // Returns the reason as text: the system's message if the file can't be opened or read.
     pub(crate) fn text(&self) -> &[u8] {
         match self {
-            Reason::Unopened { refusal } => refusal.text(),
-            Reason::ReadFailed => b"a failure occurred reading the input file",
+            Reason::Unopened { refusal } | Reason::ReadFailed { refusal } => refusal.text(),
             Reason::TooLong => b"the input file is too long",
         }
     }
@@ -68,18 +68,17 @@ impl Reason {
     pub(crate) fn step(&self) -> &[u8] {
         match self {
             Reason::Unopened { .. } => b"open",
-            Reason::ReadFailed | Reason::TooLong => b"read",
+            Reason::ReadFailed { .. } | Reason::TooLong => b"read",
         }
     }
 }
 
-impl From<DigestError> for Reason {
-    // Reading a file writes nothing, so a write can't fail here.
-    fn from(error: DigestError) -> Reason {
-        match error {
-            DigestError::ReadFailed | DigestError::WriteFailed => Reason::ReadFailed,
-            DigestError::TooLong => Reason::TooLong,
-        }
+// Returns the reason for an error of reading a file, if `refusal` is the system's error of the read. Reading a file writes
+// nothing, so a write can't fail here.
+pub(crate) fn reason_of(error: DigestError, refusal: Refusal) -> Reason {
+    match error {
+        DigestError::ReadFailed | DigestError::WriteFailed => Reason::ReadFailed { refusal },
+        DigestError::TooLong => Reason::TooLong,
     }
 }
 
@@ -95,7 +94,10 @@ pub(crate) fn value_named<S: Store, T: TimedSink>(
     match progress.open(store, name) {
         Ok(file) => {
             let mut file = file;
-            Ok(file.value(kind, buf)?)
+            match file.value(kind, buf) {
+                Ok(value) => Ok(value),
+                Err(error) => Err(reason_of(error, file.failure())),
+            }
         }
         Err(refusal) => Err(Reason::Unopened { refusal }),
     }

@@ -95,26 +95,51 @@ pub fn waits_for_terminal(interactive: Interactive, options: Options, names: &[V
     has_none(names) && !is_tree(options) && !options.takes_terminal && interactive.input
 }
 
-/// Handles arguments that ask for no run: writes help, version or an error, and returns whether all is well. Writes
-/// nothing for a run.
-pub fn eprint_answer<E: Sink>(
+/// True if the arguments ask for the help or the version, which belong on standard output.
+pub fn is_well(parsed: ParsedArgs) -> bool {
+    match parsed {
+        ParsedArgs::Version | ParsedArgs::Help => true,
+        ParsedArgs::Run { .. }
+        | ParsedArgs::Benchmark
+        | ParsedArgs::WrongOption { .. }
+        | ParsedArgs::NulsInList
+        | ParsedArgs::WalkBesideLists
+        | ParsedArgs::WalkOfNothing
+        | ParsedArgs::InputBesideNames
+        | ParsedArgs::NumberTooLarge => false,
+    }
+}
+
+/// Prints the help or the version on standard output.
+///
+/// # Errors
+///
+/// [`Stop::WriteFailed`] if a write to it fails.
+pub fn print_answer<W: Sink>(
     program: &[u8],
     words: &[Vec<u8>],
     parsed: ParsedArgs,
-    err: &mut E,
-) -> bool {
+    out: &mut W,
+) -> Result<bool, Stop> {
+    eprint_answer(program, words, parsed, out);
+    if out.failed() {
+        Err(Stop::WriteFailed)
+    } else {
+        Ok(true)
+    }
+}
+
+/// Handles arguments that ask for no run: writes help, version or an error. Writes nothing for a run.
+pub fn eprint_answer<E: Sink>(program: &[u8], words: &[Vec<u8>], parsed: ParsedArgs, err: &mut E) {
     match parsed {
         ParsedArgs::Version => {
             eprint_line(&[program, TITLE], err);
-            true
         }
         ParsedArgs::Help => {
             eprint_usage(program, err);
-            true
         }
         ParsedArgs::Benchmark => {
             eprint_line(&[program, NO_BENCHMARK], err);
-            false
         }
         ParsedArgs::WrongOption { at } => {
             eprint_wrong(
@@ -122,7 +147,6 @@ pub fn eprint_answer<E: Sink>(
                 program,
                 err,
             );
-            false
         }
         ParsedArgs::NulsInList => {
             eprint_wrong(
@@ -130,7 +154,6 @@ pub fn eprint_answer<E: Sink>(
                 program,
                 err,
             );
-            false
         }
         ParsedArgs::WalkBesideLists => {
             eprint_wrong(
@@ -138,20 +161,16 @@ pub fn eprint_answer<E: Sink>(
                 program,
                 err,
             );
-            false
         }
         ParsedArgs::WalkOfNothing => {
             eprint_wrong(&[b"Wrong parameters: '-r' without a FILE"], program, err);
-            false
         }
         ParsedArgs::InputBesideNames => {
             eprint(INPUT_BESIDE_NAMES, err);
-            false
         }
-        ParsedArgs::Run { .. } => false,
+        ParsedArgs::Run { .. } => {}
         ParsedArgs::NumberTooLarge => {
             eprint(b"Error: numeric value too large \n", err);
-            false
         }
     }
 }

@@ -3,10 +3,11 @@
 
 //! Progress of long files, on standard error if it is a terminal.
 
-use crate::programs::xxhsum_program::stderr::{eprint, eprint_parts};
+use crate::programs::xxhsum_program::stderr::eprint;
 use crate::programs::xxhsum_program::terminal::TimedSink;
 use crate::rattle::itoa::Buffer;
 use crate::programs::xxh_io::streams::Sink;
+use crate::programs::xxh_io::waiting::Waiting;
 
 // Bytes between two progress lines: 64 MiB.
 const STEP: u64 = 67108864;
@@ -14,6 +15,9 @@ const STEP: u64 = 67108864;
 const MIB: u64 = 1048576;
 
 const KIB: u64 = 1024;
+
+// Maximum length of a progress line with its control sequences, in bytes.
+const MOST_LINE: usize = 128;
 
 // Clears the line: a carriage return, and ECMA-48's EL, which erases from there on.
 const CLEARED: &[u8] = b"\r\x1b[K";
@@ -92,32 +96,43 @@ fn rate_of(count: u64, millis: u64) -> u64 {
 fn show_between<E: Sink>(before: u64, count: u64, size: Option<u64>, millis: u64, end: &mut E) {
     if before / STEP < count / STEP {
         let rate = rate_of(count, millis);
-        show_rate(count, rate, end);
-        show_left(size, count, rate, end);
-        eprint(ENDED, end);
+        // One write, so that several programs on a terminal don't mix their lines.
+        let mut line = Waiting::<MOST_LINE>::new();
+        put_rate(count, rate, &mut line);
+        put_left(size, count, rate, &mut line);
+        line.append(ENDED);
+        eprint_once(line, end);
     }
 }
 
-// Shows `count` and the rate.
-fn show_rate<E: Sink>(count: u64, rate: u64, end: &mut E) {
-    let mut digits = Buffer::new();
-    let mut rate_digits = Buffer::new();
-    let number = digits.format(count / MIB).as_bytes();
-    let speed = rate_digits.format(rate / KIB).as_bytes();
-    let parts: [&[u8]; 6] = [CLEARED, ONE_ROW, number, b" MiB, ", speed, b" MiB/s"];
-    eprint_parts(&parts, end);
+// Writes the line, unless a write has failed before.
+fn eprint_once<E: Sink>(line: Waiting<MOST_LINE>, end: &mut E) {
+    let mut line = line;
+    if !end.failed() {
+        let _ = line.flush(end);
+    }
 }
 
-// Shows the seconds left, if the size is known.
-fn show_left<E: Sink>(size: Option<u64>, count: u64, rate: u64, end: &mut E) {
+// Appends `count` and the rate to an empty line.
+fn put_rate(count: u64, rate: u64, line: &mut Waiting<MOST_LINE>) {
+    line.append(CLEARED);
+    line.append(ONE_ROW);
+    line.append(Buffer::new().format(count / MIB).as_bytes());
+    line.append(b" MiB, ");
+    line.append(Buffer::new().format(rate / KIB).as_bytes());
+    line.append(b" MiB/s");
+}
+
+// Appends the seconds left, if the size is known.
+fn put_left(size: Option<u64>, count: u64, rate: u64, line: &mut Waiting<MOST_LINE>) {
     let Some(size) = size else {
         return;
     };
     if rate > 0 {
-        let mut digits = Buffer::new();
         let seconds = size.saturating_sub(count) / KIB / rate;
-        let number = digits.format(seconds).as_bytes();
-        eprint_parts(&[b", ", number, b" s left"], end);
+        line.append(b", ");
+        line.append(Buffer::new().format(seconds).as_bytes());
+        line.append(b" s left");
     }
 }
 

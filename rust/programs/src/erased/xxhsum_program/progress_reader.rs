@@ -8,9 +8,9 @@ use crate::programs::xxhsum_program::progress::{Progress, time_of};
 use crate::programs::xxhsum_program::terminal::TimedSink;
 use crate::programs::xxh_io::digest_error::DigestError;
 use crate::programs::xxh_io::kind::Kind;
+use crate::programs::xxh_io::refusal::Refusal;
 use crate::programs::xxh_io::streams::{Failed, Source};
 use crate::programs::xxh_program::program::value_of_source;
-use crate::programs::xxhsum_fs::refusal::Refusal;
 use crate::programs::xxhsum_fs::store::Store;
 use crate::programs::xxhsum_options::options::Options;
 
@@ -44,6 +44,10 @@ impl<R: Source, T: TimedSink> ProgressReader<R, T> {
 impl<R: Source, T: TimedSink> Source for ProgressReader<R, T> {
     fn failed(&self) -> bool {
         self.source.failed()
+    }
+
+    fn failure(&self) -> Refusal {
+        self.source.failure()
     }
 
     fn read(&mut self, buf: &mut [u8]) -> Result<usize, Failed> {

@@ -36,7 +36,7 @@ const BLOCKS_WRITE: usize = 6400;
 /// | status | line on `err` |
 /// |---|---|
 /// | 0 | none |
-/// | 1 | `xxh: read failed`, `xxh: write failed` or `xxh: too long` |
+/// | 1 | `xxh: read failed: ` and the system's reason, `xxh: write failed` or `xxh: too long` |
 /// | 2 | `xxh: usage: ..`, `xxh: bad seed`, `xxh: bad size` or `xxh: bad state` |
 /// | 3 | `xxh: out of memory` |
 ///
@@ -52,7 +52,7 @@ pub fn run<R: Source, W: Sink, E: Sink>(
         Ok(command) => perform(alloc, command, r, out),
         Err(fault) => Err(fault),
     };
-    conclude(answer, err)
+    conclude(answer, &r.failure(), err)
 }
 
 // Uses large buffers, to reduce system calls for small blocks.

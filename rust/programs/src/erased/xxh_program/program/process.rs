@@ -5,6 +5,7 @@
 
 use crate::rattle::prelude::{AllocGlobal, String, Vec};
 use crate::programs::xxh_program::program::command_line::run;
+use crate::programs::xxh_program::program::information::{information_of, print_information};
 use crate::rattle::{AllocError, Global};
 use crate::rattle::env;
 use crate::rattle::io::{Read, Write};
@@ -23,12 +24,13 @@ const INPUT_BUFFER: usize = 65536;
 
 /// Runs the program with the arguments of the process over these streams, and returns the exit status.
 ///
-/// Passes the arguments after the first to [`run`]. The input is read through a buffer, and the output is flushed at
+/// If the only argument is `--help` or `--version`, prints that, with [`print_information`], and reads nothing.
+/// Otherwise passes the arguments after the first to [`run`]. The input is read through a buffer, and the output is flushed at
 /// the end. An argument that is not UTF-8 makes no command, and missing memory for the arguments is an error; the
 /// message of either is written before anything is read.
 ///
 /// Its clause states which statuses there are. The effect of the arguments, the messages and the flush are proved of
-/// the function that it calls with the arguments. That it calls that function once, with the arguments of this process,
+/// the functions that it calls with the arguments. That it calls one of them once, with the arguments of this process,
 /// is tested, since no clause can name them.
 ///
 /// This is all that `main` does:
@@ -48,8 +50,15 @@ where
     let mut out = FromWrite::new(output);
     let mut err = FromWrite::new(errors);
     match arguments(process) {
-        Ok(args) => run_arguments(process.alloc(), &args, &mut r, &mut out, &mut err),
-        Err(fault) => conclude(Err(fault), &mut err),
+        Ok(args) => match information_of(&args) {
+            Some(information) => conclude(
+                print_information(information, &mut out),
+                &r.failure(),
+                &mut err,
+            ),
+            None => run_arguments(process.alloc(), &args, &mut r, &mut out, &mut err),
+        },
+        Err(fault) => conclude(Err(fault), &r.failure(), &mut err),
     }
 }
 
@@ -71,14 +80,14 @@ fn run_arguments<R: Source, W: Write, E: Sink>(
 ) -> u8 {
     match words_after_name(alloc, args) {
         Ok(words) => match run(alloc, &words, r, out, err) {
-            0 => conclude(flush(out), err),
+            0 => conclude(flush(out), &r.failure(), err),
             status => status,
         },
-        Err(AllocError) => conclude(Err(Fault::OutOfMemory), err),
+        Err(AllocError) => conclude(Err(Fault::OutOfMemory), &r.failure(), err),
     }
 }
 
-fn flush<W: Write>(out: &mut FromWrite<W>) -> Result<(), Fault> {
+pub(super) fn flush<W: Write>(out: &mut FromWrite<W>) -> Result<(), Fault> {
     match out.flush() {
         Ok(()) => Ok(()),
         Err(Failed) => Err(Fault::Digest(DigestError::WriteFailed)),

@@ -1,7 +1,7 @@
 // SPDX-License-Identifier: MIT
-// crates/xxhsum_fs/src/refusal.rt without its contracts, written by rust/erase --programs: change that file.
+// crates/xxh_io/src/refusal.rt without its contracts, written by rust/erase --programs: change that file.
 
-//! Errors of opening a file.
+//! Errors of the system.
 
 // Capacity for the system's message, which is shorter.
 const TEXT_ROOM: usize = 256;
@@ -9,7 +9,7 @@ const TEXT_ROOM: usize = 256;
 /// `ENOENT`, the system's error number for a missing file.
 pub const MISSING: i32 = 2;
 
-/// The error for a file that couldn't be opened: the system's error number and message.
+/// An error of opening or reading a file: the system's error number and message.
 #[derive(Clone, Copy, Debug, PartialEq, Eq)]
 pub struct Refusal {
     code: i32,

@@ -1,9 +1,9 @@
 // SPDX-License-Identifier: MIT
-// crates/xxhsum_fs/src/words.rt without its contracts, written by rust/erase --programs: change that file.
+// crates/xxh_io/src/words.rt without its contracts, written by rust/erase --programs: change that file.
 
 //! The system's message for an error.
 
-use crate::programs::xxhsum_fs::refusal::Refusal;
+use crate::programs::xxh_io::refusal::Refusal;
 use std::fmt::Write;
 use crate::rattle::io;
 use std::fmt;
@@ -30,8 +30,8 @@ impl Write for Words {
     }
 }
 
-// Returns the error with the system's error number and message; the number is 0 if the error is not the system's.
-pub(crate) fn words_of(error: io::Error) -> Refusal {
+/// Returns the error with the system's error number and message; the number is 0 if the error is not the system's.
+pub fn words_of(error: io::Error) -> Refusal {
     let code = error.raw_os_error().unwrap_or(0);
     let mut words = Words {
         text: [0; ROOM],
