@@ -32,7 +32,8 @@ read_target() {
     *) fail "no target '$target': there are x86-64 and aarch64" ;;
     esac
     asm=$out/asm/$target
-    made=(make -s CC="${tools}gcc" CFLAGS='-O2 -Werror' asm="$asm" out="$out/made/$target" lib="$lib")
+    # Relative paths, because make splits others at the spaces of the folder's own.
+    made=(make -s CC="${tools}gcc" CFLAGS='-O2 -Werror' asm="${asm#"$top/c/"}" out="out/made/$target" lib="${lib#"$top/c/"}")
 }
 
 # read_cpu WORDS: removes --cpu NAME from the arguments, and leaves the others in `words`. `cpu` is then the instruction

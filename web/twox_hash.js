@@ -628,7 +628,8 @@ export class Stream {
    */
   save() {
     const memory = this.#enter();
-    return savedOf(this.#kind, this.#recordThere(memory), this.#hasOwnSecret ? this.#digestOfSecret(memory) : undefined);
+    const record = toSavedRecord(this.#kind, this.#recordThere(memory));
+    return savedOf(this.#kind, record, this.#hasOwnSecret ? this.#digestOfSecret(memory) : undefined);
   }
 
   /**
@@ -797,9 +798,9 @@ function takePiece(streams, piece) {
 
 // ---- saved states
 
-// A state is a head, the stream's record as in the module's memory, and the XXH64 of both. The head is the mark with
-// the format's version, the number of the hash among KINDS, whether the caller's secret is needed, six zeros, and the
-// XXH64 of that secret. Numbers are little-endian.
+// A state is a head, the stream's record, and the XXH64 of both. The record is that of the module's memory, of XXH3 with
+// the last stripe. The head is the mark with the format's version, the number of the hash among KINDS, whether the
+// caller's secret is needed, six zeros, and the XXH64 of that secret. Numbers are little-endian.
 const MARK = encoder.encode("twoxhsh1");
 const HEAD_BYTES = 24;
 const KIND_AT = 8;
@@ -813,6 +814,31 @@ const SEED_AT = 8;
 
 /** The padding bytes of a record. */
 const PADDING = { xxh32: [44, 48] };
+
+/**
+ * A saved record of XXH3 has the last stripe taken before the number of stripes. In memory only a buffer with fewer
+ * bytes than a stripe has it: as its end. Elsewhere it has no meaning.
+ */
+const STRIPE_BYTES = 64;
+const LAST_STRIPE_AT = 88;
+const BUFFER_END = 608;
+
+function toSavedRecord(kind, record) {
+  if (!isXxh3(kind)) return record;
+  const saved = new Uint8Array(record.length + STRIPE_BYTES);
+  saved.set(record.subarray(0, LAST_STRIPE_AT));
+  saved.set(record.subarray(BUFFER_END - STRIPE_BYTES, BUFFER_END), LAST_STRIPE_AT);
+  saved.set(record.subarray(LAST_STRIPE_AT), LAST_STRIPE_AT + STRIPE_BYTES);
+  return saved;
+}
+
+function fromSavedRecord(kind, saved) {
+  if (!isXxh3(kind)) return saved;
+  const record = new Uint8Array(saved.length - STRIPE_BYTES);
+  record.set(saved.subarray(0, LAST_STRIPE_AT));
+  record.set(saved.subarray(LAST_STRIPE_AT + STRIPE_BYTES), LAST_STRIPE_AT);
+  return record;
+}
 
 function savedOf(kind, record, digestOfSecret) {
   const saved = new Uint8Array(HEAD_BYTES + record.length + CHECK_BYTES);
@@ -835,12 +861,12 @@ function readSaved(memory, saved) {
   if (saved.length < HEAD_BYTES || MARK.some((byte, i) => saved[i] !== byte)) throw notAState("it lacks the mark");
   const kind = KINDS[saved[KIND_AT]];
   if (kind === undefined) throw notAState("its hash is unknown");
-  const length = HEAD_BYTES + memory.places[FAMILY[kind]].length + CHECK_BYTES;
+  const length = HEAD_BYTES + memory.places[FAMILY[kind]].length + (isXxh3(kind) ? STRIPE_BYTES : 0) + CHECK_BYTES;
   if (saved.length !== length) throw notAState(`it has ${saved.length} bytes, not the ${length} of ${kind}`);
   const record = new Uint8Array(saved.subarray(HEAD_BYTES, length - CHECK_BYTES));
   const digestOfSecret = saved[NEEDS_SECRET_AT] ? view.getBigUint64(DIGEST_OF_SECRET_AT, true) : undefined;
   if (!sameBytes(savedOf(kind, record, digestOfSecret), saved)) throw notAState("it was changed");
-  return { kind, record, digestOfSecret, seed: seedIn(kind, record, digestOfSecret) };
+  return { kind, record: fromSavedRecord(kind, record), digestOfSecret, seed: seedIn(kind, record, digestOfSecret) };
 }
 
 /** Returns the seed from which the secret of a stream of XXH3 is derived again; undefined if there is no need. */

@@ -61,7 +61,6 @@ PLAIN_KIND(64, 32)
 
 struct xxh3_state {
     uint64_t accumulators[8], place;
-    unsigned char last_stripe[64];
     uint64_t stripes;
     unsigned char buffer[512];
     uint64_t waiting, total_length, mark, has_seed, seed, secret_length;

@@ -122,6 +122,22 @@ class Saved(unittest.TestCase):
         hasher = ours.xxh3_64(b'a' * 1000, 5)
         self.assertEqual(ours.xxh3_128.from_state(hasher.state()).digest(), ours.xxh3_128_digest(b'a' * 1000, 5))
 
+    def test_the_last_stripe_of_a_stream(self):
+        """It is saved if fewer bytes than a stripe follow it. With more, it may be any stripe, or zeros."""
+        data = bytes_of(2000)
+        hasher = ours.xxh3_64(data[:512])
+        hasher.update(data[512:520])
+        record = json.loads(hasher.state())
+        self.assertEqual((record['last_stripe'], record['buffer']), (list(data[448:512]), list(data[512:520])))
+        self.assertEqual(ours.xxh3_64.from_state(json.dumps(record)).digest(), theirs.xxh3_64_digest(data[:520]))
+        record = json.loads(ours.xxh3_64(data[:520]).state())
+        self.assertEqual(record['buffer'], list(data[448:520]))
+        for last in (data[384:448], bytes(64)):
+            loaded = ours.xxh3_64.from_state(json.dumps(record | {'last_stripe': list(last)}))
+            self.assertEqual(loaded.digest(), theirs.xxh3_64_digest(data[:520]))
+            loaded.update(data[520:])
+            self.assertEqual(loaded.digest(), theirs.xxh3_64_digest(data))
+
     def test_states_that_xxh_saved(self):
         """Each case has a seed, the length of the input, whose bytes are 0, 1, 2 .. 250, repeated, and the state
         saved by the program xxh."""

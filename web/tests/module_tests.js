@@ -369,7 +369,7 @@ const TESTS = {
     const rows = chosen(table).filter(({ length }) => length > 0);
     const wrong = rows.filter((row) => {
       const { input, length } = row;
-      const cuts = [[], [Math.floor(length / 3), Math.floor(length / 2)], length <= 300 ? [...input.keys()] : [257, 513]];
+      const cuts = [[], [Math.floor(length / 3), Math.floor(length / 2)], length <= 300 ? [...input.keys()] : [257, 512, 520]];
       return !cuts.every((ends) => savedBetween(row, input, ends) === row.answer);
     });
     return { ok: rows.length > 500 && wrong.length === 0, words: wrong[0]?.line ?? `${rows.length} rows` };
@@ -379,6 +379,19 @@ const TESTS = {
     const wrong = states.filter((saved) => String(twox.Stream.load(saved).save()) !== String(saved));
     const inside = Uint8Array.of(1, ...states[0], 2).subarray(1, -1);
     return { ok: wrong.length === 0 && twox.Stream.load(inside).kind === "xxh32", words: `${states.length} states` };
+  },
+  "a saved stream of XXH3 has its last stripe before the number of stripes": () => {
+    const input = many().subarray(0, 520);
+    const stream = new twox.Stream("xxh3_64").update(input.subarray(0, 512)).update(input.subarray(512));
+    const saved = stream.save();
+    const stripes = new DataView(saved.buffer).getBigUint64(HEAD + 152, true);
+    const isThere = String(saved.subarray(HEAD + 88, HEAD + 152)) === String(input.subarray(448, 512));
+    return { ok: saved.length === 720 && isThere && stripes === 8n, words: `${saved.length} bytes, ${stripes} stripes` };
+  },
+  "the last stripe in a saved stream with more bytes buffered has no meaning": () => {
+    const saved = forged(stateOf("xxh3_64", 520), HEAD + 88, ...new Array(64).fill(0xaa));
+    const values = [64, 1000].map((more) => twox.Stream.load(saved).update(new Uint8Array(more)).digest() === twox.xxh3_64(new Uint8Array(520 + more)));
+    return { ok: values.every(Boolean), words: String(values) };
   },
   "a state with any bit changed is refused": () => {
     const states = twox.KINDS.map((kind) => stateOf(kind, 100));

@@ -113,21 +113,27 @@ class _Plain:
 class _Stream:
     """XXH3 of both widths: a state is accepted if its parts fit each other and the secret. Whether some bytes lead
     to its accumulators is known only for those of no stripe. `seed` is null in one that was made with only a secret."""
-    taken = struct.Struct('<8QQ64sQ512sQQ')
+    taken = struct.Struct('<8QQQ512sQQ')
     # The seed, the end of the buffer and the end of the secret aren't written if they have no meaning.
-    whole = struct.Struct('<8QQ64sQ512sQQ8xQ8sQ256s')
+    whole = struct.Struct('<8QQQ512sQQ8xQ8sQ256s')
+    room, stripe = 512, 64
 
     def record_of(self, memory: bytes) -> dict[str, Any]:
-        *accumulators, place, last, stripes, buffer, usage, total, has_seed, seed, length, secret = (
-            self.whole.unpack(memory))
-        return {'accumulators': accumulators, 'buffer': list(buffer[:usage]), 'last_stripe': list(last), 'place': place,
+        *accumulators, place, stripes, buffer, usage, total, has_seed, seed, length, secret = self.whole.unpack(memory)
+        return {'accumulators': accumulators, 'buffer': list(buffer[:usage]),
+                'last_stripe': self._last_stripe(stripes, buffer, usage), 'place': place,
                 'secret': list(secret[:length]), 'seed': int.from_bytes(seed, 'little') if has_seed else None,
                 'stripes': stripes, 'total_len': total}
 
+    def _last_stripe(self, stripes: int, buffer: bytes, usage: int) -> list[int]:
+        """Returns the last stripe taken, with which the buffer ends if fewer bytes than a stripe are in use, and zeros
+        if it has no meaning."""
+        return list(buffer[-self.stripe:]) if stripes and usage < self.stripe else [0] * self.stripe
+
     def hasher_of(self, kind: Any, record: dict[str, Any]) -> Hasher:
         accumulators = _numbers(record.get('accumulators'), 8, 8, WORD)
-        buffer = _numbers(record.get('buffer'), 0, 512)
-        last = _numbers(record.get('last_stripe'), 64, 64)
+        buffer = _numbers(record.get('buffer'), 0, self.room)
+        last = _numbers(record.get('last_stripe'), self.stripe, self.stripe)
         secret = bytes(_numbers(record.get('secret'), 136, 256))
         place, stripes, total = (_number(record.get(name)) for name in ('place', 'stripes', 'total_len'))
         seed = record.get('seed')
@@ -138,8 +144,9 @@ class _Stream:
         self._test_place(place, stripes, secret)
         if not stripes and accumulators != self.record_of(hasher._memory())['accumulators']:
             raise ValueError('The accumulators are not those of no stripe')
-        return _with_fields(hasher, self.taken, *accumulators, place, bytes(last), stripes, bytes(buffer), len(buffer),
-                            total)
+        end = bytes(last) if len(buffer) < self.stripe else b''
+        room = bytes(buffer).ljust(self.room - len(end), b'\0') + end
+        return _with_fields(hasher, self.taken, *accumulators, place, stripes, room, len(buffer), total)
 
     @staticmethod
     def _test_place(place: int, stripes: int, secret: bytes) -> None:
