@@ -116,28 +116,41 @@ class AnyUpdates(Cases):
             self.call(self.library.reset, state, Request(self.hash_name, "seed", 0), state)
             self.expect_state("a reset", state, 0, 0)
 
-    def update(self, one):
+    def update(self, one, total=None):
         """Proves an update by one chunk of a state that represents stripe * a + r bytes, for any a."""
         a = variable("a")
         further = plus(one.further, times(UNROLLED[self.hash_name], variable("d")) if one.more else 0)
         b = plus(a, int(one.fills), further)
-        self.update_between(a, one.r, b, one.s, [minus(variable("d"), 1)] if one.more else [], self.family(b))
+        self.update_between(a, one.r, b, one.s, [minus(variable("d"), 1)] if one.more else [], self.family(b), total)
 
-    def update_between(self, a, r, b, s, facts, family):
-        """Proves an update from stripe * a + r bytes to stripe * b + s."""
+    def lost_total(self, one):
+        """Proves an update after which the total is 2 ^ 64 - 1, since it can't have more: it was less by `lost`."""
+        if one.s != one.r or one.fills or one.further or one.more:
+            self.update(one, minus(LONGEST, variable("lost")))
+
+    def update_between(self, a, r, b, s, facts, family, total=None):
+        """Proves an update from stripe * a + r bytes to stripe * b + s. If the state has another total, the sum with the
+        chunk's length is 2 ^ 64 or more, and the total must become 2 ^ 64 - 1."""
         begun, ended = plus(times(self.stripe, a), r), plus(times(self.stripe, b), s)
         self.begin(ended)
-        with given(at_most(self.source.length, self.longest), *facts):
+        length = minus(ended, begun)
+        lost = [] if total is None else [minus(LONGEST, total), minus(plus(total, length), LONGEST + 1)]
+        with given(at_most(self.source.length, self.longest), *facts, *lost):
             state = self.state(a, r)
-            piece = Piece(self.source, begun, minus(ended, begun))
-            self.call(self.library.update, state, self.hash_name, state, piece, family=family)
+            if lost:
+                state.store(self.at.total, 8, total)
+            self.call(self.library.update, state, self.hash_name, state, Piece(self.source, begun, length), family=family)
+            if lost and not is_same_number(state.load(self.at.total, 8), LONGEST):
+                raise NotShown(f"an update: the total is {state.load(self.at.total, 8)} and not 2^64 - 1")
+            if lost:
+                state.store(self.at.total, 8, ended)
             self.expect_state("an update", state, b, s)
 
     def family(self, stripes, first=0):
         def after(k):
             return lambda j: self.accumulator(j, k)
         return Family(f"XXH{self.width}, an update", self.stripe, stripes, 4, after,
-                      lambda k, values: suppositions.suppose(after(k), values), first=first)
+                      lambda k, values: suppositions.suppose(after(k), values), self.cpu.TOGETHER, first)
 
     def digest(self, a, r):
         """Proves the digest of a state that represents the whole message."""

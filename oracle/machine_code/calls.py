@@ -1,9 +1,10 @@
 """Tests the exports other than one-shots and streams: canonical forms, comparisons, copies, generated secrets,
 refusals. Each function runs a processor, returns its number of cases, and raises an exception on any mismatch."""
+import functools
 import itertools
 import random
 
-from symbolic_terms import (Bytes, Input, NotShown, Request, at_most, definition, given, is_same, nodes, plus, symbol,
+from symbolic_terms import (Bytes, Input, NotShown, Request, at_most, definition, given, is_same, minus, nodes, plus, symbol,
                             times, variable)
 
 from . import one_shots, streams
@@ -14,7 +15,7 @@ from .values import address, arithmetic, bits, low
 WIDTHS = {"XXH32": 32, "XXH64": 64, "XXH128": 128}
 SHORTEST, LONGEST_KEPT = 136, 256       # bytes of a secret: the minimum, and the longest that a state stores
 # Offsets in a state of XXH3, and the size of its buffer.
-PLACE, COUNTED, WAITING, TOTAL, SECRET_LENGTH, BUFFERED = 0x40, 0x88, 0x290, 0x298, 0x2b8, 512
+PLACE, COUNTED, WAITING, TOTAL, SECRET_LENGTH, BUFFERED = 0x40, 0x48, 0x250, 0x258, 0x278, 512
 # A message and a secret in one memory object: the offset and length of each.
 ONE_PLACE = [(0, 136, 0, 136), (0, 300, 0, 192), (64, 240, 0, 136), (0, 1100, 8, 200), (1, 17, 0, 136), (130, 16, 0, 136),
              (100, 700, 36, 143), (0, 129, 128, 136)]
@@ -139,11 +140,13 @@ def forgotten(cpu):
 
 
 def refused(cpu, hash_name, state):
-    """Tests that an update and a digest of memory without a valid state return an error and 0, and change nothing."""
-    before = contents(state)
-    for piece in (Input("m", 5), Input("m", 700), None):
-        expect_answer(update(cpu, hash_name, state, piece), ERROR)
-        expect_same("a refused update", before, state)
+    """Tests that an update of any length and a digest of memory without a valid state return an error and 0, and change
+    nothing."""
+    before, n = contents(state), variable("n")
+    with given(at_most(n, LIMITS[64])):
+        for piece in (Input("m", n), None):
+            expect_answer(update(cpu, hash_name, state, piece), ERROR)
+            expect_same("a refused update", before, state)
     expect("a refused digest", digest(cpu, hash_name, state), 0)
 
 
@@ -165,17 +168,42 @@ def without_mark(cpu):
     return count
 
 
+def invalid_fields():
+    """Yields the invalid fields of states of XXH3 with a secret of 64 + 8 q + u bytes: (offset, value), .., with facts:
+    a position behind the secret's end, more buffered bytes than the buffer holds, or none although the total isn't 0.
+    All other fields are any words."""
+    v, q, w, most = *(variable(name) for name in "vqw"), LIMITS[64]
+    places = [(False, v, [minus(q, plus(v, 1))]), (True, plus(v, q), [at_most(plus(v, q), most)])]
+    waiting = [(False, [(WAITING, 0), (TOTAL, 0)], []), (True, [(WAITING, 0), (TOTAL, plus(w, 1))], [at_most(w, most - 1)]),
+               (False, [(WAITING, plus(w, 1))], [at_most(w, BUFFERED - 2)]), (False, [(WAITING, BUFFERED)], []),
+               (True, [(WAITING, plus(w, BUFFERED + 1))], [at_most(w, most - BUFFERED - 1)])]
+    for (is_behind, place, of_place), (is_wrong, fields, of_fields) in itertools.product(places, waiting):
+        if is_behind or is_wrong:
+            yield [(PLACE, place), *fields], [*of_place, *of_fields]
+
+
+def invalid_states():
+    """Yields the same for states of the C library, and those with a secret that is too short or too long."""
+    v, length = variable("v"), plus(64, times(8, variable("q")), variable("u"))
+    yield [(SECRET_LENGTH, v)], [at_most(v, SHORTEST - 1)]
+    yield [(SECRET_LENGTH, plus(v, LONGEST_KEPT + 1))], [at_most(v, LIMITS[64] - LONGEST_KEPT - 1)]
+    valid = [at_most(variable("u"), 7), minus(variable("q"), 9), at_most(length, LONGEST_KEPT)]
+    for fields, facts in invalid_fields():
+        yield [(SECRET_LENGTH, length), *fields], [*valid, *facts]
+
+
 def out_of_range(cpu):
-    """Tests states of XXH3 with a mark and a field that no call leaves: a secret that is too short or too long, more
-    buffered bytes than the buffer holds, none although the total isn't 0, a position behind the secret's end."""
-    v, count = variable("v"), 0
+    """Tests states of XXH3 with a mark and fields that no call leaves."""
+    count = 0
     for hash_name in ("3-64", "3-128"):
-        for at, low_end, most in ((SECRET_LENGTH, 0, SHORTEST - 1), (SECRET_LENGTH, LONGEST_KEPT + 1, LIMITS[64]),
-                                  (WAITING, BUFFERED + 1, LIMITS[64]), (TOTAL, 1, LIMITS[64]), (PLACE, 16, LIMITS[64])):
-            with given(at_most(v, most - low_end)):
+        _, places, values = marked(cpu, hash_name)
+        for fields, facts in invalid_states():
+            with given(*facts):
                 state = new_state(cpu, hash_name)
-                expect_answer(reset(cpu, Request(hash_name, "default", 0), state), OK)
-                state.store(at, 8, plus(v, low_end))
+                for at, value in zip(places, values):
+                    state.store(at, 4, value)
+                for at, value in fields:
+                    state.store(at, 8, value)
                 refused(cpu, hash_name, state)
                 count += 1
     return count
@@ -200,11 +228,11 @@ def counters_stay(cpu):
 
 
 def refused_resets(cpu):
-    """Tests that a reset refuses a secret of an invalid length. The state stays unchanged."""
-    count = 0
-    for hash_name in ("3-64", "3-128"):
-        for kind in ("secret", "both"):
-            for length in [*range(0, SHORTEST, 9), SHORTEST - 1, LONGEST_KEPT + 1, 300, 1000, LIMITS[64]]:
+    """Tests that a reset refuses a secret of each invalid length. The state stays unchanged."""
+    count, v = 0, variable("v")
+    for hash_name, kind in itertools.product(("3-64", "3-128"), ("secret", "both")):
+        for length, most in ((v, SHORTEST - 1), (plus(v, LONGEST_KEPT + 1), LIMITS[64] - LONGEST_KEPT - 1)):
+            with given(at_most(v, most)):
                 state, request = new_state(cpu, hash_name), Request(hash_name, kind, 0, length)
                 before = contents(state)
                 expect_answer(reset(cpu, request, state), ERROR)
@@ -215,22 +243,17 @@ def refused_resets(cpu):
 
 # ---- secrets
 
-def short_secrets(cpu, hash_name, lengths):
-    """Tests one-shots with a secret that is too short. The result is 0 if the secret is needed: always without a seed,
-    and above 240 bytes with a seed. Otherwise it is the seed's hash."""
-    entries, count = definition.program().run(), 0
-    for n in lengths:
-        if len(nodes.NODES) > MOST_NODES:
-            nodes.forget()
-            entries = definition.program().run()
-        for size in range(SHORTEST):
-            for kind in ("secret", "both"):
-                request = Request(hash_name, kind, n, size)
-                is_refused = kind == "secret" or n > 240
-                theirs = 0 if is_refused else request.of_definition(entries)
-                expect(f"{request}", one_shots.of_text(cpu, request), theirs)
-                count += 1
-    return count
+def short_secrets(cpu, hash_name):
+    """Tests one-shots of each length with a secret of each length that is too short. The result is 0 if the secret is
+    needed: always without a seed, and above 240 bytes with a seed. Otherwise it is the seed's hash."""
+    entries, n, size = definition.program().run(), variable("n"), variable("v")
+    cases = [("secret", n, 0), ("both", plus(n, 241), 0), *(("both", k, None) for k in range(241))]
+    for kind, length, value in cases:
+        with given(at_most(length, LIMITS[64]), at_most(size, SHORTEST - 1)):
+            request = Request(hash_name, kind, length, size)
+            theirs = request.of_definition(entries) if value is None else value
+            expect(f"{request}", one_shots.of_text(cpu, request), theirs)
+    return len(cases)
 
 
 def null_pointers(cpu):
@@ -323,10 +346,12 @@ WITHOUT_MESSAGE = [("canonical forms and back", 6, canonical_forms), ("equal has
                    ("the version", 1, version), ("copies of states", 3, copies),
                    ("freed states are refused", 4, forgotten), ("the derived secret", 2, derived_secret)]
 OF_MESSAGES = [("streams: memory without the mark of a reset", 8, without_mark),
-               ("streams: states of XXH3 that no call leaves", 10, out_of_range),
+               ("streams: states of XXH3 that no call leaves", 18, out_of_range),
                ("streams: counters that stay at 2^64 - 1", 20, counters_stay),
-               ("streams: secrets that a state doesn't keep", 80, refused_resets),
+               ("streams: secrets that a state doesn't keep", 8, refused_resets),
                ("streams: null pieces of no bytes", 20, updates_of_nothing),
                ("null inputs and secrets of no bytes", 14, null_pointers),
                ("a message and a secret in one place", 32, in_one_place)]
+SHORT_SECRETS = [(f"XXH{name}, secrets that are too short, every length", 243, functools.partial(short_secrets, hash_name=name))
+                 for name in ("3-64", "3-128")]
 OTHERS = [*WITHOUT_MESSAGE, *OF_MESSAGES, ("made secrets", 5, some_secrets)]

@@ -99,7 +99,7 @@ def expect_code(name, code, expected):
 
 
 class ForCargo:
-    SIZES = {"32": 48, "3": 672}  # of states, in bytes
+    SIZES = {"32": 48, "3": 608}  # of states, in bytes
 
     @staticmethod
     def has(request):

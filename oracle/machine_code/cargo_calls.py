@@ -1,15 +1,17 @@
 """Tests the refusals of the cargo crate's exports. calls.py tests those of the C library."""
+import itertools
 import re
 
-from symbolic_terms import Input, at_most, given, plus, variable
+from symbolic_terms import LONGEST_SECRET, Input, at_most, given, is_natural, is_same_number, minus, plus, times, variable
 
 from . import any_updates
-from .calls import BUFFERED, LIMITS, PLACE, TOTAL, WAITING, expect
+from .calls import BUFFERED, LIMITS, WAITING, expect, invalid_fields
 from .cargo import FEW, LONGEST_WITHOUT, NO_STREAM, SHORTEST, TOO_SHORT, call_into, expect_code, export_name, write_of
 from .streams import contents, expect_same, new_state
 from .values import address, low
 
 HASHES = "3-64", "3-128"
+FEW_BYTES = 64                    # of a chunk, up to which a write has a separate path
 
 
 def interface(cpu):
@@ -23,40 +25,60 @@ def interface(cpu):
 
 # ---- refused long inputs
 
-def long_input(cpu, hash_name, n, size, code):
+def long_input(cpu, hash_name, message, n, secret, size, code):
     """Tests that a call with n bytes and a secret of `size` bytes returns a code, and the value 0."""
-    message, secret = (address(Input(name, length)) if length else 0 for name, length in (("m", n), ("s", size)))
     name = f"{export_name(hash_name)}_long"
     told, value = call_into(cpu, hash_name, name, message, n, secret, size)
     expect_code(name, told, code)
     expect(name, value, 0)
 
 
+def lengths_of(most, least=0):
+    """Yields the lengths from `least` to `most` as (address or null, length) with facts: of any length, and null."""
+    n = plus(variable(f"n{most}"), least)
+    yield lambda name: address(Input(name, n)), n, [at_most(n, most)]
+    if not least:
+        yield lambda name: 0, 0, []
+
+
+def refused_inputs(cpu, message, secret, code):
+    """Tests all inputs and secrets of two spans of lengths: (least, most)."""
+    count = 0
+    for hash_name, (m, n, of_n), (s, size, of_size) in itertools.product(HASHES, [*lengths_of(*message)], [*lengths_of(*secret)]):
+        with given(*of_n, *of_size):
+            long_input(cpu, hash_name, m("m"), n, s("s"), size, code)
+            count += 1
+    return count
+
+
 def few_bytes(cpu):
-    """Tests inputs of 0 to 240 bytes, with an empty secret and with one of 136 bytes."""
-    for hash_name in HASHES:
-        for n in range(LONGEST_WITHOUT + 1):
-            for size in (0, SHORTEST):
-                long_input(cpu, hash_name, n, size, FEW)
-    return 2 * len(HASHES) * (LONGEST_WITHOUT + 1)
+    """Tests inputs of 0 to 240 bytes, with secrets of any length."""
+    return refused_inputs(cpu, (LONGEST_WITHOUT,), (LIMITS[64],), FEW)
 
 
 def secrets_of_long_inputs(cpu):
-    """Tests secrets of fewer than 136 bytes."""
-    for hash_name in HASHES:
-        for size in range(SHORTEST):
-            long_input(cpu, hash_name, LONGEST_WITHOUT + 1, size, TOO_SHORT)
-    return len(HASHES) * SHORTEST
+    """Tests inputs of 241 bytes and more, with secrets of fewer than 136 bytes."""
+    return refused_inputs(cpu, (LIMITS[64], LONGEST_WITHOUT + 1), (SHORTEST - 1,), TOO_SHORT)
 
 
 # ---- refused chunks
 
-def refused(cpu, hash_name, state, code, secret=()):
-    """Tests that a write returns a code and writes nothing."""
+def chunks(waiting):
+    """Yields the lengths of a chunk by the paths of a write, which has another one for a few bytes that fit in the buffer
+    beside the waiting ones."""
+    (place, n, facts), *few = lengths_of(FEW_BYTES)
+    more = minus(plus(n, waiting), BUFFERED + 1)
+    is_split = not is_same_number(waiting, 0) and is_natural(minus(BUFFERED, waiting))
+    yield place, n, [*facts, *([at_most(plus(n, waiting), BUFFERED)] if is_split else [])]
+    yield from [*([(place, n, [*facts, more])] if is_split else []), *few, *lengths_of(LIMITS[64], FEW_BYTES + 1)]
+
+
+def refused(cpu, hash_name, state, code, secret=(), waiting=0):
+    """Tests that a write of any length returns a code and writes nothing."""
     name, before = write_of(hash_name), contents(state)
-    for piece in (Input("m", 5), Input("m", 700), None):
-        length = piece.length if piece else 0
-        rax, _ = cpu.call(name, address(state), *secret, address(piece) if piece else 0, length)
+    for piece, n, facts in chunks(waiting):
+        with given(*facts):
+            rax, _ = cpu.call(name, address(state), *secret, piece("m"), n)
         expect_code(name, low(rax, 32), code)
         expect_same(name, before, state)
 
@@ -85,25 +107,28 @@ def without_mark(cpu):
 
 
 def out_of_range(cpu):
-    """Tests streams of XXH3 with a secret of 192 bytes and a field that no call leaves: more buffered bytes than the
-    buffer holds, none although the total isn't 0, a position behind the secret's end."""
-    v, secret = variable("v"), (address(Input("s", 192)), 192)
-    for at, low_end in ((WAITING, BUFFERED + 1), (TOTAL, 1), (PLACE, 16)):
-        with given(at_most(v, LIMITS[64] - low_end)):
+    """Tests streams of XXH3 with a secret of any length from 136 bytes on and fields that no call leaves."""
+    count = 0
+    length = plus(64, times(8, variable("q")), variable("u"))
+    valid = [at_most(variable("u"), 7), minus(variable("q"), 9), at_most(length, LONGEST_SECRET)]
+    for fields, facts in invalid_fields():
+        with given(*valid, *facts):
             state = new_state(cpu, "3-64")
-            for place in (WAITING, TOTAL, PLACE):
-                state.store(place, 8, 0)
-            state.store(at, 8, plus(v, low_end))
-            refused(cpu, "3-64", state, NO_STREAM, secret)
-    return 3
+            for at, value in fields:
+                state.store(at, 8, value)
+            refused(cpu, "3-64", state, NO_STREAM, (address(Input("s", length)), length), dict(fields)[WAITING])
+            count += 1
+    return count
 
 
 def secrets_of_streams(cpu):
     """Tests secrets of fewer than 136 bytes, for streams with any content."""
-    for size in range(SHORTEST):
-        secret = (address(Input("s", size)) if size else 0, size)
-        refused(cpu, "3-64", new_state(cpu, "3-64"), TOO_SHORT, secret)
-    return SHORTEST
+    count = 0
+    for secret, size, facts in lengths_of(SHORTEST - 1):
+        with given(*facts):
+            refused(cpu, "3-64", new_state(cpu, "3-64"), TOO_SHORT, (secret("s"), size))
+            count += 1
+    return count
 
 
 ALL = [interface, few_bytes, secrets_of_long_inputs, without_mark, out_of_range, secrets_of_streams]

@@ -62,6 +62,11 @@ WRONG = [
           cargo_calls.secrets_of_long_inputs, "the code 0 and not 1"),
     Wrong("a short input that isn't refused", export("xxh3_64_long", *FEW_ARE_DONE), cargo_calls.few_bytes,
           "the code 0 and not 3"),
+    Wrong("a secret that is too short and isn't refused at 300 bytes", export(
+        "xxh3_64_long", "cmp $0x12c,%rsi", "jne 2f", *SHORT_IS_DONE, "2:"), cargo_calls.secrets_of_long_inputs, "== 300"),
+    Wrong("a secret that is too short and isn't refused with 100 bytes", export(
+        "xxh3_write", "cmp $0x64,%r8", "jne 2f", "cmp $0x88,%rdx", "jae 2f", "xor %eax,%eax", "ret", "2:"),
+          cargo_calls.secrets_of_streams, "== 100"),
     Wrong("a refusal that writes a value", export("xxh3_128_long", "movq $0x1,(%r8)"),
           cargo_calls.secrets_of_long_inputs, "a refusal writes"),
     Wrong("a refused write that changes the stream", export("xxh32_write", "movq $0x1,(%rdi)"),
@@ -76,8 +81,8 @@ WRONG = [
           "the code 0"),
     Wrong("an instruction of x86-64-v2", export("xxh3_64_long", "pmulld %xmm0,%xmm0"), LONG, "hasn't here"),
     Wrong("a name that isn't hidden", substituted(r"^\t\.hidden .*_interface\n", "", 0), exported, "visibility 0"),
-    Wrong("an export that no task shows", ended(*function("twox_rust_5_more", *(
-        f"{word} twox_rust_5_more" for word in (".weak", ".hidden")))), exported, "more"),
+    Wrong("an export that no task shows", ended(*function("twox_rust_6_more", *(
+        f"{word} twox_rust_6_more" for word in (".weak", ".hidden")))), exported, "more"),
     Wrong("a function that isn't the other text's", local(TAKER, "nop"), same_code, f"other code: {LEADS}, {TAKER}"),
 ]
 

@@ -216,7 +216,6 @@ class EveryLength(Cases):
     def proved(self, ask, case, stripe, count, after):
         """Calls the source, and proves its loops for a case's length."""
         family = Family(f"XXH{self.kind} of {case.length} bytes", stripe, case.stripes, count, after,
-                        lambda k, values: suppositions.suppose(after(k), values),
-                        self.cpu.TOGETHER if stripe == 16 else 1)
+                        lambda k, values: suppositions.suppose(after(k), values), self.cpu.TOGETHER)
         loops = Loops(self.cpu.program, family, guesses=self.guesses)
         return self.with_loops(loops, ask) if isinstance(case.length, Poly) else ask()

@@ -2,6 +2,7 @@
 another name, or without one of these, fails."""
 from symbolic_terms import NotShown
 
+from .cargo_exports import shared
 from .one_shots import NAMES, WAYS, is_plain
 
 SAME = "names of another's code"
@@ -70,26 +71,12 @@ OTHERS = ("the version", "equal hashes", "the order of hashes", "canonical forms
 
 
 def expect_code_of_v3(program, other):
-    """Checks that these exports, with all that they reach, have the other source's instructions and constants."""
-    found = [name for name in program.exports if is_of_v3(name)]
-    for name in found:
-        left, known = [program.exports[name]], set()
-        while left:
-            section, first = left.pop()
-            if first or section in known:
-                continue
-            known.add(section)
-            if led(program, section) != led(other, section):
-                raise NotShown(f"{name}: {section} has other code")
-            left += [x.target for x in program.sections[section].values() if x.target and x.target[0] in program.sections]
+    """Checks that these exports, with all that they reach, equal the other source's byte for byte."""
+    found = {name for name in program.exports if is_of_v3(name)}
+    left = found - shared(program, other)
+    if left:
+        raise NotShown(f"{min(left)} has other code")
     return len(found)
-
-
-def led(program, section):
-    """Returns the instructions of a section, with constants' values instead of their names."""
-    code = program.sections.get(section, {})
-    return [x._replace(target=(program.constants[x.target[0]], x.target[1])) if x.target and x.target[0] in program.constants
-            else x for _, x in sorted(code.items())]
 
 
 def code_of(program, name):

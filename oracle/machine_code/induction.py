@@ -21,17 +21,17 @@ HALF = "lower half"               # of a register that holds a separately comput
 class Family:
     """The definition's words: after(k)(j) is word j of `count` after k stripes. A stripe has `stripe` bytes; there are
     `total` stripes. suppose(k, values) makes these values the words for k. `together` is the number of 32-bit words in
-    a cell. A module's loop begins with the stripe `first`."""
+    a cell, one of `sizes`. A module's loop begins with the stripe `first`."""
 
-    def __init__(self, name, stripe, total, count, after, suppose, together=1, first=0):
+    def __init__(self, name, stripe, total, count, after, suppose, sizes=(1,), first=0):
         self.name, self.stripe, self.total, self.count, self.after = name, stripe, total, count, after
-        self.put, self.known, self.together, self.first = suppose, {}, together, first
+        self.put, self.known, self.first, self.together = suppose, {}, first, 1
+        self.sizes = sizes if stripe == 16 else (1,)
 
     def word(self, k, j):
         """Returns the content of cell j after k stripes: one word, or several joined."""
-        key = repr(k), j
+        key, n = (repr(k), j, self.together), self.together
         if key not in self.known:
-            n = self.together
             self.known[key] = self.cell([self.after(k)(i) for i in range(n * j, n * j + n)])
         return self.known[key]
 
@@ -155,7 +155,8 @@ class Proof(Induction):
     def show(self):
         """Proves the loop and leaves the processor at its head before the last iteration; execution continues there.
         Returns False and restores the state if it isn't a loop of the family: it then runs iteration by iteration."""
-        return any(map(self.is_shown_from, self.firsts()))
+        family = self.family
+        return any(self.is_shown_from(first) for family.together in family.sizes for first in self.firsts())
 
     def is_shown_from(self, first):
         """Proves the loop from `first` stripes on. Uses earlier facts about the loop, or guesses from one first
@@ -168,7 +169,7 @@ class Proof(Induction):
             except REFUSALS as error:
                 self.loops.refused.append(f"{self.head[0]} {self.head[1]:x} from {first}: {error}")
             self.again()
-        self.loops.tried.add((self.head, repr(first)))
+        self.loops.tried.add((self.head, repr(first), self.family.together))
         return False
 
     def firsts(self):
@@ -182,7 +183,8 @@ class Proof(Induction):
                     k, _ = divided(memory.origin(at)[1], self.family.stripe)
                     guesses += [plus(k, d) for d in NEAR if not any(is_same_number(plus(k, d), x) for x in guesses)]
         for guess in guesses:
-            is_hopeless = isinstance(minus(self.family.total, guess), int) or (self.head, repr(guess)) in self.loops.tried
+            is_tried = (self.head, repr(guess), self.family.together) in self.loops.tried
+            is_hopeless = isinstance(minus(self.family.total, guess), int) or is_tried
             if not is_hopeless and self.holds(guess):
                 yield guess
 

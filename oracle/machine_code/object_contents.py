@@ -8,7 +8,6 @@ import sys
 from symbolic_terms import TOP, Unsupported
 
 sys.path.append(os.path.join(TOP, "assembly"))
-import frames
 from eh_frame import Table
 from same_bytes import (FRAMES, LOADED, NONE, NOTE, RELA, STRTAB, SYMTAB, USED, Object, difference, differences, is_global,
                         notes_of, properties_of)
@@ -19,7 +18,7 @@ LABEL, FUNCTION, SECTION = 0, 2, 3                    # symbol types
 GLOBAL, WEAK = 1, 2                                   # symbol bindings
 DEFAULT, HIDDEN = 0, 2                                # symbol visibilities
 OUTER = "memcpy", "memmove", "memset"                 # functions that the source calls and another library has
-ELSEWHERE = frames, Table, difference, differences     # used by unwinding.py and sources.py
+ELSEWHERE = Table, difference, differences            # used by unwinding.py and sources.py
 HEAD = (1, 0, 0)                                      # version, system and its version
 X86_64, AARCH64 = 62, 183
 PROPERTIES = 5, b"GNU\0"

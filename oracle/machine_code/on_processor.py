@@ -33,7 +33,7 @@ FLAGS = "b", "e", "a"
 SOME_FLAGS = {**dict.fromkeys(("imul", "mul", "div", "shld", "shrd", "rol"), ()),      # the flags that are set
               **dict.fromkeys(("shl", "shr", "vptest"), "e")}
 BASES = "rdi", "rsi", "r9", "r10"
-SAMPLE = {"b": ["al", "cl", "dl"], "h": ["ah"], "w": ["ax", "cx", "dx"], "l": ["eax", "ecx", "ebx"],
+SAMPLE = {"b": ["cl", "al", "dl"], "h": ["ah"], "w": ["ax", "cx", "dx"], "l": ["eax", "ecx", "ebx"],
           "q": ["rax", "rcx", "rbx"], "x": ["xmm1", "xmm2", "xmm3"], "y": ["ymm1", "ymm2", "ymm3"],
           "z": ["zmm1", "zmm2", "zmm31"]}
 NUMBERS = {"vpternlogq": 0x96, "vpalignr": 8}     # the only values that the table has

@@ -1,5 +1,6 @@
 """Planted faults for checks that no other planted fault reaches: one for each, of x86-64 and of 64-bit ARM."""
 import os
+import tempfile
 
 from symbolic_terms import TOP, variable
 
@@ -13,9 +14,9 @@ from .planted import (END, FUNCTION, SOURCE, VERSION, Asked, Wrong, begun, ended
                       request, substituted, unchanged)
 from .planted_objects import ARM_SOURCE, in_section, local, of_object, of_twins
 from .processor import Processor
-from .sources import assembled
+from .sources import assembled, by_gnu
 
-V4_SOURCE = os.path.join(TOP, "c", "asm", f"{V4}.s")
+V3_SOURCE, V4_SOURCE = (os.path.join(TOP, "c", "asm", f"{name}.s") for name in (V3, V4))
 SAVED, TAKEN = ("push %rdi", "push %rsi", "push %rdx"), ("pop %rdx", "pop %rsi", "pop %rdi")
 FLIPPED = "sub $0x8,%rsp", "call 1f", "add $0x8,%rsp", "xor $0x1,%rax", "ret", "1:"      # inverts bit 0 of the result
 BEHIND = "push %rdi", "call 1f", "pop %rdx"           # calls the function; the next lines run afterwards
@@ -55,10 +56,54 @@ short_with_secret = proving(every_length.EveryLength, lambda proof: proof.show_s
 
 
 def code_of_v3(cpu):
-    exports.expect_code_of_v3(cpu.program, assembled(os.path.join(TOP, "c", "asm", f"{V3}.s"), V1, Program))
+    exports.expect_code_of_v3(cpu.program, assembled(V3_SOURCE, V1, Program))
 
 
+def by_another(*lines):
+    """Returns a change that makes XXH64 go through another function with these lines, and back."""
+    def change(text):
+        return begun("XXH64", "jmp .L999_1", ".L999_2:")(ended(
+            '.section .text.elsewhere,"ax",@progbits', ".type elsewhere,@function", "elsewhere:", ".cfi_startproc", "ud2", ".L999_1:",
+            *lines, "jmp .L999_2", ".cfi_endproc", ".size elsewhere,.-elsewhere")(text))
+    return change
+
+
+def code_by_another(cpu):
+    """Compares with the source for x86-64-v3 whose XXH64 goes through a function that does nothing."""
+    with tempfile.TemporaryDirectory(prefix="machine-text-") as room, open(V3_SOURCE, encoding="utf-8") as file:
+        path = os.path.join(room, "v3.s")
+        with open(path, "w", encoding="utf-8") as changed:
+            changed.write(by_another("jmp .L999_3", ".L999_3:")(file.read()))
+        exports.expect_code_of_v3(cpu.program, Program(by_gnu(path, V1, room)))
+
+
+def of_length(register, n, *lines):
+    """Returns lines that run only if a length is n."""
+    return f"cmp ${n:#x},{register}", "jne 1f", *lines, "1:"
+
+
+plain_total = of_plain(lambda proof: proof.lost_total(any_updates.Update(3, 9, False, 0, False)))
+plain_more = of_plain(lambda proof: proof.lost_total(next(one for one in any_updates.updates("64") if one.more)))
+xxh3_total = of_xxh3(lambda proof: proof.lost_totals(*list(proof.small_pieces())[-1]))
+OK_AT_ONCE, RESET = ("xor %eax,%eax", "ret"), "proved_XXH3_64bits_reset_withSecret"
 X86 = [
+    # Refusals: wrong ones of one length.
+    Wrong("a reset that takes a secret of 777 bytes", begun(RESET, *of_length("%rdx", 777, *OK_AT_ONCE)), calls.refused_resets,
+          r"v \+ 257 == 777"),
+    Wrong("a reset that takes a secret of 100 bytes", begun(RESET, *of_length("%rdx", 100, *OK_AT_ONCE)), calls.refused_resets,
+          "v == 100"),
+    Wrong("a one-shot that reads behind a short secret", begun("XXH3_64bits_withSecret", *of_length(
+        "%rsi", 2000, "cmp $0x64,%rcx", "jne 1f", "mov $0x88,%ecx")), lambda cpu: calls.short_secrets(cpu, "3-64"), "n == 2000"),
+    Wrong("an update that takes memory without a mark", begun("XXH64_update", *of_length("%rdx", 100, "movl $0x34365858,0x28(%rdi)")),
+          calls.without_mark, "n == 100"),
+    Wrong("an update that takes another place in a block", begun(UPDATE, "cmpq $0x1e,0x40(%rdi)", "jne 1f", "movq $0x0,0x40(%rdi)", "1:"),
+          calls.out_of_range, "."),
+    Wrong("a total that restarts after 100 bytes", begun("XXH64_update", *of_length(
+        "%rdx", 100, "mov 0x18(%rdi),%rax", "add %rdx,%rax", "jae 1f", "movq $0x0,0x18(%rdi)")), plain_more, "100"),
+    Wrong("a total that restarts", begun("XXH64_update", "mov 0x18(%rdi),%rax", "add %rdx,%rax", "jae 1f", "movq $0x0,0x18(%rdi)",
+                                         "1:"), plain_total, "the total is 6 and not"),
+    Wrong("a total of XXH3 that restarts after 100 bytes", begun(UPDATE, *of_length(
+        "%rdx", 100, "mov 0x258(%rdi),%rax", "add %rdx,%rax", "jae 1f", "movq $0x0,0x258(%rdi)")), xxh3_total, "== 100"),
     # object_contents.py and objects.py
     Wrong("a function at a multiple of 128", in_section('.text.more,"ax",@progbits', ".p2align 7", ".type more,@function", "more:", "ret", ".size more,.-more"),
           of_object, "at a multiple of 128"),
@@ -84,6 +129,11 @@ X86 = [
           "may not be a multiple of 16"),
     Wrong("the place to return to", begun(VERSION, "mov (%rsp),%rax"), of_object, "a place to return to as a value"),
     Wrong("a store to the message", begun("XXH32", "movl $0x0,(%rdi)"), request("32", "seed", 40), "a store to m"),
+    Wrong("a prefetch at a place by a byte", begun("XXH64", "movzbl (%rdi),%eax", "shl $0xc,%rax", "prefetcht0 (%rdi,%rax,1)"),
+          request("64", "seed", 40), "an address that depends on symbols"),
+    Wrong("a prefetch at the seed", begun("XXH64", "prefetcht0 (%rdx)"), request("64", "seed", 0), "as an address"),
+    Wrong("a prefetch at a place by where two objects lie", begun("XXH3_64bits_withSecret", "prefetcht0 (%rdi,%rdx,1)"),
+          request("3-64", "secret", 5, 136), "as an address"),
     Wrong("a vector that wasn't set", begun(VERSION, "movq %xmm5,%rax"), of_object, "%xmm5, which isn't set"),
     Wrong("a copy to what lies below the stack", begun("XXH3_copyState", *SAVED, "lea -0x80(%rsp),%rdi", "mov $0x10,%edx",
                                                        "call memcpy@PLT", *TAKEN), calls.copies, "lies below the stack"),
@@ -111,12 +161,12 @@ X86 = [
     Wrong("another value with any secret", begun("XXH3_64bits_withSecret", *FLIPPED), short_with_secret,
           "of 5 bytes: another value"),
     Wrong("another value of a digest of XXH3", begun("XXH3_64bits_digest", *FLIPPED), xxh3_digest, "a digest of .*: another value"),
-    Wrong("a digest of XXH3 that changes the state", begun("XXH3_64bits_digest", "movq $0x0,0x290(%rdi)"), xxh3_digest, "."),
-    Wrong("a store into the bytes that wait", begun(UPDATE, "movq $0x0,0x98(%rdi)"), xxh3_update, "isn't 8 bytes of an input"),
+    Wrong("a digest of XXH3 that changes the state", begun("XXH3_64bits_digest", "movq $0x0,0x250(%rdi)"), xxh3_digest, "."),
+    Wrong("a store into the bytes that wait", begun(UPDATE, "movq $0x0,0x58(%rdi)"), xxh3_update, "isn't 8 bytes of an input"),
     Wrong("a reset of XXH3 that leaves another word", begun("proved_XXH3_64bits_reset", *BEHIND, "movq $0x7,(%rdx)", "ret", "1:"),
           xxh3_reset, "the state at 0 is"),
     Wrong("a reset that changes the secret behind it", begun("proved_XXH3_64bits_reset_withSecret", *BEHIND,
-                                                           "movq $0x7,0x2c8(%rdx)", "ret", "1:"), xxh3_reset,
+                                                           "movq $0x7,0x288(%rdx)", "ret", "1:"), xxh3_reset,
           "a store into a run"),
     Wrong("a reset that keeps another part of a secret", begun("proved_XXH3_64bits_reset_withSecret", "inc %rsi"), xxh3_reset, "."),
     Wrong("a record of stripes that is changed behind it", begun(xxh3_updates.TAKE_MANY.name, *BEHIND, "movq $0x7,(%rdx)", "ret",
@@ -128,7 +178,11 @@ X86 = [
     Wrong("much of the stack", begun(xxh3_updates.TAKE_MANY.name, "sub $0x3000,%rsp", "push %rax", "pop %rax",
                                      "add $0x3000,%rsp"), many_stripes, "bytes of stack"),
 ]
-OF_V4 = [Wrong("an export that isn't x86-64-v3's", begun("XXH32_digest", "nop"), code_of_v3, "XXH32_digest: .* has other code")]
+OF_V4 = [Wrong("an export that isn't x86-64-v3's", begun("XXH32_digest", "nop"), code_of_v3, "XXH32_digest has other code"),
+         Wrong("another function that an export jumps into", by_another("cmp $0x4d,%rsi", "jne .L999_3", "xor %edx,%edx", ".L999_3:"),
+               code_by_another, "XXH64 has other code"),
+         Wrong("a generated secret that isn't written", begun("proved_XXH3_generateSecret", "xor %eax,%eax", "ret"),
+               calls.some_secrets, "a secret of|an answer of")]
 OF_CARGO = [Wrong("names without the interface's number", substituted(r"\.i\d+\b", "", 0), cargo_planted.LONG,
                   "the name twox_"),
             Wrong("an export that isn't there", substituted(r"(twox_rust_\d+)_xxh3_64_long\b", r"\1_more", 0),
@@ -158,6 +212,9 @@ OF_ARM = [
           "nop with a relocation of kind 283"),
     Wrong("a page that is a number", begun(VERSION, ".inst 0x90000009"), of_object, "without a relocation"),
     Wrong("an index of another width", begun(VERSION, "ldr x9, [x0, w1, uxtw]"), of_object, "the operand"),
+    Wrong("a prefetch at a place by a byte", begun("XXH64", "ldrb w9, [x0]", "prfm pldl1keep, [x0, x9]"),
+          request("64", "seed", 40), "an address that depends on symbols"),
+    Wrong("a prefetch at the seed", begun("XXH64", "prfm pldl1keep, [x2]"), request("64", "seed", 0), "as an address"),
     Wrong("the rest of an address where none belongs", begun(VERSION, "ldr w9, [x0, #:lo12:XXH32]"), of_object,
           "a relocation of kind"),
 ]

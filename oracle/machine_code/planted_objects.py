@@ -118,10 +118,36 @@ SHARED = [
     ("who is called where a stack is unwound", substituted(r"(?<=^\t\.cfi_startproc\n)", "\t.cfi_personality 0x1b,memcpy\n"),
      of_frames, "the table of frames"),
 ]
-TEXTS = [*SHARED, *((what, change, of_object, words) for what, change, words in [*OF_X86, *WITH_BYTES]),
+OF_FRAMES = [
+    ("a register that is changed where the table has the caller's", begun(VERSION, "mov %rbx,%r11", "xor %ebx,%ebx", "mov %r11,%rbx"),
+     of_frames, "register 3 isn't at its place"),
+    ("a register that is stored, and of which the table has nothing", begun(
+        VERSION, "push %rax", ".cfi_def_cfa_offset 16", "mov %rbx,(%rsp)", "xor %ebx,%ebx", "mov (%rsp),%rbx", "pop %rax",
+        ".cfi_def_cfa_offset 8"), of_frames, "register 3 isn't at its place"),
+    ("another value in a stored register's place", begun(
+        VERSION, "push %rbx", ".cfi_def_cfa_offset 16", ".cfi_offset 3,-16", "movq $0x0,(%rsp)", "nop", "pop %rbx", ".cfi_def_cfa_offset 8",
+        ".cfi_restore 3"), of_frames, "register 3 isn't at -16"),
+    ("a return address that is written to", begun(VERSION, "mov %rax,0x4(%rsp)"), of_frames, "register 16 isn't at -8"),
+    ("a stored register below the stack pointer", begun(VERSION, "mov %rbx,-0x8(%rsp)", ".cfi_offset 3,-16", "nop", ".cfi_restore 3"),
+     of_frames, "register 3 isn't at -16"),
+    ("a frame of another register", begun(VERSION, "nop", ".cfi_offset 0,-16"), of_frames, "another frame than the table's: of"),
+    ("another frame at a function's beginning", begun(VERSION, ".cfi_def_cfa_offset 16"), of_frames, "at its beginning"),
+    ("a stack pointer from another register", begun(VERSION, "mov %rsp,%rax", "mov %rax,%rsp"), of_frames, "the stack pointer is"),
+]
+ARM_FRAMES = [
+    ("a register that is changed where the table has the caller's", begun(VERSION, "mov x9, x19", "mov x19, #0", "mov x19, x9"),
+     of_frames, "register 19 isn't at its place"),
+    ("a return address that a call changes", begun(VERSION, "mov x9, x30", "bl memcpy", "mov x30, x9"), of_frames, "register 30"),
+    ("a vector that is changed where the table has the caller's", begun(VERSION, "fmov x9, d8", "fmov d8, x9"), of_frames,
+     "register 72 isn't at its place"),
+    ("another value in a stored register's place", begun(
+        VERSION, "str x19, [sp, #-16]!", ".cfi_def_cfa_offset 16", ".cfi_offset 19,-16", "str xzr, [sp]", "nop",
+        "ldr x19, [sp], #16", ".cfi_def_cfa_offset 0", ".cfi_restore 19"), of_frames, "register 19 isn't at -16"),
+]
+TEXTS = [*SHARED, *OF_FRAMES, *((what, change, of_object, words) for what, change, words in [*OF_X86, *WITH_BYTES]),
          ("another value under a second name", begun("XXH128", "xor %eax,%eax", "xor %edx,%edx", "ret"), of_twins,
           "XXH128 has other code")]
-ARM_TEXTS = [*SHARED, ("a value by where the secret lies beside the message", begun(
+ARM_TEXTS = [*SHARED, *ARM_FRAMES, ("a value by where the secret lies beside the message", begun(
     "XXH3_64bits_withSecret", "sub x9, x0, x2", "cmp x9, #8", "b.cs 1f", "mov x0, #0", "ret", "1:"), request("3-64", "secret", 40, 136), "< 8"), *((what, change, of_object, words) for what, change, words in [*OF_ARM, *ARM_BYTES]),
              ("another value under a second name", begun("XXH128", "mov x0, #0", "mov x1, #0", "ret"), of_twins,
               "XXH128 has other code")]

@@ -31,7 +31,7 @@ class Runner(Names):
     instead."""
 
     library = ForC                # calls the exports
-    TOGETHER = 1                  # 32-bit accumulators of one-shots in a cell
+    TOGETHER = 1,                 # possible numbers of XXH32's accumulators in a cell
     LIMIT_OF_CASE = 30_000        # instructions of a case: beyond, a loop runs that the induction should cover
 
     def __init__(self, program):

@@ -5,7 +5,7 @@ from .flags import carry
 from .instructions import V1, V3, form
 from .memory import ReturnTo
 from .objects import Register
-from .values import WORD, arithmetic, bits, high_and_low, is_term, joined, low
+from .values import WORD, arithmetic, bits, high_and_low, is_term, joined, low, place_of
 
 CONDITIONS = "e", "ne", "b", "ae", "a", "be", "l", "ge", "g", "le"
 TWO = "il iq ml mq ll qq"          # operands of additions and comparisons
@@ -14,9 +14,13 @@ TWO = "il iq ml mq ll qq"          # operands of additions and comparisons
 # ---- moves
 
 @form(V1, "nop", "")
-@form(V1, "prefetcht0", "m")
 def nothing(cpu, x, *_):
     pass
+
+
+@form(V1, "prefetcht0", "m")
+def prefetch(cpu, x, place):
+    place_of(cpu.effective(place, x))      # in or near an object, and by no symbol
 
 
 @form(V1, "ud2", "")
@@ -179,7 +183,7 @@ def step(cpu, x, to):
     cpu.put(to, width, result, x)
 
 
-@form(V1, "neg", "l q")
+@form(V1, "neg", "b l q")
 def negate(cpu, x, to):
     width = cpu.width(x)
     a = cpu.get(to, width, x)
@@ -230,11 +234,18 @@ def divide(cpu, x, source):
 
 # ---- shifts
 
+def count(cpu, x, amount):
+    k = cpu.get(amount, 8, x)
+    if not isinstance(k, int):
+        raise Unsupported("a shift by an amount that is no number")
+    return k % cpu.width(x)
+
+
 def shift(word):
     """Returns a shift or rotation, by 1 without an amount."""
     def operation(cpu, x, *operands):
         (*amount, to), width = operands, cpu.width(x)
-        k, a = amount[0].value % width if amount else 1, cpu.get(to, width, x)
+        k, a = count(cpu, x, amount[0]) if amount else 1, cpu.get(to, width, x)
         result = side_shifted(width, a, a, k) if word == "rol" else arithmetic(word, width, a, k) if k else a
         cpu.put(to, width, result, x)
         if k and word == "rol":
@@ -245,7 +256,13 @@ def shift(word):
 
 
 for mnemonic, word in (("shl", "shl"), ("shr", "lshr"), ("rol", "rol")):
-    form(V1, mnemonic, "il iq l q")(shift(word))
+    form(V1, mnemonic, "il iq l q" if word == "rol" else "il iq l q bl bq")(shift(word))
+
+
+@form(V3, "shlx shrx", "lll qqq")
+def shift_to(cpu, x, amount, source, to):
+    k, a, width = count(cpu, x, amount), cpu.get(source, cpu.width(x), x), cpu.width(x)
+    cpu.put(to, width, arithmetic({"shlx": "shl", "shrx": "lshr"}[x.mnemonic], width, a, k) if k else a, x)
 
 
 def side_shifted(width, a, b, k):

@@ -2,15 +2,21 @@
 compared with the processor. They can only fail: no proof of a source depends on them."""
 import functools
 import itertools
+import math
 import tempfile
+import types
 
-from . import (any_updates, cargo_calls, cargo_planted, cargo_streams, mutation, on_processor, planted, planted_checks,
-               planted_lines, planted_objects, planted_values, disabled_checks)
+from symbolic_terms.processes import Task
+
+from . import (any_updates, cargo_calls, cargo_exports, cargo_planted, cargo_streams, cargo_tasks, disabled_checks, exports,
+               mutation, on_processor, planted, planted_checks, planted_lines, planted_objects, planted_values, removed,
+               tasks)
 from .cargo_exports import BEGIN
 from .instructions import SETS, TABLE, V1, V4
 from .queries import CASES, Beside, plain_update, xxh3_update
 from .tasks import counted, makers
 
+SOME_EXPORTS = 13                 # step between removed exports without --all
 SOME_CHECKS, SWITCHED_OFF = 9, (4, 100)      # step of planted faults without --all; minimum of disabled checks
 
 
@@ -32,7 +38,27 @@ def choose(texts, others, is_all):
             planted_task("calls with wrong operands are refused", planted_values.ASKED),
             counted("checks that are switched off are noticed", SWITCHED_OFF[is_all], functools.partial(disabled_checks.tell, is_all)),
             counted("faults of the check itself are noticed", len(planted.CHECKS), planted.noticed),
-            planted_task(f"{BEGIN}wrong texts are refused", cargo_planted.ASKED), *change_tasks(texts, others, is_all)]
+            planted_task(f"{BEGIN}wrong texts are refused", cargo_planted.ASKED), *change_tasks(texts, others, is_all),
+            *removal_tasks(texts, others, is_all)]
+
+
+def removal_tasks(texts, others, is_all):
+    """Yields a task for each source: the tasks that CI runs must detect removed functions."""
+    of_c = removed.Known(exports.shown_by(), exports.twins(), exports.is_of_v3, "exports of")
+    of_cargo = removed.Known(cargo_exports.shown_by(), {}, lambda name: name not in cargo_tasks.WIDENED, f"{BEGIN}exports of")
+    for name, known in [*((name, of_c) for name in texts), *((name, of_cargo) for name in others)]:
+        yield Task(f"removed functions of {name} are noticed", functools.partial(
+            removed_of, name, texts, others, known, 1 if is_all else SOME_EXPORTS))
+
+
+def removed_of(name, texts, others, known, each):
+    """Removes functions of a source. For C the tasks are only this source's; x86-64-v4's also compare with x86-64-v3's."""
+    if name in others:
+        return removed.unnoticed(name, others[name], cargo_tasks.choose(others, texts, False), known, each=each)
+    only = {name: texts[name]}
+    asked = tasks.choose(types.SimpleNamespace(all=False), only)
+    only.update(texts)
+    return removed.unnoticed(name, texts[name], asked, known, each=each)
 
 
 def change_tasks(texts, others, is_all):
@@ -40,11 +66,11 @@ def change_tasks(texts, others, is_all):
     the one that shares no function with c/asm."""
     for name, make in makers(texts).items():
         if name == V4:
-            yield change_task(f"in the widened functions of {name}", (20, 100), is_all, name, make, is_drawn=is_widened)
+            yield change_task(f"in the widened functions of {name}", (6, 100), is_all, name, make, is_drawn=is_widened)
         else:
-            yield change_task(name, (40, 100), is_all, name, make)
+            yield change_task(name, (12, 100), is_all, name, make)
     name = f"cargo's {V1}"
-    task = change_task(name, (30, 30), is_all, f"cargo-{V1}", makers(others)[name],
+    task = change_task(name, (6, 30), is_all, f"cargo-{V1}", makers(others)[name],
                      beside=Beside([*cargo_calls.ALL, *pieces()], cargo_streams.CargoUpdates, each_piece, 241))
     task.title = BEGIN + task.title
     yield task
@@ -58,16 +84,18 @@ def pieces():
 
 
 def each_piece(cpu):
-    """Yields calls that prove each case of chunks, of which `pieces` has some."""
-    for k, _ in enumerate(cargo_streams.CargoUpdates(cpu).all_updates()):
-        yield functools.partial(xxh3_piece, k)
-    for one in any_updates.updates("32"):
-        yield lambda cpu, one=one: any_updates.AnyUpdates(cpu, "32").update(one)
-
-
-def xxh3_piece(k, cpu):
+    """Yields calls that prove each case of chunks, of which `pieces` has some: of XXH32 and of XXH3 in turn."""
+    plain = [lambda cpu, one=one: any_updates.AnyUpdates(cpu, "32").update(one) for one in any_updates.updates("32")]
     proof = cargo_streams.CargoUpdates(cpu)
-    proof.update(*next(itertools.islice(proof.all_updates(), k, None)))
+    updates = [lambda _, case=case: proof.update(*case) for case in list(proof.all_updates())]
+    for both in itertools.zip_longest(spread(plain), spread(updates)):
+        yield from filter(None, both)
+
+
+def spread(cases):
+    """Returns the cases in another order: neighbours, which mostly run the same code, are far from each other."""
+    step = math.isqrt(len(cases))
+    return [case for first in range(step) for case in cases[first::step]]
 
 
 def is_widened(section):

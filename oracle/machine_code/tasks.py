@@ -18,22 +18,22 @@ from .unwinding import expect_frames
 NAMES = V2, V3, V4
 FOLDER = os.path.join(TOP, "c", "asm")
 ONE_BY_ONE, MORE = range(301), range(301, 1101)     # lengths tested one by one: always, and with --all
+SOME_SHORT = sorted({*range(0, 301, 3), *range(20), 127, 128, 130, 239, 242, 256, 257})      # of XXH3, without --all
+FEW_LENGTHS = [0, 2, 6, 12, 17, 70, 129, 200, 241, 300]        # of x86-64-v4 with a secret, without --all
 EDGES_OF_BLOCKS = [1023, 1024, 1025, 1088, 1089, 2048, 2049, 2112]
 SECRETS, STREAM_SECRETS = (136,), (136, 193, 256)
-# Streams: the length, and the offsets at which the input is cut.
 FEW_STREAMS = [(0,), (5, 2), (33, 1), (70, 33, 64), (200, 31, 160), (240, 239), (257, 256), (300, 64, 192),
-               (600, 512, 599), (1100, 64), (1500, 40, 1100)]
+               (600, 512, 599), (1100, 64), (1500, 40, 1100)]      # lengths of streams, each with its cuts
 SOME_UPDATES, UPDATE_PARTS = 97, 4                  # step of the sample of updates, and the number of parts of all
 # Cases of XXH3's streams: size of a sample, and the number of parts of all.
 XXH3_CASES = {xxh3_updates.UPDATES: (4, 6), xxh3_updates.DIGESTS: (4, 1), xxh3_updates.STRIPES: (2, 2)}
-COVERED = 300, 3000                                 # points tested for completeness of XXH3's cases, and with --all
+COVERED = 90, 3000                                  # points tested for completeness of XXH3's cases, and with --all
 SOME_SECRETS = [*range(136, 144), *range(190, 202), 256, 257, 576, 999, 1000]
 ANY_SECRET = [f"{name}:{way}" for name in ("3-64", "3-128") for way in ("secret", "both")]
 MOST_NODES = 400_000                                # terms kept between the cases of a proof
-SOME_LENGTHS = 5                                   # step between cases of a secret of any length, without --all
+SOME_LENGTHS, SOME_OF_XXH32 = (5, 7), 5             # steps between cases of any secret, and of XXH32, without --all
 OF_LONG_SEEDS = 137,                                # bytes of secrets generated from 2^32 bytes and more
 FEWEST_FRAMED = 9000                                # minimum number of instructions of a source
-SMALL = [0, 1, 3, 4, 8, 9, 16, 17, 128, 129, 240, 241, 1000]
 assert scalar and lanes                             # imported because they fill the table
 
 
@@ -59,7 +59,7 @@ def counted(title, least, ask):
 def choose(options, texts):
     """Returns the tasks on c/asm."""
     made, is_all = makers(texts), options.all
-    tasks = [*one_shot_tasks(made, is_all), *secret_tasks(made, is_all), *every_length_tasks(made, is_all),
+    tasks = [*one_shot_tasks(made, is_all), *secret_tasks(made), *every_length_tasks(made, is_all),
              *stream_tasks(made, is_all), *call_tasks(texts, made, is_all)]
     tasks += [assembler_task([(f"{FOLDER}/{name}.s", V1) for name in texts])]
     tasks.insert(0, export_task(texts, [task.title for task in tasks]))
@@ -99,22 +99,21 @@ def one_by_one(made, kind, lengths, more=""):
 
 def one_shot_tasks(made, is_all):
     """Yields the tasks of one-shots. With a secret of 136 bytes x86-64-v4 runs x86-64-v3's code."""
-    yield from [one_by_one(made if is_all or kind[2] is None else before_v4(made), kind, ONE_BY_ONE)
-                for kind in comparison.kinds(SECRETS)]
+    yield from [one_by_one(made if is_all or kind[2] is None else before_v4(made), kind,
+                           ONE_BY_ONE if is_all or one_shots.is_plain(kind[0]) else SOME_SHORT) for kind in comparison.kinds(SECRETS)]
     for kind in [("3-64", "default", None), ("3-128", "seed", None), ("3-64", "secret", 192)]:
         yield one_by_one(only_v4(made), kind, EDGES_OF_BLOCKS, f", at the edges of blocks, {V4}")
+    for kind in comparison.kinds(SECRETS) if not is_all else ():
+        yield from [one_by_one(only_v4(made), kind, FEW_LENGTHS, f", {V4}")] if kind[2] else []
     for kind in comparison.kinds(SECRETS) if is_all else ():
         yield one_by_one(made, kind, comparison.edges(kind[2]), ", at edges")
         if kind[2] is None and kind[0].startswith("3-"):
             yield from [one_by_one(made, kind, MORE), one_by_one(made, kind, [every_length.PREFETCHED])]
 
 
-def secret_tasks(made, is_all):
-    """Yields the tasks of secrets that are too short, and of secrets of several lengths."""
-    lengths = SMALL if is_all else [0, 17, 241]
+def secret_tasks(made):
+    """Yields the tasks of secrets of several lengths."""
     for hash_name in ("3-64", "3-128"):
-        yield of_each(made, f"XXH{hash_name}, secrets that are too short", 2 * calls.SHORTEST * len(lengths),
-                      functools.partial(calls.short_secrets, hash_name=hash_name, lengths=lengths))
         requests = (Request(hash_name, kind, n, size) for size in SOME_SECRETS for kind in ("secret", "both")
                     for n in (240, 700))
         yield compared(made, f"XXH{hash_name}, secrets of 136 to 1000 bytes", requests)
@@ -128,8 +127,7 @@ def stream_tasks(made, is_all):
 
 
 def plain_stream_tasks(made, is_all, some=SOME_UPDATES, title="streams of XXH{}: any updates", names=("32", "64")):
-    """Yields the tasks of streams of XXH32 and XXH64 with any updates: all cases, in parts, or a sample. Only those of
-    both hashes have a reset and digests."""
+    """Yields the tasks of streams of XXH32 and XXH64: all cases, in parts, or a sample. Only both have resets and digests."""
     yield counted("each update of XXH32 and XXH64 has its task", 2, updates_left_out)
     for hash_name in names:
         count = len(list(any_updates.updates(hash_name)))
@@ -165,7 +163,13 @@ def points_left_out(made, is_all, kind):
 def any_xxh3(make, what, part, kind):
     proof = kind(make())
     asked, (some, parts) = proof.queries(what), XXH3_CASES[what]
-    return count_shown(proof, asked[::len(asked) // some] if part is None else asked[part::parts])
+    return count_shown(proof, sample(what, asked, some) if part is None else asked[part::parts])
+
+
+def sample(what, asked, some):
+    """Returns some of the proofs, or one for each function that takes stripes."""
+    each = {ask.args[1][0].name: ask for ask in asked if hasattr(ask, "args")} if what == xxh3_updates.STRIPES else {}
+    return [*each.values()] or asked[::len(asked) // some]
 
 
 def few_streams(hash_name, kind, secret):
@@ -179,12 +183,12 @@ def updates_left_out():
     return len(any_updates.LAYOUTS) - len(bad), bad
 
 
-def any_streams(make, hash_name, part, some, has_ends):
+def any_streams(make, hash_name, part, some, has_ends, kind=any_updates.AnyUpdates):
     """Proves updates: a part, or a sample. The sample and the first part include the reset and digests, if any."""
-    proof = any_updates.AnyUpdates(make(), hash_name)
+    proof = kind(make(), hash_name)
     cases = list(any_updates.updates(hash_name))
-    asked = [functools.partial(proof.update, one) for one in
-             (cases[::some] if part is None else cases[part::UPDATE_PARTS])]
+    asked = [functools.partial(ask, one) for one in (cases[::some] if part is None else cases[part::UPDATE_PARTS])
+             for ask in (proof.update, proof.lost_total)]
     asked += [proof.reset, *(functools.partial(proof.digest, a, r) for r in range(int(hash_name) // 2)
                              for a in (0, variable("a")))] if has_ends and not part else []
     return count_shown(proof, asked)
@@ -210,10 +214,11 @@ def every_length_tasks(made, is_all):
     if is_all:
         yield counted("every length of XXH3 has its task", 2, xxh3_left_out)
     for kind in every_length.UNROLLED:
-        yield from of_every_length(before_v4(made), kind, f"XXH{kind}: every length to 2^64 - 1", every_length.cases(kind))
+        yield from of_every_length(before_v4(made), kind, f"XXH{kind}: every length to 2^64 - 1",
+                                   every_length.cases(kind)[::1 if is_all or kind == "64" else SOME_OF_XXH32])
     if not is_all:
-        yield from of_every_length(only_v4(made), "3-64:seed", "XXH3-64, seed: one case of every length",
-                                   every_length.cases("3-64:seed")[:1])
+        yield from [task for name in ("3-64", "3-128") for task in of_every_length(
+            made, f"{name}:seed", f"XXH{name}, seed: two cases of every length", every_length.cases(f"{name}:seed")[:2])]
     yield from [*long_tasks(made, is_all), *(short_tasks_of_v4(made) if is_all else ())]
 
 
@@ -233,10 +238,11 @@ def any_secret_tasks(made, is_all, kinds):
     """Yields the tasks of XXH3 from 241 bytes on with any secret: all cases, or some."""
     yield counted("every length with any secret has its task", COVERED[is_all],
                   functools.partial(secrets_left_out, made, is_all))
-    for kind in kinds if is_all else kinds[:1]:
+    for kind in kinds:
         title, words = f"XXH{kind.replace(':', ', ')} of", "" if is_all else ", some cases"
-        yield from [counted(f"{title} any other length: every length from 241 on, {name}{words}", 4,
-                            functools.partial(any_secrets, make, kind, is_all)) for name, make in made.items()]
+        yield from [counted(f"{title} any other length: every length from 241 on, {name}{words}", 2,
+                            functools.partial(any_secrets, make, kind, 1 if is_all else SOME_LENGTHS[kind != kinds[0]]))
+                    for name, make in made.items()]
         if is_all:
             title = f"{title} 192 to 199 bytes: every length from 241 on"
             yield from of_every_length(before_v4(made), kind, title, every_length.of_secret())
@@ -284,10 +290,10 @@ def secrets_left_out(made, is_all):
     return COVERED[is_all], [f"no case has {point}" for point in found[:5]]
 
 
-def any_secrets(make, kind, is_all):
+def any_secrets(make, kind, step):
     hash_name, _, way = kind.partition(":")
     proof = any_secret.AnySecret(make())
-    return count_shown(proof, proof.queries(way, hash_name[2:])[::1 if is_all else SOME_LENGTHS])
+    return count_shown(proof, proof.queries(way, hash_name[2:])[::step])
 
 
 def up_to_240(make, kind):
@@ -304,11 +310,11 @@ def of_each(made, title, least, call):
 
 def call_tasks(texts, processors, is_all):
     sizes = [0, 1, 135, 136, 137, 143, 144, 191, 192, 256, 1000] if not is_all else [*range(0, 301), 1000]
-    seeds = [0, 1, 17, 136, 241, 300] if is_all else [0, 3, 241]
+    seeds = [0, 1, 17, 136, 241, 300, 1100] if is_all else [0, 3, 241, 1100]
     made = [(size, length) for size in sizes for length in seeds]
     of = functools.partial(of_each, before_v4(processors))
-    return [*(of(*call) for call in calls.WITHOUT_MESSAGE), *(of_each(processors, *call) for call in calls.OF_MESSAGES),
-            of("made secrets", len(made) + len(OF_LONG_SEEDS), functools.partial(made_secrets, asked=made)),
+    return [*(of(*call) for call in calls.WITHOUT_MESSAGE), *(of_each(processors, *call) for call in calls.OF_MESSAGES + calls.SHORT_SECRETS),
+            of_each(processors, "made secrets", len(made) + len(OF_LONG_SEEDS), functools.partial(made_secrets, asked=made)),
             counted(f"exports of {V4} that have the code of {V3}", 24,
                     lambda: (exports.expect_code_of_v3(texts[V4], texts[V3]), [])),
             twin_task(texts), frames_task(texts)]

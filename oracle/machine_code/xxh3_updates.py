@@ -4,7 +4,7 @@ lengths, digests of 64 and 128 bits. symbolic_terms/xxh3_streams.py does this fo
 A state represents the first N = 64 K + f bytes of a message, K = q b + j stripes, j < q. q is the number of stripes in
 a block, f <= 512 the number of buffered bytes, f = 0 only if N = 0, and K is 0 or at least 4. Its accumulators are the
 definition's after K stripes. It has j, K, f, N, the mark and the secret, of 64 + 8 q + u bytes. Its buffer begins with
-the last f bytes. If K > 0 and f < 64, it also has the last stripe. All else is unconstrained. The secret's bytes are
+the last f bytes. If K > 0 and f < 64, it ends with the last stripe. All else is unconstrained. The secret's bytes are
 symbols: the default secret and derived ones are instances.
 
 Bytes written at a symbolic offset or of a symbolic length are runs (stream_state.py). The separate functions that take
@@ -25,9 +25,9 @@ from .stripes import DEEP, Part, Stripes, StripesProof, Summary
 from .values import address
 
 # Offsets in a state, and its mark.
-ACCUMULATORS, PLACE, LAST, COUNT, BUFFER, WAITING, TOTAL = 0, 64, 72, 136, 144, 656, 664
-MARKED, HAS_SEED, SEED, SECRET_LENGTH, SECRET = 672, 680, 688, 696, 704
-ROOM, DERIVED, MARK = 512, 192, int.from_bytes(b"twoxXXH3", "little")
+ACCUMULATORS, PLACE, COUNT, BUFFER, WAITING, TOTAL = 0, 64, 72, 80, 592, 600
+MARKED, HAS_SEED, SEED, SECRET_LENGTH, SECRET = 608, 616, 624, 632, 640
+ROOM, STRIPE, DERIVED, MARK = 512, 64, 192, int.from_bytes(b"twoxXXH3", "little")
 LONG_PIECE = 2048                 # bytes from which on a separate function takes the stripes
 FIRST = 7                         # minimum number of stripes taken if a chunk doesn't fit in the buffer
 BLOCK = 16                        # stripes of a block with separate paths
@@ -90,6 +90,7 @@ class Xxh3Updates(Cases):
     CORE = 0                      # offset of the accumulators in a state, and of the fields except `own`
     HAS_SEED = 0, 1               # whether a stream was created with a seed
     KINDS = UPDATES, DIGESTS, STRIPES                 # the kinds of tasks of a source
+    HAS_COUNTERS = True           # that stay at 2 ^ 64 - 1
     longest_secret, longest_piece = LONGEST_KEPT, LONGEST
 
     def __init__(self, cpu):
@@ -116,7 +117,8 @@ class Xxh3Updates(Cases):
     def queries(self, what):
         """Returns all proofs of a task, by its title."""
         if what == UPDATES:
-            return [functools.partial(self.update, *case) for case in self.all_updates()]
+            asked = (self.update, self.lost_totals) if self.HAS_COUNTERS else (self.update,)
+            return [functools.partial(ask, *case) for case in self.all_updates() for ask in asked]
         if what == DIGESTS:
             return [*(functools.partial(self.reset, *case) for case in self.resets()),
                     *(functools.partial(self.digest, *case, has_seed, width) for case in self.digests()
@@ -158,7 +160,7 @@ class Xxh3Updates(Cases):
     # ---- states
 
     def numbers(self, place, f):
-        """Returns the numbers in a state, except accumulators, last stripe and buffer: (offset, value) of 8 bytes."""
+        """Returns the numbers in a state, except accumulators and buffer: (offset, value) of 8 bytes."""
         k = self.stripes(place)
         core = (PLACE, place[1]), (COUNT, k), (WAITING, f), (TOTAL, plus(times(64, k), f))
         return [*((self.CORE + at, x) for at, x in core), *self.own()]
@@ -184,46 +186,80 @@ class Xxh3Updates(Cases):
         """Returns consecutive cells of eight bytes: (offset, value)."""
         return [(self.CORE + at + 8 * k, x) for k, x in enumerate(values)]
 
-    def last_stripe(self, place):
-        at = minus(times(64, self.stripes(place)), 64)
-        return [self.source.load(plus(at, 8 * k), 8) for k in range(8)]
+    def last_stripe(self, source, end):
+        """Returns the run of a buffer's last 64 bytes, if they are those of a source that end at `end`."""
+        high = self.CORE + BUFFER + ROOM
+        return high - STRIPE, high, source, minus(end, high)
 
-    def state(self, place, f, last=None, has_seed=None, seed=None):
-        self.last = last or [self.cpu.fresh("last") for _ in range(8)]
+    def state(self, place, f, runs=(), has_seed=None, seed=None):
         self.has_seed = self.cpu.fresh("has a seed") if has_seed is None else has_seed
         self.seed = self.cpu.fresh("seed") if seed is None else seed
-        cells = [*self.words(ACCUMULATORS, self.accumulators(place)), *self.numbers(place, f),
-                 *self.words(LAST, self.last), *self.seeds()]
+        cells = [*self.words(ACCUMULATORS, self.accumulators(place)), *self.numbers(place, f), *self.seeds()]
         at = self.CORE + BUFFER
         state = State("state", self.library.SIZES["3"], [(at, 8, x) for at, x in cells],
-                      [*self.buffered(place, f), *self.secret_runs()], (at, at + ROOM))
+                      [*self.buffered(place, f), *runs, *self.secret_runs()], (at, at + ROOM))
         state.secret = self.secret_source
         return state
 
-    def expect_state(self, what, state, place, f, last):
+    def expect_state(self, what, state, place, f, runs, counters):
         words = map(self.after(self.stripes(place)), range(8))
-        cells = [*self.words(ACCUMULATORS, words), *self.numbers(place, f), *self.seeds(), *self.words(LAST, last)]
-        for at, x in cells:
+        cells = [*self.words(ACCUMULATORS, words), *self.numbers(place, f), *self.seeds()]
+        for at, x in ((at, counters.get(at, x)) for at, x in cells):
             found = state.load(at, 8)
             if not (is_same(found, x) or is_same_number(found, x)):
                 raise NotShown(f"{what}: the state at {at} is {found} and not {x}")
-        for run in [*self.buffered(place, f), *self.secret_runs()]:
+        for run in [*self.buffered(place, f), *runs, *self.secret_runs()]:
             if not state.has_run(run):
                 raise NotShown(f"{what}: the state isn't {run}, but has {state.runs()}")
 
     # ---- updates
 
-    def update(self, start, end, length, facts, parts=(), last=None, summaries=()):
-        """Proves an update of a state (place, f) by a chunk. `last` returns the new last stripe; None keeps it."""
+    def lost_totals(self, start, end, length, facts, parts=(), *more):
+        """Proves the same update with another total: the sum with the chunk's length is 2 ^ 64 or more, and the total
+        becomes 2 ^ 64 - 1. If stripes are taken, also with another number of stripes, which some part makes so."""
+        total, taken = minus(LONGEST, variable("lost")), 0
+        if not is_same_number(length, 0):
+            self.update(start, end, length, [*facts, at_most(variable("lost"), minus(length, 1))], parts, *more, lost={TOTAL: total})
+        for part in parts if not is_same_number(length, 0) else ():
+            if not is_same_number(part.turns, 0):
+                first, last = minus(variable("lost"), taken), minus(plus(taken, part.turns), plus(variable("lost"), 1))
+                self.update(start, end, length, [*facts, first, last], parts, *more, lost={TOTAL: LONGEST, COUNT: total})
+                taken = plus(taken, part.turns)
+
+    def ways_to_end(self, end, facts):
+        """Yields whether a state may have stripes and fewer than 64 bytes after them, so that its buffer ends with the
+        last stripe, and facts: one way or both."""
+        few, more = at_most(end[1], STRIPE - 1), minus(end[1], STRIPE)
+        with given(*self.facts, *facts):
+            if is_same_number(self.stripes(end[0]), 0) or is_natural(more):
+                ways = [(False, [])]
+            else:
+                ways = [(True, [])] if is_natural(few) else [(True, [few]), (False, [more])]
+        yield from ways
+
+    def update(self, start, end, length, facts, *more, **lost):
+        """Proves an update of a state (place, f) by a chunk, with the arguments of `update_to`."""
+        for is_short, of_end in self.ways_to_end(end, facts):
+            self.update_to(is_short, start, end, length, [*facts, *of_end], *more, **lost)
+
+    def update_to(self, is_short, start, end, length, facts, parts=(), summaries=(), lost=()):
+        """Proves an update to a state whose buffer ends with the last stripe if it `is_short`: a stripe of some part, or
+        otherwise the same as before. `lost` has the values of counters that are other ones before, and 2 ^ 64 - 1 after
+        it, by their offsets."""
         begun, ended = (plus(times(64, self.stripes(place)), f) for place, f in (start, end))
         self.begin(plus(ended, variable("rest")))
-        with given(*self.facts, *facts, at_most(self.source.length, LONGEST)):
-            state = self.state(*start)
+        most = [minus(LONGEST, variable("lost"))] if lost else []
+        with given(*self.facts, *facts, *most, at_most(self.source.length, LONGEST)):
+            kept = [self.last_stripe(Source("last", STRIPE), STRIPE)] if is_short and not parts else []
+            last = [self.last_stripe(self.source, times(64, self.stripes(end[0])))] if is_short and parts else kept
+            state = self.state(*start, kept)
+            for at in lost:
+                state.store(self.CORE + at, 8, lost[at])
             piece = Piece(self.source, begun, length)
             if not is_same_number(plus(begun, length), ended):
                 raise NotShown("the case's piece has another length")
             self.run([state], self.library.update, parts, self.cpu, "3-64", state, piece, summaries=summaries)
-            self.expect_state("an update", state, *end, self.last if last is None else last())
+            self.expect_state("an update", state, *end, last, {self.CORE + at: LONGEST for at in lost})
             if parts and not is_natural(minus(self.stripes(end[0]), 4)):
                 raise NotShown("fewer than four stripes are taken")
 
@@ -292,9 +328,8 @@ class Xxh3Updates(Cases):
                              minus(plus(start.g, n), FIRST)]
                     facts.append(minus(length, LONG_PIECE) if to == "many" else at_most(length, LONG_PIECE - 1))
                     parts = Part(start.place, start.g, start.behind), Part(start.behind, n, place)
-                    last = functools.partial(self.last_stripe, place)
                     more = [TAKE_MANY] if to == "many" else []
-                    yield (start.place, f), (place, left), length, facts, parts, last, more
+                    yield (start.place, f), (place, left), length, facts, parts, more
 
     def all_updates(self):
         """Yields all cases of updates, as arguments of `update`."""
@@ -370,8 +405,9 @@ class Xxh3Updates(Cases):
         self.begin(n)
         seed = nodes.symbol("seed64", 64)
         with given(*self.facts, *facts, at_most(n, LONGEST)):
-            needs_last = isinstance(f, int) and f < 64 and not is_same_number(self.stripes(place), 0)
-            state = self.state(place, f, self.last_stripe(place) if needs_last else None, has_seed, seed)
+            needs_last = isinstance(f, int) and f < STRIPE and not is_same_number(self.stripes(place), 0)
+            last = [self.last_stripe(self.source, times(64, self.stripes(place)))] if needs_last else []
+            state = self.state(place, f, last, has_seed, seed)
             before = dict(state.cells)
             value = self.run([state], self.library.digest, parts, self.cpu, f"3-{width}", state)
             if state.cells.keys() != before.keys() or any(state.cells[at] is not x and not (

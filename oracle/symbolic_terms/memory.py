@@ -203,13 +203,17 @@ def in_order(a, b):
 
 
 def outside(run, at, end):
-    """Returns the part of a run outside of at .. end - 1."""
+    """Returns the parts of a run that are known to be outside of at .. end - 1: one before and one behind. If it isn't known
+    where the run begins, compared with `end`, the latter begins some bytes later."""
     low, high, source, place = run
     if is_natural(minus(at, high)) or is_natural(minus(low, end)):
         return [run]
-    if is_natural(minus(high, end)) and is_natural(minus(low, at)):
-        return [(end, high, source, place)]
-    return []
+    parts = [(low, at)] if is_natural(minus(at, low)) and is_natural(minus(high, at)) else []
+    for first in (end, *(plus(low, 1 << k) for k in range(3, 8))):
+        if is_natural(minus(first, low)) and is_natural(minus(first, end)) and is_natural(minus(high, first)):
+            parts.append((first, high))
+            break
+    return [(*part, source, place) for part in parts if not is_same_number(*part)]
 
 
 def is_address(x):

@@ -27,9 +27,9 @@ class Task:
         self.is_deep = is_deep     # deep recursions need a thread with a large stack; time limits need the main thread
 
 
-def options(usage, jobs=2):
+def options(description, jobs=2):
     """Returns a parser of a check's options: --all, --only WORD and --jobs NUMBER."""
-    out = argparse.ArgumentParser(usage=usage)
+    out = argparse.ArgumentParser(description=description, formatter_class=argparse.RawDescriptionHelpFormatter)
     out.add_argument("--all", action="store_true")
     out.add_argument("--only", default="")
     out.add_argument("--jobs", type=int, default=jobs)

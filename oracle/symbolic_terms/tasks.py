@@ -14,8 +14,8 @@ from .machine import Module
 from .reference import HEADERS, VECTORS, llvm_text, of_reference
 
 PARTS = 4                    # tasks into which the changes are split
-SAMPLE = 32                  # in CI, step between tested changes of the definition
-LINES, FEW_LINES = 5000, 100  # changes of the LLVM code, with --all and without
+SAMPLE = 64                  # in CI, step between tested changes of the definition
+LINES, FEW_LINES = 5000, 40  # changes of the LLVM code, with --all and without
 GATE_SECRETS, STREAM_SECRETS = (136,), (136, 192)
 
 
@@ -41,12 +41,18 @@ def choose(given):
 
 def lengths(is_all, vector):
     for kind in comparison.kinds(SECRETS if is_all else GATE_SECRETS):
-        yield compared(title_of(*kind), kind, range(301), vector)
+        yield compared(title_of(*kind), kind, range(301) if is_all else some_lengths(*kind), vector)
         if is_all:
             yield compared(title_of(*kind), kind, range(301, 1101), vector)
             yield compared(f"{title_of(*kind)}, at edges", kind, comparison.edges(kind[2]), vector)
             if kind[2] in (None, *STREAM_SECRETS):
                 yield compared(f"{title_of(*kind)}, streams", kind, comparison.STREAMED, vector, True)
+
+
+def some_lengths(hash_name, _, secret):
+    """Returns the lengths of CI: all that no induction has, and a sample of the others."""
+    inductive_from = {"32": 16, "64": 32}.get(hash_name, 0 if secret else 241)
+    return sorted({*range(inductive_from), *range(0, 301, 6)})
 
 
 def vector_lengths(vectors):

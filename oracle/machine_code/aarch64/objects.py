@@ -7,6 +7,7 @@ from symbolic_terms import Unsupported
 from .. import objects
 from ..disassembly import expect_bytes
 from ..object_contents import AARCH64, CODE, Loaded
+from .unwinding import Arm
 
 # An instruction: `form` has a word per operand; `target` is (section or constant, offset), or None.
 Instruction = collections.namedtuple("Instruction", "section at end mnemonic form operands target")
@@ -28,7 +29,7 @@ JUMPS = re.compile(r"b|bl|b\.\w\w|t?cbn?z|tbn?z")
 class Program(Loaded):
     """The instructions of a program: section -> address -> Instruction."""
 
-    MACHINE = AARCH64
+    MACHINE, frames = AARCH64, Arm
 
     def __init__(self, path):
         super().__init__(path)

@@ -57,7 +57,7 @@ class Processor(Runner):
     LINK, STACK_POINTER = "x30", "sp"
     VECTORS, KEPT_LANES = 32, range(8, 16)        # number of vectors, and those whose lower lane is callee-saved
     TAKES_STRIPES = ARGUMENTS[:6]                 # of a function that takes stripes and returns a record
-    TOGETHER = 2
+    TOGETHER = 1, 2
     carry = None                                  # unused: `flags` includes the carry
     has_moved = False                             # whether an instruction moved the stack pointer
 

@@ -1,16 +1,18 @@
 """Chooses the tasks of oracle/arm-text, on the sources for 64-bit ARM: the C library's and the cargo crate's."""
 import functools
 import os
+import types
 
 from symbolic_terms import TOP, comparison
 from symbolic_terms.processes import Task
 
-from .. import calls, cargo_tasks, every_length, planted_checks, planted_lines, planted_objects, self_tests, streams
+from .. import (calls, cargo_tasks, every_length, exports, planted_checks, planted_lines, planted_objects, removed,
+                self_tests, streams)
 from .. import tasks as shared
 from ..cargo_exports import BEGIN, exports_left_out
 from ..sources import assembled
 from . import cargo, mutation, on_qemu
-from .objects import Program
+from .objects import Immediate, Instruction, Program
 from .table import TABLE, Processor
 
 TEXT = os.path.join(TOP, "c", "asm", "aarch64.s")
@@ -33,15 +35,12 @@ def choose(given, found):
             out.append(shared.one_by_one(made, kind, asked, ", one-shots"))
         if kind[2] != SECRETS[1]:
             asked = comparison.requests(*kind, comparison.STREAMED if given.all else STREAMED, True)
-            out.append(shared.compared(made, f"{comparison.title_of(*kind)}, streams", asked, streams))
-    for name in ("3-64", "3-128"):
-        out.append(shared.of_each(made, f"XXH{name}, secrets of 0 to 135 bytes", 4 * calls.SHORTEST, functools.partial(
-            calls.short_secrets, hash_name=name, lengths=(240, 241))))
-    out += [shared.of_each(made, *call) for call in calls.OTHERS]
+            out.append(shared.compared(made, f"streams of {comparison.title_of(*kind)}", asked, streams))
+    out += [shared.of_each(made, *call) for call in calls.OTHERS + calls.SHORT_SECRETS]
     out += [shared.twin_task({cargo.NAME: found}), shared.frames_task({cargo.NAME: found})]
     out += every_length_tasks(made, given.all)
     out.append(Task("the table of instructions beside qemu", on_qemu.tell))
-    out.append(shared.counted("each instruction is of the table", 15_000, functools.partial(in_table, [found, cargo.program()])))
+    out.append(shared.counted("each instruction is of the table", 14_900, functools.partial(in_table, [found, cargo.program()])))
     out += self_tests.parts_of_changes("changes of one bit", mutation, found, given.all)
     out += [shared.assembler_task([(source, cargo.NAME) for source in (TEXT, cargo.SOURCE)]),
             self_tests.planted_task("wrong lines are refused", planted_lines.ARM_ASKED),
@@ -49,8 +48,20 @@ def choose(given, found):
     out += [self_tests.planted_task("wrong objects are refused", planted_objects.ARM_ASKED),
             self_tests.planted_task("wrong texts, one for each check, are refused", planted_checks.ARM_ASKED)]
     out.insert(0, shared.export_task({cargo.NAME: found}, [task.title for task in out]))
+    out.append(Task("removed functions are noticed", functools.partial(removed_functions, found, given.all)))
     out += cargo_text_tasks(given.all)
     return [task for task in out if given.only in task.title]
+
+
+def removed_functions(found, is_all):
+    """Removes functions of the C library's source, which the tasks without --all must detect."""
+    known = removed.Known(exports.shown_by(), exports.twins(), lambda name: False, "")
+    asked = choose(types.SimpleNamespace(all=False, only=""), found)
+    return removed.unnoticed(cargo.NAME, found, asked, known, never, 1 if is_all else self_tests.SOME_EXPORTS)
+
+
+def never(section):
+    return {0: Instruction(section, 0, 4, "brk", "i", (Immediate(0),), None)}
 
 
 def cargo_text_tasks(is_all):

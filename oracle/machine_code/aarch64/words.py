@@ -3,7 +3,7 @@ from symbolic_terms import Unsupported, lifted, ones, plus, rotated
 
 from ..flags import is_equal
 
-from ..values import WORD, address, arithmetic, bits, high_and_low, joined, low
+from ..values import WORD, address, arithmetic, bits, high_and_low, joined, low, place_of
 from .objects import Register, Shift, Vector
 from .processor import RETURN, Page, ReturnTo, form
 from .vectors import of_words, words_of
@@ -227,10 +227,15 @@ def never(cpu, x, *_):
     raise Unsupported("brk")
 
 
-@form("prfm", "p m")
 @form("nop", "")
 def nothing(cpu, x, *_):
     pass
+
+
+@form("prfm", "p m")
+def prefetch(cpu, x, _, place):
+    step = cpu.get(place.index) if place.index else place.offset % (1 << WORD)
+    place_of(arithmetic("add", WORD, cpu.registers[place.base.name], step))      # in or near an object, and by no symbol
 
 
 # ---- control

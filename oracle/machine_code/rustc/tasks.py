@@ -1,44 +1,72 @@
-"""Chooses the tasks of oracle/rust-object: one-shots and streams of rustc's object, compared with the definition."""
+"""Chooses the tasks of oracle/rust-object: the crate's public calls in rustc's object, compared with the definition."""
 import functools
-import os
-import shutil
-import tempfile
+import re
 
 from symbolic_terms import comparison
 from symbolic_terms.comparison import title_of
-from symbolic_terms.processes import Task
 
-from .. import one_shots, streams
-from ..tasks import compared
-from .compilers import SOURCE
+from .. import any_updates, every_length
+from ..instructions import V1, V3
+from ..one_shots import is_plain
+from ..tasks import SOME_SHORT, UPDATE_PARTS, any_streams, compared, count_shown, counted, of_each
+from . import choice, names, planted, uses
+from .compilers import ASSEMBLY, SCALAR_BUILD
+from .inductions import RustUpdates, cases_of, of_any_secret
+from .objects import LEVELS
 
 SECRETS = (136, 192)
 ONE_BY_ONE = range(301)
 SOME = [*range(0, 33), 48, 63, 64, 65, 96, 128, 129, 160, 192, 240, 241, 255, 256, 257, 300]
+FEW = [0, 3, 7, 16, 33, 100, 129, 240, 241, 300]
+LONG = [1024, 1025, 3137]         # bytes: the edge of a block, and more than two blocks
+SOME_KINDS = [("3-64", "default", None), ("3-128", "secret", 136)]      # of long one-shots, without --all
 STREAMED = [3, 8, 17, 33, 70]
+SOME_CASES, SOME_OF_XXH3, SOME_UPDATES = 16, 32, 389      # steps between cases of the inductions, without --all
 LONGER = {"32": range(301, 2001), "64": range(301, 2001), "3-64": range(301, 1101), "3-128": range(301, 1101)}
-# Planted faults: the file, the old and the new text, and requests that detect them.
-WRONG = (
-    ("twox_plain/xxhash64/rounds.rs", "rotate_left(27)", "rotate_left(26)", ("64", "seed", None), [9]),
-    ("twox_plain/xxhash32/rounds.rs", "rotate_left(13)", "rotate_left(14)", ("32", "seed", None), [16]),
-    ("twox_core/width_64.rs", "rotate_left(49)", "rotate_left(48)", ("3-64", "seed", None), [5]),
-    ("twox_core/xxhash3/mixing.rs", "input.len() as u8", "(input.len() as u8) ^ 1", ("3-128", "seed", None), [3]),
-)
+# The levels of each build: x86-64 has a choice of AVX2, and the assembly source of three instruction sets.
+OF_BUILD = {V1: (1, 2), V3: (2,), SCALAR_BUILD: (1,), ASSEMBLY: tuple(LEVELS)}
+FEWEST_USES, FEWEST_NAMES = 90, 40
+# Exports that no task calls, with the reason.
+NOT_CALLED = {f"xxh{name}_equal": "instructions that the processor's model lacks" for name in ("32", "64")}
 
 
 def choose(given, compilers):
-    out = []
+    """Returns the tasks, and compiles the builds that they run."""
+    out = [counted("the program uses each public name", FEWEST_NAMES, names.left_out),
+           counted("a public function without a use is refused", 1, new_name_is_missing)]
     for compiler in compilers:
-        made = {"rustc's code": functools.partial(compiler.processor, compiler.program_of())}
-        out += [*one_shot_tasks(compiler.name, made, given.all), *stream_tasks(compiler.name, made, given.all)]
-    out += [Task(f"a wrong {file}: {old}", functools.partial(is_noticed, compilers[0], *wrong)) for wrong in WRONG for file, old, *_ in [wrong]]
+        program = compiler.program_of()
+        make = functools.partial(compiler.processor, program)
+        made = {f"level {level}": functools.partial(make, level) for level in OF_BUILD.get(compiler.name, (1,))}
+        out += build_tasks(compiler.name, made, given.all)
+        out += called_tasks(compiler.name, make, program, made, given.all)
+    out += fault_tasks(given, compilers)
     return [task for task in out if given.only in task.title]
 
 
-def one_shot_tasks(name, made, is_all):
+def build_tasks(name, made, is_all):
+    first = dict([next(iter(made.items()))])
+    yield from one_shot_tasks(name, made, first, is_all)
+    if is_all or name in (V1, ASSEMBLY, "aarch64"):
+        yield from stream_tasks(name, first, is_all)
+        yield from induction_tasks(name, made, first, is_all)
+    if is_all or name == V1:
+        yield from xxh3_tasks(name, made, is_all)
+
+
+def one_shot_tasks(name, made, first, is_all):
+    """Yields the tasks of one-shots. Without --all only the first build has every length of XXH32 and XXH64 up to 300,
+    and most of XXH3."""
     for kind in comparison.kinds(SECRETS):
-        lengths = [*ONE_BY_ONE, *(LONGER[kind[0]] if is_all else ())] if kind[2] is None or is_all else SOME
-        yield compared(made, f"{name}: {title_of(*kind)}, one-shots", comparison.requests(*kind, lengths))
+        is_first = kind[2] is None and name in (V1, "aarch64")
+        lengths = [*ONE_BY_ONE, *LONGER[kind[0]]] if is_all else FEW if name in (V3, SCALAR_BUILD) else SOME
+        if is_first and not is_all:
+            lengths = ONE_BY_ONE if is_plain(kind[0]) else SOME_SHORT
+        yield compared(first, f"{name}: {title_of(*kind)}, one-shots", comparison.requests(*kind, lengths))
+        if name in OF_BUILD and (is_all or kind in SOME_KINDS):
+            more = [] if kind[2] or is_plain(kind[0]) else [every_length.PREFETCHED]
+            lengths = [*LONG, *more] if is_all else LONG[1:2]
+            yield compared(made, f"{name}: {title_of(*kind)}, long one-shots", comparison.requests(*kind, lengths))
 
 
 def stream_tasks(name, made, is_all):
@@ -46,22 +74,105 @@ def stream_tasks(name, made, is_all):
     for kind in comparison.kinds(SECRETS):
         if kind[1] != "secret":
             asked = comparison.requests(*kind, comparison.STREAMED if is_all else STREAMED, True)
-            yield compared(made, f"{name}: {title_of(*kind)}, streams", asked, streams)
+            yield compared(made, f"{name}: {title_of(*kind)}, streams", asked, uses)
 
 
-def is_noticed(compiler, file, old, new, kind, lengths):
-    """Compiles a planted fault, and checks that a term differs."""
-    with tempfile.TemporaryDirectory(prefix="rust-object-") as room:
-        source = os.path.join(room, "src")
-        shutil.copytree(SOURCE, source)
-        path = os.path.join(source, "erased", file)
-        with open(path, encoding="utf-8") as text:
-            right = text.read()
-        if old not in right:
-            return "0 requests", [f"{file} has no {old}"]
-        with open(path, "w", encoding="utf-8") as text:
-            text.write(right.replace(old, new))
-        cpu = compiler.processor(compiler.program_of(source))
-        asked = comparison.requests(*kind, lengths)
-        _, bad = comparison.compare({"rustc's code": lambda request: one_shots.of_text(cpu, request)}, asked)
-        return "1 source", [] if any("by the definition and" in fault for fault in bad) else ["it was not noticed"]
+# ---- inductions
+
+def induction_tasks(name, made, first, is_all):
+    """Yields the tasks of every length and of any updates of XXH32 and XXH64: all cases, or a sample. Only XXH32 calls
+    the assembly source, by level."""
+    for hash_name in every_length.UNROLLED:
+        found, count = cases_of(hash_name, name == ASSEMBLY), len(list(any_updates.updates(hash_name)))
+        cases = found[::1 if is_all else SOME_CASES]
+        levels = made if name == ASSEMBLY and hash_name == "32" else first
+        for level, make in levels.items():
+            yield counted(f"{name}, {level}: XXH{hash_name}: every length to 2^64 - 1", len(cases), functools.partial(
+                shown, make, hash_name, cases))
+        for level, make in (levels if is_all else dict([*levels.items()][-1:])).items():
+            for part in range(UPDATE_PARTS) if is_all else [None]:
+                words = f"part {part + 1} of {UPDATE_PARTS}" if is_all else f"each {SOME_UPDATES}th case"
+                least = count // (UPDATE_PARTS if is_all else SOME_UPDATES)
+                title = f"{name}, {level}: streams of XXH{hash_name}: any updates, to 2^64 - 1 bytes, {words}"
+                yield counted(title, least, functools.partial(
+                    any_streams, make, hash_name, part, SOME_UPDATES, True, RustUpdates))
+
+
+def xxh3_tasks(name, made, is_all):
+    """Yields the tasks of XXH3 of every length in the Rust source: all cases, or a sample of two ways."""
+    kinds = [f"{name}:{way}" for name in ("3-64", "3-128") for way in ("default", "seed")]
+    for kind in kinds if is_all else (kinds[0], kinds[3]):
+        cases = cases_of(kind)[::1 if is_all else SOME_OF_XXH3]
+        for level, make in made.items():
+            yield counted(f"{name}, {level}: XXH{kind.replace(':', ', ')}: every length to 2^64 - 1", len(cases),
+                          functools.partial(shown, make, kind, cases))
+    for kind in [f"{name}:{way}" for name in ("3-64", "3-128") for way in ("secret", "both")] if is_all else ():
+        for level, make in made.items():
+            title = f"{name}, {level}: XXH{kind.replace(':', ', ')} of 192 to 199 bytes: every length from 241 on"
+            yield counted(title, len(of_any_secret()), functools.partial(shown, make, kind, of_any_secret()))
+
+
+def shown(make, kind, cases):
+    proof = every_length.EveryLength(make(), kind)
+    return count_shown(proof, [functools.partial(proof.show, case) for case in cases])
+
+
+# ---- the other calls
+
+def called_tasks(name, make, program, made, is_all):
+    """Yields the tasks of the other calls, and of what they leave out."""
+    first, *others = made
+    if name not in OF_BUILD:
+        return
+    if is_all or name == ASSEMBLY:
+        yield counted(f"{name}: each export of the program is called", FEWEST_USES,
+                      functools.partial(all_called, made[first], program))
+    elif name != V3:
+        others = made
+    for level in others if is_all else [*others][-1:]:
+        yield of_each({level: made[level]}, f"{name}, {level}: streams by each way to start them", 150,
+                      functools.partial(uses.by_each_way, is_cloned=False))
+    if program.level and (is_all or name in (V1, ASSEMBLY)):
+        yield of_each({first: make}, f"{name}: the level by `cpuid`", 48, choice.choice)
+    if name == ASSEMBLY:
+        yield of_each(made, "assembly: one-shots of XXH3 of any length above 240 bytes", 10, choice.long_inputs)
+        yield of_each(made, "assembly: chunks of XXH3 of any length that don't fit the buffer", 58, choice.long_chunks)
+
+
+def all_called(make, program):
+    """Runs all uses, and compares the exports that they call with the program's."""
+    cpu, called = make(), set()
+    call = cpu.call
+    cpu.call = lambda name, *arguments: called.add(name) or call(name, *arguments)
+    for _, least, ask in uses.ALL:
+        if ask(cpu) < least:
+            return 0, ["fewer cases than expected"]
+    for kind in comparison.kinds(SECRETS[:1]):
+        uses.one_shot(cpu, next(comparison.requests(*kind, [17])))
+    if program.level:
+        choice.choice(cpu)
+    exports = {name for name in program.exports if re.match(r"(xxh|raw_|secret_|processor_)", name)}
+    bad = [f"no task calls {name}" for name in sorted(exports - called - NOT_CALLED.keys())]
+    return len(exports), bad + [f"there is no {name}" for name in sorted(called - exports)]
+
+
+def new_name_is_missing():
+    """Adds a public function to the texts of the crate: it must be missing."""
+    texts = [*names.texts_of_crate(), "impl Hasher { pub fn unheard_of(&self) {} }"]
+    _, bad = names.left_out(texts)
+    return 1, [] if bad == ["the program doesn't use unheard_of"] else [f"a new function isn't missing: {bad}"]
+
+
+# ---- planted faults
+
+def fault_tasks(given, compilers):
+    """Yields the tasks of planted faults: of each build together, and with --all one by one."""
+    known = {compiler.name for compiler in compilers}      # ARM has no planted faults
+    for build, faults in planted.groups().items():
+        if build in known:
+            for some in ([[fault] for fault in faults] if given.all else [faults]):
+                title = some[0].file if given.all else f"{len(some)} faults"
+                yield counted(f"planted in {build}: {title}", len(some),
+                              functools.partial(planted.unnoticed, compilers, some))
+
+

@@ -7,7 +7,7 @@ from .values import address
 DONE, SECRET_TOO_SHORT, NOT_A_STREAM = 0, 1, 2
 BYTES = {"32": 4, "64": 8, "3-64": 8, "3-128": 16}          # of a hash
 WAYS = {"default": "", "seed": "_with_seed", "secret": "_with_secret", "both": "_with_seed_and_secret"}
-RECORDS = {"xxh32": 56, "xxh64": 88, "xxh3": 688}           # bytes of a stream's record, as documented
+RECORDS = {"xxh32": 56, "xxh64": 88, "xxh3": 624}           # bytes of a stream's record, as documented
 PADDING = {"xxh32": range(44, 48)}                          # bytes that the JavaScript sets to 0 in a saved state
 DERIVED = 192                                               # bytes of the secret derived from a seed
 

@@ -58,7 +58,7 @@ class Machine(Names):
     replaced    Python functions that run instead of the module's functions, by index
     """
 
-    LIMIT_OF_CASE = MOST_STEPS
+    LIMIT_OF_CASE, TOGETHER = MOST_STEPS, (1,)
 
     def __init__(self, module):
         self.module, self.branches, self.code = module, validate(module), {}

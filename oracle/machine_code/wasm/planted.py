@@ -1,11 +1,11 @@
 """Planted faults in modules: instructions inserted at the start of an export, each of which must be refused."""
 import functools
 
-from symbolic_terms import REFUSALS, Poly, Request, is_same, is_same_number
+from symbolic_terms import REFUSALS, Poly, Request, is_same, is_same_number, variable
 
 from .. import coverage
 from ..xxh3_updates import TAKE, TAKE_MANY
-from . import calls, every_length
+from . import calls, every_length, refusals
 from .assembler import assembled, unsigned
 from .mutation import with_change
 from .comparing import Texts, compare, with_seed_0
@@ -38,6 +38,10 @@ PLANTED = [
     ("a refused call that writes", "twox_xxh3_64_with_secret", "local.get 4; i32.const 0; i32.store8 0"),
     ("a value by where the secret lies beside the message", "twox_xxh3_64_with_secret",
      "local.get 0; i64.extend_i32_u; local.get 2; i64.extend_i32_u; i64.sub; i64.const 8; i64.lt_u; if; unreachable; end"),
+    ("a secret that is too short and isn't refused at one length", "twox_xxh3_64_with_secret",
+     "local.get 3; i32.const 2000; i32.ne; i32.eqz; if; i32.const 136; local.set 1; end"),
+    ("a secret of one length that is too short and isn't refused", "twox_xxh3_64_with_secret",
+     "local.get 1; i32.const 100; i32.ne; i32.eqz; if; i32.const 136; local.set 1; end"),
     ("a digest that changes the record", "twox_xxh64_digest", "local.get 0; i32.const 0; i32.store8 8"),
 ]
 
@@ -71,7 +75,7 @@ def answers(vm):
         yield lambda: is_same(answer(vm, request), texts.value(request))
         if vm.has_asked:
             yield lambda: is_same(answer(vm, with_seed_0(request)), texts.value(with_seed_0(request)))
-    yield lambda: calls.refused_one_shot(vm, Request("3-64", "secret", 5, 135)) is None
+    yield lambda: refusals.refuse_any(vm, "3-64", "secret", variable("n")) is None
     yield lambda: every_length.show(vm, "64", "seed", rests=[3]) is not None
 
 
@@ -100,7 +104,7 @@ def tell(machines):
 
 # ---- streams of XXH3 of any updates
 
-FULL = "; ".join(["local.get 0; i32.wrap_i64; i64.load 656; i64.const 512; i64.eq", "if",
+FULL = "; ".join(["local.get 0; i32.wrap_i64; i64.load 592; i64.const 512; i64.eq", "if",
                   "local.get 0; i32.wrap_i64; i64.const 1; i64.store 0", "end"])
 
 

@@ -1,10 +1,11 @@
 """Planted faults in modules that only the reader of sections or the task of exports refuses: the code is unchanged."""
 from . import tasks
-from .assembler import section, signed, vector
+from .assembler import END, assembled, section, signed, unsigned, vector
 from .machine import Machine
-from .module import Malformed, Module, Reader
+from .module import FUNCTION, GLOBAL, Malformed, Module, Reader
+from .opcodes import TYPES as CODES
 
-TYPES, IMPORTS, SIGNATURES, TABLES, MEMORY, STARTS, ELEMENTS, CODE, DATA = 1, 2, 3, 4, 5, 8, 9, 10, 11
+TYPES, IMPORTS, SIGNATURES, TABLES, MEMORY, GLOBALS, EXPORTS, STARTS, ELEMENTS, CODE, DATA = 1, 2, 3, 4, 5, 6, 7, 8, 9, 10, 11
 
 
 def sections_of(whole):
@@ -41,7 +42,68 @@ def in_place(kind, make):
     return lambda module, sections: [(x, make(content) if x == kind else content) for x, content in sections]
 
 
+# ---- exports of another type
+
+def more(content, item):
+    """Returns a vector with one more item."""
+    reader = Reader(content)
+    count = reader.unsigned()
+    return unsigned(count + 1) + content[reader.at:] + item
+
+
+def type_of(*signature):
+    codes = {width: bytes([code]) for code, width in CODES.items()}
+    return b"\x60" + b"".join(vector([codes[width] for width in widths]) for widths in signature)
+
+
+def of_type(name, signature):
+    """Returns a change after which the export is a new function of another type, which only traps."""
+    def change(module, sections):
+        added = {TYPES: type_of(*signature), SIGNATURES: unsigned(len(module.types)), CODE: FUNCTION_BODY}
+        out = [(kind, more(content, added[kind]) if kind in added else content) for kind, content in sections]
+        return [(kind, exported(module, name, FUNCTION, len(module.signatures)) if kind == EXPORTS else content) for kind, content in out]
+    return change
+
+
+FUNCTION_BODY = vector([bytes([x]) for x in b"\0" + assembled("unreachable") + END])
+
+
+def exported(module, other, kind, index):
+    """Returns the section of exports, one of which is another thing."""
+    return vector([vector([bytes([x]) for x in name.encode()]) + bytes([kind if name == other else old[0]]) +
+                   unsigned(index if name == other else old[1]) for name, old in module.exports.items()])
+
+
+def with_heap_base(make):
+    """Returns a change of the global __heap_base: `make` returns (width's code, flag, value's opcode, value) of the value."""
+    def change(module, sections):
+        base = module.globals[module.exports["__heap_base"][1]].value
+        code, flag, opcode, value = make(base)
+        item = bytes([code, flag, opcode]) + signed(value) + END
+        return [(kind, more(content, item) if kind == GLOBALS else exported(
+            module, "__heap_base", GLOBAL, len(module.globals)) if kind == EXPORTS else content) for kind, content in sections]
+    return change
+
+
+def of_other_types():
+    """Yields a change for each argument and each result of each export: 32 bits for 64, or the other way round; and a
+    function with one argument more, and with one result less or more."""
+    for name, (takes, leaves) in tasks.signatures().items():
+        for k in range(len(takes)):
+            yield f"{name}: another type of argument {k}", of_type(name, ((*takes[:k], 96 - takes[k], *takes[k + 1:]), leaves))
+        yield f"{name}: another result", of_type(name, (takes, (96 - leaves[0],) if leaves else (32,)))
+        yield f"{name}: one argument more", of_type(name, ((*takes, 32), leaves))
+
+
+I32, I64 = (0x7F, 0, 0x41), (0x7E, 0, 0x42)
 WRONG = [
+    ("a __heap_base far behind the constants", with_heap_base(lambda base: (*I64, 0xFFFF0000))),
+    ("a __heap_base before the constants' end", with_heap_base(lambda base: (*I64, base - 16))),
+    ("a __heap_base in the next page", with_heap_base(lambda base: (*I64, base + 65536))),
+    ("a __heap_base of 32 bits", with_heap_base(lambda base: (*I32, base))),
+    ("a __heap_base that may change", with_heap_base(lambda base: (0x7E, 1, 0x42, base))),
+    ("a memory without the last page", in_place(MEMORY, lambda content: b"\1\0\x10")),
+    ("a memory of one page more", in_place(MEMORY, lambda content: b"\1\0\x12")),
     ("a second segment over the first", with_segments(lambda at, data: [segment(at, data), segment(at + 30, b"\x55")])),
     ("segments in another order", with_segments(lambda at, data: [segment(at + 96, data[96:]), segment(at, data[:96])])),
     ("segments that meet, of which one has no bytes", with_segments(lambda at, data: [segment(at, data), segment(at, b"")])),
@@ -72,13 +134,15 @@ def refusal(whole):
     return next(iter(tasks.of_memory(machine, machine.module.exports)), None)
 
 
-def tell(machines):
-    """Tests each module with each planted fault. Returns faults that pass, and unchanged modules that fail."""
+def tell(machines, each=1):
+    """Tests each module with each planted fault, or with every `each`-th type of an export. Returns faults that pass, and
+    unchanged modules that fail."""
     bad = []
     for name, vm in machines.items():
         whole = vm.module.whole
         sections = sections_of(whole)
         bad += [f"{name} is refused: {why}" for why in [refusal(joined(whole, sections))] if why]
-        bad += [f"{name} passes with {what}" for what, change in WRONG
+        asked = [*WRONG, *list(of_other_types())[::each]]
+        bad += [f"{name} passes with {what}" for what, change in asked
                 if not refusal(joined(whole, change(vm.module, sections)))]
-    return f"{len(WRONG) * len(machines)} planted modules, each refused", bad
+    return f"{len(asked) * len(machines)} planted modules, each refused", bad

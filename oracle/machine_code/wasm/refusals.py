@@ -1,19 +1,23 @@
 """Tests calls that the modules refuse without writing anything: with secrets of fewer than 136 bytes, or with invalid
 records. Also tests that a counter saturates at 2^64 - 1."""
-from symbolic_terms import Memory, Request, Unsupported
+import itertools
+
+from symbolic_terms import Memory, Request, Unsupported, at_most, given, plus, variable
 
 from . import calls
 from .calls import NOT_A_STREAM, SECRET_TOO_SHORT, Stream, answered, expect_kept
 from .comparing import compare
+from .every_length import LONGEST
 
 LEAST_SECRET = 136
-SHORT, LONG = (240,), (241,)      # message lengths at which a seeded call needs no secret, and needs it
+SERVED = 241                      # bytes of a message from which on a seeded call needs a secret
+FEW, TAKEN = 64, (0, 300, 700)    # bytes of a chunk, up to which an update has a separate path; bytes of started streams
 XXH3 = "3-64", "3-128"
 # Invalid records: hash, bytes of the stream, title, and fields that don't fit these: (offset, size, value), ..
 MOST = 2 ** 64 - 1
 LOST = 0, 8, MOST             # the saturated length
 # Offsets of a record's counters, of bytes and of stripes.
-COUNTERS = {"32": [0], "64": [0], "3-64": [680, 152], "3-128": [680, 152]}
+COUNTERS = {"32": [0], "64": [0], "3-64": [616, 88], "3-128": [616, 88]}
 PIECES = 5, 40, 200, 600, 3000
 WRONG_RECORDS = [
     ("32", 5, "fewer bytes wait", (48, 8, 4)), ("32", 5, "more bytes wait", (48, 8, 6)),
@@ -30,56 +34,68 @@ WRONG_RECORDS = [
     ("64", 5, "a whole stripe waits", (80, 8, 32)), ("64", 5, "another length", (0, 8, 2 ** 63 + 4)),
     ("64", 5, "an accumulator, with no stripe", (16, 8, 1)), ("64", 5, "the last accumulator, with no stripe", (40, 8, 1)),
     ("64", 5, "another seed", (8, 8, 8)), ("64", 40, "fewer bytes wait", (80, 8, 7)),
-    ("3-64", 5, "no byte waits", (672, 8, 0)), ("3-64", 5, "more bytes wait than there is room", (672, 8, 513)),
-    ("3-64", 5, "another length", (680, 8, 6)), ("3-64", 5, "2^63 bytes more", (680, 8, 5 + 2 ** 63)),
-    ("3-64", 5, "a stripe more", (152, 8, 1)), ("3-64", 5, "an accumulator, with no stripe", (16, 8, 1)),
+    ("3-64", 5, "no byte waits", (608, 8, 0)), ("3-64", 5, "more bytes wait than there is room", (608, 8, 513)),
+    ("3-64", 5, "another length", (616, 8, 6)), ("3-64", 5, "2^63 bytes more", (616, 8, 5 + 2 ** 63)),
+    ("3-64", 5, "a stripe more", (88, 8, 1)), ("3-64", 5, "an accumulator, with no stripe", (16, 8, 1)),
     ("3-64", 5, "the last accumulator, with no stripe", (72, 8, 1)), ("3-64", 5, "a place in the block", (80, 8, 1)),
-    ("3-64", 700, "a place behind the secret", (80, 8, 16)), ("3-64", 700, "no byte waits", (672, 8, 0)),
-    ("3-64", 700, "another length", (680, 8, 699)), ("3-64", 700, "a stripe fewer", (152, 8, 6)),
-    ("3-64", 5, "513 bytes are said to wait and to have been taken", (672, 8, 513), (680, 8, 513)),
+    ("3-64", 700, "a place behind the secret", (80, 8, 16)), ("3-64", 700, "no byte waits", (608, 8, 0)),
+    ("3-64", 700, "another length", (616, 8, 699)), ("3-64", 700, "a stripe fewer", (88, 8, 6)),
+    ("3-64", 5, "513 bytes are said to wait and to have been taken", (608, 8, 513), (616, 8, 513)),
 ]
 # More, each after the length of its secret, or None. Only changes that nothing else detects are tested with these.
-NO_BYTE_WAITS = "3-64", 700, "no byte waits, and the length is that of the stripes", (672, 8, 0), (680, 8, 576)
+NO_BYTE_WAITS = "3-64", 700, "no byte waits, and the length is that of the stripes", (608, 8, 0), (616, 8, 576)
 OWN_SECRET = 140
 MORE_WRONG_RECORDS = [(None, *NO_BYTE_WAITS), (OWN_SECRET, *NO_BYTE_WAITS),
                       (OWN_SECRET, "3-64", 700, "a place behind a secret of 4 bytes more than stripes", (80, 8, 9))]
 
 
+def short_secret(n):
+    """Returns the facts of a message of `n` bytes and a secret of `size` bytes, any number below 136."""
+    return given(at_most(n, LONGEST), at_most(variable("size"), LEAST_SECRET - 1))
+
+
+def refuse_any(vm, name, way, length):
+    """Tests that a one-shot refuses each secret that is too short, at a symbolic length of the message."""
+    with short_secret(length):
+        calls.refused_one_shot(vm, Request(name, way, length, variable("size")))
+        expect_not_asked(vm)
+
+
 def one_shots_with_short_secrets(machines):
-    """Tests each length of a secret that is too short: a call that needs the secret is refused, others ignore it."""
-    asked = [Request(name, way, n, size) for name in XXH3 for way in ("secret", "both") for n in (*SHORT, *LONG)
-             for size in range(LEAST_SECRET)]
-    is_served = [x for x in asked if x.kind == "both" and x.length in SHORT]
-    refused = [x for x in asked if x not in is_served]
-    served, complaints = compare(machines, is_served, calls.one_shot)
-    for vm in machines.values():
-        for request in refused:
-            calls.refused_one_shot(vm, request)
-            expect_not_asked(vm)
-    return f"{served} answered, {len(refused) * len(machines)} refused", complaints
+    """Tests each length of a message and of a secret that is too short: a call that needs the secret is refused, others
+    ignore it."""
+    n, size, count = variable("n"), variable("size"), 0
+    for name, (way, length), vm in itertools.product(XXH3, (("secret", n), ("both", plus(n, SERVED))), machines.values()):
+        refuse_any(vm, name, way, length)
+        count += 1
+    with short_secret(SERVED):
+        served, complaints = compare(machines, [Request(name, "both", n, size) for name in XXH3 for n in range(SERVED)], calls.one_shot)
+    return f"{served} answered, {count} refused", complaints
 
 
 def streams_with_short_secrets(machines):
-    """Tests that a start with such a secret leaves the record unchanged, and an update and a digest of a started stream
-    do so too."""
-    count = 0
+    """Tests that a start with each length of such a secret leaves the record unchanged, and an update of any length and a
+    digest of a started stream do so too."""
+    n, size, count = variable("n"), variable("size"), 0
     for vm in machines.values():
-        for size in range(LEAST_SECRET):
-            for way in ("secret", "both"):
-                calls.refused_start(vm, Request("3-64", way, 300, size))
+        for way, (length, facts) in itertools.product(("secret", "both"), ((n, [at_most(n, FEW)]), (plus(n, FEW + 1), []))):
+            with short_secret(length), given(*facts):
+                calls.refused_start(vm, Request("3-64", way, length, size))
                 expect_not_asked(vm)
-            refuse_short_secret(vm, Request("3-64", "secret", 300, size))
-            count += 2 + 6
+                for taken in TAKEN:
+                    refuse_short_secret(vm, Request("3-64", way, length, size), taken)
+                    count += 6
+            count += 1
     return f"{count} refused", []
 
 
-def refuse_short_secret(vm, request):
-    """Tests that an update and a digest of a started stream refuse a secret that is too short, also with an invalid
-    record, since the secret is tested first."""
-    it = started(vm, Request(request.hash_name, request.kind, request.length, LEAST_SECRET), request.length)
-    it.secret = calls.of_secret(request)
+def refuse_short_secret(vm, request, taken=300):
+    """Tests that an update and a digest of a stream of `taken` bytes refuse a secret that is too short, also with an
+    invalid record, since the secret is tested first."""
+    it = started(vm, Request(request.hash_name, request.kind, taken, LEAST_SECRET), taken)
+    it.request, it.secret = request, calls.of_secret(request)
     expect_refused(it, SECRET_TOO_SHORT)
-    it.record.store(COUNTERS[request.hash_name][0], 8, request.length - 1)
+    it.record.store(COUNTERS[request.hash_name][0], 8, taken + 1)
     expect_refused(it, SECRET_TOO_SHORT)
 
 

@@ -12,18 +12,19 @@ from .. import coverage
 from .. import tasks as of_texts
 from ..xxh3_updates import DIGESTS, STRIPES, UPDATES
 from . import (calls, comparing, engine, every_length, mutation, plain_streams, planted, planted_sections, refusals,
-               xxh3_streams)
+               removed, xxh3_streams)
 from .machine import STACK, Machine
-from .module import FUNCTION, GLOBAL, MEMORY, Module
+from .module import FUNCTION, GLOBAL, MEMORY, PAGE, Module
 
 WEB = os.path.join(os.path.dirname(os.path.abspath(__file__)), "..", "..", "..", "web")
 NAMES = "twox_hash.wasm", "twox_hash_simd.wasm"
 SECRETS, GATE_SECRETS = (136, 137, 143, 144, 192, 256), (136,)
-GATE_EACH, GATE_STREAMS = 8, (33, 300)      # step between the lengths of one-shots, and the lengths of streams
+GATE_EACH, GATE_STREAMS = 16, (33, 300)      # step between the lengths of one-shots, and the lengths of streams
 GATE_KINDS, GATE_CASES = [("32", "seed"), ("64", "seed"), ("3-64", "seed"), ("3-128", "both")], 24
 # Cases of XXH3's streams: size of a sample, and the number of parts of all.
-XXH3_CASES = {UPDATES: (8, 4), DIGESTS: (12, 2), STRIPES: (2, 2)}
-GATE_CHANGES, CHANGES = 30, 1000     # of a module
+XXH3_CASES = {UPDATES: (8, 4), DIGESTS: (37, 2), STRIPES: (2, 2)}
+GATE_CHANGES, CHANGES = 12, 1000     # of a module
+GATE_TYPES, GATE_REMOVED = 13, 6     # steps between planted types of exports, and removed exports
 PARTS = 4                            # tasks into which the changes of a module are split
 
 # Every export, with words of the titles of tasks that prove it.
@@ -38,6 +39,27 @@ EXPORTS = {
     **{f"twox_xxh3_start{calls.WAYS[way]}": [f"XXH3-64, {way}", "streams"] for way in ("seed", "secret", "both")},
     "memory": ["the exports"], "__heap_base": ["the exports"],
 }
+HEAP_ALIGNMENT = 16                  # of __heap_base
+
+
+def signatures():
+    """Maps each exported function to its type: widths of its arguments and of its results. An address, a length and a
+    code are an i32, the size of a record is an i64."""
+    out = {"twox_xxh3_stream_size": ((), (64,)), "twox_xxh3_update": ((32,) * 5, (32,)),
+           "twox_xxh3_start_with_seed": ((32, 32, 64), ()), "twox_xxh3_start_with_secret": ((32,) * 3, (32,)),
+           "twox_xxh3_start_with_seed_and_secret": ((32, 64, 32, 32), (32,))}
+    for width in (32, 64):
+        out |= {f"twox_xxh{width}": ((width, 32, 32), (width,)), f"twox_xxh{width}_stream_size": ((), (64,)),
+                f"twox_xxh{width}_start": ((32, width), ()), f"twox_xxh{width}_update": ((32,) * 3, (32,)),
+                f"twox_xxh{width}_digest": ((32, 32), (32,))}
+    for width in (64, 128):
+        out[f"twox_xxh3_{width}_digest"] = (32,) * 4, (32,)
+        for way, name in calls.WAYS.items():
+            seed, secret = (64,) * (way in ("seed", "both")), (32, 32) * (way in ("secret", "both"))
+            value = (32,) * (bool(secret) or width == 128)      # where it is written to
+            leaves = (32,) if secret else () if value else (64,)
+            out[f"twox_xxh3_{width}{name}"] = (*seed, *secret, 32, 32, *value), leaves
+    return out
 
 
 def machines():
@@ -58,13 +80,21 @@ def checksums():
 
 def choose(given, machines):
     """Returns the tasks. The machines are made once; each task has its own copies, since it runs as a process."""
-    out = [*lengths(given.all), *OF_REFUSALS, *induction(given.all), *streams_by_induction(given.all),
-           *xxh3_streams_by_induction(given.all), ("the table of instructions beside Node", engine.compare_instructions),
+    out = [*lengths(given.all), *OF_REFUSALS,
+           ("planted sections", functools.partial(planted_sections.tell, each=1 if given.all else GATE_TYPES)),
+           *induction(given.all), *streams_by_induction(given.all), *xxh3_streams_by_induction(given.all), ("the table of instructions beside Node", engine.compare_instructions),
            ("changed modules, which Node too accepts or refuses",
             functools.partial(engine.compare_validity, count=300 if given.all else 5)), *of_changes(given.all)]
     titles = [title for title, _ in out]
     out.insert(0, ("the exports are those of the table, each with its task", functools.partial(exports, titles=titles)))
+    out.append(("removed functions are noticed", functools.partial(
+        removed.unnoticed, asked=asked_without_all(), words_of=EXPORTS, each=1 if given.all else GATE_REMOVED)))
     return [Task(title, functools.partial(ask, machines)) for title, ask in out if given.only in title]
+
+
+def asked_without_all():
+    """Returns the titles and the tasks of CI that compare the modules with the definition."""
+    return [*lengths(False), *OF_REFUSALS, *induction(False), *streams_by_induction(False), *xxh3_streams_by_induction(False)]
 
 
 # ---- the exports
@@ -83,15 +113,20 @@ def exports(machines, titles):
 
 
 def of_memory(vm, found):
-    """Checks that the module exports its memory, and that __heap_base is behind the stack and the constants."""
-    kinds = {name: kind for name, (kind, _) in found.items()}
-    wanted = {name: FUNCTION for name in found} | {"memory": MEMORY, "__heap_base": GLOBAL}
-    if kinds != wanted:
-        return ["exports of another kind"]
-    base = vm.module.globals[found["__heap_base"][1]]
-    is_behind = base.value >= max(vm.end_of_stack, vm.module.end_of_segments()) and vm.end_of_stack > STACK
-    bad = [] if is_behind and not base.is_mutable else ["__heap_base isn't behind the stack and the constants"]
-    return bad + [f"constants at {place}, on the stack" for place, _ in vm.module.segments if place < vm.end_of_stack]
+    """Checks the types of a module's exports, that __heap_base is just behind the stack and the constants, and that the
+    memory has the pages before it, and no limit."""
+    module, known = vm.module, signatures()
+    types = {name: (kind, tuple(module.functions[index].signature) if kind == FUNCTION else None)
+             for name, (kind, index) in found.items()}
+    bad = [f"the type of {name}" for name, found in types.items()
+           if found != {"memory": (MEMORY, None), "__heap_base": (GLOBAL, None)}.get(name, (FUNCTION, known.get(name)))]
+    if bad:
+        return bad
+    base, end = module.globals[found["__heap_base"][1]], max(vm.end_of_stack, module.end_of_segments())
+    if (base.width, base.is_mutable) != (64, False) or not 0 <= base.value - end < HEAP_ALIGNMENT or vm.end_of_stack <= STACK:
+        bad.append(f"__heap_base is {base}, and not just behind the stack and the constants")
+    bad += [f"a memory of {module.pages} pages"] if module.pages != -(-base.value // PAGE) else []
+    return bad + [f"constants at {place}, on the stack" for place, _ in module.segments if place < vm.end_of_stack]
 
 
 # ---- single lengths
@@ -120,7 +155,6 @@ def compared(title, kind, asked, is_stream):
 
 
 OF_REFUSALS = [("planted modules", planted.tell), ("planted modules, streams of XXH3", planted.tell_of_streams),
-               ("planted sections", planted_sections.tell),
                ("secrets of 0 to 135 bytes, one-shots", refusals.one_shots_with_short_secrets),
                ("secrets of 0 to 135 bytes, streams", refusals.streams_with_short_secrets),
                ("records that are no stream's", refusals.wrong_records),
@@ -177,8 +211,8 @@ def xxh3_streams_shown(machines, module, what, first, some):
     """Proves the cases of a part, or a sample of `some` cases."""
     proof = xxh3_streams.ModuleUpdates(machines[module])
     asked = proof.queries(what)
-    each = len(asked) // some if some else XXH3_CASES[what][1]
-    count, bad = of_texts.count_shown(proof, asked[first::each])
+    part = of_texts.sample(what, asked, some) if some else asked[first::XXH3_CASES[what][1]]
+    count, bad = of_texts.count_shown(proof, part)
     return f"{count} cases", bad
 
 

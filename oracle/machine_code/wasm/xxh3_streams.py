@@ -20,7 +20,7 @@ LONGEST = every_length.LONGEST    # bytes of a chunk and of a secret, by the siz
 
 
 class ModuleUpdates(CargoUpdates):
-    CORE, HAS_SEED = 16, (0, 1)
+    CORE, HAS_SEED, HAS_COUNTERS = 16, (0, 1), False      # refusals.py tests the counters
     library, longest_secret, longest_piece = calls.Page, LONGEST, LONGEST
 
     def __init__(self, vm):

@@ -1,0 +1,47 @@
+"""The cases of the inductions over rustc's object: those of the assembly source, of which some are split in two."""
+from symbolic_terms import at_most, minus, plus, times, variable
+
+from .. import any_updates, every_length
+from .compilers import ASSEMBLY
+
+LONGEST_SLICE = (1 << 63) - 1
+CALLED = 1024                     # bytes of XXH32 from which on the assembly source is called
+IN_TURN = 16 * every_length.UNROLLED["32"]
+
+
+class RustUpdates(any_updates.AnyUpdates):
+    """Proves updates by slices, which have at most 2 ^ 63 - 1 bytes."""
+
+    def update_between(self, a, r, b, s, facts, family, total=None):
+        length = minus(plus(times(self.stripe, b), s), plus(times(self.stripe, a), r))
+        known = [*facts, at_most(length, LONGEST_SLICE)]
+        is_called = self.hash_name == "32" and self.cpu.program.name == ASSEMBLY and facts
+        for more in by_call(variable("d")) if is_called else [[]]:
+            super().update_between(a, r, b, s, [*known, *more], family, total)
+
+
+def cases_of(kind, is_assembly=False):
+    """Returns the cases of every length. Those of XXH3 are split by whether the last stripe is whole, which rustc's
+    checks of slices use, and those of XXH32 by whether the assembly source is called."""
+    found = every_length.cases(kind)
+    if kind == "32" and is_assembly:
+        return split(found, by_call(variable(every_length.TURNS)))
+    return split(found, by_last_stripe()) if ":" in kind else found
+
+
+def by_call(turns):
+    """Returns facts of the turns of the unrolled loop with which XXH32 doesn't call the assembly source, or does."""
+    return [[at_most(turns, CALLED // IN_TURN - 1)], [minus(turns, CALLED // IN_TURN)]]
+
+
+def by_last_stripe():
+    return [[at_most(variable("t"), 62)], [minus(variable("t"), 63)]]
+
+
+def of_any_secret():
+    """Returns the cases of XXH3 from 241 bytes on with a secret of 192 to 199 bytes, split in the same way."""
+    return split(every_length.of_secret(), by_last_stripe())
+
+
+def split(found, ways):
+    return [case._replace(facts=[*case.facts, *facts]) for case in found for facts in ways]

@@ -1,0 +1,343 @@
+"""Bit vectors as terms of the second engine: each has its value at some random points. Terms are kept simple by a few
+identities, and each result is compared with its operation at the points. If two terms still differ but agree at the
+points, z3 decides whether they are equal; what lies deeper is a variable then."""
+import random
+import sys
+
+sys.path.append("/usr/lib/python3/dist-packages")        # Debian's z3, also for another Python
+import z3
+
+POINTS, LEVELS, EFFORT = 4, (1, 2, 3, 5), 1_000_000    # levels of terms given to z3, one after another; its limit
+HALF = 32, 64                     # the half of a word of 64 bits
+DRAWN = random.Random(20)
+
+
+class Term:
+    __slots__ = "kind", "parts", "width", "values", "number"
+
+
+class Differs(Exception):
+    """Raised if two terms have different values at a point, or z3 doesn't show that they are equal."""
+
+
+table, by_values, asked = {}, {}, []
+kept = {HALF}                     # whose lower half stays one, since its upper half may join it again, as in a scramble
+
+
+def begin(is_cut):
+    """Forgets all terms. If `is_cut`, the lower half of a sum or a product is that of its operands' lower halves."""
+    kept.clear()
+    kept.update(() if is_cut else {HALF})
+    table.clear()
+    by_values.clear()
+    asked.clear()
+
+
+def ones(width):
+    return (1 << width) - 1
+
+
+def made(kind, width, values, *parts):
+    """Returns the one term of a kind with these parts."""
+    key = kind, width, tuple(x.number if isinstance(x, Term) else x for x in parts)
+    if key not in table:
+        x = Term()
+        x.kind, x.parts, x.width, x.values, x.number = kind, parts, width, tuple(values), len(table)
+        table[key] = x
+    return table[key]
+
+
+def constant(value, width):
+    value &= ones(width)
+    return made("constant", width, [value] * POINTS, value)
+
+
+def variable(name, width):
+    key = "variable", width, (name,)
+    return table[key] if key in table else made("variable", width, [DRAWN.getrandbits(width) for _ in range(POINTS)], name)
+
+
+def checked(x, width, values):
+    if x.width != width or x.values != tuple(v & ones(width) for v in values):
+        raise AssertionError(f"a wrong identity: {x.kind} of {width} bits")
+    return x
+
+
+def at_points(operation, *terms):
+    return [operation(*values) for values in zip(*(x.values for x in terms))]
+
+
+# ---- parts of words
+
+def cut(x, first, n):
+    """Returns bits first .. first + n - 1."""
+    return checked(cut_of(x, first, n), n, [v >> first for v in x.values])
+
+
+def cut_of(x, first, n):
+    if n == x.width:
+        return x
+    if x.kind == "constant":
+        return constant(x.parts[0] >> first, n)
+    if x.kind == "cut":
+        return cut_of(x.parts[0], x.parts[1] + first, n)
+    if x.kind == "join":
+        out, at = [], 0
+        for part in x.parts:
+            low, high = max(first, at), min(first + n, at + part.width)
+            if low < high:
+                out.append(cut_of(part, low - at, high - low))
+            at += part.width
+        return join(*out)
+    if x.kind in ("and", "or", "xor"):
+        return bitwise(x.kind, *(cut_of(part, first, n) for part in x.parts))
+    if not first and x.kind == "sum" and (n, x.width) not in kept:
+        return total(n, [(cut_of(part, 0, n), c) for part, c in zip(x.parts[1::2], x.parts[2::2])], x.parts[0])
+    if not first and x.kind == "product" and (n, x.width) not in kept:
+        return multiply(*(cut_of(part, 0, n) for part in x.parts))
+    return made("cut", n, [v >> first & ones(n) for v in x.values], x, first)
+
+
+def join(*parts):
+    """Joins words, the lowest first."""
+    flat = []
+    for x in (y for part in parts for y in (part.parts if part.kind == "join" else (part,))):
+        last = flat[-1] if flat else None
+        if last is not None and last.kind == x.kind == "constant":
+            flat[-1] = constant(last.parts[0] | x.parts[0] << last.width, last.width + x.width)
+        elif last is not None and last.kind == x.kind == "cut" and last.parts[0] is x.parts[0] \
+                and last.parts[1] + last.width == x.parts[1]:
+            flat[-1] = cut_of(x.parts[0], last.parts[1], last.width + x.width)
+        else:
+            flat.append(x)
+    width = sum(x.width for x in flat)
+    values, at = [0] * POINTS, 0
+    for part in parts:
+        values = [v | w << at for v, w in zip(values, part.values)]
+        at += part.width
+    return checked(flat[0] if len(flat) == 1 else made("join", width, values, *flat), width, values)
+
+
+def widened(x, width):
+    return x if width == x.width else join(x, constant(0, width - x.width))
+
+
+def shift_left(x, k):
+    return x if not k else constant(0, x.width) if k >= x.width else join(constant(0, k), cut(x, 0, x.width - k))
+
+
+def shift_right(x, k):
+    return x if not k else constant(0, x.width) if k >= x.width else join(cut(x, k, x.width - k), constant(0, k))
+
+
+def rotate_left(x, k):
+    k %= x.width
+    return x if not k else join(cut(x, x.width - k, k), cut(x, 0, x.width - k))
+
+
+def swapped(x):
+    return join(*(cut(x, k, 8) for k in range(x.width - 8, -8, -8)))
+
+
+# ---- operations
+
+NUMBERS = {"and": lambda a, b: a & b, "or": lambda a, b: a | b, "xor": lambda a, b: a ^ b}
+
+
+def bitwise(kind, a, b, *more):
+    if more:
+        return bitwise(kind, bitwise(kind, a, b), *more)
+    return checked(bitwise_of(kind, a, b), a.width, at_points(NUMBERS[kind], a, b))
+
+
+def bitwise_of(kind, a, b):
+    if a.kind == b.kind == "constant":
+        return constant(NUMBERS[kind](a.parts[0], b.parts[0]), a.width)
+    a, b = sorted((a, b), key=lambda x: (x.kind == "constant", x.number))
+    if b.kind == "constant":
+        runs = in_runs(b.parts[0], b.width)
+        if kind == "and" or kind == "or" or len(runs) == 1 and not b.parts[0]:
+            return join(*(of_run(kind, cut(a, at, n), bit, n) for at, n, bit in runs))
+    if a.kind == "join" or b.kind == "join":
+        found = beside(a, b)
+        if found and kind != "and":
+            return found
+    if a is b:
+        return constant(0, a.width) if kind == "xor" else a
+    if kind == "xor":
+        flat = {}
+        for x in (*(a.parts if a.kind == "xor" else [a]), *(b.parts if b.kind == "xor" else [b])):
+            flat.pop(x.number) if x.number in flat else flat.update({x.number: x})
+        parts = sorted(flat.values(), key=lambda x: x.number)
+        number = [x for x in parts if x.kind == "constant"]
+        parts = [x for x in parts if x.kind != "constant"]
+        value = 0
+        for x in number:
+            value ^= x.parts[0]
+        parts += [constant(value, a.width)] if value else []
+        if len(parts) < 2:
+            return parts[0] if parts else constant(0, a.width)
+        return made("xor", a.width, at_points(NUMBERS["xor"], a, b), *parts)
+    return made(kind, a.width, at_points(NUMBERS[kind], a, b), a, b)
+
+
+def of_run(kind, x, bit, n):
+    if kind == "and":
+        return x if bit else constant(0, n)
+    return (constant(ones(n), n) if kind == "or" else x) if bit else x
+
+
+def in_runs(value, width):
+    """Returns the runs of equal bits of a number: (first, count, bit)."""
+    out, at = [], 0
+    while at < width:
+        bit, n = value >> at & 1, 1
+        while at + n < width and value >> at + n & 1 == bit:
+            n += 1
+        out.append((at, n, bit))
+        at += n
+    return out
+
+
+def beside(a, b):
+    """Returns two words side by side if in each place one of them is 0, or None."""
+    edges = {0, a.width}
+    for x in (a, b):
+        at = 0
+        for part in x.parts if x.kind == "join" else (x,):
+            edges.add(at)
+            at += part.width
+    edges, out = sorted(edges), []
+    for low, high in zip(edges, edges[1:]):
+        x, y = cut(a, low, high - low), cut(b, low, high - low)
+        zero = constant(0, high - low)
+        if x is not zero and y is not zero:
+            return None
+        out.append(y if x is zero else x)
+    return join(*out)
+
+
+def total(width, terms, number=0):
+    """Returns a sum of products with numbers."""
+    flat, values = {}, [number] * POINTS
+    for x, c in terms:
+        values = [v + c * w for v, w in zip(values, x.values)]
+        for y, d in summands(x):
+            if y is None:
+                number += c * d
+            else:
+                flat[y.number] = y, flat.get(y.number, (y, 0))[1] + c * d & ones(width)
+    united(flat, width)
+    parts = sorted(((y, c) for y, c in flat.values() if c), key=lambda x: x[0].number)
+    number &= ones(width)
+    values = [v & ones(width) for v in values]
+    if not parts:
+        return constant(number, width)
+    if not number and len(parts) == 1 and not parts[0][1] & parts[0][1] - 1:
+        return checked(shift_left(parts[0][0], parts[0][1].bit_length() - 1), width, values)
+    return made("sum", width, values, number, *(x for part in parts for x in part))
+
+
+def summands(x):
+    """Yields the words of a sum with their factors, and its number with no word."""
+    if x.kind == "constant":
+        yield None, x.parts[0]
+    elif x.kind == "sum":
+        yield None, x.parts[0]
+        yield from zip(x.parts[1::2], x.parts[2::2])
+    elif x.kind == "join" and len(x.parts) == 2 and x.parts[0] is constant(0, x.parts[0].width):
+        for y, d in summands(x.parts[1]):      # a word that is shifted: the bits above don't matter
+            yield y and widened(y, x.width), d << x.parts[0].width
+    else:
+        yield x, 1
+
+
+def united(flat, width):
+    """Replaces c * low + (c << 32) * high, of halves of 64 bits, by c times the word of both."""
+    halves = {y: c for y, c in flat.values() if c and width == 64 and y.kind == "join" and cut(y, 32, 32) is constant(0, 32)}
+    for low, c in halves.items():
+        high = next((y for y, d in halves.items() if y is not low and d == c << 32 & ones(64) and flat[y.number][1]), None)
+        if high and flat[low.number][1]:
+            flat[low.number], flat[high.number] = (low, 0), (high, 0)
+            whole = representative(join(cut(low, 0, 32), cut(high, 0, 32)))
+            flat[whole.number] = whole, flat.get(whole.number, (whole, 0))[1] + c & ones(64)
+
+
+def add(*terms):
+    return total(terms[0].width, [(x, 1) for x in terms])
+
+
+def subtract(a, b):
+    return total(a.width, [(a, 1), (b, -1)])
+
+
+def multiply(a, b):
+    if a.kind == "constant" or b.kind == "constant":
+        a, b = (b, a) if a.kind == "constant" else (a, b)
+        return total(a.width, [(a, b.parts[0])])
+    a, b = sorted((a, b), key=lambda x: x.number)
+    return made("product", a.width, [v & ones(a.width) for v in at_points(lambda x, y: x * y, a, b)], a, b)
+
+
+def product(a, b):
+    """Returns the low and the high word of a product."""
+    whole = multiply(widened(a, 2 * a.width), widened(b, 2 * b.width))
+    return multiply(a, b), cut(whole, a.width, a.width)
+
+
+# ---- equality
+
+def representative(x):
+    """Returns the first known term that equals this one, as z3 shows, or this one."""
+    if x.kind in ("constant", "variable"):
+        return x
+    known = by_values.setdefault((x.width, x.values), x)
+    return known if known is x or are_equal(x, known) else x
+
+
+def are_equal(x, y):
+    """True if z3 shows that two terms are equal, with what lies deeper as variables."""
+    for level in LEVELS:
+        solver = z3.SolverFor("QF_UFBV")
+        solver.set("rlimit", EFFORT)
+        names = {}
+        solver.add(in_z3(x, level, names) != in_z3(y, level, names))
+        asked.append(level)
+        if solver.check() == z3.unsat:
+            return True
+    return False
+
+
+def in_z3(x, level, names):
+    if x.kind == "constant":
+        return z3.BitVecVal(x.parts[0], x.width)
+    if x.kind == "variable" or not level and x.kind not in ("join", "cut"):
+        return names.setdefault(x.number, z3.BitVec(f"x{x.number}", x.width))
+    if x.kind == "cut":
+        inner = in_z3(x.parts[0], level, names)
+        return z3.Extract(x.parts[1] + x.width - 1, x.parts[1], inner)
+    if x.kind == "join":
+        return z3.Concat(*(in_z3(part, level, names) for part in reversed(x.parts)))
+    if x.kind == "sum":
+        out = z3.BitVecVal(x.parts[0], x.width)
+        for part, c in zip(x.parts[1::2], x.parts[2::2]):
+            out += in_z3(part, level - 1, names) * z3.BitVecVal(c, x.width)
+        return out
+    parts = [in_z3(part, level - 1, names) for part in x.parts]
+    if x.kind == "product":       # any function of two words
+        word = z3.BitVecSort(x.width)
+        return z3.Function(f"product{x.width}", word, word, word)(*parts)
+    out = parts[0]
+    for part in parts[1:]:
+        out = out & part if x.kind == "and" else out | part if x.kind == "or" else out ^ part
+    return out
+
+
+def expect_equal(what, ours, theirs):
+    """Raises if two terms aren't shown to be equal."""
+    if ours is theirs:
+        return
+    if ours.values != theirs.values:
+        raise Differs(f"{what}: another value")
+    if not are_equal(ours, theirs):
+        raise Differs(f"{what}: z3 doesn't show that they are equal")

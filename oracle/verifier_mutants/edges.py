@@ -1,0 +1,82 @@
+"""Tests of values at the edges of comparisons: jumps, requests, lengths, and files or copies that are refused. Each
+test takes a random generator, which it doesn't use, and raises Wrong."""
+import struct
+import types
+
+from machine_code import disassembly, object_contents, stream_state
+from machine_code.memory import Words
+from symbolic_terms import Request, Unsupported, comparison, symbol
+from symbolic_terms.induction import Induction
+
+from .values import Wrong, expect, refuses
+
+SHORT, LONG = {"jmp": b"\xeb", "jb": b"\x72"}, {"jmp": b"\xe9", "jb": b"\x0f\x82"}      # opcodes
+AT, SIZE = 0x1000, 2              # address and bytes of a jump
+
+
+def jumps(_):
+    """Tests the required bytes of jumps at the ends of the short form."""
+    for mnemonic in SHORT:
+        for distance, is_short in ((-128, True), (127, True), (-129, False), (128, False)):
+            made = disassembly.led_on_x86(AT, bytes(SIZE), f"{mnemonic} {AT + SIZE + distance:x}", False)
+            opcode, size = (SHORT, "<b") if is_short else (LONG, "<i")
+            wanted = opcode[mnemonic] + struct.pack(size, distance)
+            if made != wanted:
+                raise Wrong(f"{mnemonic} over {distance} bytes: {made.hex()} and not {wanted.hex()}")
+
+
+def sections(_):
+    """Tests that a symbol of a section beyond the last one is refused."""
+    heads = [types.SimpleNamespace(name=".text.f", size=4, flags=object_contents.CODE)]
+    for section in (1, 2):
+        named = types.SimpleNamespace(name="f", section=section, info=object_contents.FUNCTION, other=0, value=0,
+                                      size=4)
+        made = types.SimpleNamespace(heads=heads)
+        refuses(lambda named=named, made=made: object_contents.expect_symbol(made, named, (1, 0), set()),
+                f"a symbol of section {section}", (Unsupported,))
+
+
+def copies_of_memory(_):
+    """Tests that a state takes copies only of inputs."""
+    state = stream_state.State("state", 64, [], [], (0, 64))
+    refuses(lambda: state.take(0, 4, Words("other", 8, [(0, 8, 1)]), 0), "a copy of memory to a state", (Unsupported,))
+
+
+def seeds(_):
+    """Tests which requests have a twin with the seed 0: those of XXH3 above 240 bytes or of streams, with two
+    exceptions if there is a secret."""
+    for name, kind, length, cuts, count in (
+            ("3-64", "seed", 240, None, 0), ("3-64", "seed", 241, None, 1), ("3-64", "seed", 5, [], 1),
+            ("3-64", "both", 300, None, 0), ("3-64", "both", 300, [], 1), ("3-64", "both", 240, [], 1),
+            ("3-128", "both", 240, [], 0), ("3-128", "both", 241, [], 1), ("3-64", "default", 300, None, 0),
+            ("64", "seed", 300, None, 0)):
+        secret = 136 if kind == "both" else None
+        twins = Request(name, kind, length, secret, cuts=cuts).with_seed_0()
+        expect(len(twins), count, f"twins of {name}, {kind}, {length}")
+
+
+def lengths(_):
+    """Tests that the lengths at edges begin after those that are tested one by one."""
+    for secret in (None, 136, 192):
+        found = comparison.edges(secret)
+        expect(min(found) >= comparison.EDGES_FROM and max(found) == comparison.LONGEST, True, f"edges for {secret}")
+
+
+def orders(_):
+    """Tests comparisons of a byte with itself, and with numbers above all bytes."""
+    byte, other = (symbol(name, 8) for name in ("a byte", "the other byte"))
+    for found, wanted in ((byte >= byte, True), (byte > byte, False), (byte <= byte, True), (byte < byte, False),
+                          (byte >= 256, False), (byte < 256, True), (byte > 255, False), (byte <= 255, True)):
+        expect(found, wanted, "the order of a byte")
+    refuses(lambda: byte >= other, "the order of two bytes")
+
+
+def stored_words(_):
+    """Tests that a word has a size if its cell has one."""
+    proof = types.SimpleNamespace(start={"sized": (4, 1), "plain": 1})
+    for cell, wanted in (("sized", (4, 7)), ("plain", 7)):
+        if Induction.as_stored(proof, cell, 7) != wanted:
+            raise Wrong(f"the word of a {cell} cell")
+
+
+ALL = [jumps, sections, copies_of_memory, seeds, lengths, orders, stored_words]
