@@ -25,9 +25,9 @@ from .parts import Part
 
 # Checks over symbols, which need no proof: they use the processors that the proofs leave idle.
 FOR_ALL_BYTES = [("the definitions beside the reference's code", 32, "oracle/symbolic"),
-                 ("the assembly text beside the definitions", 118, "oracle/machine-text"),
-                 ("the erased source, as rustc compiles it, beside the definitions", 52, "oracle/rust-object"),
-                 ("the modules for browsers beside the definitions", 52, "oracle/modules")]
+                 ("the assembly text beside the definitions", 140, "oracle/machine-text"),
+                 ("the crate's calls, as rustc compiles them, beside the definitions", 111, "oracle/rust-object"),
+                 ("the modules for browsers beside the definitions", 53, "oracle/modules")]
 
 
 def memory_in_use():
@@ -66,11 +66,11 @@ def parts(top, anew):
     """Runs the parts, each with the minimum number of its checks, and returns their results. Parts that are started
     before they are followed run in parallel with the others. `anew` are the arguments for `rt ci`."""
     yield Part(top, "what the pages quote", 10, "checks/readme").follow()
-    wrong_bodies = Part(top, "wrong bodies, beside and after the proofs", 1027, "checks/wrong-bodies", "--beside-ci")
+    wrong_bodies = Part(top, "wrong bodies, beside and after the proofs", 1115, "checks/wrong-bodies", "--beside-ci")
     beside = [Part(top, "the library for C without rt", 22, "c/check", "--without-rt"),
               Part(top, "the cargo crate without rt", 37, "rust/check", "--without-rt"),
-              Part(top, "the eraser, and the source that it wrote", 120, "rust/checks/eraser"),
-              Part(top, "scripts, and what is no Rattle", 11, "checks/lint"),
+              Part(top, "the eraser, and the source that it wrote", 440, "rust/checks/eraser"),
+              Part(top, "scripts, and what is no Rattle", 12, "checks/lint"),
               Part(top, "the commands of the pages, as they are printed", 5, "checks/pages"),
               Part(top, "what the gate has to notice", 11, "checks/planted"),
               *(Part(top, f"{what}, for all bytes", least, "nice", "-n10", command) for what, least, command in FOR_ALL_BYTES)]
@@ -86,7 +86,7 @@ def parts(top, anew):
     xxhsum = "crates/xxhsum/out/xxhsum"
     yield Part(top, "the program `xxhsum`", 993, "checks/xxhsum", "--stored", xxhsum, f"{xxhsum}.by-rattle").follow()
     yield Part(top, "many names, files, reads and arguments", 12, "checks/xxhsum-many", xxhsum, f"{xxhsum}.by-rattle").follow()
-    yield Part(top, "failing system calls", 1200, "checks/failing_calls", xxhsum, "crates/xxh/out/xxh").follow()
+    yield Part(top, "failing system calls", 1200, "checks/failing_calls", "--readdir", xxhsum, "crates/xxh/out/xxh").follow()
     for part in [*beside, *after[:2], wrong_bodies, *after[2:]]:
         yield part.follow()
 

@@ -4,7 +4,7 @@
 
 A part that prints nothing, one without counts, one with too few checks, one that reports success and ends with
 another status, and one that is killed each fail; the standard error of a part is in its output. An installation
-waits for another one. checks/quick distinguishes a slow test from one that never ends and from one that fails. The
+waits for another one, and completes one that was killed. checks/quick distinguishes a slow test from one that never ends and from one that fails. The
 last line is "N passed, M failed"; it runs as root on Debian."""
 import contextlib
 import fcntl
@@ -16,7 +16,7 @@ import time
 
 import command
 from report import Report, want
-from tools import TOP, write
+from tools import TOP, ran, write
 
 from .parts import Part
 
@@ -77,6 +77,27 @@ def installation_waits():
     want(done.wait(300) == 0, f'it ended with status {done.returncode}: {done.stdout.read()[-300:]}')
 
 
+# A dpkg that was killed in the middle of an installation, as apt-get reports it, and that is repaired or not.
+KILLED = """#!/bin/sh
+cd "$(dirname "$0")" || exit 1
+case $0,$* in
+*/dpkg,--configure\\ -a) REPAIR ;;
+*/dpkg,*) exit 1 ;;
+*) [ -e repaired ] || { echo "E: dpkg was interrupted, you must manually run 'dpkg --configure -a'"; exit 100; } ;;
+esac
+"""
+
+
+def killed_installation(repair, passes):
+    """With commands in the place of apt-get and dpkg."""
+    with tempfile.TemporaryDirectory() as folder:
+        for name in ('apt-get', 'dpkg'):
+            write(os.path.join(folder, name), KILLED.replace('REPAIR', repair), 0o755)
+        path = f'{folder}:{os.environ["PATH"]}'
+        done = ran([os.path.join(TOP, 'checks', 'install'), 'apt'], env={**os.environ, 'PATH': path})
+        want((done.returncode == 0) == passes, f'it ended with status {done.returncode}: {done.stdout[-300:]}')
+
+
 def main():
     command.parser(__doc__).parse_args()
     report = Report()
@@ -85,4 +106,6 @@ def main():
     for name, words in TESTS.items():
         report.attempt(name, is_counted, *words)
     report.attempt('an installation waits for another one', installation_waits)
+    report.attempt('an installation after one that was killed', killed_installation, 'touch repaired', True)
+    report.attempt('one that dpkg can not complete', killed_installation, 'exit 1', False)
     return report.end()

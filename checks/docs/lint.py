@@ -9,9 +9,9 @@
 - commits since this rule have a subject of at most 72 characters, and no absolute path of a machine in their message
   (checks/docs/commits.py).
 
-Each check must first detect planted mistakes. A check that fails without a message counts as failed. One line per
-check, with what it found; the last line is "N passed, M failed". It takes half a minute, and installs missing packages:
-Debian's shellcheck, pyflakes3, rustfmt, rust-clippy and nodejs."""
+Each check must first detect planted mistakes. A check that fails without a message, or whose tool fails, counts as
+failed. One line per check, with what it found; the last line is "N passed, M failed". It takes half a minute, and
+installs missing packages: Debian's shellcheck, pyflakes3, rustfmt, rust-clippy and nodejs."""
 import contextlib
 import fnmatch
 import functools
@@ -22,7 +22,7 @@ import tempfile
 
 import command
 from report import Report, want
-from tools import TOP, install_packages, ran, text_of, write
+from tools import TOP, install_packages, must, ran, text_of, write
 
 from . import commits, words
 
@@ -157,6 +157,15 @@ def empty_faults_count():
     want((report.passed, report.failed) == (0, 1), 'a fault without a text counts as passed')
 
 
+def failed_tools_count():
+    """A check whose tool fails counts as failed, with the tool's output, and the next check runs."""
+    report, printed = Report(), io.StringIO()
+    with contextlib.redirect_stdout(printed):
+        report.attempt('a check', must, ['sh', '-c', 'echo "a message"; exit 1'])
+        report.attempt('the next check', list)
+    want((report.passed, report.failed) == (1, 1) and 'a message' in printed.getvalue(), printed.getvalue())
+
+
 def main():
     command.parser(__doc__).parse_args()
     install_packages(PACKAGES)
@@ -175,4 +184,5 @@ def main():
     report.attempt('files of definitions', is_clean, unnamed,
                    [path for path in every if '/specs/' in path and not path.endswith('/Lib.antt')])
     report.attempt('faults without a text', empty_faults_count)
+    report.attempt('checks whose tool fails', failed_tools_count)
     return report.end()

@@ -1,18 +1,23 @@
 """Compares the pages with the tree:
 
 - CALLING.md quotes the code of crates/example and crates/calling, and docs/C.md a program in C;
-- links, also to headings, and the workflow's commands exist;
-- docs/SPEED.md agrees with its data;
+- links, also to headings, and the workflow's commands exist, and --help of the checks explains their options;
+- docs/SPEED.md agrees with its data, and each table has its date and commit;
+- docs/VERIFICATION.md and README.md have the runs that oracle/runs.tsv records, and the former the counts of oracle/mutate --record;
 - README.md has the counts of checks/lines-to-believe, and docs/VERIFICATION.md those of oracle/lines-to-trust;
 - ratios in README.md are the minimum, maximum or median of their tables (checks/docs/ratios.py), and no table of it is
   one of docs/SPEED.md;
-- docs/api.txt has every public name, docs/CONTRACTS.md every clause and docs/MANUAL.md the manual pages;
+- docs/api.txt has every public name, and only names that exist, docs/CONTRACTS.md every clause and docs/MANUAL.md the manual pages;
+- docs/C.md has the numbers of names, and an ordinary user can install where the pages say;
+- the crate's manifest includes only what exists, and its page has its default features;
 - all versions are equal;
 - the pages have at most MOST_WORDS words."""
+import collections
 import glob
 import os
 import re
 import subprocess
+import tomllib
 
 import command
 from report import Report
@@ -36,8 +41,9 @@ VERSIONS = [
     ('CHANGELOG.md', r'\A# [^#]*## (\d+\.\d+\.\d+)'),
     ('docs/C.md', r'twox-hash_(\d+\.\d+\.\d+)\+'),
     ('crates/xxhsum_program/src/usage.rt', r'b" ([0-9.]*) of twox_hash'),
+    ('crates/xxh_program/src/program/information.rt', r'b"xxh ([0-9.]*) of twox_hash'),
     ('rust/programs/Cargo.toml', r'^version = "(.*)"'),
-    ('rust/eraser/program_edits.py', r"' ([0-9.]*) of twox_hash"),
+    ('rust/eraser/edits.py', r'b" ([0-9.]*) of twox_hash'),
 ]
 # The releases whose messages and lines `xxhsum` has: in the program, and on its page.
 RELEASES = [
@@ -45,8 +51,8 @@ RELEASES = [
     ('docs/XXHSUM.md', r'exit statuses are those of `xxhsum` ([0-9.]+)\. The options.* are those of ([0-9.]+)\.'),
 ]
 # The pages that a script writes, and the most words of README.md and of all other pages together.
-GENERATED = {'docs/SPEED.md', 'docs/CONTRACTS.md', 'docs/MANUAL.md'}
-MOST_WORDS_OF_README, MOST_WORDS = 1200, 15000
+GENERATED = {'docs/SPEED.md', 'docs/CONTRACTS.md', 'docs/MANUAL.md', 'docs/EDITS.md'}
+MOST_WORDS_OF_README, MOST_WORDS = 1200, 17500
 WORKFLOW = '.github/workflows/checks.yml'
 INTERFACES = [('crates/twox_rust/src/lib.rt', r'fn twox_rust_interface_(\d+)'),
               ('docs/RELEASES.md', r"and interface (\d+) of the crate's assembly")]
@@ -74,6 +80,21 @@ def anchors(page):
     return {re.sub(r'[^\w -]', '', heading.lower()).replace(' ', '-') for heading in headings}
 
 
+def helps_that_explain_too_little():
+    """--help of each check begins with the command's name, and explains each option."""
+    programs = [f'{folder}/check' for folder in ('c', 'rust', 'rust/programs', 'python', 'web', 'release')]
+    programs += [f'oracle/{name}' for name in ('symbolic', 'machine-text', 'arm-text', 'modules', 'rust-object', 'mutate')]
+    for program in programs:
+        done = subprocess.run([os.path.join(TOP, program), '--help'], capture_output=True, text=True, timeout=60)
+        usage, _, rest = done.stdout.partition('\n\n')
+        description, _, options = re.sub(r'^ {4}\S+/check .*', '', rest, flags=re.M).partition('options:')
+        if done.returncode or not re.match(rf'usage: (\S*/)?{os.path.basename(program)}( |$)', usage):
+            yield f'{program} --help begins with {done.stdout[:50]!r}'
+        for option in re.findall(r'^  (?:-\w, )?(--[\w-]+)[^\n ]*(?: [^\n ]+)?$(?!\n {8})', options, re.M):
+            if option not in description:
+                yield f'{program} --help does not explain {option}'
+
+
 def links_that_lead_nowhere():
     for page in pages():
         for link, anchor in re.findall(r'\]\(([^)#]*)(?:#([^)]*))?\)', text_of(page)):
@@ -93,6 +114,55 @@ def names_that_differ():
     listed = subprocess.run([os.path.join(TOP, 'docs', 'api', 'make'), '--check'], capture_output=True, text=True)
     if listed.returncode:
         yield (listed.stdout + listed.stderr).strip()
+
+
+def listed_names_without_definition():
+    """Each name of a crate in docs/api.txt is there once. Its module has a public definition of it or a `pub use` that
+    ends with it, or the crate exports it as a symbol."""
+    listed = re.findall(r'^(\w+) ((?:\w+::)+)(\w+)', text_of('docs/api.txt').split('\n# C\n')[0], re.M)
+    for kind, path, name in listed:
+        crate, *modules = path.removesuffix('::').split('::')
+        sources = {file: text_of(file) for file in glob.glob(f'{TOP}/crates/{crate}/src/**/*.rt', recursive=True)}
+        names = ['/'.join(modules)] if modules else ['lib', 'main']
+        module = ''.join(text for file, text in sources.items() if file.endswith(tuple(f'{crate}/src/{it}.rt' for it in names)))
+        given = rf'\bpub (?!use)[^;{{=]*\b{kind} {name}\b|\bpub use [^;]*\b{name}\s*[;,}}]'
+        exported = rf'\bpub (?:(?:unsafe )?extern "C" fn|static) {name}\b'
+        if not re.search(given, module) and not re.search(exported, ''.join(sources.values())):
+            yield f'docs/api.txt has {kind} {path}{name}, which {crate} does not define'
+    counts = collections.Counter((path, name) for _, path, name in listed)
+    yield from (f'docs/api.txt has {path}{name} twice' for (path, name), count in counts.items() if count > 1)
+
+
+def names_of_c_that_differ():
+    """docs/C.md has the numbers of names that `make check` prints: all, and those on 64-bit ARM."""
+    names = re.findall(r'^ *(XXH\w+);$', text_of('c/libxxhash.map'), re.M)
+    own = [name for name in names if name == 'XXH_featureTest']
+    shared = [name for name in names if not name.endswith('_dispatch') and name not in own]
+    for sentence in (f'the {len(names) - len(own)} names of release 0.8.1 and `XXH_featureTest` of 0.8.3',
+                     f"the {len(shared)} names of Debian's"):
+        if sentence not in text_of('docs/C.md'):
+            yield f'docs/C.md does not have {sentence}'
+
+
+def prefixes_that_need_root():
+    """An ordinary user can install to each PREFIX of these pages."""
+    for page in ('README.md', 'docs/C.md', 'examples/README.md'):
+        for prefix in re.findall(r'install PREFIX=(\S+)', text_of(page)):
+            if not prefix.startswith('$HOME/') and prefix != '/usr/lib/twox-hash':
+                yield f'{page} installs to {prefix}, which only root can write'
+
+
+def manifest_that_differs():
+    """The crate's manifest includes only what exists, and its page names the features that are off by default."""
+    manifest = tomllib.loads(text_of('rust/Cargo.toml'))
+    for pattern in manifest['package']['include']:
+        if not glob.glob(f'{TOP}/rust{pattern}'):
+            yield f'rust/Cargo.toml includes {pattern}, which does not exist'
+    features = manifest['features']
+    on = {'default', *features['default'], *(it for name in features['default'] for it in features[name])}
+    off = ', '.join(f'`{name}`' for name in features if name not in on)
+    if f'All except {off} are on by default.' not in text_of('rust/README.md'):
+        yield f'rust/README.md does not have that all features except {off} are on by default'
 
 
 def versions_that_differ():
@@ -124,6 +194,34 @@ def figures_that_differ():
             yield f'{page} does not have what checks/lines-to-believe or oracle/lines-to-trust counts: {count}'
 
 
+def runs_of_verifier():
+    """The program with its options, the commit, the date and the last line of each run in oracle/runs.tsv."""
+    return [line.split('\t') for line in text_of('oracle/runs.tsv').splitlines()[1:]]
+
+
+def table_of_runs():
+    rows = [f'| `oracle/{command}` | `{commit}` | {day} | {end} |' for command, commit, day, end in runs_of_verifier()]
+    return '\n'.join(['', '| program | commit | date | last line |', '|---|---|---|---|', *rows, ''])
+
+
+def runs_that_differ():
+    """docs/VERIFICATION.md has the runs of the verifier as oracle/runs.tsv records them, and README.md the ends of those
+    without options."""
+    if table_of_runs() not in text_of('docs/VERIFICATION.md'):
+        yield f'docs/VERIFICATION.md does not have the table of oracle/runs.tsv:{table_of_runs()}'
+    ends = dict(re.findall(r'^- `oracle/([\w-]+)`.*`(\d+ passed, 0 failed)`$', text_of('README.md'), re.M))
+    recorded = {command: end for command, _, _, end in runs_of_verifier() if command in ends}
+    if ends != recorded:
+        yield f'README.md has {ends}, and oracle/runs.tsv {recorded}'
+
+
+def tables_without_date():
+    """Each table of docs/SPEED.md has the date and the commit of its measurements below it."""
+    for head, below in re.findall(r'^(\|.*)\n\|---.*\n(?:\|.*\n)+\n(.*)', text_of('docs/SPEED.md'), re.M):
+        if not re.search(r'on \d{4}-\d\d-\d\d, (at|stored by) commit', below):
+            yield f'docs/SPEED.md has no date and commit below the table {head}'
+
+
 def tables_that_repeat():
     """README.md says in a sentence what docs/SPEED.md has in tables."""
     rows = set(re.findall(r'^\| (?!---).*', text_of('docs/SPEED.md'), re.M))
@@ -133,7 +231,7 @@ def tables_that_repeat():
 
 
 def words_over_the_limit():
-    counts = {page: len(text_of(page).split()) for page in pages() if page not in GENERATED}
+    counts = {page: len(text_of(page).replace(table_of_runs(), '').split()) for page in pages() if page not in GENERATED}
     for name, count, most in (('README.md', counts['README.md'], MOST_WORDS_OF_README), ('The pages', sum(counts.values()), MOST_WORDS)):
         if count > most:
             yield f'{name}: {count:,} words, of at most {most:,}'
@@ -144,18 +242,37 @@ def ratios_that_differ():
         yield from differ()
 
 
-def wrong_bodies_that_differ():
-    """README has their number, so that a file of them can't be lost."""
+def mutants_that_differ():
+    """README has the number of mutants, so that a file of them can't be lost, and how many only a proof refuses."""
     files = glob.glob(os.path.join(TOP, 'crates', '*', 'mutants.edits'))
-    count = sum(len(re.findall(r'^== ', text_of(os.path.relpath(path, TOP)), re.M)) for path in files)
-    if f'tries {count:,} mutants' not in text_of('README.md'):
-        yield f'README.md does not have that there are {count:,} mutants'
+    count = sum(len(re.findall(r'^== ', text_of(path), re.M)) for path in files)
+    reasons = re.findall(r'^\S+/\S+ \w+ (.*)', text_of('checks/mutants/refused.txt'), re.M)
+    by_goal = reasons.count("by a clause's goal")
+    expected = (f'tries {count:,} mutants: of {len(reasons):,} on record, {by_goal:,} are refused because a clause no longer '
+                f'holds, {len(reasons) - by_goal:,} only because a written proof no longer fits')
+    if expected not in text_of('README.md'):
+        yield f'README.md does not have that checks/wrong-bodies {expected}'
+
+
+def mutants_of_verifier_that_differ():
+    """docs/VERIFICATION.md has the counts of the last oracle/mutate --record."""
+    names, numbers = (line.split('\t') for line in text_of('oracle/verifier_mutants/counts.tsv').splitlines())
+    count = {name: int(number) for name, number in zip(names[2:], numbers[2:])}
+    detected = sum(count[kind] for kind in ('value', 'processor', 'right', 'planted'))
+    expected = (f"{count['tested']:,} of its {count['mutants']:,} mutants: {detected:,} are detected ({count['value']:,} by tests of values, "
+                f"{count['processor']:,} beside the processor, {count['right']:,} because a committed source no longer passes, "
+                f"{count['planted']:,} by planted files), {count['reason']:,} have a reason, {count['unexplained']:,} are unexplained, "
+                f"of these {count['of decisions']:,} in comparisons and conditions")
+    if expected not in text_of('docs/VERIFICATION.md'):
+        yield f'docs/VERIFICATION.md does not have that oracle/mutate tried {expected}'
 
 
 def main():
     command.parser(__doc__).parse_args()
-    checks = (quotes_that_differ, links_that_lead_nowhere, names_that_differ, versions_that_differ, releases_that_differ,
-              figures_that_differ, tables_that_repeat, words_over_the_limit, ratios_that_differ, wrong_bodies_that_differ)
+    checks = (quotes_that_differ, helps_that_explain_too_little, links_that_lead_nowhere, names_that_differ, listed_names_without_definition, names_of_c_that_differ,
+              prefixes_that_need_root, manifest_that_differs, versions_that_differ, releases_that_differ, figures_that_differ,
+              runs_that_differ, tables_without_date, tables_that_repeat, words_over_the_limit, ratios_that_differ, mutants_that_differ,
+              mutants_of_verifier_that_differ)
     report = Report()
     for faults in [list(check()) for check in checks]:
         print(*faults, sep='\n', end='\n' * bool(faults))

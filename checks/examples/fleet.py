@@ -5,6 +5,7 @@
 - with 1, 2 and 4 workers: the lines of one process of our xxhsum, and the blocks of python3-xxhash on Debian's library;
   names of every byte;
 - our xxhsum accepts the manifest, and detects a changed byte;
+- with reads of at most 1000 bytes;
 - with a worker that is killed in the middle, and a driver that is killed twice and continues;
 - --since an older manifest, after files were changed, added, renamed and removed, and with indexes of other bytes, of
   other blocks, that are empty or truncated; a name that is too long for an index; an index is on disk before it has its
@@ -37,7 +38,7 @@ import time
 
 import command
 from report import Fault, Report, want
-from tools import TOP, flip_bit, free_port, install_packages, must, proved_program, text_of, write
+from tools import TOP, flip_bit, free_port, install_packages, must, proved_program, short_reads, text_of, write
 
 # Neither files nor bytes fill the last task, and some tasks are full of bytes.
 FILES, MEDIUM, LARGE, BLOCK = 100050, 12 << 20, 64 << 20, 1000003
@@ -106,13 +107,14 @@ class Cluster:
         self.room, self.library = room, library
         self.run_as = {'user': NOBODY, 'group': NOBODY, 'extra_groups': []} if os.geteuid() == 0 else {}
         port = str(free_port())
-        self.address, self.processes, self.workers = 'tcp://127.0.0.1:' + port, [], []
+        self.address, self.processes, self.workers, self.preloaded = 'tcp://127.0.0.1:' + port, [], [], None
         self.start('dask-scheduler', '--host', '127.0.0.1', '--port', port, *QUIET)
         until(lambda: not socket.socket().connect_ex(('127.0.0.1', int(port))), 'the scheduler does not listen')
 
     def environment(self, library):
         found = {name: value for name, value in os.environ.items() if not name.startswith('LD_')}
-        return {**found, 'HOME': self.room, **({'LD_LIBRARY_PATH': library} if library else {})}
+        loader = {'LD_LIBRARY_PATH': library, 'LD_PRELOAD': self.preloaded}
+        return {**found, 'HOME': self.room, **{name: value for name, value in loader.items() if value}}
 
     def start(self, *words, library=None):
         log = open(os.path.join(self.room, f'log-{len(self.processes)}'), 'wb')
@@ -295,6 +297,16 @@ def name_of_line(line):
     meant = {b'\\\\': b'\\', b'\\n': b'\n', b'\\r': b'\r'}
     name = line[34 + line.startswith(b'\\'):-1]
     return re.sub(rb'\\[\\nr]', lambda escape: meant[escape[0]], name) if line.startswith(b'\\') else name
+
+
+def short_reads_agree(fleet):
+    """Each read of a worker or of the driver returns at most 1000 bytes."""
+    fleet.cluster.preloaded = short_reads(fleet.cluster.room)
+    fleet.with_workers(2)
+    _, told = fleet.end(fleet.start())
+    fleet.cluster.preloaded = None
+    want(not told, told[:1])
+    fleet.has_all()
 
 
 def worker_dies(fleet):
@@ -588,6 +600,7 @@ def check_all(report, room, program):
         for count in (1, 2, 4):
             report.attempt(f'{count} workers', agrees, fleet, count)
         for name, check in (('xxhsum -c', xxhsum_accepts), ('names that are no text', names_that_are_no_text),
+                            ('short reads', short_reads_agree),
                             ('a worker is killed', worker_dies), ('the driver is killed twice', driver_dies),
                             ('since an older manifest', since_an_older_one),
                             ('indexes of changed files and other blocks', indexes_are_of_their_files),

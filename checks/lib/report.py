@@ -19,6 +19,11 @@ class Report:
         """A check that returns a note, or raises its error."""
         try:
             self.row(name, None, check(*words) or '')
+        except SystemExit as stop:
+            # A tool of the check failed. A status without a message is that of a signal, which ends the program.
+            if not isinstance(stop.code, str):
+                raise
+            self.row(name, ' '.join(stop.code.split()))
         except Exception as fault:
             known = isinstance(fault, (Fault, subprocess.TimeoutExpired))
             said = str(fault) if known else f'{type(fault).__name__}: {fault}'

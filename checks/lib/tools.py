@@ -80,6 +80,13 @@ def four_hashes(file):
     return ''.join(f'{kind} {words[0] if kind != "3-64" else words[-1]}\n' for kind, words in hashes.items())
 
 
+def short_reads(folder):
+    """A library that clips the reads of programs which preload it."""
+    path = os.path.join(folder, 'short_reads.so')
+    must(['gcc', '-O2', '-shared', '-fPIC', os.path.join(TOP, 'checks', 'lib', 'short_reads.c'), '-o', path, '-ldl'])
+    return path
+
+
 def missing_packages(packages):
     """The packages whose command or file is missing."""
     return {package for name, package in packages.items() if not (shutil.which(name) or os.path.exists(name))}
@@ -99,17 +106,23 @@ def install(packages):
             apt_get('install', '-y', '--no-install-recommends', *sorted(packages))
 
 
-def apt_get(*words):
-    """Runs apt-get, again while another process holds a lock: `update` can't wait for one."""
-    until = time.monotonic() + PATIENCE
-    command = ['apt-get', '-qq', '-o', f'DPkg::Lock::Timeout={PATIENCE}', *words]
+def apt_get(*args):
+    """Runs apt-get. It runs again while another process holds a lock (`update` can't wait for one), and after
+    completing an installation that was killed."""
+    deadline = time.monotonic() + PATIENCE
+    command = ['apt-get', '-qq', '-o', f'DPkg::Lock::Timeout={PATIENCE}', *args]
     while True:
         done = ran(command, env=QUIET)
         if not done.returncode:
             return
-        if 'Could not get lock' not in done.stdout or time.monotonic() > until:
-            sys.exit(f'{os.path.relpath(sys.argv[0], TOP)}: {" ".join(command)}:\n{done.stdout[-2000:]}')
+        if 'dpkg was interrupted' in done.stdout:
+            must(['dpkg', '--configure', '-a'], env=QUIET)
+        elif 'Could not get lock' not in done.stdout:
+            break
+        if time.monotonic() > deadline:
+            break
         time.sleep(1)
+    sys.exit(f'{os.path.relpath(sys.argv[0], TOP)}: {" ".join(command)}:\n{done.stdout[-2000:]}')
 
 
 def proved_program(name, *flags):

@@ -15,6 +15,7 @@ class Wrong(NamedTuple):
 SYSTEM, CHECK = 'xxhsum_fs/src/system.rt', 'xxhsum_program/src/check.rt'
 EVER = 'for _ in 0..u64::MAX {'
 BELOW, DEEP = 'files below a folder', 'a list, both streams one pipe'
+VANISHED = 'a name that vanishes before it is looked up'
 TREE = 'a tree of many names'
 RUN, SHOWN = 'xxhsum_app/src/run.rt', 'ProgressDisplay::new(terminal, interactive, options)'
 NONE = 'b": no properly formatted xxHash checksum lines found"'
@@ -28,9 +29,17 @@ def before_output(old, call, check, row):
 
 WRONG = {
     'kind_of takes a failed look-up for a device': Wrong(
-        SYSTEM, 'Err(error) => PathKind::Unknown(words_of(error)),', 'Err(_) => PathKind::Other,', 'failing', BELOW),
+        SYSTEM, 'PathKind::Unknown(refusal)', 'PathKind::Other', 'failing', BELOW),
     'kind_of takes a failed look-up for a file': Wrong(
-        SYSTEM, 'Err(error) => PathKind::Unknown(words_of(error)),', 'Err(_) => PathKind::File,', 'failing', BELOW),
+        SYSTEM, 'PathKind::Unknown(refusal)', 'PathKind::File', 'failing', BELOW),
+    'kind_of takes a name that has vanished for a device': Wrong(
+        SYSTEM, '                    PathKind::File\n', '                    PathKind::Other\n', 'failing', VANISHED),
+    'main writes the parts of a message': Wrong(
+        'xxhsum/src/main.rt', 'WholeLines::new(FromWrite::new(rt.stderr()), true)', 'WholeLines::new(FromWrite::new(rt.stderr()), false)',
+        'pipes', 'whole messages'),
+    'main shows progress on a dumb terminal': Wrong(
+        'xxhsum/src/main.rt', 'errors: shows_errors && !is_dumb(&rt),', 'errors: shows_errors,', 'terminals',
+        'no progress on a dumb terminal'),
     'is_directory takes a failed look-up for no': Wrong(
         SYSTEM, 'Err(_) => self.process.open_dir(path).is_ok(),', 'Err(_) => false,', 'failing', 'an audit below a folder'),
     'open calls every file missing': Wrong(
@@ -47,6 +56,9 @@ WRONG = {
         SYSTEM, 'Err(error) => return Err(FolderError::Refused(words_of(error))),', 'Err(_) => return Ok(names),', 'failing', BELOW),
     'names_of repeats no interrupted read': Wrong(
         SYSTEM, 'let mut dir = Uninterrupted::new(dir);', 'let mut dir = dir;', 'failing', BELOW),
+    'read has one reason for each failure': Wrong(
+        'xxh_io/src/from_read.rt', 'self.failure = Some(words_of(error));',
+        'let _ = words_of(error);\n                self.failure = Some(Refusal::new(5, b"Input/output error"));', 'failing', 'one file'),
     'main repeats no interrupted read of the input': Wrong(
         'xxhsum/src/main.rt', 'FromRead::new(Uninterrupted::new(rt.stdin()))', 'FromRead::new(rt.stdin())', 'failing', 'a long input'),
     'names_of has no memory past 8 reads': Wrong(SYSTEM, EVER, 'for _ in 0..8 {', 'many', TREE),
@@ -62,8 +74,8 @@ WRONG = {
         'xxhsum_program/src/arguments.rt', 'for index in 0..usize::MAX {', 'for index in 0..20_000 {', 'many', 'many arguments'),
     'sum_up reports a list with no line before the output that waits': before_output(
         REPORTS_NONE, f'eprint_line(&[self.name, {NONE}]', 'pipes', 'output before messages about lists with no line'),
-    'report_failure reports a list that breaks off before the output that waits': before_output(
-        'self.report_line(number, READ_FAILED, streams);', 'eprint_line_error(self.name, number, READ_FAILED', 'failing', DEEP),
+    'check_lines reports a list that breaks off before the output that waits': before_output(
+        'self.report_line(number, failure.text(), streams);', 'eprint_line_error(self.name, number, failure.text()', 'failing', DEEP),
     'count_improper reports a line before the output that waits': before_output(
         'self.report_line(number, b"Improperly formatted checksum line", streams);',
         'eprint_line_error(self.name, number, b"Improperly formatted checksum line"', 'failing', DEEP),
@@ -72,7 +84,7 @@ WRONG = {
         '    if name.len() > 16000 { return Err(AllocError); }\n    put_formed(&mut line, kind, shape, value, name, false)?;',
         'tests', 'xxhsum_tests'),
     'main shows no progress where the output is a terminal': Wrong(
-        'xxhsum/src/main.rt', 'errors: shows_errors,', 'errors: shows_errors && !shows_output,', 'terminals',
+        'xxhsum/src/main.rt', 'errors: shows_errors && !is_dumb(&rt),', 'errors: shows_errors && !shows_output,', 'terminals',
         'progress of a file, terminals: out, err'),
     'now counts microseconds': Wrong(
         'xxhsum_program/src/terminal.rt', 'time.as_millis()', 'time.as_micros()', 'terminals', 'progress of a file, terminals: err'),

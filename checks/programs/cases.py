@@ -58,10 +58,13 @@ GOOD = X64 + b'  a\n'
 GOOD_OUT = b'a: OK\n'
 
 
-UNREAD = b'a failure occurred reading the input file'
+# The system's messages for reads.
+IO_ERROR, IS_FOLDER, IS_CLOSED = b'Input/output error', b'Is a directory', b'Bad file descriptor'
+UNREAD_LIST = b'%s:1: Error: %s.'
+UNREAD_INPUT = b"Error: Could not read 'stdin': %s."
 
 
-def unread(place, name, why=UNREAD):
+def unread(place, name, why=IO_ERROR):
     """The message for a file of a list that could not be read to its end, or not opened for another reason."""
     return place + b": Could not open or read '" + name + b"': " + why + b'.\n'
 
@@ -75,7 +78,7 @@ def no_stdin(place):
 FAILING = '/proc/self/mem'
 # The message if `-` would be left unread.
 BESIDE_NAMES = b"Error: '-' is standard input, which can't be read with files; for a file of that name use './-'."
-NOT_READ = b"Error: Could not read '/proc/self/mem': a failure occurred reading the input file. \n"
+NOT_READ = b"Error: Could not read '/proc/self/mem': Input/output error. \n"
 GONE = b"Error: Could not open 'gone': No such file or directory. \n"
 IMPROPER = fails([b'lines:2: Error: Improperly formatted checksum line.'])
 
@@ -216,8 +219,12 @@ def options():
     cases = [Case(f'the word {word}', (word, 'a')) for word in bad]
     silent = ('-q', '--quiet', '-w', '--warn', '--status', '--strict', '-i5', '-i', '-B64KiB', '-B', '-i5B5', '-i3H0')
     cases += [Case(f'the word {word}, which changes no digest', (word, 'a', 'gone')) for word in silent]
+    # The originals write these to standard error.
     told = ('-V', '--version', '-h', '--help', '-qV', '-Vx', '-hx', '-cV', '-H0h')
-    cases += [Case(f'the word {word}, which only tells', (word, 'a'), compared=NO_ERROR_TEXT) for word in told]
+    cases += [Case(f'the word {word}, which only tells', (word,), shell=f'"$X" {word} a | wc -l | grep -cvx 0', wanted=ours(b'1\n'))
+              for word in told]
+    cases += [Case(f'the word {word} to a full disk', shell=f'"$X" {word} >/dev/full',
+                   wanted=fails([b'Error: a failure occurred writing the output.'])) for word in ('-V', '--help')]
     return cases + [
         Case('options after a name are names', ('a', '-H0', '--tag')),
         Case('names after --', ('--', '-x', '-H0')),
@@ -229,12 +236,12 @@ def options():
         Case('a bad option before the version', ('-Z', '-V')),
         Case('a bad option behind good ones', ('-q', '--tag', '-H0x', 'a'), wrong='-H0x'),
         Case('a bad option with a line feed', ('-x\na: OK', 'a')),
-        Case('the version before a bad option', ('-V', '-Z'), compared=NO_ERROR_TEXT),
+        Case('the version before a bad option', shell='"$X" -V -Z | wc -l', wanted=ours(b'1\n')),
         Case('a number too large before a bad option', ('-i99999999999', '-Z')),
         Case('a bad option after a file', ('a', '--nope')),
         Case('an option that is not UTF-8', (b'-\xff', 'a')),
-        Case('the benchmark', ('-b', 'a'), wanted=refused()),
-        Case('the benchmark of all', ('--bench-all', 'a'), wanted=refused()),
+        *(Case(f'the benchmark, {word}', (word, 'a'), wanted=fails([b'xxhsum: this xxhsum has no benchmark']))
+          for word in ('-b', '-b3', '--bench-all', '--benchmark-all')),
     ]
 
 
@@ -261,8 +268,8 @@ def input_alone():
         Case('input, XXH3', ('-H3',), given=HELLO),
         Case('a megabyte of input', ('-H2',), given=b'0123456789abcdef' * 65536),
         Case('input that comes in pieces', shell='(printf hel; sleep 0.1; printf lo) | "$X" -H0'),
-        Case('a folder as input', shell='"$X" <d'),
-        Case('closed input', shell='"$X" <&-'),
+        Case('a folder as input', shell='"$X" <d', wanted=fails([UNREAD_INPUT % IS_FOLDER])),
+        Case('closed input', shell='"$X" <&-', wanted=fails([UNREAD_INPUT % IS_CLOSED])),
         Case('a file while input is closed', shell='"$X" a <&-'),
         Case('a folder as input, and a file', shell='"$X" a <d'),
     ]
@@ -274,7 +281,7 @@ def program_names():
              'xxh128sumxxh32sum')
     return [Case(f'called {name}', ('a', 'gone'), called=name) for name in names] + [
         Case('called xxh32sum, another kind', ('-H2', 'a'), called='xxh32sum'),
-        Case('called xxh32sum, a list', ('-c', 'good', 'd'), called='xxh32sum'),
+        Case('called xxh32sum, a list', ('-c', 'good', 'junk'), called='xxh32sum'),
         Case('called xxh128sum, a bad option', ('--nope',), called='xxh128sum'),
         Case('called by a name with a line feed', ('-b',), called='a\nxxhsum', wanted=fails([
             b'a\nxxhsum: this xxhsum has no benchmark'])),
@@ -306,7 +313,7 @@ def verdicts():
         of_list('a missing file, quiet', X64 + b'  gone\n', '-cq'),
         of_list('a missing file, status', X64 + b'  gone\n', '-c', '--status'),
         of_list('a folder in a list', GOOD + X64 + b'  d\n' + GOOD,
-                wanted=one_unread(b'a: OK\n' + unread(b'L:2', b'd') + GOOD_OUT)),
+                wanted=one_unread(b'a: OK\n' + unread(b'L:2', b'd', IS_FOLDER) + GOOD_OUT)),
         of_list('a folder in a list, status', X64 + b'  d\n' + GOOD, '-c', '--status', wanted=refused()),
         of_list('a read that fails in a list', X64 + b'  ' + FAILING.encode() + b'\n' + GOOD,
                 wanted=one_unread(unread(b'L:1', FAILING.encode()) + GOOD_OUT)),
@@ -469,10 +476,10 @@ def missing_files():
         Case('names, --ignore-missing', ('--ignore-missing', 'gone', 'a')),
         *(of_list(f'{name} is not missing', X64 + b'  ' + file + b'\n' + GOOD, *missing,
                   wanted=one_unread(unread(b'L:1', file, why) + GOOD_OUT)) for name, file, why in (
-            ('a file below no folder', b'a/b', b'Not a directory'), ('a folder in a list', b'd', UNREAD),
+            ('a file below no folder', b'a/b', b'Not a directory'), ('a folder in a list', b'd', IS_FOLDER),
             ('a name that is not UTF-8', b'\xff\xfe', b'The name is not UTF-8'),
             ('a link to itself', b'loop', b'Too many levels of symbolic links'),
-            ('a read that fails', FAILING.encode(), UNREAD))),
+            ('a read that fails', FAILING.encode(), IO_ERROR))),
     ]
 
 
@@ -515,8 +522,9 @@ def several_lists():
         Case('a missing list', ('-c', 'gone', 'good')),
         Case('a missing list alone', ('-c', 'gone')),
         Case('a missing list, status', ('-c', '--status', 'gone')),
-        Case('a folder as a list', ('-c', 'd', 'good')),
-        Case('a list of which each read fails', ('-c', FAILING, 'good')),
+        Case('a folder as a list', ('-c', 'd', 'good'), wanted=fails([UNREAD_LIST % (b'd', IS_FOLDER)], GOOD_OUT)),
+        Case('a list of which each read fails', ('-c', FAILING, 'good'),
+             wanted=fails([UNREAD_LIST % (FAILING.encode(), IO_ERROR)], GOOD_OUT)),
         Case('options after a list are lists', ('-c', 'good', '-q')),
         Case('lists after --', ('-c', '--', 'good', '-x')),
         Case('the last of two options', ('-q', '-c', 'wrong')),
@@ -531,8 +539,8 @@ def several_lists():
         of_list('stdin in a list', X64 + b'  stdin\n', given=HELLO, wanted=one_unread(no_stdin(b'L:1'))),
         of_list('stdin in a list, twice', X64 + b'  stdin\n' + EMPTY + b'  stdin\n', given=HELLO,
                 wanted=ours(no_stdin(b'L:1') + no_stdin(b'L:2') + b'2 listed files could not be read\n', b'', 1)),
-        Case('a folder as input of lists', shell='"$X" -c <d'),
-        Case('closed input of lists', shell='"$X" -c <&-'),
+        Case('a folder as input of lists', shell='"$X" -c <d', wanted=fails([UNREAD_LIST % (b'stdin', IS_FOLDER)])),
+        Case('closed input of lists', shell='"$X" -c <&-', wanted=fails([UNREAD_LIST % (b'stdin', IS_CLOSED)])),
         Case('a pipe as a list', shell=f'mkfifo p; printf "{X64.decode()}  a\\n" >p & "$X" -c p'),
     ]
 
@@ -609,6 +617,15 @@ def trees():
     ]
 
 
+def small_stacks():
+    """The stack that docs/XXHSUM.md promises."""
+    rows = {'a file': ('a', GOOD), 'a list': ('-c good', GOOD_OUT), 'names': ('--files-from named', GOOD),
+            'a folder': ('-r d', X64 + b'  d/inner\n'), 'an audit': ('--audit good a', audited(b'a: same')['out']),
+            'an audit of a folder': ('-r --audit inner d', audited(b'd/inner: same')['out']), 'input': ('- <a', X64 + b'  stdin\n')}
+    return [Case(f'a small stack, {name}', shell=f'ulimit -s 320; "$X" {words}', wanted=ours(out),
+                 files={'named': b'a\n', 'inner': X64 + b'  d/inner\n'}) for name, (words, out) in rows.items()]
+
+
 def folders():
     """The files below directories, which neither original reads."""
     tree = ('mkdir -p t/b/deep t/b.x t/none; cp a t/a; cp e t/B; cp a t/b/z; cp e t/b/deep/q; cp a t/b.x/c; ln -s ../a t/b/file; '
@@ -637,6 +654,8 @@ def folders():
         Case('-r of a name that is not UTF-8', shell='mkdir t; cp a t; cp a "$(printf "t/\\377")"; "$X" -r t', wanted=fails([
             b"Error: Could not open 't/\xff': The name is not UTF-8. "], X64 + b'  t/a\n')),
         Case('-r of many names', shell='mkdir t; seq 3000 | sed "s#^#t/#" | xargs touch; "$X" -r t | wc -l', wanted=ours(b'3000\n')),
+        Case('-r of names of 230 to 255 bytes', shell='mkdir t; for count in $(seq 230 255); do cp a "t/$(printf "%0${count}d" 0)"; '
+             'done; "$X" -r t', wanted=ours(b''.join(X64 + b'  t/' + b'0' * count + b'\n' for count in range(230, 256)))),
         Case('-r of deep folders', shell='mkdir -p "$(printf "t%.0s/" $(seq 900))"; cp a "$(printf "t%.0s/" $(seq 900))"; '
              '"$X" -r t | cut -c1-16', wanted=ours(X64 + b'\n')),
         Case('-r of a folder that can not be read', shell=tree + bound + '$run "$X" -r t; status=$?; chmod 700 t/b; exit $status',
@@ -698,7 +717,7 @@ def told_names():
 
 
 CASES = (names() + kinds() + lines() + options() + input_alone() + program_names() + verdicts() + plain_lines() + long_lines()
-         + tagged_lines() + missing_files() + lines_with_nuls() + several_lists() + ends() + trees() + folders() + told_names())
+         + tagged_lines() + missing_files() + lines_with_nuls() + several_lists() + ends() + trees() + small_stacks() + folders() + told_names())
 
 # The cases in which one of the originals differs from ours, for the reasons in docs/XXHSUM.md: 0.8.1 has no escapes,
 # comments and XXH3 without a tag, and has fewer options.

@@ -1,5 +1,5 @@
-/* Loaded before a program: its clock counts the bytes read, a millisecond for each 128 KiB, or fails if CLOCK_FAILS
-   is set. So rates and times are known. */
+/* Loaded before a program: its monotonic clock counts the bytes read, a millisecond for each 128 KiB, or fails if
+   CLOCK_FAILS is set, or goes back if CLOCK_GOES_BACK is. So rates and times are known. Other clocks fail. */
 #define _GNU_SOURCE
 #include <dlfcn.h>
 #include <errno.h>
@@ -22,13 +22,16 @@ ssize_t read(int descriptor, void *buffer, size_t size) {
 }
 
 int clock_gettime(clockid_t clock, struct timespec *time) {
-    (void)clock;
-    if (getenv("CLOCK_FAILS")) {
+    if (clock != CLOCK_MONOTONIC || getenv("CLOCK_FAILS")) {
         errno = EINVAL;
         return -1;
     }
     unsigned long long milliseconds = total / BYTES_A_MILLISECOND;
-    time->tv_sec = FIRST_SECOND + (time_t)(milliseconds / 1000);
+    if (getenv("CLOCK_GOES_BACK"))
+        milliseconds = FIRST_SECOND * 1000ULL - milliseconds;
+    else
+        milliseconds += FIRST_SECOND * 1000ULL;
+    time->tv_sec = (time_t)(milliseconds / 1000);
     time->tv_nsec = (long)(milliseconds % 1000) * 1000000;
     return 0;
 }

@@ -12,7 +12,7 @@ import subprocess
 import tempfile
 
 import command
-from report import Report, want
+from report import Fault, Report, want
 from tools import write
 
 from .runs import found, plant
@@ -112,7 +112,7 @@ def is_detected(script, row, program, names):
         plant(f'{room}/xxhsum', program, script)
         try:
             ROWS[row](f'{room}/xxhsum', names)
-        except Exception:
+        except (Fault, subprocess.TimeoutExpired):
             return 'detected'
     raise AssertionError('it is not detected')
 

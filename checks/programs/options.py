@@ -18,7 +18,7 @@ def section(path, begins, ends):
 
 def of_help(program):
     """The first words of the lines of the help, the algorithm's without its number."""
-    text = subprocess.run([program, '--help'], stderr=subprocess.PIPE, text=True, check=True).stderr
+    text = subprocess.run([program, '--help'], stdout=subprocess.PIPE, text=True, check=True).stdout
     return {word for line in text.splitlines() if line.startswith('  -')
             for word in re.findall(r'(?:^|, )(--?[\w-]+)', line[2:].split('  ')[0].replace('#', ''))}
 

@@ -1,4 +1,5 @@
 """Shared by the tests of `xxhsum`: runs, names as lines have them, and planted programs."""
+import fcntl
 import os
 import subprocess
 
@@ -33,6 +34,45 @@ def is_utf8(text):
         return True
     except UnicodeDecodeError:
         return False
+
+
+# Runs a line of sh with a disk of this many bytes at $DISK, which nothing outside of the run sees.
+DISK_SIZE = 65536
+ON_DISK = ('unshare', '--user', '--map-root-user', '--mount', 'sh', '-c',
+           f'mount -t tmpfs -o size={DISK_SIZE} none "$DISK" && eval "$1"', 'sh')
+
+
+def on_small_disk(program, words, folder, given=b''):
+    """A run whose output is a file on a disk of 64 KiB: what the file has, the errors and the status."""
+    disk, copy = os.path.join(folder, 'disk'), os.path.join(folder, 'copy')
+    os.makedirs(disk, exist_ok=True)
+    line = 'shift; "$@" >"$DISK/out"; status=$?; cat "$DISK/out" >"$COPY"; exit $status'
+    done = subprocess.run([*ON_DISK, line, program, *words], input=given, stderr=subprocess.PIPE, cwd=folder, check=False,
+                          env={**SETTINGS, 'DISK': disk, 'COPY': copy})
+    with open(copy, 'rb') as file:
+        return file.read(), done.stderr, done.returncode
+
+
+def no_small_disk(folder):
+    """Why no disk can be mounted, or nothing."""
+    done = subprocess.run([*ON_DISK, 'true'], stderr=subprocess.PIPE, text=True, env={**SETTINGS, 'DISK': folder}, check=False)
+    return done.stderr.strip() if done.returncode else ''
+
+
+def without_waiting(file):
+    """Sets O_NONBLOCK, so that a call that would wait fails."""
+    fcntl.fcntl(file, fcntl.F_SETFL, fcntl.fcntl(file, fcntl.F_GETFL) | os.O_NONBLOCK)
+    return file
+
+
+def into_full_pipe(program, words, folder, given=b''):
+    """A run into a pipe that doesn't wait and that nobody reads: what the pipe has, the errors and the status."""
+    ours, theirs = os.pipe()
+    done = subprocess.run([program, *words], input=given, stdout=without_waiting(theirs), stderr=subprocess.PIPE, cwd=folder,
+                          env=SETTINGS, check=False)
+    os.close(theirs)
+    with open(ours, 'rb') as file:
+        return file.read(), done.stderr, done.returncode
 
 
 def plant(path, real, script):

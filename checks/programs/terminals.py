@@ -9,6 +9,7 @@ import itertools
 import os
 import pty
 import re
+import signal
 import subprocess
 import tempfile
 import threading
@@ -26,7 +27,8 @@ LONG = 130 * MIB
 # Files with no bytes on the disk: one so long that the rest takes many seconds, and one of more than a tebibyte.
 VAST = 1 << 38
 TEBIBYTE_AND_MORE = (1 << 40) + (1 << 36)
-# The rate of the known clock in KiB per second, and that of one that fails, which counts as a millisecond.
+# The rate of the known clock in KiB per second, and that of one that fails or goes back, which counts as a
+# millisecond.
 RATE, RATE_OF_NO_TIME = 128000, STEP // KIB * 1000
 # The line of progress from which on the program's start time is negligible.
 SETTLED = 2048
@@ -210,6 +212,29 @@ def keeps_time(program):
     return ''
 
 
+def clears_at(program, number, settings):
+    """The error in what is left on the terminal if a signal ends the program in the middle of a file. The programs that
+    `rt` builds have no handler."""
+    version = subprocess.run([program, '--version'], stdout=subprocess.PIPE, check=True).stdout
+    if b'compiled by rustc' not in version:
+        return ''
+    ours, theirs = pty.openpty()
+    with tempfile.NamedTemporaryFile() as file:
+        file.truncate(VAST)
+        process = subprocess.Popen([program, '-H3', file.name], stdin=subprocess.DEVNULL, stdout=subprocess.DEVNULL,
+                                   stderr=theirs, env=settings, preexec_fn=lambda: signal.signal(number, signal.SIG_DFL))
+        os.close(theirs)
+        sent = b''
+        while ROW_END not in sent:
+            sent += os.read(ours, 65536)
+        process.send_signal(number)
+        sent += read_to_end(ours)
+    os.close(ours)
+    if process.wait(SECONDS) != -number:
+        return f'the status is {process.returncode}'
+    return ''.join(rows_left(sent, columns) for columns in WIDTHS)
+
+
 # ---- which of the streams are terminals
 
 def does(program, words, terminals, given, wanted, settings=SETTINGS):
@@ -294,6 +319,11 @@ def rows_over(program, short, long, lists, settings):
         'the rate and the time left': (keeps_time, program),
         'the rate and the time left of more than a tebibyte': (begins_with, program, tebibyte, first, settings),
         'the rate by a clock that fails': (begins_with, program, LONG, [line_of_progress(STEP, LONG, RATE_OF_NO_TIME)], failing),
+        'the rate by a clock that goes back': (begins_with, program, LONG, [line_of_progress(STEP, LONG, RATE_OF_NO_TIME)],
+                                               {**settings, 'CLOCK_GOES_BACK': '1'}),
+        'no progress on a dumb terminal': (shows_of, program, STEP, NOTHING, {**settings, 'TERM': 'dumb'}),
+        'SIGINT clears the line of progress': (clears_at, program, signal.SIGINT, SETTINGS),
+        'SIGTERM clears the line of progress': (clears_at, program, signal.SIGTERM, SETTINGS),
         'no progress below 64 MiB': (shows_of, program, STEP - 1, NOTHING, settings),
         'progress from 64 MiB on': (shows_of, program, STEP, progress_of(STEP, True), settings),
         'nobody types': (does, program, [], ('in',), short, refused),

@@ -8,7 +8,9 @@ stream is closed, full, broken or a directory.
 The last line is "N passed, M failed". The digests are those of the reference library 0.8.1: of `oracle/vectors.txt`
 and of Debian's `xxhsum`, which were run by hand; none is from this program. It needs /dev/full."""
 import os
+import resource
 import shutil
+import signal
 import subprocess
 import sys
 import tempfile
@@ -17,12 +19,17 @@ import command
 from report import Report
 from tools import TOP, proved_program, write
 
+from .runs import DISK_SIZE, into_full_pipe, no_small_disk, on_small_disk, without_waiting
+
 USAGE = b'xxh: usage: xxh hash|save|resume 32|64|3-64|3-128 [SEED|JSON] or xxh blocks SIZE\n'
 SEED = b'xxh: bad seed\n'
 SIZE = b'xxh: bad size\n'
 STATE = b'xxh: bad state\n'
-READ = b'xxh: read failed\n'
+READ = b'xxh: read failed: %s\n'
 WRITE = b'xxh: write failed\n'
+
+# Bytes of a file that may not grow: fewer than each line has.
+LIMIT = 20
 
 SOME = b'some bytes'
 HELLO = b'Hello, world!\0'
@@ -58,7 +65,12 @@ TABLE = [
         ('3-64 18446744073709551615', SOME, b'f2bedbe5c1d104be'),
         ('3-128 18446744073709551615', SOME, b'bff237cde472fcf2e98c75f91e037435'),
         ('64', gen(65535), b'fc26b00b70f81612'), ('64', gen(65536), b'316c40df46fe2584'),
-        ('64', gen(65537), b'8c8e0218a8ee0fee'), ('64', gen(200000), b'3c72c119d42ed27f'))),
+        ('64', gen(65537), b'8c8e0218a8ee0fee'), ('64', gen(200000), b'3c72c119d42ed27f'),
+        ('3-64', gen(1000), b'33ef703fb2b20ed1'), ('3-64 1234', gen(1000), b'1a9bb61145209c40'),
+        ('3-64 18446744073709551615', gen(1000), b'0b11f8e19143a7f5'),
+        ('3-128', gen(1000), b'18bf41bc8229e27733ef703fb2b20ed1'),
+        ('3-128 1234', gen(1000), b'a77b8dbd23383ab61a9bb61145209c40'),
+        ('3-128 18446744073709551615', gen(1000), b'615c4c1b6684f49c0b11f8e19143a7f5'))),
     # Saved texts, and digests that continue from them.
     ('save 32', HELLO, STATE_32 + b'\n', b'', 0),
     ('save 64 0', HELLO, STATE_64 + b'\n', b'', 0),
@@ -77,14 +89,15 @@ TABLE = [
     *((words, SOME, b'', message, 2) for message, refused in {
         # Arguments that are no command, and some that are not UTF-8.
         USAGE: ([], 'hash', 'hash 65', 'HASH 64', 'hash 64 1 2', [b'hash ', b'64'], [b'hash', b' 64'], 'save 3-64',
-                'save 3-128 1', 'resume 64', 'resume 3-64 {}', 'blocks', 'blocks 4 5', '--help', [b'\xff'],
+                'save 3-128 1', 'resume 64', 'resume 3-64 {}', 'blocks', 'blocks 4 5', '--help x', '-h', '--Help', [b'\xff'],
                 [b'hash', b'64\xff'], [b'hash', b'64', b'\xc3('], [b'resume', b'32', STATE_32, b'\x80']),
         # Invalid seeds, sizes and states.
         SEED: ('hash 32 4294967296', 'hash 64 18446744073709551616', 'hash 64 +1', 'save 32 x', [b'hash', b'64', b''],
                [b'hash', b'64', b' 1']),
         SIZE: ('blocks 0', 'blocks 18446744073709551616', 'blocks -1'),
         STATE: ('resume 64 {}', [b'resume', b'32', STATE_64], [b'resume', b'32', STATE_32[:-1]],
-                [b'resume', b'32', LARGE_32], [b'resume', b'64', LARGE_64]),
+                [b'resume', b'32', LARGE_32], [b'resume', b'64', LARGE_64],
+                *([b'resume', b'64', STATE_64 + behind] for behind in (b'x', b' }', b'\n0', b',', b'{}', b'\xc3\xa9', STATE_64))),
     }.items() for words in refused),
 ]
 
@@ -140,15 +153,64 @@ def over_hostile_ends(run, room):
             run.ends(('closed output', words), words, 1, WRITE, closed(1), stdin=r)
         # A directory as the input, and no input at all: nothing is printed.
         folder = os.open(room, os.O_RDONLY)
-        out = run.ends(('folder', words), words, 1, READ, stdin=folder, stdout=subprocess.PIPE)
+        out = run.ends(('folder', words), words, 1, READ % b'Is a directory', stdin=folder, stdout=subprocess.PIPE)
         run.check(('folder, printed', words), out, b'')
         os.close(folder)
-        out = run.ends(('closed input', words), words, 1, READ, closed(0), stdout=subprocess.PIPE)
+        out = run.ends(('closed input', words), words, 1, READ % b'Bad file descriptor', closed(0),
+                       stdout=subprocess.PIPE)
         run.check(('closed input, printed', words), out, b'')
     # An error whose message cannot be written keeps its status.
     with open('/dev/full', 'wb') as w:
         run.ends('full error', 'hash 64 x', 2, b'', stdin=subprocess.DEVNULL, stdout=w, stderr=w)
     run.ends('closed error', 'hash', 2, b'', closed(2), stdin=subprocess.DEVNULL, stdout=subprocess.DEVNULL)
+
+
+def over_information(run):
+    """The help and the version are on standard output, and a failed write of them is reported. Nothing is read."""
+    for words, begins in (('--help', b'xxh prints digests of standard input'), ('--version', b'xxh 0.1.0 of twox_hash\n')):
+        done = subprocess.run(run.words(words), stdin=subprocess.DEVNULL, capture_output=True, timeout=20)
+        run.check(words, (done.stdout[:len(begins)], done.stderr, done.returncode), (begins, b'', 0))
+        with open('/dev/full', 'wb') as w:
+            run.ends((words, 'full'), words, 1, WRITE, stdin=subprocess.DEVNULL, stdout=w)
+
+
+def over_limited_file(run, room):
+    """The last write is short: a file may not grow past a limit. The first lines are there, and the loss is reported."""
+    def limit():
+        signal.signal(signal.SIGXFSZ, signal.SIG_IGN)
+        resource.setrlimit(resource.RLIMIT_FSIZE, (LIMIT, LIMIT))
+
+    path = os.path.join(room, 'limited')
+    for words in ('blocks 2', 'save 64', 'hash 3-128'):
+        with open(write(os.path.join(room, 'input'), bytes([0, 1])), 'rb') as given, open(path, 'wb') as limited:
+            run.ends(('limited file', words), words, 1, WRITE, limit, stdin=given, stdout=limited, restore_signals=False)
+        run.check(('limited file, written', words), os.path.getsize(path), LIMIT)
+
+
+def over_small_disk(run, room):
+    """The last write is short: a disk of 64 KiB is filled to its last byte. The loss is reported."""
+    given, words = gen(4000), ['blocks', '1']
+    whole = subprocess.run([run.program, *words], input=given, capture_output=True, timeout=20).stdout
+    why = no_small_disk(room)
+    if why:
+        print(f'{run.title}: skipped a disk of 64 KiB: {why}')
+        return
+    found = on_small_disk(run.program, words, room, given)
+    run.check('a disk of 64 KiB', found, (whole[:DISK_SIZE], WRITE, 1))
+
+
+def over_full_pipe(run, room):
+    """A write that would wait fails, and so does such a read. The loss is reported."""
+    given, words = gen(4000), ['blocks', '1']
+    whole = subprocess.run([run.program, *words], input=given, capture_output=True, timeout=20).stdout
+    out, err, status = into_full_pipe(run.program, words, room, given)
+    run.check('a pipe that is full', (whole.startswith(out), 0 < len(out) < len(whole), err, status), (True, True, WRITE, 1))
+    ours, theirs = os.pipe()
+    os.write(theirs, SOME)
+    run.ends('input that waits', 'hash 64', 1, READ % b'Resource temporarily unavailable', stdin=without_waiting(ours),
+             stdout=subprocess.DEVNULL)
+    os.close(ours)
+    os.close(theirs)
 
 
 def over_slow_pipe(run):
@@ -183,6 +245,10 @@ def over_all(program, title, room, report):
     for row in TABLE:
         run.row(*row)
     over_hostile_ends(run, room)
+    over_information(run)
+    over_limited_file(run, room)
+    over_small_disk(run, room)
+    over_full_pipe(run, room)
     over_slow_pipe(run)
     over_a_stream(run)
     print(f'{title}: {run.count} checks, {run.failed} failed')

@@ -8,7 +8,7 @@ LIBRARY is the shared library, as PREFIX/lib/libxxhash.so.0, or libxxhash.so.0 f
 import ctypes
 import sys
 
-PIECE = 65536
+CHUNK_BYTES = 65536
 
 
 class Hash128(ctypes.Structure):
@@ -38,8 +38,8 @@ class Hasher:
         call.restype, call.argtypes = result, parameters
         return call
 
-    def update(self, piece):
-        if self._update(self._state, piece, len(piece)):
+    def update(self, chunk):
+        if self._update(self._state, chunk, len(chunk)):
             raise ValueError('the state was never reset')
 
     def digest(self):
@@ -61,9 +61,9 @@ def main():
         '3-128': Hasher(library, 'XXH3', 'XXH3_128bits', Hash128),
     }
     with open(sys.argv[2], 'rb') as file:
-        while piece := file.read(PIECE):
+        while chunk := file.read(CHUNK_BYTES):
             for hasher in hashers.values():
-                hasher.update(piece)
+                hasher.update(chunk)
     wide = hashers['3-128'].digest()
     print(f"32 {hashers['32'].digest():08x}")
     print(f"64 {hashers['64'].digest():016x}")

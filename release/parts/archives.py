@@ -4,6 +4,7 @@ import itertools
 import json
 import os
 import re
+import shlex
 import shutil
 import tomllib
 
@@ -153,7 +154,7 @@ def python_machines(commit):
     yield {}
     if shutil.which(TOOLS['aarch64'] + 'gcc'):
         root = debian_root(os.path.join(commit.room, 'python-arm'), 'libpython3.11-dev')
-        yield {'CC': TOOLS['aarch64'] + 'gcc', 'CFLAGS': f'-idirafter {root}/usr/include'}
+        yield {'CC': TOOLS['aarch64'] + 'gcc', 'CFLAGS': f'-idirafter {shlex.quote(root)}/usr/include'}
 
 
 def python(commit, made):
@@ -189,13 +190,6 @@ def page(commit, made):
     return write_archive(commit, made, 'page', {**documents(commit, made), **tree_of(folder, 'web')})
 
 
-def api(commit, made):
-    """The pages of every public name, which any browser displays as files."""
-    folder = os.path.join(commit.room, 'api')
-    must([commit.path('docs', 'api', 'make'), '--pages', folder])
-    return write_archive(commit, made, 'api', {**documents(commit, made), **tree_of(folder)})
-
-
-PARTS_OF_BOTH = (library, cargo_programs, crate, python, node, page, api)
+PARTS_OF_BOTH = (library, cargo_programs, crate, python, node, page)
 PARTS_WITHOUT_RT = (debian_without_rt, *PARTS_OF_BOTH)
 PARTS = (debian, programs, *PARTS_OF_BOTH)

@@ -10,20 +10,20 @@ from tools import must
 TARGETS = {'x86_64': 'x86_64-unknown-linux-gnu', 'aarch64': 'aarch64-unknown-linux-gnu'}
 COMPILERS = {'x86_64': 'gcc', 'aarch64': 'aarch64-linux-gnu-gcc'}
 # They need no other file, and don't contain their build path.
-FLAGS = '-C target-feature=+crt-static -C strip=symbols'
+FLAGS = ('-Ctarget-feature=+crt-static', '-Cstrip=symbols')
 # The other names of xxhsum, under which it uses another algorithm.
 NAMES = ('xxh32sum', 'xxh64sum', 'xxh128sum', 'xxh3sum')
 
 
-def sysroot_flag(commit, machine):
+def sysroot_flags(commit, machine):
     """Debian's compiler uses the standard library for another processor from a folder of that processor's packages."""
     if machine == 'x86_64':
-        return ''
+        return ()
     sysroot, libraries = os.path.join(commit.room, 'sysroot'), os.path.join('lib', 'rustlib')
     root = debian_root(os.path.join(commit.room, 'rust-arm'), 'libstd-rust-web-dev')
     os.makedirs(os.path.join(sysroot, libraries))
     os.symlink(os.path.join(root, 'usr', libraries, TARGETS[machine]), os.path.join(sysroot, libraries, TARGETS[machine]))
-    return f' --sysroot {sysroot}'
+    return '--sysroot', sysroot
 
 
 @functools.cache
@@ -34,7 +34,7 @@ def installed(commit, machine):
         return None
     target, made = TARGETS[machine], os.path.join(commit.room, 'cargo')
     variables = {'CARGO_TARGET_DIR': made, 'CARGO_NET_OFFLINE': 'true', 'RUSTC': '/usr/bin/rustc',
-                 'RUSTFLAGS': FLAGS + sysroot_flag(commit, machine),
+                 'CARGO_ENCODED_RUSTFLAGS': '\x1f'.join([*FLAGS, *sysroot_flags(commit, machine)]),
                  f'CARGO_TARGET_{target.upper().replace("-", "_")}_LINKER': COMPILERS[machine]}
     must(['/usr/bin/cargo', 'build', '-q', '--release', '--target', target], cwd=commit.path('rust', 'programs'),
          env={**os.environ, **variables})

@@ -1,9 +1,12 @@
 """The output of release/make: the same bytes twice, sums, and provenance in each archive."""
 import glob
+import io
 import os
 import re
 import shutil
+import stat
 import subprocess
+import tarfile
 import tempfile
 import zipfile
 
@@ -17,19 +20,19 @@ TEXTS = {'c/build': ('x86-64', 'aarch64'), 'rust/build-library': ('x86-64', 'aar
 MAKE = os.path.join(TOP, 'release', 'make')
 
 
-def make(room, folder, log):
+def make(room, folder, log, umask):
     """release/make, with a working folder of its own."""
     os.mkdir(room)
-    done = ran([MAKE, *(['--gate', log] if log else []), folder], env={**os.environ, 'TMPDIR': room})
+    done = ran([MAKE, *(['--gate', log] if log else []), folder], env={**os.environ, 'TMPDIR': room}, umask=umask)
     want(done.returncode == 0, done.stdout[-1500:])
     return tail(done.stdout)
 
 
 def twice(room, folder, log):
-    """The files in the folder are those of a second run, byte for byte."""
+    """The files in the folder are those of a second run, under another umask, byte for byte."""
     other = os.path.join(room, 'a second folder')
-    said, again = (make(os.path.join(room, name), into, log).split(': ', 1)[1]
-                   for name, into in (('first', folder), ('second', other)))
+    said, again = (make(os.path.join(room, name), into, log, umask).split(': ', 1)[1]
+                   for name, into, umask in (('first', folder, 0o022), ('second', other, 0o077)))
     want(said == again, f'first {said}, then {again}')  # for example if a commit was made meanwhile
     one, two = ({name: written.sum_of(f'{path}/{name}') for name in os.listdir(path)} for path in (folder, other))
     shutil.rmtree(other)
@@ -101,6 +104,10 @@ def members(path):
             found = {name: archive.read(name) for name in archive.namelist()}
     elif path.endswith(('.gz', '.tgz', '.crate')):
         found = read_tar(path)
+    elif path.endswith('.deb'):
+        packed = subprocess.run(['dpkg-deb', '--fsys-tarfile', path], stdout=subprocess.PIPE, check=True).stdout
+        with tarfile.open(fileobj=io.BytesIO(packed)) as archive:
+            found = {it.name: (oct(it.mode), it.linkname, it.isfile() and archive.extractfile(it).read()) for it in archive}
     else:
         found = {'': bytes_of(path)}
     return {name: data for name, data in found.items() if os.path.basename(name) not in ('PROVENANCE', 'RECORD')}
@@ -173,7 +180,7 @@ def provenances(room, path):
 
 def has_provenance(room, folder):
     right = bytes_of(os.path.join(folder, 'PROVENANCE'))
-    names = [name for name in sorted(os.listdir(folder)) if name.endswith(('.gz', '.tgz', '.crate', '.whl', '.deb'))]
+    names = list(filter(is_archive, sorted(os.listdir(folder))))
     for name in names:
         want(provenances(room, os.path.join(folder, name)) == [right], f'{name} has another one, or none')
     words, has_programs = right.decode(), any('-programs-' in name and '-cargo-' not in name for name in names)
@@ -184,7 +191,37 @@ def has_provenance(room, folder):
     return f'{len(names)} archives; gate: {gate}'
 
 
+def modes_of(path):
+    """The mode, owner and name of each entry of an archive."""
+    if path.endswith('.deb'):
+        lines = must(['dpkg-deb', '-c', path]).splitlines()
+    elif path.endswith('.whl'):
+        with zipfile.ZipFile(path) as archive:
+            lines = [f'{stat.filemode(it.external_attr >> 16)} root/root {it.filename}' for it in archive.infolist()]
+    else:
+        lines = must(['tar', 'tvzf', path]).splitlines()
+    return [line.split(maxsplit=2) for line in lines]
+
+
+def all_users_can_read(folder):
+    """Each file of each archive has one of the usual modes, whatever the umask of release/make was, and the programs
+    can be run."""
+    count = 0
+    for name in filter(is_archive, sorted(os.listdir(folder))):
+        for mode, owner, rest in modes_of(os.path.join(folder, name)):
+            is_program = re.search(r'/bin/[\w-]+$', rest)
+            expected = ('-rwxr-xr-x', 'lrwxrwxrwx') if is_program else ('-rw-r--r--', '-rwxr-xr-x', 'drwxr-xr-x', 'lrwxrwxrwx')
+            want(mode in expected and owner in ('root/root', '0/0'), f'{name}: {mode} {owner} {rest}')
+            count += 1
+    return f'{count} files'
+
+
+def is_archive(name):
+    return name.endswith(('.gz', '.tgz', '.crate', '.whl', '.deb'))
+
+
 def check_all(report, room, folder):
+    report.attempt('the modes of all files', all_users_can_read, folder)
     report.attempt('SHA256SUMS', sums_agree, folder)
     report.attempt('a changed byte is detected', change_is_noticed, room, folder)
     report.attempt('PROVENANCE in each archive', has_provenance, room, folder)

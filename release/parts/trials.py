@@ -128,10 +128,10 @@ def programs(root):
 def crate(root):
     """examples/rust, with the page's lines instead of its patch."""
     typed(root, 'The crate for cargo')
-    root.must('cd twox-hash-2.1.5; find . -type f -printf "%P\\n" | sort > ../held; cargo package --list --allow-dirty --offline '
+    root.must('cd twox-hash-2.1.5; find . -type f ! -name PROVENANCE -printf "%P\\n" | sort > ../held; cargo package --list --allow-dirty --offline '
               '| grep -vx "Cargo.lock\\|Cargo.toml.orig" | sort | diff ../held - >&2')
     root.copy(os.path.join(TOP, 'examples', 'rust'), 'program')
-    manifest = text_of(os.path.join(TOP, 'examples', 'rust', 'Cargo.toml')).split('# The one line')[0]
+    manifest = text_of(os.path.join(TOP, 'examples', 'rust', 'Cargo.toml')).split('[patch.')[0]
     patch, = re.findall(r'```toml\n(\[patch.*?)```', text_of(printed.RELEASES), re.S)
     root.write('program/Cargo.toml', (manifest + patch.replace('"twox-hash', '"../twox-hash')).encode())
     root.copy(LICENSE, 'LICENSE')
@@ -181,14 +181,19 @@ def static_page(root):
 
 def made_without_rt(root):
     """release/make --without-rt with the packages of the page, by a user who may install nothing, with only Debian's
-    cargo: everything it writes equals the full release, except PROVENANCE."""
-    packages, = re.findall(r'These packages of Debian 12 are needed: `(.*)`', text_of(printed.RELEASES))
+    cargo, under umask 077 in a path with a space: everything it writes equals the full release, except PROVENANCE."""
+    packages, = re.findall(r"It needs Debian 12's packages `(.*?)`", text_of(printed.RELEASES))
     root.install(*packages.split())
-    must(['git', 'clone', '-q', TOP, root.at('/srv/clone')])
-    must(['git', '-C', root.at('/srv/clone'), 'checkout', '-q', made.commit_of(root.at(TAKEN))])
-    root.must('chown -R nobody /srv; runuser -u nobody -- env HOME=/srv /srv/clone/release/make --without-rt /srv/made')
+    clone = root.at('/srv/a clone')
+    must(['git', 'clone', '-q', TOP, clone])
+    must(['git', '-C', clone, 'checkout', '-q', made.commit_of(root.at(TAKEN))])
+    root.must('chown -R nobody /srv; umask 077; runuser -u nobody -- env HOME=/srv TMPDIR="/srv/a clone" '
+              '"/srv/a clone/release/make" --without-rt /srv/made')
+    made.all_users_can_read(root.at('/srv/made'))
     # The Debian packages of the whole release have the programs that rt built.
-    names = sorted(name for name in set(os.listdir(root.at('/srv/made'))) - {'PROVENANCE', 'SHA256SUMS'} if not name.endswith('.deb'))
+    has_rt = 'none: release/make --without-rt' not in text_of(root.at(f'{TAKEN}/PROVENANCE'))
+    names = sorted(name for name in set(os.listdir(root.at('/srv/made'))) - {'PROVENANCE', 'SHA256SUMS'}
+                   if not (has_rt and name.endswith('.deb')))
     other = [name for name in names if not os.path.exists(root.at(f'{TAKEN}/{name}'))
              or made.members(root.at(f'/srv/made/{name}')) != made.members(root.at(f'{TAKEN}/{name}'))]
     want(names and not other, f'other than the whole release has them: {", ".join(other)}')

@@ -1,6 +1,6 @@
 """Makes each system call of `xxhsum` and `xxh` fail in turn.
 
-    checks/failing_calls XXHSUM XXH [--all] [--no-memory] [--only WORD] [--jobs N]
+    checks/failing_calls XXHSUM XXH [--all] [--no-memory] [--readdir] [--only WORD] [--jobs N]
 
 Each scenario is run once unchanged, and then with one call failing, by strace: each call from `main` on that opens,
 reads, writes, looks up, lists a directory, closes or tests for a terminal, with each error of its kind; and each
@@ -24,6 +24,7 @@ from . import judge, planted, scenarios, traces, worlds
 PACKAGES = {'strace': 'strace', 'xxhsum': 'xxhash'}
 # One seed, so that each run tries the calls of the run before.
 SEED = 20261129
+VANISHED = 'a name that vanishes before it is looked up'
 # The maximum length of a fault's output.
 SHOWN = 1500
 
@@ -70,10 +71,15 @@ def chosen(tries, is_all, draw):
     return [it for group in groups.values() for it in dict.fromkeys((group[0], draw.choice(group)))]
 
 
-def tries_of(scenario, calls, without_memory):
+def is_left_out(call, error, given):
+    """True if the options leave out this error. For POSIX's `readdir`, a removed directory is an empty one."""
+    return given.no_memory and error == 'ENOMEM' or given.readdir and (call.name, error) == ('getdents64', 'ENOENT')
+
+
+def tries_of(scenario, calls, given):
     """Each call that is to fail, by its index and name, with each error. Memory fails from the call on, if it does."""
     return [(at, call.name, error) for at, call in enumerate(calls) if judge.is_tried(scenario, calls, at)
-            for error in judge.errors_of(call) if not (without_memory and error == 'ENOMEM')]
+            for error in judge.errors_of(call) if not is_left_out(call, error, given)]
 
 
 def injections_of(done, at, error):
@@ -95,7 +101,7 @@ def over_calls(scenario, programs, world, given):
         return 1, [f'{scenario.name}: wanted {judge.text(right)!r:.{SHOWN}}, found {done[:3]!r:.{SHOWN}}']
     if not done.calls:
         return 1, [f'{scenario.name}: no call after `main` began']
-    tries = chosen(tries_of(scenario, done.calls, given.no_memory), given.all, random.Random(f'{SEED} {scenario.name}'))
+    tries = chosen(tries_of(scenario, done.calls, given), given.all, random.Random(f'{SEED} {scenario.name}'))
     faults = []
     for at, name, error in tries:
         failed = run(scenario, programs, world, injections_of(done, at, error))
@@ -117,12 +123,29 @@ def detects(title, programs, world, rows):
     want(judge.fault_in(scenario, right, done.calls, at, error, wrong(failed)), 'it is not detected')
 
 
+def vanishes(programs, world):
+    """A name that vanishes between the listing of its directory and its look-up is reported, as one that vanishes later,
+    and the audit goes on."""
+    words, gone = [programs['xxhsum'], '-r', '--audit', 'below', 'd'], 'd/inner'
+    with scenarios.input_of(scenarios.Scenario('', (), None), world) as given, tempfile.NamedTemporaryFile() as trace:
+        streams = {'stdin': given, 'stdout': subprocess.PIPE, 'stderr': subprocess.PIPE}
+        done = traces.traced(words, (), streams, world.folder, trace.name)
+        calls = [at for at, call in enumerate(done.calls) if call.target == gone]
+        failed = traces.traced(words, traces.vanishing(done.before, done.calls, calls), streams, world.folder, trace.name)
+    lines = done.out.decode().splitlines(keepends=True)
+    out = ''.join(lines[1:-1]) + lines[-1].replace('4 same', '3 same')
+    err = f"Error: Could not open '{gone}': No such file or directory. \n"
+    want(lines[0] == f'{gone}: same\n' and len(calls) > 1, f'the run without it prints {lines}')
+    want((failed.out.decode(), failed.err.decode(), failed.status) == (out, err, 1), f'{failed[:3]}')
+
+
 def main():
     parser = command.parser(__doc__, 'scenarios')
     parser.add_argument('xxhsum')
     parser.add_argument('xxh')
     parser.add_argument('--all', action='store_true', help='try each call')
     parser.add_argument('--no-memory', action='store_true', help='leave out the calls for memory')
+    parser.add_argument('--readdir', action='store_true', help="the programs list directories by the C library's `readdir`")
     parser.add_argument('--jobs', type=int, default=2, help='how many runs at a time')
     given = parser.parse_args()
     install_packages(PACKAGES)
@@ -137,6 +160,8 @@ def main():
                 print(f'FAILED  {fault}')
             print(f'{row.name}: {count} failing calls, {len(faults)} wrong', flush=True)
             report.count(count - len(faults), len(faults))
+        if given.only in VANISHED:
+            report.attempt(VANISHED, vanishes, programs, world)
         for title in planted.PLANTED if not given.only else ():
             report.attempt(f'planted, {title}', detects, title, programs, world, {it.name: it for it in every})
     return report.end()

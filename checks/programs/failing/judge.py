@@ -5,13 +5,16 @@ from .worlds import NO_MEMORY, WRITE_FAILED, Fault, Outcome
 
 # The errors of each call. Linux returns each of these for some file system or device.
 ERRORS = {
-    'open': ('EIO', 'EACCES', 'EMFILE', 'EINTR'), 'openat': ('EIO', 'EACCES', 'EMFILE', 'EINTR'),
-    'read': ('EIO', 'EACCES', 'EINTR'), 'write': ('EIO', 'ENOSPC', 'EINTR'), 'getdents64': ('EIO', 'EACCES', 'EINTR'),
+    **{name: ('EIO', 'EACCES', 'EMFILE', 'EINTR', 'ESTALE', 'ENXIO') for name in ('open', 'openat')},
+    'read': ('EIO', 'EACCES', 'EINTR', 'EAGAIN', 'EISDIR', 'ESTALE'), 'write': ('EIO', 'ENOSPC', 'EINTR', 'EAGAIN'),
+    'getdents64': ('EIO', 'EACCES', 'EINTR', 'ENOENT'),
     'close': ('EIO', 'EINTR'), 'ioctl': ('EIO',),
-    **{name: ('EIO', 'EACCES', 'EMFILE') for name in ('stat', 'lstat', 'statx', 'newfstatat', 'readlink', 'readlinkat')},
+    **{name: ('EIO', 'EACCES', 'EMFILE', 'ESTALE') for name in ('stat', 'lstat', 'statx', 'newfstatat', 'readlink', 'readlinkat')},
 }
 WHYS = {'EIO': 'Input/output error', 'EACCES': 'Permission denied', 'EMFILE': 'Too many open files',
-        'EINTR': 'Interrupted system call', 'ENOSPC': 'No space left on device'}
+        'EINTR': 'Interrupted system call', 'ENOSPC': 'No space left on device', 'ESTALE': 'Stale file handle',
+        'ENXIO': 'No such device or address', 'EAGAIN': 'Resource temporarily unavailable',
+        'ENOENT': 'No such file or directory', 'EISDIR': 'Is a directory'}
 OPENS = ('open', 'openat')
 READS = ('read', 'readv', 'pread64')
 WRITES = ('write', 'writev')
@@ -35,7 +38,7 @@ def opened_as(calls, at):
 def name_of(calls, at):
     """The name of the file of this call, as it was passed to the program."""
     call = calls[at]
-    if call.name in BY_NAME:
+    if call.name in BY_NAME and not call.is_open:
         return call.target
     opened = opened_as(calls, at)
     return INPUT if opened is None else calls[opened].target

@@ -10,6 +10,10 @@ def instead(**parts):
     return lambda done: done._replace(**parts)
 
 
+def of_another_reason(done):
+    return done._replace(err=done.err.replace(b'Stale file handle', b'Input/output error'))
+
+
 silent, well, hanging = instead(err=b''), instead(status=0), instead(status='not ended')
 # As if there were no such name or directory.
 passed_over = instead(out=b'', err=b'', status=0)
@@ -42,6 +46,7 @@ PLANTED = {
     'a status of 0 after a failed read': ('one file', 'read', 'EIO', well),
     'a failed read that is not reported': ('one file', 'read', 'EIO', silent),
     'a failed read that is reported twice': ('one file', 'read', 'EIO', told_twice),
+    'a failed read with another reason': ('one file', 'read', 'ESTALE', of_another_reason),
     'a failed read of another name': ('one file', 'read', 'EIO', of_another_name),
     'a digest of a file that was not read': ('one file', 'read', 'EIO', with_line(b'26c7827d889f6da3  a\n')),
     'an interrupted read that is not repeated': ('one file', 'read', 'EINTR', failed),
@@ -58,6 +63,9 @@ PLANTED = {
     'a list that breaks off, with the status 0': ('a good list', 'read', 'EIO', well),
     'an audit that calls a file missing that was not read': ('an audit', 'read', 'EIO', with_line(b'a: missing\n')),
     'a message on memory before the output that waits': ('a list, both streams one pipe', 'brk', 'ENOMEM', message_first),
+    'a failed read of the input with another reason': ('input', 'read', 'ESTALE', of_another_reason),
+    'a failed read of a list with another reason': ('a good list', 'read', 'ESTALE', of_another_reason),
+    'a failed read of `xxh` with another reason': ('xxh hash 64, of a', 'read', 'ESTALE', of_another_reason),
     'a failed read of `xxh` with the status 0': ('xxh hash 64, of a', 'read', 'EINTR', well),
 }
 

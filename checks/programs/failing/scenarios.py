@@ -4,9 +4,11 @@ import os
 from typing import Callable, NamedTuple
 
 from . import worlds
-from .worlds import COMMENT, JUNK, Outcome, good, wrong
+from .worlds import COMMENT, JUNK, Fault, Outcome, good, wrong
 
 INPUT = 'standard input'
+# Each read of it fails.
+CLOSED = Fault('read', INPUT, 'Bad file descriptor')
 GREETING = b'Hello, world!\0'
 # XXH64 of the greeting: up to 31 bytes are buffered, the accumulators are those of the seed 0.
 SAVED = ('{"buffer":[72,101,108,108,111,44,32,119,111,114,108,100,33' + ',0' * 19 + '],"buffer_usage":14,'
@@ -68,7 +70,7 @@ def of_input(world):
 
     return [row('input', (), 'a'), row('a long input', ('-H3',), 'long', '3'), row('input by -', ('-H2', '-'), 'long', '128'),
             row('input from a pipe', (), 'pipe'),
-            Scenario('closed input', (), plainly('', f'Error: {worlds.UNREAD}.\n', 1), 'closed')]
+            Scenario('closed input', (), lambda fault: worlds.of_input(world, 'a', fault or CLOSED), 'closed')]
 
 
 def of_checks(world):
@@ -194,7 +196,7 @@ def of_streams(world):
 
 def of_xxh(world):
     def failing(out, fault, before=''):
-        return Outcome(before, 'xxh: read failed\n', 1) if fault else Outcome(out, '', 0)
+        return Outcome(before, f'xxh: read failed: {fault.why}\n', 1) if fault else Outcome(out, '', 0)
 
     def hashed(algorithm, name, given):
         line = world.digest('piped' if given == 'pipe' else given, name) + '\n'

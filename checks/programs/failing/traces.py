@@ -11,6 +11,7 @@ from programs.runs import SETTINGS
 BY_NAME = ('open', 'openat', 'stat', 'lstat', 'statx', 'newfstatat', 'readlink', 'readlinkat')
 BY_DESCRIPTOR = ('read', 'readv', 'pread64', 'write', 'writev', 'fstat', 'getdents64', 'close', 'ioctl', 'lseek')
 FOR_MEMORY = ('brk', 'mmap', 'mremap')
+OPENS = {'open', 'openat'}
 # Both kinds of programs ignore SIGPIPE first in `main`: the loader's calls come before that.
 MAIN = ('rt_sigaction', 'SIGPIPE')
 SECONDS = 20
@@ -18,11 +19,12 @@ CALL = re.compile(r'^(\w+)\((.*)\) += (\S+)(.*)$')
 
 
 class Call(NamedTuple):
-    """A system call: its name, its file name or descriptor, whether it needs a directory, its result, and whether it
-    was made to fail."""
+    """A system call: its name, its file name or descriptor, whether it needs a directory, whether it has a descriptor
+    in place of a name, its result, and whether it was made to fail."""
     name: str
     target: str
     is_folder: bool
+    is_open: bool
     result: int
     is_failed: bool
 
@@ -42,10 +44,12 @@ def call_of(line):
     if not found:
         return None
     name, words, result, rest = found.groups()
-    named = re.search(r'"((?:[^"\\]|\\.)*)"', words) if name in BY_NAME else re.match(r'\w+', words)
+    # `fstat` of the C library is a look-up of the empty name in a descriptor.
+    is_open = name not in BY_NAME or 'AT_EMPTY_PATH' in words
+    named = re.match(r'\w+', words) if is_open else re.search(r'"((?:[^"\\]|\\.)*)"', words)
     target = named[named.lastindex or 0] if named else ''
     number = re.match(r'-?[0-9]+', result)
-    return Call(name, target, 'O_DIRECTORY' in words, int(number[0]) if number else -1, '(INJECTED)' in rest)
+    return Call(name, target, 'O_DIRECTORY' in words, is_open, int(number[0]) if number else -1, '(INJECTED)' in rest)
 
 
 def calls_of(path):
@@ -84,6 +88,19 @@ def injection(before, calls, at, error):
     name = calls[at].name
     count = sum(call.name == name for call in [*before, *calls[:at + 1]])
     return [f'{name}:error={error}:when={count}']
+
+
+def vanishing(before, calls, places):
+    """Makes the calls of these indices fail, at most two of each name, since their file has vanished. A name that can't be
+    looked up is also opened as a directory."""
+    counts = {}
+    for at in places:
+        name = calls[at].name
+        counts.setdefault(name, []).append(sum(call.name == name for call in [*before, *calls[:at + 1]]))
+    for name in OPENS & counts.keys():
+        counts[name].append(counts[name][-1] + 1)
+    return [f'{name}:error=ENOENT:when={first}..{last}+{max(last - first, 1)}' for name, (first, *_, last) in
+            ((name, each * 2 if len(each) == 1 else each) for name, each in counts.items())]
 
 
 def memory_injections(before, calls, at):

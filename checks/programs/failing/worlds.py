@@ -16,7 +16,6 @@ FILES = {'a': HELLO, 'e': b'', 'b c': b'world', 'long': LONG, 'piped': LONG[:40_
          'd/sub/deep': b'deep', 'd/sub/last': b'', 'one/only': b'only'}
 FLAGS = {'32': '-H0', '64': '-H1', '128': '-H2', '3': '-H3'}
 MISSING, TOO_LONG = 'No such file or directory', 'File name too long'
-UNREAD = 'a failure occurred reading the input file'
 WRITE_FAILED = 'Error: a failure occurred writing the output.\n'
 NO_MEMORY = '\nError: Out of memory.\n'
 
@@ -67,8 +66,7 @@ class World:
 
 def refusal(name, fault):
     """The message for a file or a directory that could not be opened or read."""
-    step, why = ('read', UNREAD) if fault.step == 'read' else ('open', fault.why)
-    return f"Error: Could not {step} '{name}': {why}. \n"
+    return f"Error: Could not {'read' if fault.step == 'read' else 'open'} '{name}': {fault.why}. \n"
 
 
 def trouble(world, name, fault):
@@ -92,7 +90,7 @@ def digests(world, names, fault=None, form=World.line, before=''):
 
 def of_input(world, name, fault, algorithm='64'):
     if fault:
-        return Outcome('', f'Error: {UNREAD}.\n', 1)
+        return Outcome('', f"Error: Could not read 'stdin': {fault.why}.\n", 1)
     return Outcome(world.line(name, algorithm).replace(f'  {name}', '  stdin'), '', 0)
 
 
@@ -146,7 +144,7 @@ def verdict(world, listed, number, line, fault):
     """The output for a well-formed line."""
     why = ''
     if fault and fault.name == line.name:
-        why = UNREAD if fault.step == 'read' else fault.why
+        why = fault.why
     elif not os.path.exists(world.path(line.name)):
         why = TOO_LONG if len(line.name) > 4095 else MISSING
     if why:
@@ -171,10 +169,12 @@ def checked(world, listed, lines, fault=None, warns=False):
         elif warns and line != COMMENT:
             err += f'{listed}:{number}: Error: Improperly formatted checksum line.\n'
     malformed = sum(not line.name and line != COMMENT for line in given)
-    if not said:
-        return Outcome('', err + f'{listed}: no properly formatted xxHash checksum lines found\n', 1)
     if is_cut:
-        err += f'{listed}:{len(given) + 1}: Error: A failure occurred reading the list.\n'
+        err += f'{listed}:{len(given) + 1}: Error: {fault.why}.\n'
+    if not said:
+        # A list that broke off before its first line is not a list without a line.
+        is_known = not is_cut or malformed
+        return Outcome('', err + (f'{listed}: no properly formatted xxHash checksum lines found\n' if is_known else ''), 1)
     unread = sum('Could not' in it for it in said)
     failed = sum(it.endswith('FAILED\n') for it in said)
     out = ''.join(said) + counted(malformed, 'line is improperly formatted', 'lines are improperly formatted')
@@ -191,7 +191,8 @@ def merged_check(world, listed, lines, fault=None):
             f'{listed}:{number}: Error: Improperly formatted checksum line.\n' for number, line in enumerate(given, 1)]
     found = checked(world, listed, lines, fault, warns=True)
     if not any(line.name for line in given):
-        return Outcome(''.join(both) + found.err.splitlines(keepends=True)[-1], '', found.status)
+        ends = found.err.splitlines(keepends=True)[len(both):]
+        return Outcome(''.join(both + ends), '', found.status)
     break_of = found.err.splitlines(keepends=True)[-1:] if fault else []
     counts = found.out.splitlines(keepends=True)[sum(bool(line.name) for line in given):]
     return Outcome(''.join([*both, *break_of, *counts]), '', found.status)
@@ -214,9 +215,7 @@ def unread_list(lists, fault):
     """The message for a list of names, or one to audit, that could not be opened or read."""
     if not fault or fault.name not in lists:
         return ''
-    if fault.step == 'open':
-        return f"Error: Could not open '{fault.name}': {fault.why}.\n"
-    return f"Error: Could not read '{fault.name}': a failure occurred reading the list.\n"
+    return f"Error: Could not {fault.step} '{fault.name}': {fault.why}.\n"
 
 
 # ---- audits
