@@ -7,6 +7,7 @@ With --check it checks that the page in docs is up to date; with a folder, it re
 there. The tables of `rust/bench`, `rust/programs/bench`, `python/bench` and `web/bench` are copied from bench/data."""
 import math
 import os
+import re
 import statistics
 import sys
 from pathlib import Path
@@ -22,6 +23,7 @@ COLOURS = {"ours": "#c0392b", "c_gcc": "#2c3e50", "c_clang": "#2980b9", "c_share
 STREAMS = ("inlined", "called")
 FORMS = {"oneshot": "one-shot", "inlined": "chunks, inlined", "called": "chunks, called", "stream": "chunks"}
 KIB, MIB = 1 << 10, 1 << 20
+DATA = f"{TOP}/bench/data"
 LOWEST = 4
 
 # The lines of a table: the name, the forms, and the sizes from and to.
@@ -68,15 +70,27 @@ def summary(parts, ratio):
 
 
 def data_of(name):
-    return Path(f"{TOP}/bench/data/{name}.tsv").read_text().splitlines()
+    return Path(f"{DATA}/{name}.tsv").read_text().splitlines()
+
+
+def when(name, first=None):
+    """The date and the commit of a file of data, from its first line, as a line below a table."""
+    found = re.search(r"(on \d{4}-\d\d-\d\d, (?:at|stored by) commit) (\w+)", first or data_of(name)[0])
+    if not found:
+        sys.exit(f"bench/data/{name}.tsv: the first line has no date and commit, as in `on 2026-11-29, at commit 766c1647`")
+    return [f"Measured {found[1]} `{found[2]}`.", ""]
 
 
 def copied(name):
     """A table that another program printed, and the sentences on how it was measured."""
     lines = data_of(name)
-    said = [it[2:] for it in lines if it.startswith("# ")]
-    head, *rows = [it.split("\t") for it in lines if not it.startswith("# ")]
-    return [*markdown(head, rows), *(line for it in said for line in (it, ""))]
+    when(name)
+    return [*counted(name), *(line for it in lines if it.startswith("# ") for line in (it[2:], ""))]
+
+
+def counted(name):
+    head, *rows = [it.split("\t") for it in data_of(name) if not it.startswith("# ")]
+    return markdown(head, rows)
 
 
 def twox_hash(parts):
@@ -110,7 +124,7 @@ def dispatch():
     """The calls `.._dispatch`, of both widths."""
     rows = [it.split("\t") for it in data_of("dispatch") if not it.startswith("#")]
     return ["Debian's functions `.._dispatch` use AVX-512. The same ratio, if both use it (ours only for chunks of 2 KiB and more):", "",
-            *markdown(["what", "64 bits", "128 bits"], rows)]
+            *markdown(["what", "64 bits", "128 bits"], rows), *when("dispatch")]
 
 
 def programs(rows):
@@ -125,7 +139,7 @@ def programs(rows):
 def xxhsum():
     """The program `xxhsum` beside Debian's, as bench/xxhsum measured both."""
     rows = [it.split("\t") for it in data_of("xxhsum") if not it.startswith("#")]
-    return markdown(["`xxhsum`", "the original, s", *SETS], rows)
+    return markdown(["`xxhsum`", "the original, s", *SETS], rows) + when("xxhsum")
 
 
 def arm():
@@ -136,7 +150,7 @@ def arm():
     sizes = (16, 64, 240, 1024, 65536)
     shown = lambda it: f"{it[2] / it[0]:.2f}" if it else ""
     lines = [[name, *(shown(of.get(size)) for size in sizes)] for name, of in counts.items()]
-    return markdown(["hash", *(f"{size:,} bytes" for size in sizes)], lines)
+    return markdown(["hash", *(f"{size:,} bytes" for size in sizes)], lines) + when("arm_instructions")
 
 
 def picture(rows, names):
@@ -195,12 +209,17 @@ A measurement is one call with one length. A cell has the median over measuremen
 
 #CARGO
 #CARGO_COUNTS
+The time of `get` in a `HashMap` of 1,024 keys, divided by that with SipHash, the standard library's default. Below 1, the hasher is faster.
+
+#CARGO_MAPS
 Where the crate is slower:
 
-- One-shots of XXH3 of 129 to 240 bytes are a call, so that shorter inputs save no registers, and rustc keeps a bounds check per 16 bytes after the first 128.
-- XXH32 and XXH64 have the same loop as `twox-hash`, with more code before and after it.
-- Streams of XXH3 in chunks of 1 to 8 bytes check more per chunk than `xxhash-rust`, as does `with_seed`.
-- Without assembly source, one-shots of XXH3 of 16 KiB are slower than `twox-hash`.
+- One-shots of XXH3-128 of 129 to 240 bytes (0.90 to 0.92 beside `twox-hash`) are a call, so that shorter inputs save no registers.
+- XXH32 and XXH64 have the same loop as `twox-hash`, with more code before and after it (0.88 for XXH32 of 16 and 32 bytes, in one chunk).
+- Streams of XXH3 in chunks of 1 to 8 bytes check more per chunk than `xxhash-rust` (0.76 for chunks of 1 byte).
+- Compiled for this processor, `RawHasher` (0.67 to 0.80) and XXH32 (0.73 to 0.80) are slower at 16 to 64 bytes. The cause is unknown.
+- Without assembly source, one-shots of XXH3 of 16 KiB take 0.90 to 0.91.
+- A string is written in two parts. Above 8 bytes, the processor waits for the stores of both before the hash reads them, so keys of 16 and 25 bytes are slower than with SipHash.
 
 `xxhash-rust` does not detect the processor for more than 240 bytes.
 
@@ -240,9 +259,12 @@ Instructions of the reference's header, by gcc 12 -O3, divided by ours for one c
 - One process measures all peers in turns. A figure is the median of eight rounds, a round the best of many turns of 0.025 ms or of one call, in three passes over all measurements.
 - Each peer is called through a pointer to a function, and compares the length with the buffer of 64 MiB, as ours does. Debian's library needs one more call, and is built for plain x86-64.
 """
-    drawn = {"SUMMARY": summary(parts, best), "TWOX_HASH": twox_hash(parts), "LOWEST": lowest(parts), "SHARED": shared(parts["c"]),
-             "CARGO": copied("cargo"), "CARGO_COUNTS": copied("cargo_counts"), "CARGO_PROGRAMS": copied("cargo_programs"),
-             "PYTHON": copied("python"), "WEB": copied("web"), "DISPATCH": dispatch(), "PROGRAMS": programs(parts["program"]), "XXHSUM": xxhsum(),
+    day = when("measured", said[0])
+    drawn = {"SUMMARY": summary(parts, best) + day, "TWOX_HASH": twox_hash(parts) + day, "LOWEST": lowest(parts) + day,
+             "SHARED": shared(parts["c"]) + day,
+             "CARGO": copied("cargo"), "CARGO_COUNTS": counted("cargo_counts") + when("cargo"),
+             "CARGO_MAPS": counted("cargo_maps") + when("cargo"), "CARGO_PROGRAMS": copied("cargo_programs"),
+             "PYTHON": copied("python"), "WEB": copied("web"), "DISPATCH": dispatch(), "PROGRAMS": programs(parts["program"]) + day, "XXHSUM": xxhsum(),
              "ARM": arm(), "SAID": [f"- {it}" for it in said]}
     return "\n".join(line for it in text.rstrip("\n").split("\n") for line in drawn.get(it[1:], [it])) + "\n"
 

@@ -58,7 +58,8 @@ def processor():
 def origin(before, after, peers):
     """The date, the machine and what built the peers."""
     rust = os.path.basename(glob.glob("/usr/share/cargo/registry/xxhash-rust-*")[0])
-    return [f"Measured on {datetime.date.today().isoformat()}, on {processor()} with {os.cpu_count()} virtual cores "
+    commit = command("git", "rev-parse", "--short=8", "HEAD")
+    return [f"Measured on {datetime.date.today().isoformat()}, at commit {commit}, on {processor()} with {os.cpu_count()} virtual cores "
             f"({command('uname', '-sr')}).",
             f"Compilers: {command('gcc', '--version')}; {command('clang', '--version')}; {command('rustc', '--version')}.",
             f"Peers: {command('xxhsum', '--version')}; {rust}{'; twox-hash 2.1.5' if 'twox_hash' in peers else ''}.",

@@ -8,7 +8,7 @@ from rattle import TOP, text_of, trait_of
 def lines_of_type(crate, path):
     """A type's public fields or variants, its calls, and the traits that it has."""
     item, _ = crate.items[path]
-    for text, _ in item.variants:
+    for text in item.variants:
         yield f'  {path}::{text.removeprefix("pub ")}'
     for block in crate.impls_of(path):
         if trait_of(block):
@@ -18,15 +18,16 @@ def lines_of_type(crate, path):
                 yield f'  {path}::{bare(call)}'
 
 
-def bare(item):
-    """An item's signature without what each has before its name."""
+def bare(item, name=None):
+    """An item's signature without what each has before its name, and with the name under which it is exported."""
     text = re.sub(r'^(pub )?(const |unsafe |extern "C" )*((fn|type|static|struct|enum|trait) )?', '', item.signature)
-    return re.sub(r' = \[.*', '', text)
+    return re.sub(r' = \[.*', '', name + text.removeprefix(item.name) if name else text)
 
 
 def lines_of_crate(crate):
     for path, (item, _) in sorted(crate.items.items()):
-        yield f'{item.kind} {path.rpartition("::")[0]}::{bare(item)}'
+        module, _, name = path.rpartition('::')
+        yield f'{item.kind} {module}::{bare(item, name)}'
         if item.kind == 'trait':
             yield from (f'  {path}::{bare(inner)}' for inner in item.inner)
         yield from lines_of_type(crate, path)

@@ -1,4 +1,4 @@
-"""The public items of the crates, read from their sources: module, name, doc comment, signature and contract."""
+"""The public items of the crates, read from their sources: module, name, signature and contract."""
 import os
 import re
 
@@ -21,13 +21,13 @@ def text_of(*names):
 class Item:
     """An item as it is written. `inner` are those between its braces."""
 
-    def __init__(self, kind, name, is_public, docs, lines, line):
-        self.kind, self.name, self.is_public, self.docs, self.line = kind, name, is_public, docs, line
+    def __init__(self, kind, name, is_public, lines):
+        self.kind, self.name, self.is_public = kind, name, is_public
         at = next((number for number, text in enumerate(lines) if CLAUSE.match(text.strip())), len(lines))
         self.signature = re.sub(r'\s+', ' ', ' '.join(text.strip() for text in lines[:at])).rstrip(' {;')
         self.signature = re.sub(r'\( | (?=\))|,(?= \))', lambda it: it[0].strip().strip(','), self.signature)
         self.clauses = [text.rstrip().removesuffix(';') for text in lines[at:] if text.strip() not in ('{', '{}', '')]
-        self.inner, self.variants, self.crate, self.file = [], [], '', ''
+        self.inner, self.variants = [], []
 
 
 def depth(line):
@@ -57,57 +57,39 @@ def closing(lines, start, at):
     return next(number for number in range(at + 1, len(lines)) if lines[number].rstrip() in (end, end + ';')) + 1
 
 
-def read_items(lines, indent=0, first=1):
-    """The items at a depth of a file's lines, the first of which has this number."""
-    found, docs, at = [], [], 0
+def read_items(lines, indent=0):
+    """The items at a depth of a file's lines."""
+    found, at = [], 0
     while at < len(lines):
         text = lines[at].strip()
-        if text.startswith('///'):
-            docs.append(text[3:].removeprefix(' '))
-        elif depth(lines[at]) == indent and (match := ITEM.match(text)):
-            end = header_end(lines, at)
-            item = Item(match['kind'], match['name'], match['pub'] is not None, docs, lines[at:end + 1], first + at)
-            behind = closing(lines, at, end)
-            body = lines[end + 1:behind - 1]
-            if item.kind in ('impl', 'trait'):
-                item.inner = read_items(body, indent + 4, first + end + 1)
-            elif item.kind in ('struct', 'enum'):
-                item.variants = members(body, indent + 4, item.kind)
-            found.append(item)
-            docs, at = [], behind
+        match = ITEM.match(text) if depth(lines[at]) == indent and not text.startswith('//') else None
+        if not match:
+            at += 1
             continue
-        elif text and not text.startswith(('#[', '//')):
-            docs = []
-        at += 1
+        end = header_end(lines, at)
+        item = Item(match['kind'], match['name'], match['pub'] is not None, lines[at:end + 1])
+        behind = closing(lines, at, end)
+        body = lines[end + 1:behind - 1]
+        if item.kind in ('impl', 'trait'):
+            item.inner = read_items(body, indent + 4)
+        elif item.kind in ('struct', 'enum'):
+            item.variants = members(body, indent + 4, item.kind)
+        found.append(item)
+        at = behind
     return found
 
 
 def members(body, indent, kind):
-    """The public fields of a struct, or the variants of an enum, each with its doc comment."""
-    found, docs = [], []
-    for line in body:
-        text = line.strip()
-        if text.startswith('///'):
-            docs.append(text[3:].strip())
-        elif depth(line) == indent and re.match('pub (?!ghost)' if kind == 'struct' else '[A-Z]', text):
-            found.append((text.rstrip(',{ '), docs))
-            docs = []
-        elif not text.startswith('#['):
-            docs = []
-    return found
+    """The public fields of a struct, or the variants of an enum."""
+    pattern = 'pub (?!ghost)' if kind == 'struct' else '[A-Z]'
+    return [line.strip().rstrip(',{ ') for line in body if depth(line) == indent and re.match(pattern, line.strip())]
 
 
 class Module:
     """A file of a crate."""
 
-    def __init__(self, crate, path, file):
-        self.crate, self.path, self.file = crate, path, file
-        lines = text_of(file).split('\n')
-        self.docs = [line[3:].removeprefix(' ') for line in lines if line.startswith('//!')]
-        self.items = read_items(lines)
-        for item in self.items:
-            for each in (item, *item.inner):
-                each.crate, each.file = crate, os.path.relpath(file, TOP)
+    def __init__(self, file):
+        self.file, self.items = file, read_items(text_of(file).split('\n'))
 
 
 def modules_of(crate):
@@ -119,7 +101,7 @@ def modules_of(crate):
             if name.endswith('.rt'):
                 path = os.path.relpath(os.path.join(folder, name), source).removesuffix('.rt').replace(os.sep, '::')
                 path = crate if path in ('lib', 'main') else f'{crate}::{path}'
-                found[path] = Module(crate, path, os.path.join(folder, name))
+                found[path] = Module(os.path.join(folder, name))
     return found
 
 
@@ -139,12 +121,11 @@ class Crate:
     def __init__(self, name):
         self.name, self.modules = name, modules_of(name)
         # The items, with their modules; and the re-exports of other crates.
-        self.items, self.others, self.public_modules = {}, {}, {}
+        self.items, self.others = {}, {}
         self.walk(name, name)
         self.add_exports()
 
     def walk(self, module, path):
-        self.public_modules[path] = self.modules[module]
         for item in self.modules[module].items:
             if not item.is_public or item.kind == 'impl':
                 continue
