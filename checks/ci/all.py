@@ -69,7 +69,7 @@ def parts(top, anew):
     wrong_bodies = Part(top, "wrong bodies, beside and after the proofs", 1115, "checks/wrong-bodies", "--beside-ci")
     beside = [Part(top, "the library for C without rt", 22, "c/check", "--without-rt"),
               Part(top, "the cargo crate without rt", 37, "rust/check", "--without-rt"),
-              Part(top, "the eraser, and the source that it wrote", 440, "rust/checks/eraser"),
+              Part(top, "the eraser, and the source that it wrote", 402, "rust/checks/eraser"),
               Part(top, "scripts, and what is no Rattle", 12, "checks/lint"),
               Part(top, "the commands of the pages, as they are printed", 5, "checks/pages"),
               Part(top, "what the gate has to notice", 11, "checks/planted"),
