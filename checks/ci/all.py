@@ -85,7 +85,7 @@ def parts(top, anew):
     yield Part(top, "the program `xxh`", 196, "checks/program", "--of-ci").follow()
     xxhsum = "crates/xxhsum/out/xxhsum"
     yield Part(top, "the program `xxhsum`", 993, "checks/xxhsum", "--stored", xxhsum, f"{xxhsum}.by-rattle").follow()
-    yield Part(top, "many names, files, reads and arguments", 12, "checks/xxhsum-many", xxhsum, f"{xxhsum}.by-rattle").follow()
+    yield Part(top, "many names, files, reads and arguments", 16, "checks/xxhsum-many", xxhsum, f"{xxhsum}.by-rattle").follow()
     yield Part(top, "failing system calls", 1200, "checks/failing_calls", "--readdir", xxhsum, "crates/xxh/out/xxh").follow()
     for part in [*beside, *after[:2], wrong_bodies, *after[2:]]:
         yield part.follow()
