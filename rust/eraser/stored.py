@@ -123,25 +123,26 @@ def check_callees(found, texts):
         raise Refused('\n'.join(['what is called is not in callees.txt:', *unknown]))
 
 
-def is_of_ci(crates, crate):
-    """True if `rt ci` has built a library after the last change of its files and of those below it."""
+def is_of_ci(crates, crate, library):
+    """True if `rt ci` has built a library after the last change of its files and of those below it. Files in its folder
+    may be older."""
     folders = [os.path.join(crates, name, part) for name in below(crates, crate) for part in ('src', 'specs', 'proofs')]
     files = [os.path.join(at, name) for folder in folders for at, _, names in os.walk(folder) for name in names]
-    built = os.path.join(crates, crate, 'out', 'rlib')
-    return os.path.isdir(built) and os.path.getmtime(built) > max(map(os.path.getmtime, files))
+    return os.path.isdir(library) and os.path.getmtime(library) > max(map(os.path.getmtime, files))
 
 
 def proved_mir(crates, crate, of_ci=False):
     """The code of a library as the toolchain resolved it. The library is proved first, unless `rt ci` has done so."""
     folder = os.path.join(crates, crate)
-    if of_ci and not is_of_ci(crates, crate):
-        raise Refused(f'{crate} has changed since `rt ci`')
+    library = os.path.join(folder, 'out', 'rlib', f'{crate}.rlib')
+    if of_ci and not is_of_ci(crates, crate, library):
+        raise Refused(f'`rt ci` has not proved {crate} since its last change')
     if not of_ci:
         done = subprocess.run([os.path.join(os.path.dirname(rattle()), 'rt'), 'lib'], cwd=folder, stdout=subprocess.PIPE,
                               stderr=subprocess.STDOUT, text=True)
         if done.returncode:
             raise Refused(f'{crate} is not proved, so what it calls is not known: {done.stdout[-300:]}')
-    with open(os.path.join(folder, 'out', 'rlib', f'{crate}.rlib', 'toolchain', 'mir.json'), encoding='utf-8') as file:
+    with open(os.path.join(library, 'toolchain', 'mir.json'), encoding='utf-8') as file:
         return json.load(file)
 
 
