@@ -2,16 +2,20 @@
 
 - CALLING.md quotes the code of crates/example and crates/calling, and docs/C.md a program in C;
 - links, also to headings, and the workflow's commands exist, and --help of the checks explains their options;
-- docs/SPEED.md agrees with its data, and each table has its date and commit;
+- docs/SPEED.md agrees with its data; each table has its date, commit and processor, and says "Older than this version" if
+  the measured code has changed since or the commit is not in git's history;
 - docs/VERIFICATION.md and README.md have the runs that oracle/runs.tsv records, and the former the counts of oracle/mutate --record;
-- README.md has the counts of checks/lines-to-believe, and docs/VERIFICATION.md those of oracle/lines-to-trust;
-- ratios in README.md are the minimum, maximum or median of their tables (checks/docs/ratios.py), and no table of it is
-  one of docs/SPEED.md;
+- README.md has the counts of checks/lines-to-believe and oracle/lines-to-trust, and CONTRIBUTING.md those of mutants;
+- the tables of speed in README.md are those of bench/data (checks/docs/ratios.py), and none is one of docs/SPEED.md;
 - docs/api.txt has every public name, and only names that exist, docs/CONTRACTS.md every clause and docs/MANUAL.md the manual pages;
 - docs/C.md has the numbers of names, and an ordinary user can install where the pages say;
 - the crate's manifest includes only what exists, and its page has its default features;
 - all versions are equal;
-- the pages have at most MOST_WORDS words."""
+- README.md has short sections and, like docs/FAQ.md and docs/RECIPES.md, short sentences; every block of docs/RECIPES.md
+  is run (checks/docs/plain.py);
+- the pages have at most MOST_WORDS words.
+
+Each rule on lengths, blocks and dates must first detect a planted fault."""
 import collections
 import glob
 import os
@@ -23,7 +27,7 @@ import command
 from report import Report
 from tools import TOP, text_of
 
-from . import ratios
+from . import plain, ratios
 
 # A page, a source that it quotes, the beginning of the quoted part, and its end, if it isn't the end of the source.
 QUOTES = [
@@ -50,9 +54,9 @@ RELEASES = [
     ('crates/xxhsum_program/src/usage.rt', r'the messages of xxhsum ([0-9.]+) and the options and lines of ([0-9.]+)"'),
     ('docs/XXHSUM.md', r'exit statuses are those of `xxhsum` ([0-9.]+)\. The options.* are those of ([0-9.]+)\.'),
 ]
-# The pages that a script writes, and the most words of README.md and of all other pages together.
+# The pages that a script writes, and the most words of all other pages together.
 GENERATED = {'docs/SPEED.md', 'docs/CONTRACTS.md', 'docs/MANUAL.md', 'docs/EDITS.md'}
-MOST_WORDS_OF_README, MOST_WORDS = 1200, 17500
+MOST_WORDS = 17500
 WORKFLOW = '.github/workflows/checks.yml'
 INTERFACES = [('crates/twox_rust/src/lib.rt', r'fn twox_rust_interface_(\d+)'),
               ('docs/RELEASES.md', r"and interface (\d+) of the crate's assembly")]
@@ -188,8 +192,8 @@ def figures_that_differ():
     counted = subprocess.run([os.path.join(TOP, 'checks', 'lines-to-believe')], stdout=subprocess.PIPE, text=True)
     headline, program, run = counted.stdout.splitlines() if counted.returncode == 0 else ('', '', '')
     trusted = subprocess.run([os.path.join(TOP, 'oracle', 'lines-to-trust')], stdout=subprocess.PIPE, text=True).stdout.strip()
-    for page, count in (('README.md', headline), ('README.md', program), ('docs/XXHSUM.md', program), ('docs/XXHSUM.md', run),
-                        ('docs/VERIFICATION.md', trusted)):
+    for page, count in (('README.md', headline), ('docs/XXHSUM.md', program), ('docs/XXHSUM.md', run),
+                        ('docs/VERIFICATION.md', trusted), ('README.md', trusted)):
         if not count or count not in text_of(page):
             yield f'{page} does not have what checks/lines-to-believe or oracle/lines-to-trust counts: {count}'
 
@@ -215,11 +219,40 @@ def runs_that_differ():
         yield f'README.md has {ends}, and oracle/runs.tsv {recorded}'
 
 
-def tables_without_date():
-    """Each table of docs/SPEED.md has the date and the commit of its measurements below it."""
-    for head, below in re.findall(r'^(\|.*)\n\|---.*\n(?:\|.*\n)+\n(.*)', text_of('docs/SPEED.md'), re.M):
-        if not re.search(r'on \d{4}-\d\d-\d\d, (at|stored by) commit', below):
-            yield f'docs/SPEED.md has no date and commit below the table {head}'
+def tables_without_date(text):
+    """Each table of docs/SPEED.md has the date, the commit and the processor of its measurements below it."""
+    for head, below in re.findall(r'^(\|.*)\n\|---.*\n(?:\|.*\n)+\n(.*)', text, re.M):
+        if not re.search(r'on \d{4}-\d\d-\d\d, (at|stored by) commit `?\w+`?, on \w', below):
+            yield f'docs/SPEED.md has no date, commit and processor below the table {head}'
+
+
+def commits_that_are_nowhere(text):
+    """Each measurement of a commit that is not in git's history is older than this version. Without git, as in CI's copy,
+    no commit is looked up."""
+    if os.path.exists(os.path.join(TOP, '.git')):
+        for line in re.findall(r'^Measured .*', text, re.M):
+            for commit in re.findall(r'commit `?(\w{8,40})\b', line):
+                known = subprocess.run(['git', 'merge-base', '--is-ancestor', commit, 'HEAD'], cwd=TOP, capture_output=True)
+                if known.returncode and 'Older than this version' not in line:
+                    yield f'docs/SPEED.md has the commit {commit}, which is not in the history, without "Older than this version"'
+
+
+def dates_that_differ():
+    for differ in (tables_without_date, commits_that_are_nowhere):
+        yield from differ(text_of('docs/SPEED.md'))
+
+
+def planted_dates():
+    """A table without a processor, an unknown commit and changed code are detected."""
+    table, line = '| a |\n|---|\n| 1 |\n\n', 'Measured on 2026-01-01, at commit `01234567`'
+    if not list(tables_without_date(f'{table}{line}.')) or list(tables_without_date(f'{table}{line}, on a machine.')):
+        yield 'a table without a processor is not detected'
+    is_cloned = os.path.exists(os.path.join(TOP, '.git'))
+    if bool(list(commits_that_are_nowhere(f'{line}, on a machine.'))) != is_cloned or list(commits_that_are_nowhere(f'{line}. Older than this version.')):
+        yield 'a commit that is not in the history is not detected'
+    sums = {'web': ratios.objects.checksum('web')}
+    if ratios.page.age('web', sums) or 'Older than' not in ratios.page.age('web', {'web': '0' * 64}) + ratios.page.age('web', {'web': 'unknown'}):
+        yield 'measured code that has changed is not detected'
 
 
 def tables_that_repeat():
@@ -231,10 +264,23 @@ def tables_that_repeat():
 
 
 def words_over_the_limit():
-    counts = {page: len(text_of(page).replace(table_of_runs(), '').split()) for page in pages() if page not in GENERATED}
-    for name, count, most in (('README.md', counts['README.md'], MOST_WORDS_OF_README), ('The pages', sum(counts.values()), MOST_WORDS)):
-        if count > most:
-            yield f'{name}: {count:,} words, of at most {most:,}'
+    count = sum(len(text_of(page).replace(table_of_runs(), '').split()) for page in pages() if page not in GENERATED)
+    if count > MOST_WORDS:
+        yield f'The pages: {count:,} words, of at most {MOST_WORDS:,}'
+
+
+def pages_that_are_not_plain():
+    for page in pages():
+        yield from plain.faults(page, text_of(page))
+
+
+def planted_tables():
+    """A README without the tables, with a ratio of no table or without the counts is not accepted."""
+    known = f'{ratios.table_of_speed()}\n{ratios.table_of_hashes()}\n{ratios.SECTION}\n'
+    if len(list(ratios.that_differ(''))) != 2 or list(ratios.that_differ(known)) or not list(ratios.that_differ(f'{known}It is 9.87.\n')):
+        yield 'a README without the tables of speed, or with another ratio, is accepted'
+    if len(list(ratios.counts_that_differ(''))) != 2:
+        yield 'a README without the counts of measurements is accepted'
 
 
 def ratios_that_differ():
@@ -243,15 +289,15 @@ def ratios_that_differ():
 
 
 def mutants_that_differ():
-    """README has the number of mutants, so that a file of them can't be lost, and how many only a proof refuses."""
+    """CONTRIBUTING has the number of mutants, so that a file of them can't be lost, and how many only a proof refuses."""
     files = glob.glob(os.path.join(TOP, 'crates', '*', 'mutants.edits'))
     count = sum(len(re.findall(r'^== ', text_of(path), re.M)) for path in files)
     reasons = re.findall(r'^\S+/\S+ \w+ (.*)', text_of('checks/mutants/refused.txt'), re.M)
     by_goal = reasons.count("by a clause's goal")
     expected = (f'tries {count:,} mutants: of {len(reasons):,} on record, {by_goal:,} are refused because a clause no longer '
                 f'holds, {len(reasons) - by_goal:,} only because a written proof no longer fits')
-    if expected not in text_of('README.md'):
-        yield f'README.md does not have that checks/wrong-bodies {expected}'
+    if expected not in text_of('CONTRIBUTING.md'):
+        yield f'CONTRIBUTING.md does not have that checks/wrong-bodies {expected}'
 
 
 def mutants_of_verifier_that_differ():
@@ -271,8 +317,8 @@ def main():
     command.parser(__doc__).parse_args()
     checks = (quotes_that_differ, helps_that_explain_too_little, links_that_lead_nowhere, names_that_differ, listed_names_without_definition, names_of_c_that_differ,
               prefixes_that_need_root, manifest_that_differs, versions_that_differ, releases_that_differ, figures_that_differ,
-              runs_that_differ, tables_without_date, tables_that_repeat, words_over_the_limit, ratios_that_differ, mutants_that_differ,
-              mutants_of_verifier_that_differ)
+              runs_that_differ, dates_that_differ, planted_dates, tables_that_repeat, words_over_the_limit, pages_that_are_not_plain,
+              plain.planted, ratios_that_differ, planted_tables, mutants_that_differ, mutants_of_verifier_that_differ)
     report = Report()
     for faults in [list(check()) for check in checks]:
         print(*faults, sep='\n', end='\n' * bool(faults))

@@ -1,0 +1,91 @@
+"""Rules for pages that convince: the length of sections and sentences, and blocks that are run."""
+import re
+
+from . import printed
+
+# The most words of README.md, of one of its sections, and of a sentence of the pages with short sentences.
+MOST_WORDS, MOST_OF_SECTION, MOST_OF_SENTENCE = 1400, 150, 30
+# The most words of other pages.
+MOST_OF_PAGE = {'docs/RECIPES.md': 900, 'docs/FAQ.md': 500}
+SHORT_SENTENCES = ('README.md', *MOST_OF_PAGE)
+# The pages whose every block is run.
+ALL_RUN = ('docs/RECIPES.md',)
+FENCED = re.compile(r'^```.*?^```$', re.M | re.S)
+# The end of a sentence, also of an item of a list and of a paragraph.
+END = re.compile(r'(?<=[.?!])(?=\)?\s+[A-Z`*\[])|\n\s*\n|\n(?=\s*(?:- |\d+\. |\|))')
+
+
+def words(text):
+    """The words of a text: what has a letter or a digit."""
+    return [it for it in text.split() if re.search(r'\w', it)]
+
+
+def sections(text):
+    """The sections of a page, each the text below a heading up to the next one. A heading in a block is none."""
+    hidden = FENCED.sub(lambda block: re.sub(r'^#', ' ', block[0], flags=re.M), text)
+    starts = [it.start() for it in re.finditer(r'^#+ ', hidden, re.M)]
+    for start, end in zip(starts, [*starts[1:], len(hidden)]):
+        heading, _, body = hidden[start:end].partition('\n')
+        yield heading.lstrip('# '), body
+
+
+def sentences(text):
+    """The sentences of a page, without blocks, tables, headings and the targets of links."""
+    text = re.sub(r'<!--.*?-->', '', FENCED.sub('\n', text), flags=re.S)
+    text = re.sub(r'(?<=\])\([^)\s]*\)', '', re.sub(r'^(?:\||#).*$', '', text, flags=re.M))
+    yield from filter(None, (it.strip() for it in END.split(text)))
+
+
+def long_sections(name, text):
+    if name == 'README.md':
+        for heading, body in sections(text):
+            if (count := len(words(body))) > MOST_OF_SECTION:
+                yield f'{name}: {heading}: {count} words, of at most {MOST_OF_SECTION}'
+
+
+def long_sentences(name, text):
+    if name in SHORT_SENTENCES:
+        for it in sentences(text):
+            if (count := len(words(it))) > MOST_OF_SENTENCE:
+                yield f'{name}: a sentence of {count} words, of at most {MOST_OF_SENTENCE}: {" ".join(it.split())[:80]}'
+
+
+def long_pages(name, text):
+    most = {'README.md': MOST_WORDS, **MOST_OF_PAGE}.get(name)
+    if most and (count := len(text.split())) > most:
+        yield f'{name}: {count:,} words, of at most {most:,}'
+
+
+def blocks_not_run(name, text):
+    """Each block of the pages whose every block is run that no check runs."""
+    if name in ALL_RUN:
+        for language in re.findall(r'^```(.*)\n(?:.*\n)*?```$', text, re.M):
+            if language != 'sh':
+                yield f'{name} has a block of {language or "no language"}, which no check runs'
+        for section in printed.sections(name, '', text):
+            yield from (f'{name}:{block.line}: is not run: {block.reason}' for block in section.blocks if block.reason)
+
+
+RULES = (long_sections, long_sentences, long_pages, blocks_not_run)
+# For each rule a page and a text that breaks it, and one that does not.
+PLANTED = {
+    long_sections: ('README.md', '## One\n\n' + 'word ' * 151, '## One\n\n' + 'word ' * 150 + '\n### Two\n\nword\n'),
+    long_sentences: ('docs/FAQ.md', 'It is short. ' + 'A' + ' word' * 30 + '.\n', 'A' + ' word' * 29 + '. A' + ' word' * 29 + '.\n'),
+    long_pages: ('docs/RECIPES.md', 'word ' * 901, 'word ' * 900),
+    blocks_not_run: ('docs/RECIPES.md', '<!-- not run: slow -->\n```sh\ntrue\n```\n', '```sh\ntrue\n```\n'),
+}
+
+
+def faults(name, text):
+    for rule in RULES:
+        yield from rule(name, text)
+
+
+def planted():
+    """Each rule detects its planted page, and accepts the other."""
+    for rule, (name, wrong, right) in PLANTED.items():
+        if not list(rule(name, wrong)):
+            yield f'{rule.__name__} does not detect a planted page'
+        yield from (f'{rule.__name__} refuses a planted page: {fault}' for fault in rule(name, right))
+    if not list(blocks_not_run('docs/RECIPES.md', '```c\nint a;\n```\n')):
+        yield 'blocks_not_run does not detect a block of another language'
