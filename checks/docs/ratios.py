@@ -77,6 +77,15 @@ def table_of_hashes():
     return '\n'.join(page.markdown(['hash', '16 bytes', '1 KiB', '1 MiB', 'equal pairs among 2^32 items'], lines))
 
 
+def sentence_of_web():
+    """The ratios of both modules in an engine, over all hashes and sizes."""
+    parts = []
+    for engine in ('Node 20', 'Chromium 156'):
+        values = numbers(cell for row in rows_of('web')[1:] if row[0].endswith(engine) for cell in row[1:])
+        parts.append(f'{statistics.median(values):.2f} ({min(values):.2f} to {max(values):.2f}) in {engine}')
+    return ' and '.join(parts)
+
+
 def that_differ(text=None):
     """Each table that README.md lacks, and each ratio in its sentences that is in no table."""
     text = text_of(PAGE) if text is None else text

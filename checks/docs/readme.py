@@ -9,6 +9,7 @@
 - the tables of speed in README.md are those of bench/data (checks/docs/ratios.py), and none is one of docs/SPEED.md;
 - docs/api.txt has every public name, and only names that exist, docs/CONTRACTS.md every clause and docs/MANUAL.md the manual pages;
 - docs/C.md has the numbers of names, and an ordinary user can install where the pages say;
+- web/README.md has the sizes of its files and the ratios of bench/data;
 - the crate's manifest includes only what exists, and its page has its default features;
 - all versions are equal;
 - README.md has short sections and, like docs/FAQ.md and docs/RECIPES.md, short sentences; every block of docs/RECIPES.md
@@ -43,6 +44,7 @@ VERSIONS = [
     ('python/src/twox_hash/version.py', r"^__version__ = '(.*)'"),
     ('docs/RELEASES.md', r'twox[-_]hash[-_](\d+\.\d+\.\d+)(?:[-+*]|\.tar|\.tgz)'),
     ('CHANGELOG.md', r'\A# [^#]*## (\d+\.\d+\.\d+)'),
+    ('CITATION.cff', r'^version: (.*)'),
     ('docs/C.md', r'twox-hash_(\d+\.\d+\.\d+)\+'),
     ('crates/xxhsum_program/src/usage.rt', r'b" ([0-9.]*) of twox_hash'),
     ('crates/xxh_program/src/program/information.rt', r'b"xxh ([0-9.]*) of twox_hash'),
@@ -154,6 +156,18 @@ def prefixes_that_need_root():
         for prefix in re.findall(r'install PREFIX=(\S+)', text_of(page)):
             if not prefix.startswith('$HOME/') and prefix != '/usr/lib/twox-hash':
                 yield f'{page} installs to {prefix}, which only root can write'
+
+
+def sizes_of_web():
+    sizes = {name: os.path.getsize(os.path.join(TOP, 'web', name)) for name in ('twox_hash.wasm', 'twox_hash_simd.wasm', 'twox_hash.js')}
+    return ', '.join(f'`{name}` {size:,}' for name, size in sizes.items())
+
+
+def numbers_of_web_that_differ():
+    """web/README.md has the sizes of its files, and the ratios of bench/data/web.tsv."""
+    for expected in (sizes_of_web(), ratios.sentence_of_web()):
+        if expected not in text_of('web/README.md'):
+            yield f'web/README.md does not have: {expected}'
 
 
 def manifest_that_differs():
@@ -316,7 +330,7 @@ def mutants_of_verifier_that_differ():
 def main():
     command.parser(__doc__).parse_args()
     checks = (quotes_that_differ, helps_that_explain_too_little, links_that_lead_nowhere, names_that_differ, listed_names_without_definition, names_of_c_that_differ,
-              prefixes_that_need_root, manifest_that_differs, versions_that_differ, releases_that_differ, figures_that_differ,
+              prefixes_that_need_root, numbers_of_web_that_differ, manifest_that_differs, versions_that_differ, releases_that_differ, figures_that_differ,
               runs_that_differ, dates_that_differ, planted_dates, tables_that_repeat, words_over_the_limit, pages_that_are_not_plain,
               plain.planted, ratios_that_differ, planted_tables, mutants_that_differ, mutants_of_verifier_that_differ)
     report = Report()
