@@ -1,13 +1,18 @@
-"""Rules for pages that convince: the length of sections and sentences, and blocks that are run."""
+"""Rules for pages that convince: the length of sections and pages, and blocks that are run, for checks/readme; the length
+of sentences, for checks/lint."""
 import re
+
+from tools import text_of
 
 from . import printed
 
-# The most words of README.md, of one of its sections, and of a sentence of the pages with short sentences.
+# The most words of README.md, of one of its sections, and of a sentence.
 MOST_WORDS, MOST_OF_SECTION, MOST_OF_SENTENCE = 1400, 150, 30
 # The most words of other pages.
 MOST_OF_PAGE = {'docs/RECIPES.md': 900, 'docs/FAQ.md': 500}
-SHORT_SENTENCES = ('README.md', *MOST_OF_PAGE)
+# The pages with short sentences.
+SHORT_SENTENCES = ('README.md', 'SECURITY.md', 'CONTRIBUTING.md', 'docs/C.md', 'docs/RUST.md', 'docs/PYTHON.md', 'web/README.md',
+                   *(f'{it}/README.md' for it in ('assembly', 'bench', 'c', 'checks', 'oracle', 'release')), *MOST_OF_PAGE)
 # The pages whose every block is run.
 ALL_RUN = ('docs/RECIPES.md',)
 FENCED = re.compile(r'^```.*?^```$', re.M | re.S)
@@ -43,11 +48,11 @@ def long_sections(name, text):
                 yield f'{name}: {heading}: {count} words, of at most {MOST_OF_SECTION}'
 
 
-def long_sentences(name, text):
-    if name in SHORT_SENTENCES:
-        for it in sentences(text):
+def long_sentences(*paths):
+    for path in paths:
+        for it in sentences(text_of(path)):
             if (count := len(words(it))) > MOST_OF_SENTENCE:
-                yield f'{name}: a sentence of {count} words, of at most {MOST_OF_SENTENCE}: {" ".join(it.split())[:80]}'
+                yield f'{path}: a sentence of {count} words, of at most {MOST_OF_SENTENCE}: {" ".join(it.split())[:80]}'
 
 
 def long_pages(name, text):
@@ -66,11 +71,10 @@ def blocks_not_run(name, text):
             yield from (f'{name}:{block.line}: is not run: {block.reason}' for block in section.blocks if block.reason)
 
 
-RULES = (long_sections, long_sentences, long_pages, blocks_not_run)
+RULES = (long_sections, long_pages, blocks_not_run)
 # For each rule a page and a text that breaks it, and one that does not.
 PLANTED = {
     long_sections: ('README.md', '## One\n\n' + 'word ' * 151, '## One\n\n' + 'word ' * 150 + '\n### Two\n\nword\n'),
-    long_sentences: ('docs/FAQ.md', 'It is short. ' + 'A' + ' word' * 30 + '.\n', 'A' + ' word' * 29 + '. A' + ' word' * 29 + '.\n'),
     long_pages: ('docs/RECIPES.md', 'word ' * 901, 'word ' * 900),
     blocks_not_run: ('docs/RECIPES.md', '<!-- not run: slow -->\n```sh\ntrue\n```\n', '```sh\ntrue\n```\n'),
 }

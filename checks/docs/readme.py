@@ -12,8 +12,8 @@
 - web/README.md has the sizes of its files and the ratios of bench/data;
 - the crate's manifest includes only what exists, and its page has its default features;
 - all versions are equal;
-- README.md has short sections and, like docs/FAQ.md and docs/RECIPES.md, short sentences; every block of docs/RECIPES.md
-  is run (checks/docs/plain.py);
+- README.md has short sections; README.md, docs/FAQ.md and docs/RECIPES.md are short; every block of docs/RECIPES.md is run
+  (checks/docs/plain.py);
 - the pages have at most MOST_WORDS words.
 
 Each rule on lengths, blocks and dates must first detect a planted fault."""
@@ -277,8 +277,16 @@ def tables_that_repeat():
             yield f'README.md repeats a row of docs/SPEED.md: {row}'
 
 
-def words_over_the_limit():
-    count = sum(len(text_of(page).replace(table_of_runs(), '').split()) for page in pages() if page not in GENERATED)
+def without_generated(text):
+    """A page without the tables that scripts write."""
+    for table in (table_of_runs(), ratios.table_of_speed(), ratios.table_of_hashes()):
+        text = text.replace(table, '')
+    return text
+
+
+def words_over_the_limit(texts=None):
+    texts = texts or [text_of(page) for page in pages() if page not in GENERATED]
+    count = sum(len(without_generated(text).split()) for text in texts)
     if count > MOST_WORDS:
         yield f'The pages: {count:,} words, of at most {MOST_WORDS:,}'
 
@@ -289,10 +297,12 @@ def pages_that_are_not_plain():
 
 
 def planted_tables():
-    """A README without the tables, with a ratio of no table or without the counts is not accepted."""
+    """A README without the tables, with a ratio of no table or without the counts, and too many words are not accepted."""
     known = f'{ratios.table_of_speed()}\n{ratios.table_of_hashes()}\n{ratios.SECTION}\n'
     if len(list(ratios.that_differ(''))) != 2 or list(ratios.that_differ(known)) or not list(ratios.that_differ(f'{known}It is 9.87.\n')):
         yield 'a README without the tables of speed, or with another ratio, is accepted'
+    if not list(words_over_the_limit(['word ' * (MOST_WORDS + 1)])) or list(words_over_the_limit([known, 'word ' * (MOST_WORDS - 2)])):
+        yield 'pages with too many words are accepted, or generated tables count'
     if len(list(ratios.counts_that_differ(''))) != 2:
         yield 'a README without the counts of measurements is accepted'
 
