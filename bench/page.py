@@ -300,7 +300,7 @@ def main(words):
         if not is_check:
             path.write_text(text)
         elif path.read_text() != text:
-            sys.exit(f"docs/{name} is not as bench/page.py draws it")
+            sys.exit(f"docs/{name} is not as bench/page.py draws it: run it, also if only the measured code has changed")
 
 
 if __name__ == "__main__":
