@@ -1,5 +1,5 @@
-"""Rules for pages that convince: the length of sections and pages, and blocks that are run, for checks/readme; the length
-of sentences, for checks/lint."""
+"""Rules for pages: the length of sections and pages, the evidence in README.md, the README of folders, and blocks that are
+run, for checks/readme; the length of sentences, for checks/lint."""
 import re
 
 from tools import text_of
@@ -10,9 +10,15 @@ from . import printed
 MOST_WORDS, MOST_OF_SECTION, MOST_OF_SENTENCE = 1400, 150, 30
 # The most words of other pages.
 MOST_OF_PAGE = {'docs/RECIPES.md': 900, 'docs/FAQ.md': 500}
+# The folders whose README says in few lines what they are.
+PLATES = tuple(f'{it}/README.md' for it in ('assembly', 'bench', 'c', 'checks', 'oracle', 'release'))
+MOST_LINES_OF_PLATE = 12
+# The evidence in README.md: the columns, and the first cell of each row.
+COLUMNS = ['part', 'source proved', 'machine code verified', 'tested', 'you trust']
+PARTS = ['C library', 'crate', 'programs by cargo', 'programs by `rt`', 'Python', 'Node']
 # The pages with short sentences.
 SHORT_SENTENCES = ('README.md', 'SECURITY.md', 'CONTRIBUTING.md', 'docs/C.md', 'docs/RUST.md', 'docs/PYTHON.md', 'web/README.md',
-                   *(f'{it}/README.md' for it in ('assembly', 'bench', 'c', 'checks', 'oracle', 'release')), *MOST_OF_PAGE)
+                   *PLATES, *MOST_OF_PAGE)
 # The pages whose every block is run.
 ALL_RUN = ('docs/RECIPES.md',)
 FENCED = re.compile(r'^```.*?^```$', re.M | re.S)
@@ -71,11 +77,35 @@ def blocks_not_run(name, text):
             yield from (f'{name}:{block.line}: is not run: {block.reason}' for block in section.blocks if block.reason)
 
 
-RULES = (long_sections, long_pages, blocks_not_run)
+def evidence_that_lacks(name, text):
+    """README.md has a row of evidence for each part, without empty cells."""
+    if name == 'README.md':
+        found = re.search(rf'^\| {re.escape(" | ".join(COLUMNS))} \|\n\|[-|]*\n((?:\|.*\n)+)', text, re.M)
+        rows = [[cell.strip() for cell in line.strip('|').split('|')] for line in found[1].splitlines()] if found else []
+        if [row[0] for row in rows] != PARTS:
+            yield f'{name} has evidence for {[row[0] for row in rows]}, not for {PARTS}'
+        yield from (f'{name}: the evidence for {row[0]} has an empty cell' for row in rows if len(row) != len(COLUMNS) or not all(row))
+
+
+def plates_that_lack(name, text):
+    """A door plate is short, and has one command, what it trusts and what it takes."""
+    if name in PLATES:
+        if len(text.splitlines()) > MOST_LINES_OF_PLATE:
+            yield f'{name} has more than {MOST_LINES_OF_PLATE} lines'
+        if len(re.findall(r'^```sh\n.+\n```$', text, re.M)) != 1:
+            yield f'{name} does not have one command'
+        yield from (f'{name} does not have **{it}**' for it in ('Trusts', 'Takes') if f'- **{it}' not in text)
+
+
+RULES = (long_sections, long_pages, blocks_not_run, evidence_that_lacks, plates_that_lack)
+EVIDENCE = '\n'.join([f'| {" | ".join(COLUMNS)} |', '|---|---|---|---|---|', *(f'| {part} | 1 | 2 | 3 | 4 |' for part in PARTS), ''])
+PLATE = '# c/\n\n```sh\nmake\n```\n\n- **Trusts:** gcc.\n- **Takes:** 1 s.\n'
 # For each rule a page and a text that breaks it, and one that does not.
 PLANTED = {
     long_sections: ('README.md', '## One\n\n' + 'word ' * 151, '## One\n\n' + 'word ' * 150 + '\n### Two\n\nword\n'),
     long_pages: ('docs/RECIPES.md', 'word ' * 901, 'word ' * 900),
+    evidence_that_lacks: ('README.md', EVIDENCE.replace('| Node | 1 |', '| Node | |'), EVIDENCE),
+    plates_that_lack: ('c/README.md', PLATE.replace('Trusts', 'Likes'), PLATE),
     blocks_not_run: ('docs/RECIPES.md', '<!-- not run: slow -->\n```sh\ntrue\n```\n', '```sh\ntrue\n```\n'),
 }
 
@@ -93,3 +123,7 @@ def planted():
         yield from (f'{rule.__name__} refuses a planted page: {fault}' for fault in rule(name, right))
     if not list(blocks_not_run('docs/RECIPES.md', '```c\nint a;\n```\n')):
         yield 'blocks_not_run does not detect a block of another language'
+    if not list(evidence_that_lacks('README.md', EVIDENCE.replace('| crate |', '| box |'))):
+        yield 'evidence_that_lacks does not detect a missing part'
+    if not list(plates_that_lack('c/README.md', PLATE + 'a\n' * 20)) or not list(plates_that_lack('c/README.md', PLATE.replace('make\n', ''))):
+        yield 'plates_that_lack does not detect a long plate, or one without a command'

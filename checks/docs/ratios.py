@@ -93,10 +93,18 @@ def that_differ(text=None):
         if table not in text:
             yield f'{PAGE} does not have this table of bench/data:\n{table}'
     section = text.partition(f'{SECTION}\n')[2].split('\n## ')[0]
-    said = {ratio for line in section.splitlines() if not line.startswith('|') for ratio in re.findall(RATIO, line)}
-    unknown = said - APART - set(re.findall(RATIO, table_of_speed()))
+    found = {ratio for line in section.splitlines() if not line.startswith('|') for ratio in re.findall(RATIO, line)}
+    unknown = found - APART - set(re.findall(RATIO, table_of_speed()))
     if unknown:
         yield f'{PAGE} says {sorted(unknown)}, which are in no table'
+
+
+def with_tables(text):
+    """A page with the tables of bench/data in place of those with the same first line."""
+    for table in (table_of_speed(), table_of_hashes()):
+        head = table.partition('\n')[0]
+        text = re.sub(rf'^{re.escape(head)}\n(?:\|.*\n)+', lambda _: table, text, flags=re.M)
+    return text
 
 
 def counts_that_differ(text=None):

@@ -1,5 +1,7 @@
 """Compares the pages with the tree:
 
+    checks/readme [--write]
+
 - CALLING.md quotes the code of crates/example and crates/calling, and docs/C.md a program in C;
 - links, also to headings, and the workflow's commands exist, and --help of the checks explains their options;
 - docs/SPEED.md agrees with its data; each table has its date, commit and processor, and says "Older than this version" if
@@ -16,7 +18,8 @@
   (checks/docs/plain.py);
 - the pages have at most MOST_WORDS words.
 
-Each rule on lengths, blocks and dates must first detect a planted fault."""
+Each rule on lengths, blocks and dates must first detect a planted fault. --write writes the tables of speed into README.md
+first."""
 import collections
 import glob
 import os
@@ -26,7 +29,7 @@ import tomllib
 
 import command
 from report import Report
-from tools import TOP, text_of
+from tools import TOP, text_of, write
 
 from . import plain, ratios
 
@@ -299,6 +302,8 @@ def pages_that_are_not_plain():
 def planted_tables():
     """A README without the tables, with a ratio of no table or without the counts, and too many words are not accepted."""
     known = f'{ratios.table_of_speed()}\n{ratios.table_of_hashes()}\n{ratios.SECTION}\n'
+    if ratios.with_tables(known.replace('| crate |', '| box |')) != known:
+        yield 'the tables of a README are not written'
     if len(list(ratios.that_differ(''))) != 2 or list(ratios.that_differ(known)) or not list(ratios.that_differ(f'{known}It is 9.87.\n')):
         yield 'a README without the tables of speed, or with another ratio, is accepted'
     if not list(words_over_the_limit(['word ' * (MOST_WORDS + 1)])) or list(words_over_the_limit([known, 'word ' * (MOST_WORDS - 2)])):
@@ -338,7 +343,10 @@ def mutants_of_verifier_that_differ():
 
 
 def main():
-    command.parser(__doc__).parse_args()
+    parser = command.parser(__doc__)
+    parser.add_argument('--write', action='store_true', help='write the tables of speed into README.md first')
+    if parser.parse_args().write:
+        write(os.path.join(TOP, ratios.PAGE), ratios.with_tables(text_of(ratios.PAGE)))
     checks = (quotes_that_differ, helps_that_explain_too_little, links_that_lead_nowhere, names_that_differ, listed_names_without_definition, names_of_c_that_differ,
               prefixes_that_need_root, numbers_of_web_that_differ, manifest_that_differs, versions_that_differ, releases_that_differ, figures_that_differ,
               runs_that_differ, dates_that_differ, planted_dates, tables_that_repeat, words_over_the_limit, pages_that_are_not_plain,
