@@ -205,6 +205,8 @@ def page(said, parts):
 
 A ratio is a peer's time divided by ours: above 1, this library is faster. A cell has the median over hashes and sizes, and the range. Each measurement is compared with the **fastest peer**: the reference library's header by gcc (`c_gcc`) or by clang (`c_clang`), Debian's shared library (`c_shared`), or the Rust crate `xxhash-rust`. [bench/data/measured.tsv](../bench/data/measured.tsv) has all {sum(map(len, parts.values()))} measurements.
 
+The line below each table has the date, the commit and the processor. It ends with "Older than this version" if the measured code, by its checksum in [bench/data/objects.tsv](../bench/data/objects.tsv), is not the code of this version.
+
 #SUMMARY
 ![throughput over the length](speed.svg)
 
