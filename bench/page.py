@@ -1,10 +1,11 @@
 #!/usr/bin/env -S python3 -B
 """Draws docs/SPEED.md and docs/speed.svg from bench/data:
 
-    bench/page.py [--check | FOLDER]
+    bench/page.py [--check | FOLDER | --record NAME..]
 
 With --check it checks that the page in docs is up to date; with a folder, it reads the data and writes the page
-there. The tables of `rust/bench`, `rust/programs/bench`, `python/bench` and `web/bench` are copied from bench/data."""
+there. --record stores the checksum of the code that a measurement ran, by the names of bench/objects.py, and draws the
+page: the page marks a measurement as older than this version if that code has changed since. The tables of `rust/bench`, `rust/programs/bench`, `python/bench` and `web/bench` are copied from bench/data."""
 import math
 import os
 import re
@@ -15,6 +16,7 @@ from pathlib import Path
 sys.path.insert(0, os.path.dirname(os.path.abspath(__file__)))
 import figures
 import measured
+import objects
 
 TOP = os.path.dirname(os.path.dirname(os.path.abspath(__file__)))
 SETS = ["x86-64-v2", "x86-64-v3"]
@@ -73,19 +75,34 @@ def data_of(name):
     return Path(f"{DATA}/{name}.tsv").read_text().splitlines()
 
 
-def when(name, first=None):
-    """The date and the commit of a file of data, from its first line, as a line below a table."""
-    found = re.search(r"(on \d{4}-\d\d-\d\d, (?:at|stored by) commit) (\w+)", first or data_of(name)[0])
+def age(code, sums=None):
+    """The end of the line below a table."""
+    sums = sums or objects.stored()
+    why = "this repository does not have that commit" if sums[code] == "unknown" else "the measured code has changed since"
+    return f" Older than this version: {why}." if objects.is_older(code, sums) else ""
+
+
+def origin(name, first=None):
+    """The date, the commit and the processor of a file of data, from its first line."""
+    found = re.search(r"(on (\d{4}-\d\d-\d\d), (?:at|stored by) commit) (\w+), on (.+?)(?: and rustc|, | \(|\.$|\. )", first or data_of(name)[0])
     if not found:
-        sys.exit(f"bench/data/{name}.tsv: the first line has no date and commit, as in `on 2026-11-29, at commit 766c1647`")
-    return [f"Measured {found[1]} `{found[2]}`.", ""]
+        sys.exit(f"bench/data/{name}.tsv: the first line has no date, commit and processor, as in "
+                 "`on 2026-11-29, at commit 766c1647, on an Intel Xeon`")
+    return found
+
+
+def when(name, first=None, code=None):
+    """The origin of a file of data, as a line below a table."""
+    found = origin(name, first)
+    return [f"Measured {found[1]} `{found[3]}`, on {found[4]}.{age(code or name)}", ""]
 
 
 def copied(name):
     """A table that another program printed, and the sentences on how it was measured."""
     lines = data_of(name)
-    when(name)
-    return [*counted(name), *(line for it in lines if it.startswith("# ") for line in (it[2:], ""))]
+    origin(name)
+    said = [it[2:] for it in lines if it.startswith("# ")]
+    return [*counted(name), *(line for it in [said[0] + age(name), *said[1:]] for line in (it, ""))]
 
 
 def counted(name):
@@ -188,6 +205,8 @@ def page(said, parts):
 
 A ratio is a peer's time divided by ours: above 1, this library is faster. A cell has the median over hashes and sizes, and the range. Each measurement is compared with the **fastest peer**: the reference library's header by gcc (`c_gcc`) or by clang (`c_clang`), Debian's shared library (`c_shared`), or the Rust crate `xxhash-rust`. [bench/data/measured.tsv](../bench/data/measured.tsv) has all {sum(map(len, parts.values()))} measurements.
 
+The line below each table has the date, the commit and the processor. It ends with "Older than this version" if the measured code, by its checksum in [bench/data/objects.tsv](../bench/data/objects.tsv), is not the code of this version.
+
 #SUMMARY
 ![throughput over the length](speed.svg)
 
@@ -259,17 +278,20 @@ Instructions of the reference's header, by gcc 12 -O3, divided by ours for one c
 - One process measures all peers in turns. A figure is the median of eight rounds, a round the best of many turns of 0.025 ms or of one call, in three passes over all measurements.
 - Each peer is called through a pointer to a function, and compares the length with the buffer of 64 MiB, as ours does. Debian's library needs one more call, and is built for plain x86-64.
 """
-    day = when("measured", said[0])
+    day = when("measured", said[0], "library")
     drawn = {"SUMMARY": summary(parts, best) + day, "TWOX_HASH": twox_hash(parts) + day, "LOWEST": lowest(parts) + day,
-             "SHARED": shared(parts["c"]) + day,
+             "SHARED": shared(parts["c"]) + when("measured", said[0], "c"),
              "CARGO": copied("cargo"), "CARGO_COUNTS": counted("cargo_counts") + when("cargo"),
              "CARGO_MAPS": counted("cargo_maps") + when("cargo"), "CARGO_PROGRAMS": copied("cargo_programs"),
-             "PYTHON": copied("python"), "WEB": copied("web"), "DISPATCH": dispatch(), "PROGRAMS": programs(parts["program"]) + day, "XXHSUM": xxhsum(),
+             "PYTHON": copied("python"), "WEB": copied("web"), "DISPATCH": dispatch(), "PROGRAMS": programs(parts["program"]) + when("measured", said[0], "xxh"), "XXHSUM": xxhsum(),
              "ARM": arm(), "SAID": [f"- {it}" for it in said]}
     return "\n".join(line for it in text.rstrip("\n").split("\n") for line in drawn.get(it[1:], [it])) + "\n"
 
 
 def main(words):
+    if words[:1] == ["--record"]:
+        objects.store({**objects.stored(), **{name: objects.checksum(name) for name in words[1:]}})
+        words = []
     is_check = words == ["--check"]
     folder = words[0] if words and not is_check else None
     said, rows = measured.read(f"{folder}/measured.tsv" if folder else measured.FILE)
@@ -280,7 +302,7 @@ def main(words):
         if not is_check:
             path.write_text(text)
         elif path.read_text() != text:
-            sys.exit(f"docs/{name} is not as bench/page.py draws it")
+            sys.exit(f"docs/{name} is not as bench/page.py draws it: run it, also if only the measured code has changed")
 
 
 if __name__ == "__main__":

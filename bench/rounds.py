@@ -76,4 +76,5 @@ def main(room, data, file_size, before, after):
     measured.write(said, [*rows, *programs(room, int(file_size))], os.path.join(data, "measured.tsv"))
 
 
-main(*sys.argv[1:])
+if __name__ == "__main__":
+    main(*sys.argv[1:])

@@ -65,13 +65,13 @@ def words_for_ci(room, anew):
 def parts(top, anew):
     """Runs the parts, each with the minimum number of its checks, and returns their results. Parts that are started
     before they are followed run in parallel with the others. `anew` are the arguments for `rt ci`."""
-    yield Part(top, "what the pages quote", 10, "checks/readme").follow()
+    yield Part(top, "what the pages quote", 23, "checks/readme").follow()
     wrong_bodies = Part(top, "wrong bodies, beside and after the proofs", 1115, "checks/wrong-bodies", "--beside-ci")
     beside = [Part(top, "the library for C without rt", 22, "c/check", "--without-rt"),
               Part(top, "the cargo crate without rt", 37, "rust/check", "--without-rt"),
               Part(top, "the eraser, and the source that it wrote", 402, "rust/checks/eraser"),
-              Part(top, "scripts, and what is no Rattle", 12, "checks/lint"),
-              Part(top, "the commands of the pages, as they are printed", 5, "checks/pages"),
+              Part(top, "scripts, and what is no Rattle", 13, "checks/lint"),
+              Part(top, "the commands of the pages, as they are printed", 6, "checks/pages"),
               Part(top, "what the gate has to notice", 11, "checks/planted"),
               *(Part(top, f"{what}, for all bytes", least, "nice", "-n10", command) for what, least, command in FOR_ALL_BYTES)]
     yield Part(top, "the table beside the reference library", 4, "oracle/make-vectors", "--check").follow()
@@ -85,7 +85,7 @@ def parts(top, anew):
     yield Part(top, "the program `xxh`", 196, "checks/program", "--of-ci").follow()
     xxhsum = "crates/xxhsum/out/xxhsum"
     yield Part(top, "the program `xxhsum`", 993, "checks/xxhsum", "--stored", xxhsum, f"{xxhsum}.by-rattle").follow()
-    yield Part(top, "many names, files, reads and arguments", 12, "checks/xxhsum-many", xxhsum, f"{xxhsum}.by-rattle").follow()
+    yield Part(top, "many names, files, reads and arguments", 16, "checks/xxhsum-many", xxhsum, f"{xxhsum}.by-rattle").follow()
     yield Part(top, "failing system calls", 1200, "checks/failing_calls", "--readdir", xxhsum, "crates/xxh/out/xxh").follow()
     for part in [*beside, *after[:2], wrong_bodies, *after[2:]]:
         yield part.follow()

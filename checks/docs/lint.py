@@ -5,6 +5,7 @@
 - shellcheck reads the shell scripts, pyflakes the Python, rustfmt and clippy the Rust, and node the JavaScript;
 - pages, comments, help texts and error messages have none of the words of checks/docs/words.txt, and doc comments
   don't begin with "Whether" or "What";
+- the pages of checks/docs/plain.py have sentences of at most 30 words;
 - docs/CONTRACTS.md names each file of `specs/`;
 - commits since this rule have a subject of at most 72 characters, and no absolute path of a machine in their message
   (checks/docs/commits.py).
@@ -24,7 +25,7 @@ import command
 from report import Report, want
 from tools import TOP, install_packages, must, ran, text_of, write
 
-from . import commits, words
+from . import commits, plain, words
 
 PACKAGES = {'shellcheck': 'shellcheck', 'pyflakes3': 'pyflakes3', 'rustfmt': 'rustfmt', 'clippy-driver': 'rust-clippy',
             'node': 'nodejs'}
@@ -122,6 +123,7 @@ WRONG = {
         ('message.js', 'throw new Error("handed over");\n')],
     words.puzzles: [('wrong.rt', '/// Whether it fits.\nfn f() {}\n'), ('wrong.h', 'int a;\n\n/** What it is. */\n'),
                     ('wrong.py', 'def f():\n    """Whether it fits."""\n')],
+    plain.long_sentences: [('wrong.md', 'It is short. A' + ' word' * 30 + '.\n'), ('wrong.md', '- `one`: a' + ' word' * 29 + '\n- two\n')],
     unnamed: [('OfNoRow.antt', '')],
 }
 WRONG_MESSAGES = ('A' * 73 + '\n\nWhy.', "Merge branch 'main' of /work/main", 'Fix it\n\nSee (/home/a/b.c).')
@@ -180,6 +182,7 @@ def main():
     report.attempt('words of pages', is_clean, words.lines_with_words, pages(every))
     report.attempt('words of comments and messages', is_clean, words.lines_with_words, sources(every))
     report.attempt('beginnings of doc comments', is_clean, words.puzzles, documented(every))
+    report.attempt('sentences', is_clean, plain.long_sentences, [os.path.join(TOP, name) for name in plain.SHORT_SENTENCES])
     report.attempt('commits', commits_are_clean)
     report.attempt('files of definitions', is_clean, unnamed,
                    [path for path in every if '/specs/' in path and not path.endswith('/Lib.antt')])

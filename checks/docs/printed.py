@@ -62,9 +62,9 @@ def is_run(section):
 
 
 def is_whole(text):
-    """True if a shell accepts these lines without waiting for more."""
-    done = subprocess.run(['bash', '-n'], input=text, capture_output=True, text=True)
-    return done.returncode == 0 and not text.endswith('\\\n')
+    """True if a shell accepts these lines without waiting for more, such as the end of a here-document."""
+    done = subprocess.run(['bash', '-n'], input=text, capture_output=True, text=True, env={**os.environ, 'LC_ALL': 'C'})
+    return done.returncode == 0 and 'here-document' not in done.stderr and not text.endswith('\\\n')
 
 
 def commands(section):

@@ -1,73 +1,117 @@
-"""Ratios of speed in README.md, compared with the tables of which they are the minimum, maximum or median."""
+"""The tables of speed in README.md, computed from bench/data, and the ratios in its sentences."""
 import os
 import re
+import statistics
 import sys
 
 from tools import TOP, text_of
 
-SPEED = 'docs/SPEED.md'
-SUMMARY, LOWEST_ROWS, DISPATCH = (SPEED, '# Speed'), (SPEED, '## The lowest ratios'), (SPEED, "Debian's functions `.._dispatch`")
-XXHSUM, CARGO = (SPEED, '`xxhsum` and the same program'), (SPEED, '## Through cargo')
-SECTIONS = [('README.md', '## Speed')]
-RATIO = r'(?<![\d.])\d+\.\d\d(?![\d.])'
-EACH, PLAIN, PLAIN_BESIDE_XXHASH_RUST = slice(None), *(slice(at, at + 1) for at in range(2))
-# The first ratio of a cell is its median, the others are its range.
-MEDIANS = r'(?<![\d.])\d+\.\d\d(?= \()'
-# A page, its text, with <> for the minimum and possibly one for the maximum ratio, and their source: a table, the names
-# of its rows, its columns after the name, and which ratios of a cell.
-SAID = [
-    ('README.md', r'by input size are <> to <> for one-shots', SUMMARY, 'one-shots', EACH, MEDIANS),
-    ('README.md', r'one-shots and <> to <> for streams', SUMMARY, 'streams', EACH, MEDIANS),
-    ('README.md', r'the lowest is <> \(\[SPEED', LOWEST_ROWS, '', slice(3, 4), RATIO),
-    ('README.md', r'AVX-512: <>, for chunks', DISPATCH, '', EACH, RATIO),
-    ('README.md', r'crate against `twox-hash`: <>;', CARGO, '', PLAIN, RATIO),
-    ('README.md', r'crate against `xxhash-rust`: <>,', CARGO, '', PLAIN_BESIDE_XXHASH_RUST, RATIO),
-    ('README.md', r'1 GiB with XXH3: <> for x86-64-v2', XXHSUM, '1024 MiB', slice(1, 2), RATIO),
-    ('README.md', r'<> for x86-64-v3', XXHSUM, '1024 MiB', slice(2, 3), RATIO),
-]
-# A bound.
+sys.path.append(os.path.join(TOP, 'bench'))
+import measured
+import objects
+import page
+
+PAGE, SECTION = 'README.md', '## Speed'
+RATIO = r'(?<![\d.])\d+\.\d\d(?!\d|\.\d)'
+# A bound, which no table has.
 APART = {'0.95'}
+NAMES = {'XXH3-64': 'XXH3, 64 bits', 'XXH3-128': 'XXH3, 128 bits', 'XXH64': 'XXH64', 'XXH32': 'XXH32'}
+# The equal pairs that 2^32 items have on average.
+PAIRS = {'XXH3-64': '1/2', 'XXH3-128': '2^-65', 'XXH64': '1/2', 'XXH32': '2^31'}
 
 
-def rows_of(page, before):
-    """The first table after this text of a page: the cells of each row."""
-    text = text_of(page)
-    found = re.search(r'^\|---.*\n((?:\|.*\n)+)', text[text.index(before):], re.M)
-    return [[cell.strip() for cell in line.strip('|').split('|')] for line in found[1].splitlines()]
+def rows_of(name):
+    """The cells of each row of a file of bench/data, without its head and its first lines."""
+    return [line.split('\t') for line in page.data_of(name) if not line.startswith('#')]
 
 
-def ratios(table, names, columns, pattern):
-    """The ratios of some rows and columns."""
-    cells = [cell for name, *cells in rows_of(*table) if re.match(names, name) for cell in cells[columns]]
-    return sorted((ratio for cell in cells for ratio in re.findall(pattern, cell)), key=float)
+def libraries():
+    """The measurements of each part of bench/data/measured.tsv."""
+    rows = [it for it in measured.read(measured.FILE)[1] if it.form in page.FORMS]
+    return {part: [it for it in rows if it.part == part] for part in ('c', *page.SETS)}
 
 
-def that_differ():
-    """Each ratio of a page that is in no table, and each that no rule covers."""
-    seen = {page: set(APART) for page, _ in SECTIONS}
-    for page, words, table, names, columns, pattern in SAID:
-        found = ratios(table, names, columns, pattern)
-        said = re.search(words.replace('<>', f'({RATIO})'), text_of(page))
-        wanted = (found[0], found[-1])[:words.count('<>')]
-        if not said or said.groups() != wanted:
-            yield f'{page} has {said.groups() if said else "nothing"} where it says {words}, and {table[0]} {wanted}'
-        seen[page].update(wanted)
-    for page, section in SECTIONS:
-        text = text_of(page).split(f'{section}\n')[1].split('\n## ')[0]
-        outside = {ratio for line in text.splitlines() if not line.startswith('|') for ratio in re.findall(RATIO, line)}
-        if outside - seen[page]:
-            yield f'{page} says {sorted(outside - seen[page])}, which are the lowest or highest of no table'
+def numbers(cells, pattern=RATIO):
+    return [float(it) for cell in cells for it in re.findall(pattern, cell)]
 
 
-def counts_that_differ():
+def speeds():
+    """For each line of the table of speed: the product, the peer, the median or another mean, the lowest ratio, the file
+    of the data and the name of the measured code."""
+    parts = libraries()
+    ratios = {'c': [it.peers['c_shared'].median for it in parts['c']], **{name: list(map(page.best, parts[name])) for name in page.SETS}}
+    middle = lambda values: f'{statistics.median(values):.2f}'
+    yield 'C library', "Debian's `libxxhash`", middle(ratios['c']), ratios['c'], 'measured', 'c'
+    values = numbers(cell for row in rows_of('dispatch') for cell in row[1:])
+    yield 'C library, AVX-512', 'its `.._dispatch`', middle(values), values, 'dispatch', 'dispatch'
+    for name in page.SETS:
+        yield f'functions, {name}', 'fastest of four', middle(ratios[name]), ratios[name], 'measured', 'library'
+    counts = {row[0]: row[1:] for row in rows_of('cargo_counts')}
+    for peer in ('twox-hash', 'xxhash-rust'):
+        _, mean, _, lowest = counts[f'plain, beside `{peer}`']
+        yield 'crate', f'`{peer}`', f'{mean} (mean)', numbers([lowest]), 'cargo', 'cargo'
+    by_cargo, by_rt = rows_of('cargo_programs')[1:], rows_of('xxhsum')
+    for title, values, data in (('`xxhsum` by cargo', numbers(row[2] for row in by_cargo), 'cargo_programs'),
+                                *((f'`xxhsum` by `rt`, {name}', numbers(row[at] for row in by_rt), 'xxhsum')
+                                  for at, name in enumerate(page.SETS, 2))):
+        yield title, "Debian's `xxhsum`", middle(values), values, data, data
+    values = numbers(cell for row in rows_of('python')[1:] for cell in row[1:])
+    yield 'Python', "Debian's python3-xxhash", 'not stored', values, 'python', 'python'
+    values = numbers(cell for row in rows_of('web')[1:] for cell in row[1:])
+    yield 'Node, Chromium', "`xxhash.h` as WebAssembly", middle(values), values, 'web', 'web'
+
+
+def table_of_speed():
+    lines = []
+    for product, peer, mean, ratios, data, code in speeds():
+        day = page.origin(data)[2] + ' †' * objects.is_older(code)
+        lines.append([product, peer, mean, f'{min(ratios):.2f}', day])
+    return '\n'.join(page.markdown(['product', 'peer', 'median', 'lowest', 'date'], lines))
+
+
+def table_of_hashes():
+    """The times of one-shots, at x86-64-v3."""
+    rows = {(it.name, it.size): it.speed for it in libraries()['x86-64-v3'] if it.form == 'oneshot'}
+    lines = [[title, f'{16 / rows[name, 16]:.1f} ns', *(f'{rows[name, size]:.0f} GB/s' for size in (page.KIB, page.MIB)), PAIRS[name]]
+             for name, title in NAMES.items()]
+    return '\n'.join(page.markdown(['hash', '16 bytes', '1 KiB', '1 MiB', 'equal pairs among 2^32 items'], lines))
+
+
+def sentence_of_web():
+    """The ratios of both modules in an engine, over all hashes and sizes."""
+    parts = []
+    for engine in ('Node 20', 'Chromium 156'):
+        values = numbers(cell for row in rows_of('web')[1:] if row[0].endswith(engine) for cell in row[1:])
+        parts.append(f'{statistics.median(values):.2f} ({min(values):.2f} to {max(values):.2f}) in {engine}')
+    return ' and '.join(parts)
+
+
+def that_differ(text=None):
+    """Each table that README.md lacks, and each ratio in its sentences that is in no table."""
+    text = text_of(PAGE) if text is None else text
+    for table in (table_of_speed(), table_of_hashes()):
+        if table not in text:
+            yield f'{PAGE} does not have this table of bench/data:\n{table}'
+    section = text.partition(f'{SECTION}\n')[2].split('\n## ')[0]
+    found = {ratio for line in section.splitlines() if not line.startswith('|') for ratio in re.findall(RATIO, line)}
+    unknown = found - APART - set(re.findall(RATIO, table_of_speed()))
+    if unknown:
+        yield f'{PAGE} says {sorted(unknown)}, which are in no table'
+
+
+def with_tables(text):
+    """A page with the tables of bench/data in place of those with the same first line."""
+    for table in (table_of_speed(), table_of_hashes()):
+        head = table.partition('\n')[0]
+        text = re.sub(rf'^{re.escape(head)}\n(?:\|.*\n)+', lambda _: table, text, flags=re.M)
+    return text
+
+
+def counts_that_differ(text=None):
     """README.md has the number of measurements, and of those below 0.95, also for the crate."""
-    sys.path.append(os.path.join(TOP, 'bench'))
-    import measured
-    import page
-    rows = [page.best(it) for it in measured.read(measured.FILE)[1] if it.part in page.SETS and it.form in page.FORMS]
-    counts = {row[0]: row[1:] for row in rows_of(SPEED, '| compiled | calls')}
-    calls, _, below, _ = counts['plain, beside `twox-hash`']
-    for words in (f'{sum(it < 0.95 for it in rows)} of the {len(rows)} measurements are below 0.95',
-                  f'{below} of {calls} calls are below 0.95'):
-        if words not in text_of('README.md'):
-            yield f'README.md does not have: {words}'
+    text = text_of(PAGE) if text is None else text
+    rows = [page.best(it) for part, of in libraries().items() if part in page.SETS for it in of]
+    calls, _, below, _ = {row[0]: row[1:] for row in rows_of('cargo_counts')}['plain, beside `twox-hash`']
+    for words in (f'{sum(it < 0.95 for it in rows)} of the {len(rows)} measurements', f'{below} of {calls} calls'):
+        if words not in text:
+            yield f'{PAGE} does not have: {words}'

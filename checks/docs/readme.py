@@ -1,17 +1,25 @@
 """Compares the pages with the tree:
 
+    checks/readme [--write]
+
 - CALLING.md quotes the code of crates/example and crates/calling, and docs/C.md a program in C;
 - links, also to headings, and the workflow's commands exist, and --help of the checks explains their options;
-- docs/SPEED.md agrees with its data, and each table has its date and commit;
+- docs/SPEED.md agrees with its data; each table has its date, commit and processor, and says "Older than this version" if
+  the measured code has changed since or the commit is not in git's history;
 - docs/VERIFICATION.md and README.md have the runs that oracle/runs.tsv records, and the former the counts of oracle/mutate --record;
-- README.md has the counts of checks/lines-to-believe, and docs/VERIFICATION.md those of oracle/lines-to-trust;
-- ratios in README.md are the minimum, maximum or median of their tables (checks/docs/ratios.py), and no table of it is
-  one of docs/SPEED.md;
+- README.md has the counts of checks/lines-to-believe and oracle/lines-to-trust, and CONTRIBUTING.md those of mutants;
+- the tables of speed in README.md are those of bench/data (checks/docs/ratios.py), and none is one of docs/SPEED.md;
 - docs/api.txt has every public name, and only names that exist, docs/CONTRACTS.md every clause and docs/MANUAL.md the manual pages;
 - docs/C.md has the numbers of names, and an ordinary user can install where the pages say;
+- web/README.md has the sizes of its files and the ratios of bench/data;
 - the crate's manifest includes only what exists, and its page has its default features;
 - all versions are equal;
-- the pages have at most MOST_WORDS words."""
+- README.md has short sections; README.md, docs/FAQ.md and docs/RECIPES.md are short; every block of docs/RECIPES.md is run
+  (checks/docs/plain.py);
+- the pages have at most MOST_WORDS words.
+
+Each rule on lengths, blocks and dates must first detect a planted fault. --write writes the tables of speed into README.md
+first."""
 import collections
 import glob
 import os
@@ -21,9 +29,9 @@ import tomllib
 
 import command
 from report import Report
-from tools import TOP, text_of
+from tools import TOP, text_of, write
 
-from . import ratios
+from . import plain, ratios
 
 # A page, a source that it quotes, the beginning of the quoted part, and its end, if it isn't the end of the source.
 QUOTES = [
@@ -39,6 +47,7 @@ VERSIONS = [
     ('python/src/twox_hash/version.py', r"^__version__ = '(.*)'"),
     ('docs/RELEASES.md', r'twox[-_]hash[-_](\d+\.\d+\.\d+)(?:[-+*]|\.tar|\.tgz)'),
     ('CHANGELOG.md', r'\A# [^#]*## (\d+\.\d+\.\d+)'),
+    ('CITATION.cff', r'^version: (.*)'),
     ('docs/C.md', r'twox-hash_(\d+\.\d+\.\d+)\+'),
     ('crates/xxhsum_program/src/usage.rt', r'b" ([0-9.]*) of twox_hash'),
     ('crates/xxh_program/src/program/information.rt', r'b"xxh ([0-9.]*) of twox_hash'),
@@ -50,9 +59,9 @@ RELEASES = [
     ('crates/xxhsum_program/src/usage.rt', r'the messages of xxhsum ([0-9.]+) and the options and lines of ([0-9.]+)"'),
     ('docs/XXHSUM.md', r'exit statuses are those of `xxhsum` ([0-9.]+)\. The options.* are those of ([0-9.]+)\.'),
 ]
-# The pages that a script writes, and the most words of README.md and of all other pages together.
+# The pages that a script writes, and the most words of all other pages together.
 GENERATED = {'docs/SPEED.md', 'docs/CONTRACTS.md', 'docs/MANUAL.md', 'docs/EDITS.md'}
-MOST_WORDS_OF_README, MOST_WORDS = 1200, 17500
+MOST_WORDS = 17500
 WORKFLOW = '.github/workflows/checks.yml'
 INTERFACES = [('crates/twox_rust/src/lib.rt', r'fn twox_rust_interface_(\d+)'),
               ('docs/RELEASES.md', r"and interface (\d+) of the crate's assembly")]
@@ -152,6 +161,18 @@ def prefixes_that_need_root():
                 yield f'{page} installs to {prefix}, which only root can write'
 
 
+def sizes_of_web():
+    sizes = {name: os.path.getsize(os.path.join(TOP, 'web', name)) for name in ('twox_hash.wasm', 'twox_hash_simd.wasm', 'twox_hash.js')}
+    return ', '.join(f'`{name}` {size:,}' for name, size in sizes.items())
+
+
+def numbers_of_web_that_differ():
+    """web/README.md has the sizes of its files, and the ratios of bench/data/web.tsv."""
+    for expected in (sizes_of_web(), ratios.sentence_of_web()):
+        if expected not in text_of('web/README.md'):
+            yield f'web/README.md does not have: {expected}'
+
+
 def manifest_that_differs():
     """The crate's manifest includes only what exists, and its page names the features that are off by default."""
     manifest = tomllib.loads(text_of('rust/Cargo.toml'))
@@ -188,8 +209,8 @@ def figures_that_differ():
     counted = subprocess.run([os.path.join(TOP, 'checks', 'lines-to-believe')], stdout=subprocess.PIPE, text=True)
     headline, program, run = counted.stdout.splitlines() if counted.returncode == 0 else ('', '', '')
     trusted = subprocess.run([os.path.join(TOP, 'oracle', 'lines-to-trust')], stdout=subprocess.PIPE, text=True).stdout.strip()
-    for page, count in (('README.md', headline), ('README.md', program), ('docs/XXHSUM.md', program), ('docs/XXHSUM.md', run),
-                        ('docs/VERIFICATION.md', trusted)):
+    for page, count in (('README.md', headline), ('docs/XXHSUM.md', program), ('docs/XXHSUM.md', run),
+                        ('docs/VERIFICATION.md', trusted), ('README.md', trusted)):
         if not count or count not in text_of(page):
             yield f'{page} does not have what checks/lines-to-believe or oracle/lines-to-trust counts: {count}'
 
@@ -215,11 +236,40 @@ def runs_that_differ():
         yield f'README.md has {ends}, and oracle/runs.tsv {recorded}'
 
 
-def tables_without_date():
-    """Each table of docs/SPEED.md has the date and the commit of its measurements below it."""
-    for head, below in re.findall(r'^(\|.*)\n\|---.*\n(?:\|.*\n)+\n(.*)', text_of('docs/SPEED.md'), re.M):
-        if not re.search(r'on \d{4}-\d\d-\d\d, (at|stored by) commit', below):
-            yield f'docs/SPEED.md has no date and commit below the table {head}'
+def tables_without_date(text):
+    """Each table of docs/SPEED.md has the date, the commit and the processor of its measurements below it."""
+    for head, below in re.findall(r'^(\|.*)\n\|---.*\n(?:\|.*\n)+\n(.*)', text, re.M):
+        if not re.search(r'on \d{4}-\d\d-\d\d, (at|stored by) commit `?\w+`?, on \w', below):
+            yield f'docs/SPEED.md has no date, commit and processor below the table {head}'
+
+
+def commits_that_are_nowhere(text):
+    """Each measurement of a commit that is not in git's history is older than this version. Without git, as in CI's copy,
+    no commit is looked up."""
+    if os.path.exists(os.path.join(TOP, '.git')):
+        for line in re.findall(r'^Measured .*', text, re.M):
+            for commit in re.findall(r'commit `?(\w{8,40})\b', line):
+                known = subprocess.run(['git', 'merge-base', '--is-ancestor', commit, 'HEAD'], cwd=TOP, capture_output=True)
+                if known.returncode and 'Older than this version' not in line:
+                    yield f'docs/SPEED.md has the commit {commit}, which is not in the history, without "Older than this version"'
+
+
+def dates_that_differ():
+    for differ in (tables_without_date, commits_that_are_nowhere):
+        yield from differ(text_of('docs/SPEED.md'))
+
+
+def planted_dates():
+    """A table without a processor, an unknown commit and changed code are detected."""
+    table, line = '| a |\n|---|\n| 1 |\n\n', 'Measured on 2026-01-01, at commit `01234567`'
+    if not list(tables_without_date(f'{table}{line}.')) or list(tables_without_date(f'{table}{line}, on a machine.')):
+        yield 'a table without a processor is not detected'
+    is_cloned = os.path.exists(os.path.join(TOP, '.git'))
+    if bool(list(commits_that_are_nowhere(f'{line}, on a machine.'))) != is_cloned or list(commits_that_are_nowhere(f'{line}. Older than this version.')):
+        yield 'a commit that is not in the history is not detected'
+    sums = {'web': ratios.objects.checksum('web')}
+    if ratios.page.age('web', sums) or 'Older than' not in ratios.page.age('web', {'web': '0' * 64}) + ratios.page.age('web', {'web': 'unknown'}):
+        yield 'measured code that has changed is not detected'
 
 
 def tables_that_repeat():
@@ -230,11 +280,36 @@ def tables_that_repeat():
             yield f'README.md repeats a row of docs/SPEED.md: {row}'
 
 
-def words_over_the_limit():
-    counts = {page: len(text_of(page).replace(table_of_runs(), '').split()) for page in pages() if page not in GENERATED}
-    for name, count, most in (('README.md', counts['README.md'], MOST_WORDS_OF_README), ('The pages', sum(counts.values()), MOST_WORDS)):
-        if count > most:
-            yield f'{name}: {count:,} words, of at most {most:,}'
+def without_generated(text):
+    """A page without the tables that scripts write."""
+    for table in (table_of_runs(), ratios.table_of_speed(), ratios.table_of_hashes()):
+        text = text.replace(table, '')
+    return text
+
+
+def words_over_the_limit(texts=None):
+    texts = texts or [text_of(page) for page in pages() if page not in GENERATED]
+    count = sum(len(without_generated(text).split()) for text in texts)
+    if count > MOST_WORDS:
+        yield f'The pages: {count:,} words, of at most {MOST_WORDS:,}'
+
+
+def pages_that_are_not_plain():
+    for page in pages():
+        yield from plain.faults(page, text_of(page))
+
+
+def planted_tables():
+    """A README without the tables, with a ratio of no table or without the counts, and too many words are not accepted."""
+    known = f'{ratios.table_of_speed()}\n{ratios.table_of_hashes()}\n{ratios.SECTION}\n'
+    if ratios.with_tables(known.replace('| crate |', '| box |')) != known:
+        yield 'the tables of a README are not written'
+    if len(list(ratios.that_differ(''))) != 2 or list(ratios.that_differ(known)) or not list(ratios.that_differ(f'{known}It is 9.87.\n')):
+        yield 'a README without the tables of speed, or with another ratio, is accepted'
+    if not list(words_over_the_limit(['word ' * (MOST_WORDS + 1)])) or list(words_over_the_limit([known, 'word ' * (MOST_WORDS - 2)])):
+        yield 'pages with too many words are accepted, or generated tables count'
+    if len(list(ratios.counts_that_differ(''))) != 2:
+        yield 'a README without the counts of measurements is accepted'
 
 
 def ratios_that_differ():
@@ -243,15 +318,15 @@ def ratios_that_differ():
 
 
 def mutants_that_differ():
-    """README has the number of mutants, so that a file of them can't be lost, and how many only a proof refuses."""
+    """CONTRIBUTING has the number of mutants, so that a file of them can't be lost, and how many only a proof refuses."""
     files = glob.glob(os.path.join(TOP, 'crates', '*', 'mutants.edits'))
     count = sum(len(re.findall(r'^== ', text_of(path), re.M)) for path in files)
     reasons = re.findall(r'^\S+/\S+ \w+ (.*)', text_of('checks/mutants/refused.txt'), re.M)
     by_goal = reasons.count("by a clause's goal")
     expected = (f'tries {count:,} mutants: of {len(reasons):,} on record, {by_goal:,} are refused because a clause no longer '
                 f'holds, {len(reasons) - by_goal:,} only because a written proof no longer fits')
-    if expected not in text_of('README.md'):
-        yield f'README.md does not have that checks/wrong-bodies {expected}'
+    if expected not in text_of('CONTRIBUTING.md'):
+        yield f'CONTRIBUTING.md does not have that checks/wrong-bodies {expected}'
 
 
 def mutants_of_verifier_that_differ():
@@ -268,11 +343,14 @@ def mutants_of_verifier_that_differ():
 
 
 def main():
-    command.parser(__doc__).parse_args()
+    parser = command.parser(__doc__)
+    parser.add_argument('--write', action='store_true', help='write the tables of speed into README.md first')
+    if parser.parse_args().write:
+        write(os.path.join(TOP, ratios.PAGE), ratios.with_tables(text_of(ratios.PAGE)))
     checks = (quotes_that_differ, helps_that_explain_too_little, links_that_lead_nowhere, names_that_differ, listed_names_without_definition, names_of_c_that_differ,
-              prefixes_that_need_root, manifest_that_differs, versions_that_differ, releases_that_differ, figures_that_differ,
-              runs_that_differ, tables_without_date, tables_that_repeat, words_over_the_limit, ratios_that_differ, mutants_that_differ,
-              mutants_of_verifier_that_differ)
+              prefixes_that_need_root, numbers_of_web_that_differ, manifest_that_differs, versions_that_differ, releases_that_differ, figures_that_differ,
+              runs_that_differ, dates_that_differ, planted_dates, tables_that_repeat, words_over_the_limit, pages_that_are_not_plain,
+              plain.planted, ratios_that_differ, planted_tables, mutants_that_differ, mutants_of_verifier_that_differ)
     report = Report()
     for faults in [list(check()) for check in checks]:
         print(*faults, sep='\n', end='\n' * bool(faults))

@@ -8,8 +8,15 @@
 
 A mutant is an edit, a block of crates/CRATE/mutants.edits, described in CONTRIBUTING.md. A check continues after a
 refused function and has a line for each, so edits of different functions share one check, and each is judged by the
-line of its own function. What such a check can't judge is tried separately, as `rt must-fail` does, and only that
-reports "not refused" or "bad edit". CONTRIBUTING.md explains why this is sound.
+line of its own function:
+
+- `no proof: expected ..; search did not prove ..`, or `not proved` with an open goal in its own body: refused by a clause.
+- An error in its folder of `proofs/`: refused, but only because a written proof no longer fits; counted separately.
+- Anything else is tried separately, as `rt must-fail` does, and only that reports "not refused" or "bad edit".
+
+This is sound because each mutant changes only one body, or a copy of the function that nothing calls: other functions see
+contracts, not bodies or proofs. Unchanged functions must be proved, or call a refused one without an error of their own.
+The crate without edits must be proved. Errors about missing names do not count.
 
 A refusal is remembered by a checksum of everything that it depends on: the edit, the body with its proof answers, the
 statements of its crate and those below, the prover, and this program. This machine remembers its own, and the

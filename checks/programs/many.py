@@ -2,10 +2,11 @@
 
     checks/xxhsum-many PROGRAM.. [--only WORD]
 
-A tree of 150,000 names, of which one directory has 120,000; an audit of 70,000 equal files; a list of names that
-comes in 150,000 reads; 130,000 arguments. All files are empty, and the expected output is derived from the digest of
-no bytes. Wrong programs are planted, which must be detected. The last line is "N passed, M failed". It takes some 20
-seconds of processor time for each program, and no space except that of the names."""
+A tree of 150,000 names, of which one directory has 120,000; names of every shape, as find and sort print them; an audit
+of 70,000 equal files; a list of names that comes in 150,000 reads; 130,000 arguments. All files are empty, and the
+expected output is derived from the digest of no bytes. Wrong programs are planted, which must be detected. The last line
+is "N passed, M failed". It takes some 20 seconds of processor time for each program, and no space except that of the
+names."""
 import contextlib
 import os
 import subprocess
@@ -24,8 +25,16 @@ AUDITED = 70_000
 READS = 150_000
 ARGUMENTS = 130_000
 SECONDS = 120
+# Names that a program may take for options, for directories that it leaves out, or for the end of a name.
+SHAPES = ['.a', '..a', '...', '....', '.git/config', '.hidden/inner', '..hidden/.inner', '-', '--', '-r', '-d/-inner', ' ', '  ',
+          ' a', 'a ', 'a b', '*', '?', '[a]', '~', '$HOME', '{}', '\\n', 'a\n', '\na', '\n\n', 'a\r\n', 'é', 'e\u0301', '\u0080',
+          '\u2028', '\ufeff', '\ufffd', '😀', '\U0010ffff']
+# The longest name that a directory may have, in bytes.
+LONGEST_NAME = 255
 # Programs that do one thing wrong with the real one, which is $REAL, and the test that must detect it.
 PLANTED = {
+    'hidden names left out': ('"$REAL" "$@" | grep -zv "/\\."', 'names of every shape'),
+    'long names left out': ('"$REAL" "$@" | grep -zv "n\\{236\\}"', 'names of every shape'),
     'a folder whose names end early': ('"$REAL" "$@" | head -n 532', 'a tree of many names'),
     'no memory for many files': ('echo "Error: Out of memory." >&2; exit 1', 'an audit of many equal files'),
     'a list that is read in part': ('head -c 100000 | "$REAL" "$@"', 'a list in many reads'),
@@ -50,8 +59,8 @@ def make_tree(names):
         make_empty(name)
 
 
-def lines(names):
-    return b''.join(b'%s  %s\n' % (EMPTY, name) for name in names)
+def lines(names, end=b'\n'):
+    return b''.join(b'%s  %s%s' % (EMPTY, name, end) for name in names)
 
 
 def wanted(result, out):
@@ -64,6 +73,27 @@ def wanted(result, out):
 def many_names(program, names):
     wanted(found(program, ['-r', 'tree'], seconds=SECONDS), lines(names))
     return f'{len(names):,} names'
+
+
+def shaped_names():
+    """Names of each shape, each character of one byte, and each length."""
+    characters = [chr(code) for code in range(1, 128) if chr(code) not in './']
+    around = [f'a{character}b' for character in characters]
+    lengths = ['n' * count for count in range(2, LONGEST_NAME + 1)]
+    return sorted({name.encode() for name in (*SHAPES, *characters, *around, *lengths)})
+
+
+def shapes_of_names(program, _names):
+    """The tree that `find` lists, in the order of `sort`. NULs end the lines, so no name is escaped."""
+    made = [b'shapes/' + name for name in shaped_names()]
+    for name in made if not os.path.exists('shapes') else ():
+        os.makedirs(os.path.dirname(name), exist_ok=True)
+        make_empty(name)
+    listed = subprocess.run('find shapes -type f -print0 | sort -z', shell=True, stdout=subprocess.PIPE, check=True,
+                            env={**os.environ, 'LC_ALL': 'C'}).stdout
+    want(listed == b''.join(name + b'\0' for name in sorted(made)), 'find lists other names')
+    wanted(found(program, ['-rz', 'shapes'], seconds=SECONDS), lines(sorted(made), b'\0'))
+    return f'{len(made):,} names'
 
 
 def audit_of_equal_files(program, names):
@@ -102,8 +132,9 @@ def many_arguments(program, _names):
     return f'{ARGUMENTS:,} arguments'
 
 
-ROWS = {'a tree of many names': many_names, 'an audit of many equal files': audit_of_equal_files,
-        'a list in many reads': many_reads, 'many arguments': many_arguments}
+ROWS = {'a tree of many names': many_names, 'names of every shape': shapes_of_names,
+        'an audit of many equal files': audit_of_equal_files, 'a list in many reads': many_reads,
+        'many arguments': many_arguments}
 
 
 def is_detected(script, row, program, names):

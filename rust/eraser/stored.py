@@ -13,7 +13,7 @@ from tokens import Refused, rattle
 HERE = os.path.dirname(os.path.abspath(__file__))
 # The sums of the files of `main`: a program has no `mir.json`. They call the crates below, the streams of the process, and
 # of the standard library `is_terminal`, `alloc` and `var`.
-PROGRAMS_READ = {'5de05b65972f3650889b901c9fec8815', '2febf84142f10892e209f6949288f1f8'}
+PROGRAMS_READ = {'1672933e99ffd7604939f2872a2ebfc3', '6a91971d906aed9178eff388437162d6'}
 STORED, CALLEES = os.path.join(HERE, 'stored.txt'), os.path.join(HERE, 'callees.txt')
 
 
@@ -123,18 +123,30 @@ def check_callees(found, texts):
         raise Refused('\n'.join(['what is called is not in callees.txt:', *unknown]))
 
 
-def proved_mir(crates, crate):
-    """The code of a library as the toolchain resolved it. The library is proved first if it isn't."""
+def is_of_ci(crates, crate, library):
+    """True if `rt ci` has built a library after the last change of its files and of those below it. Files in its folder
+    may be older."""
+    folders = [os.path.join(crates, name, part) for name in below(crates, crate) for part in ('src', 'specs', 'proofs')]
+    files = [os.path.join(at, name) for folder in folders for at, _, names in os.walk(folder) for name in names]
+    return os.path.isdir(library) and os.path.getmtime(library) > max(map(os.path.getmtime, files))
+
+
+def proved_mir(crates, crate, of_ci=False):
+    """The code of a library as the toolchain resolved it. The library is proved first, unless `rt ci` has done so."""
     folder = os.path.join(crates, crate)
-    done = subprocess.run([os.path.join(os.path.dirname(rattle()), 'rt'), 'lib'], cwd=folder, stdout=subprocess.PIPE,
-                          stderr=subprocess.STDOUT, text=True)
-    if done.returncode:
-        raise Refused(f'{crate} is not proved, so what it calls is not known: {done.stdout[-300:]}')
-    with open(os.path.join(folder, 'out', 'rlib', f'{crate}.rlib', 'toolchain', 'mir.json'), encoding='utf-8') as file:
+    library = os.path.join(folder, 'out', 'rlib', f'{crate}.rlib')
+    if of_ci and not is_of_ci(crates, crate, library):
+        raise Refused(f'`rt ci` has not proved {crate} since its last change')
+    if not of_ci:
+        done = subprocess.run([os.path.join(os.path.dirname(rattle()), 'rt'), 'lib'], cwd=folder, stdout=subprocess.PIPE,
+                              stderr=subprocess.STDOUT, text=True)
+        if done.returncode:
+            raise Refused(f'{crate} is not proved, so what it calls is not known: {done.stdout[-300:]}')
+    with open(os.path.join(library, 'toolchain', 'mir.json'), encoding='utf-8') as file:
         return json.load(file)
 
 
-def calls(crates, texts, package, sections):
+def calls(crates, texts, package, sections, of_ci=False):
     """The section of each crate of a package: from stored.txt if its sources are the same, else of the proved library."""
     found = {}
     for crate in package.read:
@@ -146,7 +158,7 @@ def calls(crates, texts, package, sections):
         elif sections.get(f'crate {crate}', ('',))[0] == total:
             found[f'crate {crate}'] = sections[f'crate {crate}']
         else:
-            named = callees(proved_mir(crates, crate), package)
+            named = callees(proved_mir(crates, crate, of_ci), package)
             check_callees(named, texts)
             found[f'crate {crate}'] = total, list(named)
     check_callees({line: [crate.removeprefix('crate ')] for crate, (_, lines) in found.items() for line in lines}, texts)

@@ -101,20 +101,12 @@ macro_rules! plain_hash {
         impl fmt::Debug for Hasher {
             fn fmt(&self, f: &mut fmt::Formatter<'_>) -> fmt::Result {
                 let record = self.0.to_state();
-                let accumulators = Accumulators {
-                    acc1: record.core.v1,
-                    acc2: record.core.v2,
-                    acc3: record.core.v3,
-                    acc4: record.core.v4,
-                };
-                let buffer = Buffer {
-                    offset: record.buffer_usage,
-                    data: words(&record.buffer),
-                };
+                let source::Core { v1: acc1, v2: acc2, v3: acc3, v4: acc4 } = record.core;
+                let data = words(&record.buffer);
                 f.debug_struct("Hasher")
                     .field("seed", &record.seed)
-                    .field("accumulators", &accumulators)
-                    .field("buffer", &buffer)
+                    .field("accumulators", &Accumulators { acc1, acc2, acc3, acc4 })
+                    .field("buffer", &Buffer { offset: record.buffer_usage, data })
                     .field("length", &record.total_len)
                     .finish()
             }
@@ -188,8 +180,8 @@ macro_rules! plain_hash {
         #[cfg(feature = "random")]
         impl Default for RandomState {
             fn default() -> Self {
-                // The seed is the low bits of what the standard library draws for its maps.
-                Self(State::with_seed(crate::plain::drawn() as $word))
+                // The seed is the low bits of a hash by the random keys that the standard library draws for its maps.
+                Self(State::with_seed(std::collections::hash_map::RandomState::new().hash_one(()) as $word))
             }
         }
 
@@ -257,13 +249,4 @@ macro_rules! plain_hash {
             }
         }
     };
-}
-
-// A word that the standard library draws: its maps' keys come from the system.
-#[cfg(feature = "random")]
-pub(crate) fn drawn() -> u64 {
-    use std::hash::{BuildHasher as _, Hasher as _};
-    std::collections::hash_map::RandomState::new()
-        .build_hasher()
-        .finish()
 }

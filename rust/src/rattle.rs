@@ -99,10 +99,7 @@ pub fn as_chunks<T, const N: usize>(items: &[T]) -> (&[[T; N]], &[T]) {
 /// Returns the `N` bytes from byte `i` on.
 #[inline(always)]
 pub fn array_at<const N: usize>(bytes: &[u8], i: usize) -> &[u8; N] {
-    match bytes[i..].first_chunk() {
-        Some(array) => array,
-        None => out_of_bounds(),
-    }
+    bytes[i..].first_chunk().unwrap_or_else(|| out_of_bounds())
 }
 
 /// Copies the first `N` bytes and the last `N` bytes. The place of the last ones is hidden from the optimizer: it would take

@@ -7,6 +7,7 @@ use crate::rattle::prelude::HostRuntime;
 use crate::rattle::process::ExitCode;
 use crate::programs::xxh_program::program::run_process;
 
+/// Runs the program over the process's arguments and streams, and returns its exit status.
 pub fn main(rt: HostRuntime) -> ExitCode {
     ExitCode::from(run_process(&rt, &mut rt.stdin(), rt.stdout(), rt.stderr()))
 }

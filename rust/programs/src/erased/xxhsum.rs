@@ -20,7 +20,7 @@ use crate::programs::xxhsum_program::process::{Console, Interactive};
 use crate::programs::xxhsum_program::streams::Streams;
 use crate::programs::xxhsum_program::terminal::Terminal;
 
-// Passes the process's arguments, files and streams to the program.
+/// Passes the process's arguments, files and streams to the program, and returns its exit status.
 pub fn main(rt: HostRuntime) -> ExitCode {
     let (shows_output, shows_errors) = (rt.stdout().is_terminal(), rt.stderr().is_terminal());
     let console = Console {

@@ -183,11 +183,17 @@ impl Core {
     #[inline(always)]
     pub(super) fn write_of_stream<'d>(&mut self, input: &'d [u8]) -> &'d [u8] {
         if IN_PAIRS {
-            let after = self.write_pairs(input);
-            self.write_stripes(after)
+            self.write_by_pairs(input)
         } else {
             self.write_stripes(input)
         }
+    }
+
+    // Does the same by pairs. Proved by itself, since `IN_PAIRS` is true only in the crate for cargo.
+    #[inline(always)]
+    fn write_by_pairs<'d>(&mut self, input: &'d [u8]) -> &'d [u8] {
+        let after = self.write_pairs(input);
+        self.write_stripes(after)
     }
 
     // Adds the whole stripes of the input, and returns the bytes after them. With `BLOCKS` it adds whole blocks first.

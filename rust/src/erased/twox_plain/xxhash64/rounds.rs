@@ -133,11 +133,17 @@ impl Core {
     #[inline(always)]
     pub(super) fn write_of_stream<'d>(&mut self, input: &'d [u8]) -> &'d [u8] {
         if IN_PAIRS {
-            let after = self.write_pairs(input);
-            self.write_many(after)
+            self.write_by_pairs(input)
         } else {
             self.write_many(input)
         }
+    }
+
+    // Does the same by pairs. Proved by itself, since `IN_PAIRS` is true only in the crate for cargo.
+    #[inline(always)]
+    fn write_by_pairs<'d>(&mut self, input: &'d [u8]) -> &'d [u8] {
+        let after = self.write_pairs(input);
+        self.write_many(after)
     }
 
     // Converges the four accumulators to one value.
