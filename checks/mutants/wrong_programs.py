@@ -12,7 +12,7 @@ class Wrong(NamedTuple):
     row: str
 
 
-SYSTEM, CHECK = 'xxhsum_fs/src/system.rt', 'xxhsum_program/src/check.rt'
+CALLS, ENTRIES, CHECK = 'xxhsum_fs/src/calls.rt', 'xxhsum_fs/src/entries.rt', 'xxhsum_program/src/check.rt'
 EVER = 'for _ in 0..u64::MAX {'
 BELOW, DEEP = 'files below a folder', 'a list, both streams one pipe'
 VANISHED = 'a name that vanishes before it is looked up'
@@ -28,40 +28,41 @@ def before_output(old, call, check, row):
 
 
 WRONG = {
-    'kind_of takes a failed look-up for a device': Wrong(
-        SYSTEM, 'PathKind::Unknown(refusal)', 'PathKind::Other', 'failing', BELOW),
-    'kind_of takes a failed look-up for a file': Wrong(
-        SYSTEM, 'PathKind::Unknown(refusal)', 'PathKind::File', 'failing', BELOW),
-    'kind_of takes a name that has vanished for a device': Wrong(
-        SYSTEM, '                    PathKind::File\n', '                    PathKind::Other\n', 'failing', VANISHED),
+    'look_up_itself finds a file after an error': Wrong(
+        CALLS, 'fs::symlink_metadata(self.process, name)',
+        'match fs::symlink_metadata(self.process, name) { Ok(found) => Ok(found), Err(_) => Ok(Metadata::of_file(0)) }',
+        'failing', BELOW),
+    'look_up_itself takes each error for a missing name': Wrong(
+        CALLS, 'fs::symlink_metadata(self.process, name)',
+        'match fs::symlink_metadata(self.process, name) { Ok(found) => Ok(found), '
+        'Err(_) => Err(io::Error::from_raw_os_error(2)) }', 'failing', BELOW),
+    'look_up_itself has another error for a name that has vanished': Wrong(
+        CALLS, 'fs::symlink_metadata(self.process, name)',
+        'match fs::symlink_metadata(self.process, name) { Ok(found) => Ok(found), '
+        'Err(_) => Err(io::Error::from_raw_os_error(5)) }', 'failing', VANISHED),
     'main writes the parts of a message': Wrong(
         'xxhsum/src/main.rt', 'WholeLines::new(FromWrite::new(rt.stderr()), true)', 'WholeLines::new(FromWrite::new(rt.stderr()), false)',
         'pipes', 'whole messages'),
     'main shows progress on a dumb terminal': Wrong(
         'xxhsum/src/main.rt', 'errors: shows_errors && !is_dumb(&rt),', 'errors: shows_errors,', 'terminals',
         'no progress on a dumb terminal'),
-    'is_directory takes a failed look-up for no': Wrong(
-        SYSTEM, 'Err(_) => self.process.open_dir(path).is_ok(),', 'Err(_) => false,', 'failing', 'an audit below a folder'),
-    'open calls every file missing': Wrong(
-        SYSTEM, 'Err(error) => Err(words_of(error)),', 'Err(_) => Err(Refusal::new(2, b"No such file or directory")),',
+    'look_up finds a file after an error': Wrong(
+        CALLS, 'fs::metadata(self.process, name)',
+        'match fs::metadata(self.process, name) { Ok(found) => Ok(found), Err(_) => Ok(Metadata::of_file(0)) }',
+        'failing', 'an audit below a folder'),
+    'open takes each error for a missing file': Wrong(
+        CALLS, """            Ok(file) => Ok(Reads::new(file)),
+            Err(error) => Err(error),""", """            Ok(file) => Ok(Reads::new(file)),
+            Err(_) => Err(io::Error::from_raw_os_error(2)),""", 'failing', 'one file'),
+    'open_directory has one error': Wrong(
+        CALLS, """            Ok(directory) => Ok(Reads::new(directory)),
+            Err(error) => Err(error),""", """            Ok(directory) => Ok(Reads::new(directory)),
+            Err(_) => Err(io::Error::from_raw_os_error(5)),""", 'failing', BELOW),
+    'read_once has one error': Wrong(
+        CALLS, 'self.reader.read(buf)',
+        'match self.reader.read(buf) { Ok(count) => Ok(count), Err(_) => Err(io::Error::from_raw_os_error(5)) }',
         'failing', 'one file'),
-    'names_in takes a refused folder for an empty one': Wrong(
-        SYSTEM, '            Err(error) => Err(FolderError::Refused(words_of(error))),', '            Err(_) => Ok(Vec::new(alloc)),',
-        'failing', BELOW),
-    'names_in takes a folder for an empty one where too many files are open': Wrong(
-        SYSTEM, '            Err(error) => Err(FolderError::Refused(words_of(error))),',
-        '            Err(error) => { if error.raw_os_error() == Some(24) { return Ok(Vec::new(alloc)); } '
-        'Err(FolderError::Refused(words_of(error))) }', 'failing', BELOW),
-    'names_of ends a folder at a failed read': Wrong(
-        SYSTEM, 'Err(error) => return Err(FolderError::Refused(words_of(error))),', 'Err(_) => return Ok(names),', 'failing', BELOW),
-    'names_of repeats no interrupted read': Wrong(
-        SYSTEM, 'let mut dir = Uninterrupted::new(dir);', 'let mut dir = dir;', 'failing', BELOW),
-    'read has one reason for each failure': Wrong(
-        'xxh_io/src/from_read.rt', 'self.failure = Some(words_of(error));',
-        'let _ = words_of(error);\n                self.failure = Some(Refusal::new(5, b"Input/output error"));', 'failing', 'one file'),
-    'main repeats no interrupted read of the input': Wrong(
-        'xxhsum/src/main.rt', 'FromRead::new(Uninterrupted::new(rt.stdin()))', 'FromRead::new(rt.stdin())', 'failing', 'a long input'),
-    'names_of has no memory past 8 reads': Wrong(SYSTEM, EVER, 'for _ in 0..8 {', 'many', TREE),
+    'names_of has no memory past 8 reads': Wrong(ENTRIES, EVER, 'for _ in 0..8 {', 'many', TREE),
     'files_below has no memory past 100,000 names': Wrong(
         'xxhsum_app/src/walk.rt', EVER, 'for _ in 0..100_000 {', 'many', TREE),
     'same_in has no memory past 65,536 files': Wrong(
@@ -97,7 +98,4 @@ WRONG = {
     'run_arguments shows no progress below folders': Wrong(
         RUN, SHOWN, 'ProgressDisplay::new(terminal, interactive, xxhsum_options::options::Options { is_quiet: options.walks, ..options })',
         'terminals', 'progress below a folder'),
-    'size is modulo 2^40': Wrong(
-        SYSTEM, 'Some(found.len())', 'Some(found.len() % 1_099_511_627_776)', 'terminals',
-        'the rate and the time left of more than a tebibyte'),
 }

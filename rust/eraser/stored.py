@@ -13,7 +13,7 @@ from tokens import Refused, rattle
 HERE = os.path.dirname(os.path.abspath(__file__))
 # The sums of the files of `main`: a program has no `mir.json`. They call the crates below, the streams of the process, and
 # of the standard library `is_terminal`, `alloc` and `var`.
-PROGRAMS_READ = {'1672933e99ffd7604939f2872a2ebfc3', '6a91971d906aed9178eff388437162d6'}
+PROGRAMS_READ = {'1672933e99ffd7604939f2872a2ebfc3', 'acdd16c9a538985f3d82804cfc66ad94'}
 STORED, CALLEES = os.path.join(HERE, 'stored.txt'), os.path.join(HERE, 'callees.txt')
 
 

@@ -5,16 +5,16 @@ from .worlds import NO_MEMORY, WRITE_FAILED, Fault, Outcome
 
 # The errors of each call. Linux returns each of these for some file system or device.
 ERRORS = {
-    **{name: ('EIO', 'EACCES', 'EMFILE', 'EINTR', 'ESTALE', 'ENXIO') for name in ('open', 'openat')},
-    'read': ('EIO', 'EACCES', 'EINTR', 'EAGAIN', 'EISDIR', 'ESTALE'), 'write': ('EIO', 'ENOSPC', 'EINTR', 'EAGAIN'),
-    'getdents64': ('EIO', 'EACCES', 'EINTR', 'ENOENT'),
+    **{name: ('EIO', 'EACCES', 'EMFILE', 'EINTR', 'ESTALE', 'ENXIO', 'EUCLEAN') for name in ('open', 'openat')},
+    'read': ('EIO', 'EACCES', 'EINTR', 'EAGAIN', 'EISDIR', 'ESTALE', 'EUCLEAN'), 'write': ('EIO', 'ENOSPC', 'EINTR', 'EAGAIN'),
+    'getdents64': ('EIO', 'EACCES', 'EINTR', 'ENOENT', 'ESTALE', 'EUCLEAN'),
     'close': ('EIO', 'EINTR'), 'ioctl': ('EIO',),
-    **{name: ('EIO', 'EACCES', 'EMFILE', 'ESTALE') for name in ('stat', 'lstat', 'statx', 'newfstatat', 'readlink', 'readlinkat')},
+    **{name: ('EIO', 'EACCES', 'EMFILE', 'ESTALE', 'EUCLEAN') for name in ('stat', 'lstat', 'statx', 'newfstatat', 'readlink', 'readlinkat')},
 }
 WHYS = {'EIO': 'Input/output error', 'EACCES': 'Permission denied', 'EMFILE': 'Too many open files',
         'EINTR': 'Interrupted system call', 'ENOSPC': 'No space left on device', 'ESTALE': 'Stale file handle',
         'ENXIO': 'No such device or address', 'EAGAIN': 'Resource temporarily unavailable',
-        'ENOENT': 'No such file or directory', 'EISDIR': 'Is a directory'}
+        'ENOENT': 'No such file or directory', 'EISDIR': 'Is a directory', 'EUCLEAN': 'Structure needs cleaning'}
 OPENS = ('open', 'openat')
 READS = ('read', 'readv', 'pread64')
 WRITES = ('write', 'writev')

@@ -4,9 +4,9 @@
 use std::io::IsTerminal;
 use std::process::ExitCode;
 use std::rt::Env;
-use xxh_io::from_read::FromRead;
 use xxh_io::from_write::FromWrite;
 use xxhsum_app::run::run;
+use xxhsum_fs::calls::{Process, Reads};
 use xxhsum_fs::system::SystemFiles;
 use xxhsum_fs::uninterrupted::Uninterrupted;
 use xxhsum_output::messages::Messages;
@@ -21,7 +21,7 @@ use xxhsum_program::terminal::Terminal;
 pub fn main(rt: HostRuntime) -> ExitCode {
     let (shows_output, shows_errors) = (rt.stdout().is_terminal(), rt.stderr().is_terminal());
     let console = Console {
-        input: FromRead::new(Uninterrupted::new(rt.stdin())),
+        input: Uninterrupted::new(Reads::new(rt.stdin())),
         interactive: Interactive {
             input: rt.stdin().is_terminal(),
             errors: shows_errors && !is_dumb(&rt),
@@ -38,7 +38,7 @@ pub fn main(rt: HostRuntime) -> ExitCode {
     ExitCode::from(run(
         rt.alloc(),
         &ProcessArguments::new(&rt),
-        &SystemFiles::new(&rt),
+        &SystemFiles::new(&Process::new(&rt)),
         console,
         &mut streams,
     ))

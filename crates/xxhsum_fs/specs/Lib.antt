@@ -1,3 +1,5 @@
+pub mod Calls
+pub mod Entries
 pub mod Folders
 pub mod Memory
 pub mod Rules

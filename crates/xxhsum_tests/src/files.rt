@@ -5,6 +5,7 @@ use std::test::Fail;
 use xxh_io::refusal::Refusal;
 use xxh_io::script_source::{ScriptSource, SliceSource};
 use xxh_io::streams::Source;
+use xxhsum_fs::calls::Process;
 use xxhsum_fs::memory::{MemoryEntry, MemoryFiles};
 use xxhsum_fs::store::Store;
 use xxhsum_fs::system::SystemFiles;
@@ -90,7 +91,7 @@ fn a_refusal_has_its_words(rt: HostRuntime) -> Result<(), Fail> {
 fn the_system_gives_its_files(rt: HostRuntime) {
     assert!(rt;
         leads_to(
-            &SystemFiles::new(&rt),
+            &SystemFiles::new(&Process::new(&rt)),
             &[
                 (b"/dev/null", b"", false),
                 (b"/", b"fails", true),
@@ -110,7 +111,7 @@ fn a_refusal_of_the_system_has_its_words(rt: HostRuntime) -> Result<(), Fail> {
         (b"/no such name", b"No such file or directory"),
         (b"/\xff", b"The name is not UTF-8"),
     ] {
-        let Err(why) = SystemFiles::new(&rt).open(name) else {
+        let Err(why) = SystemFiles::new(&Process::new(&rt)).open(name) else {
             return Err(Fail::from("it is there"));
         };
         assert!(rt; why.text() == words);

@@ -1,1 +1,2 @@
 mod HeadlineFacts
+mod TreeFacts

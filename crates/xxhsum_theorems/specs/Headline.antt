@@ -1,6 +1,9 @@
 -- Definitions of the main theorem.
 use Rattle.std.specs.Prelude.{◌≡◌, ◌⊎◌, ℕ, List, [], ◌∷◌, ◌++◌}
 use Rattle.xxhsum_program.specs.Prelude.{SinkRules, Took, one_line}
+use Rattle.xxhsum_app.specs.Walk.{Tree, given}
+use Rattle.xxhsum_app.specs.WalkLaws.{IsSteady, LeadsTo}
+use Rattle.xxhsum_audit.specs.Item.{IsAmong}
 use Rattle.xxhsum_line.specs.Laws.{IsOneLine}
 use Rattle.xxhsum_program.specs.Order.{Event, Printed, Reported}
 
@@ -22,3 +25,14 @@ abbrev pub PrintsBeginning : {W : Type 0} → SinkRules W → List ℕ → W →
 PrintsBeginning {W} writing lines old new =
     (front rest : List ℕ) × (met : W) × (lines ≡ front ++ rest) × Took writing front old met
     × ((new ≡ met) ⊎ writing.refuses met new)
+
+-- the names lead to the file through names in directories
+abbrev pub LeadTo : Tree → List (List ℕ) → List ℕ → Type 0
+LeadTo tree names file =
+    (name : List ℕ) × (behind : List (List ℕ)) × IsAmong names name × LeadsTo tree (given name) behind file
+
+-- The names lead to each of these files. They lead to no other file, if no directory changes meanwhile.
+abbrev pub AreFilesBelow : Tree → List (List ℕ) → List (List ℕ) → Type 0
+AreFilesBelow tree names files =
+    ((file : List ℕ) → IsAmong files file → LeadTo tree names file)
+    × (IsSteady tree → (file : List ℕ) → LeadTo tree names file → IsAmong files file)

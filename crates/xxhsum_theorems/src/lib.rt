@@ -14,7 +14,9 @@ ghost use Rattle.xxhsum_audit.specs.Audit.{IsAudit};
 ghost use Rattle.xxhsum_audit.specs.Item.{HasSameDigest, IsAmong, Item};
 ghost use Rattle.xxhsum_audit.specs.Laws.{IsKept, IsRight};
 ghost use Rattle.xxhsum_audit.specs.Found.{Copied, Found, Missing, New, Same, line_in, name_in};
-ghost use Rattle.xxhsum_theorems.specs.Headline.{IsLineAtMost, IsLineOrMessage, PrintsBeginning};
+ghost use Rattle.xxhsum_app.specs.Run.{WalksFolders};
+ghost use Rattle.xxhsum_app.specs.Walk.{tree_of};
+ghost use Rattle.xxhsum_theorems.specs.Headline.{AreFilesBelow, IsLineAtMost, IsLineOrMessage, PrintsBeginning};
 ghost use Rattle.xxhsum_line.specs.Entry.{Says};
 ghost use Rattle.xxhsum_line.specs.Escapes.{one_line};
 ghost use Rattle.xxhsum_line.specs.Laws.{IsOneLine};
@@ -30,10 +32,12 @@ ghost use Rattle.xxhsum_program.specs.Files.{files_of, input_of};
 ghost use Rattle.xxhsum_program.specs.Order.{EmitsAll, EmitsTo, Event, effect_of, printed_of, reported_of, rules_of};
 ghost use Rattle.xxhsum_program.specs.Streams.{err_of};
 ghost use Rattle.xxhsum_program.specs.ListMessages.{finding_events, list_events};
-ghost use Rattle.xxhsum_program.specs.Run.{status_of};
+ghost use Rattle.xxhsum_program.specs.Run.{status_of, style_of};
 
 use xxh_io::streams::{Sink, Source};
+use xxhsum_app::walk::laws_of_walks;
 use xxhsum_audit::laws::laws_of_audits;
+use xxhsum_fs::folders::Folders;
 use xxhsum_fs::store::Store;
 use xxhsum_line::laws::laws_of_lines;
 use xxhsum_program::{good_lists, printed_lists};
@@ -64,6 +68,24 @@ pub fn each_name_once<S: Store, W: Sink, E: Sink>()
         × Eprints E.Sink (reported_of events) (err_of old) (err_of new))
         × (all ≡ are_digested outcomes) }
 {}
+
+/// A run over folders (`-r`) with status 0: standard output has one line for each of these files, in their order, and
+/// each has a value. The files are those that the given names lead to through the names in folders, and no others, if
+/// no folder changes meanwhile.
+pub fn each_file_below_once<S: Store + Folders, W: Sink, E: Sink>()
+    ensures { (held : W → List ℕ) (has_lost : W → Bool) (store : S) (options : Options)
+        → (names : List (List ℕ)) (old new : Streams W E)
+        → WalksFolders (tree_of S.Store S.Folders store) (files_of S.Store S.File.Source store)
+        (effect_of (rules_of W.Sink held has_lost E.Sink) old new (Ok true)) options names
+        → (files : List (List ℕ)) × (outcomes : List Outcome)
+        × EachHas (Comes (files_of S.Store S.File.Source store) options.kind) files outcomes
+        × (are_digested outcomes ≡ true)
+        × (let events = lines_of (name_events options.kind (style_of options)) files outcomes in
+        Took W.Sink (printed_of events) old.out new.out)
+        × AreFilesBelow (tree_of S.Store S.Folders store) names files }
+{
+    laws_of_walks::<S>();
+}
 
 /// Events are exactly the bytes of both streams: standard output takes what they print and standard error what they
 /// report. If a write failed, a prefix of the printed bytes is written.

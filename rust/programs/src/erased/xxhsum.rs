@@ -7,9 +7,9 @@ use crate::rattle::prelude::HostRuntime;
 use crate::rattle::io::IsTerminal;
 use crate::rattle::process::ExitCode;
 use crate::rattle::rt::Env;
-use crate::programs::xxh_io::from_read::FromRead;
 use crate::programs::xxh_io::from_write::FromWrite;
 use crate::programs::xxhsum_app::run::run;
+use crate::programs::xxhsum_fs::calls::{Process, Reads};
 use crate::programs::xxhsum_fs::system::SystemFiles;
 use crate::programs::xxhsum_fs::uninterrupted::Uninterrupted;
 use crate::programs::xxhsum_output::messages::Messages;
@@ -24,7 +24,7 @@ use crate::programs::xxhsum_program::terminal::Terminal;
 pub fn main(rt: HostRuntime) -> ExitCode {
     let (shows_output, shows_errors) = (rt.stdout().is_terminal(), rt.stderr().is_terminal());
     let console = Console {
-        input: FromRead::new(Uninterrupted::new(rt.stdin())),
+        input: Uninterrupted::new(Reads::new(rt.stdin())),
         interactive: Interactive {
             input: rt.stdin().is_terminal(),
             errors: shows_errors && !is_dumb(&rt),
@@ -41,7 +41,7 @@ pub fn main(rt: HostRuntime) -> ExitCode {
     ExitCode::from(run(
         rt.alloc(),
         &ProcessArguments::new(&rt),
-        &SystemFiles::new(&rt),
+        &SystemFiles::new(&Process::new(&rt)),
         console,
         &mut streams,
     ))

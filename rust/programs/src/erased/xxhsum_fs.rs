@@ -3,6 +3,8 @@
 
 //! Files and directories by names that are bytes: those that `xxhsum` opens, from the system or from a table in memory.
 
+pub mod calls;
+pub mod entries;
 pub mod folders;
 pub mod memory;
 pub mod store;

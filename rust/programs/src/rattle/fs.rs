@@ -1,7 +1,7 @@
 // SPDX-License-Identifier: MIT
 //! Files and directories.
 
-use std::fs::Metadata;
+pub use std::fs::Metadata;
 
 use super::io::{Error, ErrorKind, Read, Result};
 
