@@ -42,9 +42,13 @@ def programs():
 
 
 def makers(texts):
-    """Maps each name to a function that makes a processor of its source."""
-    return {name: functools.partial(CargoProcessor, program) if isinstance(program, CargoProgram) else
+    """Maps each name to a function that makes a processor of its source. The tasks' processes share the instructions'
+    functions, which are looked up here."""
+    made = {name: functools.partial(CargoProcessor, program) if isinstance(program, CargoProgram) else
             functools.partial(Processor, program, name) for name, program in texts.items()}
+    for make in made.values():
+        make()
+    return made
 
 
 def counted(title, least, ask):

@@ -10,7 +10,7 @@ import traceback
 
 import antt
 
-from . import mutation
+from . import definition, mutation
 from .refusals import REFUSALS
 from .nodes import WrongRule
 
@@ -37,8 +37,9 @@ def options(description, jobs=2):
 
 
 def run(tasks, jobs):
-    """Runs the tasks and prints their results. Returns the exit status."""
+    """Runs the tasks and prints their results. Returns the exit status. Their processes share the parsed definitions."""
     began, passed = time.monotonic(), 0
+    definition.program().run()
     with concurrent.futures.ThreadPoolExecutor(jobs) as pool:
         for line, is_good in pool.map(in_process, tasks):
             passed += is_good

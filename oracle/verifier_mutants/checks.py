@@ -13,7 +13,7 @@ import tempfile
 import same_bytes
 from machine_code import (any_secret, any_updates, calls, cargo_calls, cargo_exports, cargo_streams, cargo_tasks,
                           coverage, disabled_checks,
-                          disassembly, every_length, exports, long_seeds, on_processor, one_shots, planted,
+                          disassembly, every_length, exports, instructions, long_seeds, on_processor, one_shots, planted,
                           planted_values, sources, streams,
                           tasks, xxh3_updates)
 from machine_code.cargo import CargoProcessor, CargoProgram
@@ -44,6 +44,7 @@ def begin():
     polynomials.facts.clear()
     polynomials.least.clear()
     definition.suppositions.clear()
+    instructions.known.cache_clear()
 
 
 class Sources:

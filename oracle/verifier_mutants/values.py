@@ -560,6 +560,18 @@ def copies(draw):
                                                                 8), True, "apart")
 
 
+def rests_of_runs(message, n):
+    """Tests what is left of a run beside a store, also of a run from a symbolic offset on."""
+    for low, at, end, left in (
+            (0, 2, 20, [(0, 2)]), (0, 10, 20, [(0, 10)]), (0, -9, 0, [(0, 10)]), (0, 0, 4, [(4, 10)]), (5, 0, 5, [(5, 10)]),
+            (0, 3, 7, [(0, 3), (7, 10)]), (0, 0, 10, []), (0, -3, 13, []), (0, 9, 10, [(0, 9)])):
+        found = outside((low, 10, message, 0), at, end)
+        expect(found == [(*part, message, 0) for part in left], True, f"a run from {low} beside {at} to {end}")
+    found = outside((n, plus(n, 40), message, 0), 0, 7)
+    expect(found == [(plus(n, 8), plus(n, 40), message, 0)], True, "the rest of a run from a symbolic offset")
+    expect(outside((n, plus(n, 6), message, 0), 0, 7) == [], True, "a run that may be written over")
+
+
 def inputs(draw):
     n = variable("n")
     message = Input("m", plus(times(64, n), 10))
@@ -597,11 +609,7 @@ def inputs(draw):
         refuses(lambda: room.put_run(500, plus(n, 12), message, 0), "a run behind the end")
         expect(in_order(3, 5) == (3, 5) and in_order(5, 3) == (3, 5), True, "the order of two")
         refuses(lambda: in_order(n, 5), "an undecided order")
-        expect(outside((0, 10, message, 0), 2, 20) == [] and outside((0, 10, message, 0), 10, 20) == [(0, 10, message,
-                                                                0)] and
-               outside((0, 10, message, 0), 0, 4) == [(4, 10, message, 0)] and outside((5, 10, message, 0), 0,
-                                                                5) == [(5, 10, message, 0)], True,
-               "the rest of a run")
+        rests_of_runs(message, n)
     for at, size, length, expected in ((0, 8, 8, True), (1, 8, 8, False), (-1, 2, 8, False), (8, 0, 8, True),
                                        (7, 1, 8, True), (8, 1, 8, False)):
         expect(is_inside(at, size, length), expected, "inside")

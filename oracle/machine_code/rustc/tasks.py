@@ -38,6 +38,8 @@ def choose(given, compilers):
         program = compiler.program_of()
         make = functools.partial(compiler.processor, program)
         made = {f"level {level}": functools.partial(make, level) for level in OF_BUILD.get(compiler.name, (1,))}
+        for one in made.values():
+            one()      # looks up the instructions' functions, which the tasks' processes share
         out += build_tasks(compiler.name, made, given.all)
         out += called_tasks(compiler.name, make, program, made, given.all)
     out += fault_tasks(given, compilers)
