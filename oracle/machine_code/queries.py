@@ -46,9 +46,9 @@ def requests(is_all):
     kinds += [(name, kind, 136 if kind in ("secret", "both") else None) for name in ("3-64", "3-128")
               for kind in one_shots.WAYS]
     for hash_name, kind, secret in kinds if is_all else [kind for kind in kinds if kind not in LEFT_OUT]:
-        for n in sorted({*EDGES, *ONE_SHOTS}) if is_all else EDGES:
+        for n in sorted({*EDGES, *ONE_SHOTS}) if is_all else EDGES[::2]:
             yield Request(hash_name, kind, n, secret)
-        for n, *cuts in [*((n,) for n in EDGES), *STREAMS] if is_all else [*((n,) for n in EDGES[:-6]), *STREAMS[::3]]:
+        for n, *cuts in [*((n,) for n in EDGES), *STREAMS] if is_all else [*((n,) for n in EDGES[1:-6:4]), *STREAMS[::3]]:
             yield Request(hash_name, kind, n, secret, cuts=cuts)
     for hash_name in ("3-64", "3-128"):
         for n, secret in BY_SECRETS:

@@ -16,7 +16,7 @@ from .instructions import SETS, TABLE, V1, V4
 from .queries import CASES, Beside, plain_update, xxh3_update
 from .tasks import counted, makers
 
-SOME_EXPORTS = 13                 # step between removed exports without --all
+SOME_EXPORTS = 26                 # step between removed exports without --all
 SOME_CHECKS, SWITCHED_OFF = 9, (4, 100)      # step of planted faults without --all; minimum of disabled checks
 
 

@@ -14,8 +14,8 @@ from .machine import Module
 from .reference import HEADERS, VECTORS, llvm_text, of_reference
 
 PARTS = 4                    # tasks into which the changes are split
-SAMPLE = 64                  # in CI, step between tested changes of the definition
-LINES, FEW_LINES = 5000, 40  # changes of the LLVM code, with --all and without
+SAMPLE = 96                  # in CI, step between tested changes of the definition
+LINES, FEW_LINES = 5000, 25  # changes of the LLVM code, with --all and without
 GATE_SECRETS, STREAM_SECRETS = (136,), (136, 192)
 
 
@@ -110,7 +110,7 @@ def of_changes(is_all, vector, headers):
     yield Task("changes by hand of the definitions, that differ on rare inputs alone", judged(mutation.by_hand), vector)
     if headers != HEADERS:      # the changes fit only Debian's header
         return
-    asked = {"asked by induction": header_mutants.CHANGES if is_all else header_mutants.CHANGES[::4],
+    asked = {"asked by induction": header_mutants.CHANGES if is_all else header_mutants.CHANGES[::8],
              **({"streams of XXH3": header_mutants.DEAR} if is_all else {})}
     yield from (Task(f"changes of the header 0.8.1, {how}", judged(
         lambda module, changed=changed: header_mutants.tell(changed), "queries")) for how, changed in asked.items())

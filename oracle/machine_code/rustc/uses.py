@@ -167,12 +167,12 @@ def one_shot(cpu, request):
 STREAMS = [(0,), (9, 2), (70, 33, 64), (241, 239), (600, 512, 599), (1100, 64)]
 
 
-def by_each_way(cpu, is_cloned):
+def by_each_way(cpu, is_cloned, asked=STREAMS):
     """Compares streams by each way to start them, with each chunk written to a clone or not."""
     count, entries, texts = 0, definition.program().run(), {}
     for hash_name in HASHES:
         for way in ways(hash_name):
-            for length, *cuts in STREAMS:
+            for length, *cuts in asked:
                 fixed = 0 if way.kind == "zero" else None
                 request = Request(hash_name, "seed" if way.kind == "zero" else way.kind, length,
                                   SHORTEST if way.kind == "both" else None, fixed, cuts)

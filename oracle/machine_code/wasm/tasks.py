@@ -24,7 +24,7 @@ GATE_KINDS, GATE_CASES = [("32", "seed"), ("64", "seed"), ("3-64", "seed"), ("3-
 # Cases of XXH3's streams: size of a sample, and the number of parts of all.
 XXH3_CASES = {UPDATES: (8, 4), DIGESTS: (37, 2), STRIPES: (2, 2)}
 GATE_CHANGES, CHANGES = 12, 1000     # of a module
-GATE_TYPES, GATE_REMOVED = 13, 6     # steps between planted types of exports, and removed exports
+GATE_TYPES, GATE_REMOVED = 3, 6      # steps between planted types of exports, and removed exports
 PARTS = 4                            # tasks into which the changes of a module are split
 
 # Every export, with words of the titles of tasks that prove it.
@@ -179,7 +179,7 @@ def streams_by_induction(is_all):
         for width in (32, 64):
             title = f"XXH{width}, {module}: streams of any updates, to 2^64 - 2 bytes"
             yield (title + ("" if is_all else ", a sample"), functools.partial(
-                streams_shown, module=module, width=width, each=1 if is_all else width // 2))
+                streams_shown, module=module, width=width, each=1 if is_all else width))
 
 
 def streams_shown(machines, module, width, each):
