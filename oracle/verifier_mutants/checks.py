@@ -11,7 +11,7 @@ import re
 import tempfile
 
 import same_bytes
-from machine_code import (any_secret, any_updates, calls, cargo_calls, cargo_exports, cargo_streams, cargo_tasks,
+from machine_code import (any_secret, any_updates, calls, cargo_exports, cargo_streams, cargo_tasks,
                           coverage, disabled_checks,
                           disassembly, every_length, exports, instructions, long_seeds, on_processor, one_shots, planted,
                           planted_values, sources, streams,
@@ -24,7 +24,7 @@ from machine_code.processor import Processor
 from machine_code.unwinding import expect_frames
 from symbolic_terms import REFUSALS, TOP, Request, comparison, definition, nodes, polynomials, variable
 
-from . import edges, objects, processors, values
+from . import edges, inductions, objects, processors, values
 from .values import Wrong
 
 # Where a check belongs: values, the processor, sources that must pass, planted files.
@@ -45,6 +45,7 @@ def begin():
     polynomials.least.clear()
     definition.suppositions.clear()
     instructions.known.cache_clear()
+    disassembly.assembled.clear()
 
 
 class Sources:
@@ -199,10 +200,11 @@ def right_checks(known):
         yield one(f"streams of {comparison.title_of(*kind)}", requests, V2, kind, (), CUTS)
         yield one(f"x86-64-v3, {comparison.title_of(*kind)}", requests, V3, kind, (5, 40, 150, 300))
     yield one("x86-64-v4", requests, V4, ("3-64", "secret", 192), (300, 1100))
-    for name, least, call in [*calls.OTHERS, *calls.SHORT_SECRETS]:
-        yield Check(name, RIGHT, lambda call=call, least=least: expect_count(call(known.processor(V2)), least))
-    for call in cargo_calls.ALL:
-        yield Check(f"cargo: {call.__name__}", RIGHT, lambda call=call: call(known.processor("cargo")))
+    for name, count, call in [*calls.OTHERS, *calls.SHORT_SECRETS]:
+        yield Check(name, RIGHT, lambda call=call, count=count: expect_count(call(known.processor(V2)), count))
+    for title, count, call in cargo_tasks.refusal_tasks(lambda *of_task: of_task):
+        yield Check(f"cargo: {title}", RIGHT, lambda call=call, count=count: expect_count(call(known.processor("cargo")), count))
+    yield Check("a state without a run", RIGHT, lambda: inductions.lost_runs(known.processor(V2)))
     yield Check("secrets of 2^32 bytes", RIGHT, lambda: long_seeds.made_secrets(known.processor(V2),
                                                                 tasks.OF_LONG_SEEDS))
     yield one("cargo: long inputs", requests, "cargo", ("3-64", "secret", 136), (241, 300, 700))
@@ -243,9 +245,9 @@ def of_short(known):
     return proof, [functools.partial(proof.show_short, n) for n in (0, 3, 8, 16, 17, 129, 200, 240)]
 
 
-def expect_count(count, least):
-    if count < least:
-        raise Wrong(f"{count} cases, and {least} at least are wanted")
+def expect_count(actual, expected):
+    if actual != expected:
+        raise Wrong(f"{actual} cases, and not {expected}")
 
 
 # ---- planted files
@@ -267,7 +269,7 @@ def planted_checks():
 
 
 def value_checks(known):
-    for test in [*values.ALL, *edges.ALL, *objects.ALL, *processors.ALL]:
+    for test in [*values.ALL, *edges.ALL, *inductions.ALL, *objects.ALL, *processors.ALL]:
         yield Check(f"{test.__module__.rpartition('.')[2]}: {test.__name__}", VALUES, functools.partial(test,
                                                                 random.Random(1)))
     for first in range(0, len(known.snippets[2]), GROUP):
@@ -280,4 +282,4 @@ def prepare(folder, objects):
     return [*value_checks(known), *right_checks(known), *planted_checks()]
 
 
-assert cargo_tasks and planted
+assert planted
