@@ -16,6 +16,8 @@ from .instructions import SETS, TABLE, V1, V4
 from .queries import CASES, Beside, plain_update, xxh3_update
 from .tasks import counted, makers
 
+OF_CARGO = [cargo_calls.interface, cargo_calls.few_bytes, cargo_calls.secrets_of_long_inputs, cargo_calls.without_mark,
+            cargo_calls.out_of_range, cargo_calls.secrets_of_streams]
 SOME_EXPORTS = 26                 # step between removed exports without --all
 SOME_CHECKS, SWITCHED_OFF = 9, (4, 100)      # step of planted faults without --all; minimum of disabled checks
 
@@ -71,7 +73,7 @@ def change_tasks(texts, others, is_all):
             yield change_task(name, (12, 100), is_all, name, make)
     name = f"cargo's {V1}"
     task = change_task(name, (6, 30), is_all, f"cargo-{V1}", makers(others)[name],
-                     beside=Beside([*cargo_calls.ALL, *pieces()], cargo_streams.CargoUpdates, each_piece, 241))
+                     beside=Beside([*OF_CARGO, *pieces()], cargo_streams.CargoUpdates, each_piece, 241))
     task.title = BEGIN + task.title
     yield task
 

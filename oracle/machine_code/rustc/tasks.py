@@ -2,7 +2,7 @@
 import functools
 import re
 
-from symbolic_terms import comparison
+from symbolic_terms import comparison, cuts
 from symbolic_terms.comparison import title_of
 
 from .. import any_updates, every_length
@@ -75,7 +75,7 @@ def stream_tasks(name, made, is_all):
     for kind in comparison.kinds(SECRETS):
         if kind[1] != "secret":
             some = STREAMED[name == V1::2]      # the builds share the code of short streams
-            asked = comparison.requests(*kind, comparison.STREAMED if is_all else some, True)
+            asked = cuts.streams(*kind, cuts.STREAMED if is_all else some)
             yield compared(made, f"{name}: {title_of(*kind)}, streams", asked, uses)
 
 

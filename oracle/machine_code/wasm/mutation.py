@@ -12,7 +12,8 @@ import os
 import random
 
 from reasons import CRASH, UNNOTICED, WRONG_RULE, Reasons, is_fault
-from symbolic_terms import REFUSALS, Request, WrongRule, comparison, differs, nodes
+from symbolic_terms import REFUSALS, Request, WrongRule, comparison, nodes
+from symbolic_terms.mutation import differs
 
 from ..xxh3_updates import TAKE_BLOCKS
 from . import calls, every_length, refusals

@@ -3,7 +3,7 @@ import functools
 import hashlib
 import os
 
-from symbolic_terms import comparison
+from symbolic_terms import comparison, cuts
 from symbolic_terms.processes import Task
 from symbolic_terms.comparison import title_of
 from symbolic_terms.tasks import STREAM_SECRETS
@@ -132,7 +132,7 @@ def of_memory(vm, found):
 # ---- single lengths
 
 def lengths(is_all):
-    each, streamed = 1 if is_all else GATE_EACH, comparison.STREAMED if is_all else GATE_STREAMS
+    each, streamed = 1 if is_all else GATE_EACH, cuts.STREAMED if is_all else GATE_STREAMS
     for kind in comparison.kinds(SECRETS if is_all else GATE_SECRETS):
         of_kind = title_of(*kind)
         yield compared(f"{of_kind}, one-shots of 0 to 300 bytes", kind, one_by_one(each), False)
