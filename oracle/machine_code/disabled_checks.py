@@ -143,7 +143,8 @@ def told_without(cache, module, line, number):
     """Tests a planted fault in a separate process with the check at a line disabled. Returns its output. The processes
     share the other modules' compiled code, in the folder `cache`."""
     words = [sys.executable, os.path.abspath(__file__), module, str(line), str(number)]
-    done = subprocess.run(words, capture_output=True, text=True, env={**os.environ, "PYTHONPYCACHEPREFIX": cache})
+    known = {**os.environ, "PYTHONPYCACHEPREFIX": cache, "PYTHONDONTWRITEBYTECODE": ""}
+    done = subprocess.run(words, capture_output=True, text=True, env=known)
     return "no end" if done.returncode == -signal.SIGXCPU else done.stdout
 
 

@@ -35,7 +35,7 @@ def choose(texts, others, is_all):
             planted_task("wrong lines are refused", planted_lines.X86_ASKED),
             planted_task("texts that assemblers read otherwise are refused", planted_lines.X86_ALIKE),
             planted_task("wrong objects are refused", planted_objects.X86_ASKED),
-            planted_task("wrong texts of each kind are refused", planted.ASKED),
+            planted_task("wrong texts of each kind are refused", planted.ASKED if is_all else planted.ASKED[:-1]),
             planted_task("wrong texts, one for each check, are refused", planted_checks.X86_ASKED[::1 if is_all else SOME_CHECKS]),
             planted_task("calls with wrong operands are refused", planted_values.ASKED),
             counted("checks that are switched off are noticed", SWITCHED_OFF[is_all], functools.partial(disabled_checks.tell, is_all)),

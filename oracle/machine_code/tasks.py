@@ -31,7 +31,7 @@ COVERED = 90, 3000                                  # points tested for complete
 SOME_SECRETS = [*range(136, 144), *range(190, 202), 256, 257, 576, 999, 1000]
 ANY_SECRET = [f"{name}:{way}" for name in ("3-64", "3-128") for way in ("secret", "both")]
 MOST_NODES = 400_000                                # terms kept between the cases of a proof
-SOME_LENGTHS, SOME_OF_XXH32 = (5, 7), 5             # steps between cases of any secret, and of XXH32, without --all
+SOME_LENGTHS, SOME_OF_PLAIN = (5, 7), 10            # steps between cases of any secret, and of XXH32, without --all
 OF_LONG_SEEDS = 137,                                # bytes of secrets generated from 2^32 bytes and more
 FEWEST_FRAMED = 9000                                # minimum number of instructions of a source
 assert scalar and lanes                             # imported because they fill the table
@@ -220,7 +220,7 @@ def every_length_tasks(made, is_all):
         yield counted("every length of XXH3 has its task", 2, xxh3_left_out)
     for kind in every_length.UNROLLED:
         yield from of_every_length(before_v4(made), kind, f"XXH{kind}: every length to 2^64 - 1",
-                                   every_length.cases(kind)[::1 if is_all or kind == "64" else SOME_OF_XXH32])
+                                   every_length.cases(kind)[::1 if is_all else SOME_OF_PLAIN])
     if not is_all:
         yield from [task for name in ("3-64", "3-128") for task in of_every_length(
             made, f"{name}:seed", f"XXH{name}, seed: two cases of every length", every_length.cases(f"{name}:seed")[:2])]

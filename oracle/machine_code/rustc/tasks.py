@@ -132,7 +132,7 @@ def called_tasks(name, make, program, made, is_all):
     elif name != V3:
         others = made
     for level in others if is_all else [*others][-1:]:
-        some = uses.STREAMS[0 if is_all else 3:]
+        some = uses.STREAMS[0 if is_all else 4:]
         yield of_each({level: made[level]}, f"{name}, {level}: streams by each way to start them", 25 * len(some),
                       functools.partial(uses.by_each_way, is_cloned=False, asked=some))
     if program.level and (is_all or name in (V1, ASSEMBLY)):
@@ -172,7 +172,7 @@ def fault_tasks(given, compilers):
     """Yields the tasks of planted faults: of each build together, and with --all one by one."""
     known = {compiler.name for compiler in compilers}      # ARM has no planted faults
     for build, faults in planted.groups().items():
-        if build in known:
+        if planted.build_of(build) in known:
             for some in ([[fault] for fault in faults] if given.all else [faults]):
                 title = some[0].file if given.all else f"{len(some)} faults"
                 yield counted(f"planted in {build}: {title}", len(some),

@@ -179,7 +179,7 @@ def streams_by_induction(is_all):
         for width in (32, 64):
             title = f"XXH{width}, {module}: streams of any updates, to 2^64 - 2 bytes"
             yield (title + ("" if is_all else ", a sample"), functools.partial(
-                streams_shown, module=module, width=width, each=1 if is_all else width))
+                streams_shown, module=module, width=width, each=1 if is_all else width // 2))
 
 
 def streams_shown(machines, module, width, each):
@@ -235,4 +235,5 @@ def of_changes(is_all):
         for part in range(parts):
             title = f"changes in the bytes of {module}" + (f", part {part + 1} of {parts}" if is_all else "")
             count = CHANGES // parts if is_all else GATE_CHANGES
-            yield title, functools.partial(mutation.tell, name=module, count=count, seed=part, is_all=is_all)
+            yield title, functools.partial(
+                mutation.tell, name=module, count=count, seed=part if is_all else PARTS, is_all=is_all)
