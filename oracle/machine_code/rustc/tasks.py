@@ -128,7 +128,7 @@ def called_tasks(name, make, program, made, is_all):
         return
     if is_all or name == ASSEMBLY:
         yield counted(f"{name}: each export of the program is called", FEWEST_USES,
-                      functools.partial(all_called, made[first], program))
+                      functools.partial(all_called, made[first], program, is_all))
     elif name != V3:
         others = made
     for level in others if is_all else [*others][-1:]:
@@ -142,12 +142,12 @@ def called_tasks(name, make, program, made, is_all):
         yield of_each(made, "assembly: chunks of XXH3 of any length that don't fit the buffer", 58, choice.long_chunks)
 
 
-def all_called(make, program):
+def all_called(make, program, is_all):
     """Runs all uses, and compares the exports that they call with the program's."""
     cpu, called = make(), set()
     call = cpu.call
     cpu.call = lambda name, *arguments: called.add(name) or call(name, *arguments)
-    for _, least, ask in uses.ALL:
+    for least, ask in uses.calls(is_all):
         if ask(cpu) < least:
             return 0, ["fewer cases than expected"]
     for kind in comparison.kinds(SECRETS[:1]):

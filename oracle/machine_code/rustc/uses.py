@@ -200,7 +200,8 @@ def written(cpu, hash_name, way, request, is_cloned=False):
     return streams.digest(cpu, hash_name, state)
 
 
-ALL = [("integers as chunks", 4 * 6 * 6, integers), ("seeds and lengths of streams", 6, told),
-       ("secrets that a call returns", 8, secrets), ("secrets that are too short", 20, refused),
-       ("streams by each way to start them", 150, functools.partial(by_each_way, is_cloned=False)),
-       ("streams whose chunks are written to a clone", 150, functools.partial(by_each_way, is_cloned=True))]
+def calls(is_all):
+    """Returns the minimum number of cases and the function of each test. Without `is_all`, streams have few lengths."""
+    some = STREAMS[0 if is_all else 1::1 if is_all else 2]
+    by_way = [(25 * len(some), functools.partial(by_each_way, is_cloned=is_cloned, asked=some)) for is_cloned in (False, True)]
+    return [(4 * 6 * 6, integers), (6, told), (8, secrets), (20, refused), *by_way]
