@@ -3,15 +3,18 @@ runs, which places the cases have, and which tasks there are. Each raises Wrong.
 import types
 import unittest.mock
 
-from machine_code import cargo_tasks, coverage, xxh3_updates
+from machine_code import cargo_tasks, coverage, tasks, xxh3_updates
+from machine_code.induction import Proof
 from machine_code.memory import ENTRY, Stack, Words
 from machine_code.stripes import TAKEN, Part, StripesProof, Summary
 from machine_code.values import Names, address
-from symbolic_terms import RUNS, Input, NotShown, at_most, given, is_same_number, minus, plus, times, variable
+from symbolic_terms import REFUSALS, RUNS, Input, NotShown, at_most, given, is_same_number, minus, plus, times, variable
 
 from .values import expect, refuses
 
 BLOCK, FIRST = 16, 3              # stripes of a block, and the place in it where a loop begins
+# Functions that take stripes, with the least number.
+LEAST = {xxh3_updates.TAKE.name: 0, xxh3_updates.TAKE_MANY.name: xxh3_updates.MANY, xxh3_updates.TAKE_WIDENED.name: BLOCK}
 
 
 def turns(_):
@@ -95,4 +98,60 @@ def tasks_of_streams(_):
         expect(sum(xxh3_updates.STRIPES in title and "-v3," in title for title in titles), of_v3, "tasks of stripes")
 
 
-ALL = [turns, records, places, tasks_of_streams]
+def last_stripes(cpu):
+    """Tests for which states a case assumes that the buffer ends with the last stripe, and that cases with another
+    length, or with fewer than four stripes, are refused."""
+    proof, assumed = xxh3_updates.Xxh3Updates(cpu), []
+    proof.state = lambda place, f, runs=(), *_: assumed.append(len(runs)) or types.SimpleNamespace(cells={})
+    proof.run, proof.expect_state = lambda *_, **__: None, lambda *_: None
+    for is_short, count, length, parts, kept in ((True, 0, 10, (), 1), (False, 0, 10, (), 0),
+                                                 (True, 4, 266, (Part((0, 0), 4, (0, 4)),), 0)):
+        proof.update_to(is_short, ((0, 0), 0), ((0, count), 10), length, [], parts)
+        expect(assumed.pop(), kept, "last stripes of a state before an update")
+    for count, length in ((3, 202), (4, 267)):
+        refuses(lambda count=count, length=length: proof.update_to(
+            False, ((0, 0), 0), ((0, count), 10), length, [], (Part((0, 0), count, (0, count)),)), "a wrong case", (NotShown,))
+    b, j = variable("b"), variable("j")
+    for place, f, kept in (((b, j), 63, 1), ((b, j), 64, 0), ((0, 0), 63, 0)):
+        try:
+            proof.digest(place, f, [minus(b, 1), minus(minus(proof.q, 1), j)], (), 0, "64")
+        except REFUSALS:
+            pass                  # of the value, which nothing computes here
+        expect(assumed.pop(), kept, "last stripes of a state before a digest")
+
+
+def places_of_v4(cpu):
+    """Tests that the cases of functions that take stripes have blocks and secrets of each kind."""
+    proof = xxh3_updates.Xxh3Updates(cpu)
+    found = [(q, u, 1, j, 0, 64 * n) for q, u in ((9, 0), (15, 3), (16, 0), (16, 3), (17, 0)) for j in (0, 4, q - 1)
+             for n in (0, 1, 30, 100)]
+    with unittest.mock.patch.object(coverage, "points", lambda count, proof: found):
+        left = list(coverage.without_taken(proof.all_taken(), proof, [*LEAST.items()], len(found)))
+    expect(len(left), 0, "places that no case has")
+
+
+def states(_):
+    """Tests the states at which digests are tested: none, or four stripes and more."""
+    proof = types.SimpleNamespace(has_long_blocks=lambda: False, longest_secret=256, longest_piece=1 << 40)
+    found = list(coverage.states(90, proof))
+    expect(len(found) > 60, True, "the number of states")
+    expect(all(not (b or j) or q * b + j >= 4 for q, _, b, j, _ in found), True, "the stripes of a state")
+
+
+def held_words(_):
+    """Tests that words that are numbers are found in the cells."""
+    for word, is_held in ((5, True), (6, False)):
+        proof = types.SimpleNamespace(start={"cell": 5}, family=types.SimpleNamespace(seem=lambda _, has, x=word: has(x)))
+        expect(Proof.holds(proof, 0), is_held, "a number in a cell")
+
+
+def tasks_of_one_shots(_):
+    """Tests the number of tasks of one-shots: the kinds, the edges for x86-64-v4, and few lengths or more of them."""
+    made = dict.fromkeys(("x86-64-v2", "x86-64-v3", "x86-64-v4"))
+    for is_all, count in ((False, 10 + 3 + 4), (True, 10 + 3 + 10 + 2 * 4)):
+        titles = [task.title for task in tasks.one_shot_tasks(made, is_all)]
+        expect(len(titles), count, "tasks of one-shots")
+        expect(len({*titles}), count, "titles of tasks")
+
+
+ALL = [turns, records, places, tasks_of_streams, states, held_words, tasks_of_one_shots]

@@ -134,6 +134,7 @@ def shapes(draw):
         if found.width <= 64:
             pool = [*pool, found][-9:]
     again = nodes.values_at(pool, {"m": message.values[0]})
+    expect(nodes.values_at([pool[0], 7], {"m": message.values[0]})[1], 7, "a number at a point")
     for x, y in zip(pool, again):
         expect(y, x.values[0], "a value at a point")
     x, y = (operations.bits(message, 64 * k, 64) for k in (0, 1))
@@ -623,7 +624,7 @@ def definition(draw):
     """Evaluates the definitions on test vectors of the reference library, with the evaluator's own library."""
     from symbolic_terms import definition as symbolic
     cases = [case for case in map(table.Case, table.lines()[::211]) if case.length <= 600]
-    entries = symbolic.program().run()
+    entries = symbolic.read().run()
     for case in cases:
         if not case.agrees(entries):
             raise Wrong(f"the definition disagrees with {case.line}")
