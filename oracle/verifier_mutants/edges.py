@@ -4,11 +4,13 @@ import contextlib
 import struct
 import types
 
-from machine_code import disassembly, object_contents, scalar, stream_state
+import antt
+from machine_code import disassembly, object_contents, scalar, stream_state, whole_blocks
 from machine_code.instructions import TABLE
 from machine_code.memory import Words
 from machine_code.objects import Immediate, Register
-from symbolic_terms import Request, Unsupported, at_most, comparison, given, is_same_number, plus, symbol, variable
+from symbolic_terms import (Request, Unsupported, at_most, comparison, definition, given, is_same_number, operations, plus,
+                            polynomials, symbol, times, variable)
 from symbolic_terms.induction import Induction
 
 from . import processors
@@ -60,6 +62,43 @@ def narrow_sums(_):
             with given(at_most(n, 5)) if is_small else contextlib.nullcontext():
                 TABLE["add", "il"][1](cpu, x)
             expect(is_same_number(cpu.registers["rax"], plus(n, 1)), is_small, "the sum of a number and 1")
+
+
+def lost_flags(_):
+    """Tests that no condition holds after a shift that takes bits of another register."""
+    cpu, x = processors.made(), processors.instruction("shld", Immediate(4), Register("rax"), Register("rbx"))
+    cpu.set_flags("logic", 64, 0, 0, 1)
+    TABLE["shld", "iqq"][1](cpu, x)
+    refuses(lambda: cpu.condition("e"), "a condition after shld")
+
+
+def unions(_):
+    """Tests the bitwise or of a term and a number that has all of its bits, in both orders."""
+    x = symbol("three bits", 3)
+    for found in (operations.either(x, 7), operations.either(7, x)):
+        expect(found, 7, "a term or all of its bits")
+
+
+def remainders(_):
+    """Tests that a number of unknown size has no remainder but by a power of two."""
+    n = variable("n")
+    expect(polynomials.remainder(n, 8).width, 3, "a remainder")
+    refuses(lambda: polynomials.remainder(n, 6), "a remainder by 6")
+
+
+def replaced_variables(_):
+    """Tests a polynomial with another one in place of a variable."""
+    n, m = variable("n"), variable("m")
+    found = whole_blocks.with_value(plus(times(2, times(n, m)), 3), "n", plus(m, 1))
+    expect(is_same_number(found, plus(times(2, times(m, m)), times(2, m), 3)), True, "a polynomial with another variable")
+
+
+def identities(_):
+    """Tests that two functions with other code are two values of an argument."""
+    first, second = (antt.Function(1, body) for body in (lambda x: x, lambda x: x + 1))
+    known = definition.Suppositions()
+    expect(known.identity(first) == known.identity(first), True, "one function")
+    expect(known.identity(first) == known.identity(second), False, "two functions")
 
 
 def sections(_):
@@ -116,4 +155,4 @@ def stored_words(_):
             raise Wrong(f"the word of a {cell} cell")
 
 
-ALL = [jumps, jumps_of_arm, forms, narrow_sums, sections, copies_of_memory, seeds, lengths, orders, stored_words]
+ALL = [jumps, jumps_of_arm, forms, narrow_sums, lost_flags, unions, remainders, replaced_variables, identities, sections, copies_of_memory, seeds, lengths, orders, stored_words]

@@ -4,7 +4,7 @@ import types
 import unittest.mock
 
 from machine_code import cargo_tasks, coverage, tasks, xxh3_updates
-from machine_code.induction import Proof
+from machine_code.induction import Head, Loops, Proof
 from machine_code.memory import ENTRY, Stack, Words
 from machine_code.stripes import TAKEN, Part, StripesProof, Summary
 from machine_code.values import Names, address
@@ -154,4 +154,28 @@ def tasks_of_one_shots(_):
         expect(len({*titles}), count, "titles of tasks")
 
 
-ALL = [turns, records, places, tasks_of_streams, states, held_words, tasks_of_one_shots]
+def heads(_):
+    """Tests that a loop is proved at its head, except while cells are guessed, and that a run stops there once."""
+    place, shown = ("f", 0), []
+    program = types.SimpleNamespace(sections={"f": {4: types.SimpleNamespace(target=place)}})
+    loops = Loops(program, None, lambda *_: types.SimpleNamespace(show=lambda: shown.append(place) or True))
+    loops.HAS_INNER, loops.is_guessing = True, True
+    loops.proof.HAS_INNER = True
+    loops.pass_by(None, place)
+    expect(len(shown), 0, "proofs while cells are guessed")
+    loops.is_guessing = False
+    loops.pass_by(None, place)
+    expect(len(shown), 1, "proofs of a loop")
+    loops.stop, loops.running = place, {}
+    refuses(lambda: loops.pass_by(None, place), "the head at which a run stops", (Head,))
+    expect(loops.stop is None, True, "a run that stops once")
+
+
+def sources_of_v4(_):
+    """Tests which sources are for x86-64-v4."""
+    made = dict.fromkeys(("x86-64-v3", "x86-64-v4", "cargo's x86-64-v4"))
+    expect([*tasks.only_v4(made)] == ["x86-64-v4", "cargo's x86-64-v4"], True, "sources for x86-64-v4")
+    expect([*tasks.before_v4(made)] == ["x86-64-v3"], True, "sources for others")
+
+
+ALL = [heads, sources_of_v4, turns, records, places, tasks_of_streams, states, held_words, tasks_of_one_shots]
