@@ -26,7 +26,7 @@ MODULES = ("grammar", "object_contents", "objects", "disassembly", "sources", "u
            "../symbolic_terms/memory", "../symbolic_terms/induction")
 TAKING = {"take": "lines.number += 1", "take_exactly": "lines.number += {count}", "refuse": "pass", "want": "pass"}
 THEMSELVES = "want", "refuse", "take", "take_exactly", "has"
-FEW = 24                          # step of planted faults, without --all
+FEW = 36                          # step of planted faults, without --all
 LONGEST = 20                      # CPU seconds; a source that doesn't end without a check uses them all
 
 
