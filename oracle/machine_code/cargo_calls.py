@@ -129,6 +129,3 @@ def secrets_of_streams(cpu):
             refused(cpu, "3-64", new_state(cpu, "3-64"), TOO_SHORT, (secret("s"), size))
             count += 1
     return count
-
-
-ALL = [interface, few_bytes, secrets_of_long_inputs, without_mark, out_of_range, secrets_of_streams]

@@ -15,6 +15,7 @@ import resource
 import signal
 import subprocess
 import sys
+import tempfile
 import traceback
 
 HERE = os.path.dirname(os.path.abspath(__file__))
@@ -25,7 +26,7 @@ MODULES = ("grammar", "object_contents", "objects", "disassembly", "sources", "u
            "../symbolic_terms/memory", "../symbolic_terms/induction")
 TAKING = {"take": "lines.number += 1", "take_exactly": "lines.number += {count}", "refuse": "pass", "want": "pass"}
 THEMSELVES = "want", "refuse", "take", "take_exactly", "has"
-FEW = 24                          # step of planted faults, without --all
+FEW = 36                          # step of planted faults, without --all
 LONGEST = 20                      # CPU seconds; a source that doesn't end without a check uses them all
 
 
@@ -138,10 +139,12 @@ def place_of(error, known):
     return None
 
 
-def told_without(module, line, number):
-    """Tests a planted fault in a separate process with the check at a line disabled. Returns its output."""
-    words = [sys.executable, "-B", os.path.abspath(__file__), module, str(line), str(number)]
-    done = subprocess.run(words, capture_output=True, text=True)
+def told_without(cache, module, line, number):
+    """Tests a planted fault in a separate process with the check at a line disabled. Returns its output. The processes
+    share the other modules' compiled code, in the folder `cache`."""
+    words = [sys.executable, os.path.abspath(__file__), module, str(line), str(number)]
+    known = {**os.environ, "PYTHONPYCACHEPREFIX": cache, "PYTHONDONTWRITEBYTECODE": ""}
+    done = subprocess.run(words, capture_output=True, text=True, env=known)
     return "no end" if done.returncode == -signal.SIGXCPU else done.stdout
 
 
@@ -180,10 +183,10 @@ def tell(is_all, jobs=1):
         bad += [f"{key} has a reason, and isn't there" for key in listed if key not in known]
     asked = [(module, found[key][0], *refused[key], key) for module, found in where.items() for key in found if key in refused]
     module, _, number, before, _ = asked[0]
-    if plain(told_without(module, 0, number)) != plain(before):
-        bad.append("with no check switched off the refusal is another")
-    with concurrent.futures.ThreadPoolExecutor(jobs) as pool:
-        for (*_, before, key), told in zip(asked, pool.map(lambda one: told_without(*one[:3]), asked)):
+    with tempfile.TemporaryDirectory(prefix="machine-text-") as cache, concurrent.futures.ThreadPoolExecutor(jobs) as pool:
+        if plain(told_without(cache, module, 0, number)) != plain(before):
+            bad.append("with no check switched off the refusal is another")
+        for (*_, before, key), told in zip(asked, pool.map(lambda one: told_without(cache, *one[:3]), asked)):
             is_noticed = plain(told) != plain(before)
             bad += [f"{key}: switched off, and not noticed"] if not is_noticed and key not in listed else []
             bad += [f"{key}: it is noticed, and has a reason"] if is_noticed and key in listed else []

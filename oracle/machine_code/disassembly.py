@@ -18,6 +18,7 @@ NOPS = {bytes.fromhex(x) for x in (
     "662e0f1f840000000000", "66662e0f1f840000000000", "6666662e0f1f840000000000", "666666662e0f1f840000000000",
     "66666666662e0f1f840000000000", "6666666666662e0f1f840000000000")}
 CONDITIONS = {f"j{name}": k for k, name in enumerate("o no b ae e ne be a s ns p np l ge le g".split())}
+assembled = {}
 ARM_CONDITIONS = {name: k for k, name in enumerate("eq ne cs cc mi pl vs vc hi ls ge lt gt le".split())}
 
 
@@ -39,15 +40,16 @@ def expect_bytes(program):
             alone.append((section, at, raw, text))
         elif wanted != raw:
             bad.append(f"{section} {at:#x}: {text} of the bytes {raw.hex()}")
-    made = assembled_alone([text for *_, text in alone], kind)
-    bad += [f"{section} {at:#x}: {text} of the bytes {raw.hex()}" for (section, at, raw, text), k in
-            zip(alone, range(0, len(made), SLOT), strict=True) if made[k:k + SLOT] != raw.ljust(SLOT, b"\0")]
+    made = assembled_alone({text for *_, text in alone}, kind)
+    bad += [f"{section} {at:#x}: {text} of the bytes {raw.hex()}" for section, at, raw, text in alone
+            if made[text, kind] != raw.ljust(SLOT, b"\0")]
     if bad:
         raise Unsupported(f"{bad[0]}, which aren't its own")
 
 
 def assembled_alone(texts, kind):
-    """Returns the bytes of assembled instructions, each padded to SLOT bytes."""
+    """Maps (text, kind) of each instruction to its bytes, padded to SLOT bytes. Assembles a text once."""
+    texts = [text for text in sorted(texts) if (text, kind) not in assembled]
     with tempfile.TemporaryDirectory(prefix="machine-text-") as room:
         source, made = os.path.join(room, "alone.s"), os.path.join(room, "alone.o")
         with open(source, "w", encoding="utf-8") as file:
@@ -57,7 +59,10 @@ def assembled_alone(texts, kind):
         if done.returncode:
             raise Unsupported(f"what was printed isn't assembled: {done.stderr.splitlines()[1:2]}")
         object_ = Object(made)
-    return next(object_.body(head) for head in object_.heads if head.name == ".text")
+    made = next(object_.body(head) for head in object_.heads if head.name == ".text")
+    slots = (made[k:k + SLOT] for k in range(0, len(made), SLOT))
+    assembled.update({(text, kind): slot for text, slot in zip(texts, slots, strict=True)})
+    return assembled
 
 
 # ---- jumps and instructions that do nothing

@@ -4,6 +4,8 @@ A form is a mnemonic with a letter per operand, as in `add ml`: b, w, l, q a reg
 byte such as `ah`, x, y and z a vector of 128, 256 and 512 bits, m memory, i a number. An instruction that isn't in the
 table is refused. scalar.py and lanes.py fill it: each entry is a function of the processor and the instruction. It
 returns the next instruction's place if that isn't the following one. `form` also passes it the operands."""
+import functools
+
 from symbolic_terms import Unsupported
 
 from .objects import Immediate, Place, Register
@@ -69,6 +71,7 @@ def needs_v4(instruction):
     return any(VECTORS.get(x.name, 0) >= OLDER for x in instruction.operands if isinstance(x, Register))
 
 
+@functools.cache
 def known(instruction, processor):
     """Returns the function for an instruction, or raises if the processor lacks it."""
     key = instruction.mnemonic, letters(instruction)

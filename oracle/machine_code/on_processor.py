@@ -7,6 +7,7 @@ import ctypes
 import functools
 import os
 import random
+import struct
 import subprocess
 
 from symbolic_terms import NotShown, ones
@@ -201,7 +202,8 @@ def by_table(cpu, number, lines, data):
     cpu.registers.update({name: address(room) for name in bases})
     cpu.stack = Stack()
     cpu.registers["rsp"] = address(cpu.stack, ENTRY)
-    cpu.vectors = [[word(data, VECTORS + WHOLE * k + 8 * lane) for lane in range(LANES)] for k in range(VECTORS_COUNT)]
+    lanes = struct.unpack_from(f"<{LANES * VECTORS_COUNT}Q", data, VECTORS)
+    cpu.vectors = [list(lanes[first:first + LANES]) for first in range(0, len(lanes), LANES)]
     cpu.set_flags("sub", 32, word(data, COMPARED) & ones(32), 1, None)
     run_to(cpu, cpu.program.labels[f"b{number}"], cpu.program.labels[f"e{number}"])
     out = bytearray(data)
@@ -220,8 +222,7 @@ def put_vectors(out, vectors):
     """Writes the part of each vector that the function stores."""
     count, lanes_count = (VECTORS_COUNT, LANES) if is_v4() else (OLDER, LANES // 2)
     for k, lanes in enumerate(vectors[:count]):
-        at = VECTORS_AFTER + WHOLE * k
-        out[at:at + 8 * lanes_count] = b"".join(x.to_bytes(8, "little") for x in lanes[:lanes_count])
+        struct.pack_into(f"<{lanes_count}Q", out, VECTORS_AFTER + WHOLE * k, *lanes[:lanes_count])
 
 
 def run_to(cpu, place, end):
@@ -256,9 +257,9 @@ def compare(texts, room, own=None):
         run = getattr(library, f"t{number}")
         for _ in range(ROUNDS):
             data = inputs(lines[0].split()[0], lines, draw)
-            state[:] = data
+            ctypes.memmove(state, bytes(data), SIZE)
             run(ctypes.byref(state))
-            if bytes(state) != by_table(cpu, number, lines, bytes(data)):
+            if ctypes.string_at(state, SIZE) != by_table(cpu, number, lines, bytes(data)):
                 wrong.append(f"{'; '.join(lines)} on {data.hex()[:64]}..")
                 break
     return len(snippets), wrong

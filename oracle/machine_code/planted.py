@@ -107,7 +107,13 @@ def small_update(proof):
     proof.update(*list(proof.small_pieces())[-1])
 
 
+def whole_blocks(proof):
+    """Proves the function that takes whole blocks."""
+    proof.taken_of(*next(asked for asked in proof.all_taken() if asked[1][0] is xxh3_updates.TAKE_BLOCKS))
+
+
 far_case = of_every_length("3-64:seed", case=1)      # whole blocks have a separate function, from 31,744 bytes on
+any_blocks = proving(xxh3_updates.Xxh3Updates, whole_blocks)
 any_update = proving(xxh3_updates.Xxh3Updates, small_update)
 
 
@@ -129,6 +135,9 @@ END = ".size elsewhere,.-elsewhere",
 NEAR = "mov %rdi,%rax", "sub %rdx,%rax", "cmp $0x8,%rax", "jae 1f"      # tests if one address is just behind another
 SAVED = "mov %rdi,-0x40(%rsp)", "mov %rsi,-0x48(%rsp)"
 TAKEN = "mov -0x40(%rsp),%rdi", "mov -0x48(%rsp),%rsi"
+FROM_MANY_BLOCKS = begun("twox_core.xxhash3.stripes.blocks.take_many_blocks", "mov %rcx,%rax", "shr $0x1e,%rax",
+                         *adds_to("(%rsi)"))
+LONGEST = Wrong("another value from 2 ^ 20 blocks on", FROM_MANY_BLOCKS, far_case, "turns == 31")     # takes longer than the rest
 
 TEXTS = [
     Wrong("an accumulator that fails the step of the induction", in_loop, of_every_length("64"), "r12 is .* and not"),
@@ -140,9 +149,7 @@ TEXTS = [
     Wrong("another value where a word of the message is one in 2 ^ 64",
           begun("XXH3_64bits_withSeed", "mov (%rdi),%rax", *adds_where(0x123456789abcdef, "%rdx")),
           request("3-64", "seed", 16), "another value"),
-    Wrong("another value from 2 ^ 20 blocks on",
-          begun("twox_core.xxhash3.stripes.blocks.take_many_blocks", "mov %rcx,%rax", "shr $0x1e,%rax",
-                *adds_to("(%rsi)")), far_case, "turns == 31"),
+    Wrong("blocks that are taken wrongly from 2 ^ 20 on", FROM_MANY_BLOCKS, any_blocks, r"D \+ 1 == 1"),
     Wrong("a stream's accumulator that is another one from 2 ^ 40 bytes on",
           begun("twox_c.xxh3_state.Xxh3State.update", "mov 0x258(%rdi),%rax", "shr $0x28,%rax",
                 *adds_to("(%rdi)")),
@@ -296,7 +303,7 @@ def raises(kind, call):
 
 
 CHECKS = [lacks_a_case, has_a_wrong_sum, has_a_wrong_join, has_a_wrong_table]
-ASKED = [Asked(wrong, SOURCE, lambda path: Processor(Program(path), V2)) for wrong in TEXTS]
+ASKED = [Asked(wrong, SOURCE, lambda path: Processor(Program(path), V2)) for wrong in (*TEXTS, LONGEST)]
 
 
 def noticed():

@@ -16,7 +16,9 @@ from .instructions import SETS, TABLE, V1, V4
 from .queries import CASES, Beside, plain_update, xxh3_update
 from .tasks import counted, makers
 
-SOME_EXPORTS = 13                 # step between removed exports without --all
+OF_CARGO = [cargo_calls.interface, cargo_calls.few_bytes, cargo_calls.secrets_of_long_inputs, cargo_calls.without_mark,
+            cargo_calls.out_of_range, cargo_calls.secrets_of_streams]
+SOME_EXPORTS = 26                 # step between removed exports without --all
 SOME_CHECKS, SWITCHED_OFF = 9, (4, 100)      # step of planted faults without --all; minimum of disabled checks
 
 
@@ -33,7 +35,7 @@ def choose(texts, others, is_all):
             planted_task("wrong lines are refused", planted_lines.X86_ASKED),
             planted_task("texts that assemblers read otherwise are refused", planted_lines.X86_ALIKE),
             planted_task("wrong objects are refused", planted_objects.X86_ASKED),
-            planted_task("wrong texts of each kind are refused", planted.ASKED),
+            planted_task("wrong texts of each kind are refused", planted.ASKED if is_all else planted.ASKED[:-1]),
             planted_task("wrong texts, one for each check, are refused", planted_checks.X86_ASKED[::1 if is_all else SOME_CHECKS]),
             planted_task("calls with wrong operands are refused", planted_values.ASKED),
             counted("checks that are switched off are noticed", SWITCHED_OFF[is_all], functools.partial(disabled_checks.tell, is_all)),
@@ -71,7 +73,7 @@ def change_tasks(texts, others, is_all):
             yield change_task(name, (12, 100), is_all, name, make)
     name = f"cargo's {V1}"
     task = change_task(name, (6, 30), is_all, f"cargo-{V1}", makers(others)[name],
-                     beside=Beside([*cargo_calls.ALL, *pieces()], cargo_streams.CargoUpdates, each_piece, 241))
+                     beside=Beside([*OF_CARGO, *pieces()], cargo_streams.CargoUpdates, each_piece, 241))
     task.title = BEGIN + task.title
     yield task
 

@@ -18,20 +18,20 @@ from .unwinding import expect_frames
 NAMES = V2, V3, V4
 FOLDER = os.path.join(TOP, "c", "asm")
 ONE_BY_ONE, MORE = range(301), range(301, 1101)     # lengths tested one by one: always, and with --all
-SOME_SHORT = sorted({*range(0, 301, 3), *range(20), 127, 128, 130, 239, 242, 256, 257})      # of XXH3, without --all
+SOME_SHORT = sorted({*range(0, 301, 6), *range(20), 33, 63, 65, 127, 128, 130, 239, 242, 256, 257})      # without --all
 FEW_LENGTHS = [0, 2, 6, 12, 17, 70, 129, 200, 241, 300]        # of x86-64-v4 with a secret, without --all
 EDGES_OF_BLOCKS = [1023, 1024, 1025, 1088, 1089, 2048, 2049, 2112]
 SECRETS, STREAM_SECRETS = (136,), (136, 193, 256)
 FEW_STREAMS = [(0,), (5, 2), (33, 1), (70, 33, 64), (200, 31, 160), (240, 239), (257, 256), (300, 64, 192),
                (600, 512, 599), (1100, 64), (1500, 40, 1100)]      # lengths of streams, each with its cuts
-SOME_UPDATES, UPDATE_PARTS = 97, 4                  # step of the sample of updates, and the number of parts of all
+SOME_UPDATES, UPDATE_PARTS = 293, 4                 # step of the sample of updates, and the number of parts of all
 # Cases of XXH3's streams: size of a sample, and the number of parts of all.
 XXH3_CASES = {xxh3_updates.UPDATES: (4, 6), xxh3_updates.DIGESTS: (4, 1), xxh3_updates.STRIPES: (2, 2)}
 COVERED = 90, 3000                                  # points tested for completeness of XXH3's cases, and with --all
 SOME_SECRETS = [*range(136, 144), *range(190, 202), 256, 257, 576, 999, 1000]
 ANY_SECRET = [f"{name}:{way}" for name in ("3-64", "3-128") for way in ("secret", "both")]
 MOST_NODES = 400_000                                # terms kept between the cases of a proof
-SOME_LENGTHS, SOME_OF_XXH32 = (5, 7), 5             # steps between cases of any secret, and of XXH32, without --all
+SOME_LENGTHS, SOME_OF_PLAIN = (5, 7), 10            # steps between cases of any secret, and of XXH32, without --all
 OF_LONG_SEEDS = 137,                                # bytes of secrets generated from 2^32 bytes and more
 FEWEST_FRAMED = 9000                                # minimum number of instructions of a source
 assert scalar and lanes                             # imported because they fill the table
@@ -42,9 +42,13 @@ def programs():
 
 
 def makers(texts):
-    """Maps each name to a function that makes a processor of its source."""
-    return {name: functools.partial(CargoProcessor, program) if isinstance(program, CargoProgram) else
+    """Maps each name to a function that makes a processor of its source. The tasks' processes share the instructions'
+    functions, which are looked up here."""
+    made = {name: functools.partial(CargoProcessor, program) if isinstance(program, CargoProgram) else
             functools.partial(Processor, program, name) for name, program in texts.items()}
+    for make in made.values():
+        make()
+    return made
 
 
 def counted(title, least, ask):
@@ -59,7 +63,7 @@ def counted(title, least, ask):
 def choose(options, texts):
     """Returns the tasks on c/asm."""
     made, is_all = makers(texts), options.all
-    tasks = [*one_shot_tasks(made, is_all), *secret_tasks(made), *every_length_tasks(made, is_all),
+    tasks = [*one_shot_tasks(made, is_all), *secret_tasks(made, is_all), *every_length_tasks(made, is_all),
              *stream_tasks(made, is_all), *call_tasks(texts, made, is_all)]
     tasks += [assembler_task([(f"{FOLDER}/{name}.s", V1) for name in texts])]
     tasks.insert(0, export_task(texts, [task.title for task in tasks]))
@@ -100,7 +104,7 @@ def one_by_one(made, kind, lengths, more=""):
 def one_shot_tasks(made, is_all):
     """Yields the tasks of one-shots. With a secret of 136 bytes x86-64-v4 runs x86-64-v3's code."""
     yield from [one_by_one(made if is_all or kind[2] is None else before_v4(made), kind,
-                           ONE_BY_ONE if is_all or one_shots.is_plain(kind[0]) else SOME_SHORT) for kind in comparison.kinds(SECRETS)]
+                           ONE_BY_ONE if is_all else SOME_SHORT) for kind in comparison.kinds(SECRETS)]
     for kind in [("3-64", "default", None), ("3-128", "seed", None), ("3-64", "secret", 192)]:
         yield one_by_one(only_v4(made), kind, EDGES_OF_BLOCKS, f", at the edges of blocks, {V4}")
     for kind in comparison.kinds(SECRETS) if not is_all else ():
@@ -111,17 +115,18 @@ def one_shot_tasks(made, is_all):
             yield from [one_by_one(made, kind, MORE), one_by_one(made, kind, [every_length.PREFETCHED])]
 
 
-def secret_tasks(made):
-    """Yields the tasks of secrets of several lengths."""
+def secret_tasks(made, is_all):
+    """Yields the tasks of secrets of several lengths: all, or every third."""
     for hash_name in ("3-64", "3-128"):
         requests = (Request(hash_name, kind, n, size) for size in SOME_SECRETS for kind in ("secret", "both")
                     for n in (240, 700))
-        yield compared(made, f"XXH{hash_name}, secrets of 136 to 1000 bytes", requests)
+        yield compared(made, f"XXH{hash_name}, secrets of 136 to 1000 bytes", list(requests)[::1 if is_all else 3])
 
 
 def stream_tasks(made, is_all):
     for kind in comparison.kinds(STREAM_SECRETS if is_all else SECRETS):
-        yield compared(made, f"streams of {comparison.title_of(*kind)}", few_streams(*kind), streams)
+        asked = list(few_streams(FEW_STREAMS[::1 if is_all else 2], *kind))
+        yield compared(made, f"streams of {comparison.title_of(*kind)}", asked, streams)
     yield from plain_stream_tasks(before_v4(made), is_all)
     yield from xxh3_tasks(made, is_all)
 
@@ -172,8 +177,8 @@ def sample(what, asked, some):
     return [*each.values()] or asked[::len(asked) // some]
 
 
-def few_streams(hash_name, kind, secret):
-    for n, *cuts in FEW_STREAMS:
+def few_streams(lengths, hash_name, kind, secret):
+    for n, *cuts in lengths:
         request = Request(hash_name, kind, n, secret, cuts=cuts)
         yield from [request, *request.with_seed_0()]
 
@@ -215,7 +220,7 @@ def every_length_tasks(made, is_all):
         yield counted("every length of XXH3 has its task", 2, xxh3_left_out)
     for kind in every_length.UNROLLED:
         yield from of_every_length(before_v4(made), kind, f"XXH{kind}: every length to 2^64 - 1",
-                                   every_length.cases(kind)[::1 if is_all or kind == "64" else SOME_OF_XXH32])
+                                   every_length.cases(kind)[::1 if is_all else SOME_OF_PLAIN])
     if not is_all:
         yield from [task for name in ("3-64", "3-128") for task in of_every_length(
             made, f"{name}:seed", f"XXH{name}, seed: two cases of every length", every_length.cases(f"{name}:seed")[:2])]
@@ -311,7 +316,7 @@ def of_each(made, title, least, call):
 def call_tasks(texts, processors, is_all):
     sizes = [0, 1, 135, 136, 137, 143, 144, 191, 192, 256, 1000] if not is_all else [*range(0, 301), 1000]
     seeds = [0, 1, 17, 136, 241, 300, 1100] if is_all else [0, 3, 241, 1100]
-    made = [(size, length) for size in sizes for length in seeds]
+    made = [(size, length) for size in sizes for length in (seeds if is_all or size == 136 else seeds[size % 4:][:1])]
     of = functools.partial(of_each, before_v4(processors))
     return [*(of(*call) for call in calls.WITHOUT_MESSAGE), *(of_each(processors, *call) for call in calls.OF_MESSAGES + calls.SHORT_SECRETS),
             of_each(processors, "made secrets", len(made) + len(OF_LONG_SEEDS), functools.partial(made_secrets, asked=made)),

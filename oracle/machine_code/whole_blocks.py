@@ -13,16 +13,6 @@ TRIED = 2                         # number of facts combined to refute another o
 FOURTHS = {"a": range(3), "e": range(1, 4)}          # of a block: where such cases begin and end
 
 
-def parted(case, at):
-    """Splits a case, whose facts are at index `at`, by whether there are whole blocks."""
-    if BLOCKS not in names_in(case):
-        yield case
-        return
-    yield from (none for none in in_few(in_numbers(case, BLOCKS, 0)) if may_hold(none[at]))
-    facts = [*case[at], minus(variable(BLOCKS), 1)]
-    yield (*case[:at], facts, *case[at + 1:])
-
-
 def in_few(case):
     """Splits a case of blocks of 16 stripes by the fourths in which it begins and ends."""
     names = sorted(FOURTHS.keys() & names_in(case)) if "a" in names_in(case) else []

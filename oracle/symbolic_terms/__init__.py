@@ -7,7 +7,7 @@ from .nodes import NODES, OPAQUE, SYMBOL, Node, WrongRule, is_same, symbol
 from .polynomials import (Poly, as_word, at_most, constant_of, divided, given, is_natural, is_number, is_same_number,
                           lifted, minus, names_of, parts_of, plus, times, value_at, variable, wrapped)
 from .refusals import REFUSALS, NotShown, Undecided, Unsupported
-from .requests import LONGEST, LONGEST_SECRET, TOP, Request, differs, seed_symbol
+from .requests import LONGEST, LONGEST_SECRET, TOP, Request, seed_symbol
 from .rules import ones, zeros_below
 from .words import BINARY, TESTS, compare_numbers, rotated, signed
 
@@ -16,5 +16,5 @@ __all__ = ["Bytes", "suppositions", "Induction", "moved", "same", "step_between"
            "is_same", "symbol", "Poly", "as_word", "at_most", "constant_of", "divided", "given", "is_natural",
            "is_number", "is_same_number", "lifted", "minus", "names_of", "parts_of", "plus", "times", "value_at",
            "variable", "wrapped", "REFUSALS", "NotShown", "Undecided", "Unsupported", "LONGEST", "LONGEST_SECRET",
-           "TOP", "Request", "differs", "seed_symbol", "ones", "zeros_below", "BINARY", "TESTS",
+           "TOP", "Request", "seed_symbol", "ones", "zeros_below", "BINARY", "TESTS",
            "compare_numbers", "rotated", "signed"]

@@ -1,6 +1,4 @@
 """Compares both sides for one length after another: for all bytes, all seeds and all bytes of a secret."""
-import random
-
 from . import definition, nodes
 from .refusals import REFUSALS
 from .requests import Request, differing_point
@@ -10,12 +8,6 @@ MOST_NODES = 1_500_000
 SECRETS = 136, 137, 143, 144, 192, 256
 PLAIN = [("32", "seed", None), ("64", "seed", None)]
 EDGES_FROM, LONGEST = 1101, 10_241
-STREAMED = [*range(17), 31, 32, 33, 63, 64, 65, 70, 127, 128, 129, 200, 239, 240, 241, 242, 255, 256, 257, 258, 300,
-            321, 513, 700, 1088]
-CUTS = [1, 31, 32, 33, 63, 64, 65, 127, 128, 129, 192, 239, 240, 241, 255, 256, 257, 258, 319, 320, 321, 511, 512,
-        513, 576, 1024, 1025]
-PAIRS = 6
-
 
 def kinds(secrets):
     """Returns the kinds of calls: (hash, function, length of the secret)."""
@@ -35,20 +27,10 @@ def edges(secret_length):
     return sorted({n for n in [*ends, 2048, 2049, 4096, 4097, LONGEST - 1, LONGEST] if EDGES_FROM <= n <= LONGEST})
 
 
-def cuts_of(length):
-    """Returns the cuts for streams of a length: none, one or two of the edges, counted from the start and from the
-    end."""
-    ends = sorted({end for end in [*CUTS, *(length - end for end in CUTS), 0, length] if 0 <= end <= length})
-    draw = random.Random(length)
-    pairs = [sorted(draw.sample(ends, 2)) for _ in range(PAIRS)] if len(ends) > 2 else []
-    return [[], *([end] for end in ends), *pairs]
-
-
-def requests(hash_name, kind, secret_length, lengths, streams=False):
+def requests(hash_name, kind, secret_length, lengths):
     for length in lengths:
-        for cuts in cuts_of(length) if streams else [None]:
-            request = Request(hash_name, kind, length, secret_length, cuts=cuts)
-            yield from [request, *request.with_seed_0()]
+        request = Request(hash_name, kind, length, secret_length)
+        yield from [request, *request.with_seed_0()]
 
 
 def complaint(request, name, ours, theirs):

@@ -2,7 +2,7 @@
 decide; bytes of an input are terms. A vector is one number, with its first lane in the lowest bits."""
 from . import operations
 from .llvm_text import (NOTHING, FunctionName, Pointer, Reader, Register, Struct, alignment_said, instruction, place_of)
-from .memory import Input, Memory, is_address, taken
+from .memory import Input, Memory, taken
 from .nodes import Node, symbol
 from .operations import bits, side_by_side
 from .polynomials import Poly, constant_of, is_natural, is_number, lifted, minus, plus
@@ -12,6 +12,10 @@ from .words import BINARY, compare_numbers, rotated, signed
 
 WORD = 64
 HALF = 1 << WORD - 1
+
+
+def is_address(x):
+    return isinstance(x, tuple) and len(x) == 2 and isinstance(x[0], (Input, Memory)) and is_number(x[1])
 
 
 def binary(module, value, word, t, a, b):

@@ -5,7 +5,7 @@ Loading a byte that was never stored is an error."""
 from . import operations
 from .refusals import Unsupported
 from .nodes import symbol
-from .polynomials import constant_of, is_natural, is_number, is_same_number, minus, plus
+from .polynomials import constant_of, is_natural, is_same_number, minus, plus
 from .rules import bits_of, from_segments
 
 LONGEST = 1 << 15        # bytes of the window at the start of an input
@@ -214,10 +214,6 @@ def outside(run, at, end):
             parts.append((first, high))
             break
     return [(*part, source, place) for part in parts if not is_same_number(*part)]
-
-
-def is_address(x):
-    return isinstance(x, tuple) and len(x) == 2 and isinstance(x[0], (Input, Memory)) and is_number(x[1])
 
 
 def taken(source, first, n):

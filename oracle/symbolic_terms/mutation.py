@@ -22,9 +22,9 @@ from reasons import CRASH, UNNOTICED, WRONG_RULE
 
 from . import definition, every_length, nodes, reference
 from .refusals import REFUSALS, Undecided
-from .requests import Request, differing_point, differing_point_of_numbers, differs
+from .requests import Request, differing_point
 from .machine import Function
-from .nodes import WrongRule
+from .nodes import Node, WrongRule, values_at
 
 SECONDS = 4              # time limit, after which a change counts as not ending
 EQUAL_LINES = os.path.join(os.path.dirname(os.path.abspath(__file__)), "equivalent_lines.txt")
@@ -59,6 +59,21 @@ class Limited:
 
     def __exit__(self, *_):
         signal.setitimer(signal.ITIMER_PROF, 0)
+
+
+def differs(request, a, b):
+    """True if two values differ at one of the points."""
+    first, second = (x.values if isinstance(x, Node) else (x,) * nodes.POINTS for x in (a, b))
+    return first != second or differing_point(request, a, b) is not None
+
+
+def differing_point_of_numbers(request, entries, b, count=3):
+    """Returns a point as `differing_point` does, if the definition has no term: evaluates it on numbers."""
+    for point in request.points(count, random.Random(11)):
+        x, (y,) = request.definition_at(entries, point), values_at([b], point)
+        if x != y:
+            return point, x, y
+    return None
 
 
 def asked():

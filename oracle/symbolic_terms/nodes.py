@@ -99,7 +99,9 @@ def made(kind, parts, width, most, constant, is_exact):
 
 
 def symbol(name, width):
-    found = node(SYMBOL, (name,), width, (1 << width) - 1)
+    found = BY_KEY.get((SYMBOL, (name,)))
+    if found is None:
+        return node(SYMBOL, (name,), width, (1 << width) - 1)
     if found.width != width:
         raise WrongRule(f"{name} of {width} bits, and of {found.width}")
     return found

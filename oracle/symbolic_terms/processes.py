@@ -2,6 +2,7 @@
 options."""
 import argparse
 import concurrent.futures
+import gc
 import multiprocessing
 import resource
 import threading
@@ -10,11 +11,12 @@ import traceback
 
 import antt
 
-from . import mutation
+from . import definition, mutation
 from .refusals import REFUSALS
 from .nodes import WrongRule
 
 SHOWN = 30                   # printed failures of a task
+YOUNG = 20_000               # new objects after which the collector looks at them
 OWN = resource.RUSAGE_SELF, resource.RUSAGE_CHILDREN       # of a task's process
 FORK, STARTING = multiprocessing.get_context("fork"), threading.Lock()
 
@@ -37,8 +39,11 @@ def options(description, jobs=2):
 
 
 def run(tasks, jobs):
-    """Runs the tasks and prints their results. Returns the exit status."""
+    """Runs the tasks and prints their results. Returns the exit status. Their processes share the parsed definitions."""
     began, passed = time.monotonic(), 0
+    definition.program().run()
+    gc.freeze()                 # sources and definitions stay: a task's process doesn't look through them
+    gc.set_threshold(YOUNG)
     with concurrent.futures.ThreadPoolExecutor(jobs) as pool:
         for line, is_good in pool.map(in_process, tasks):
             passed += is_good

@@ -2,10 +2,10 @@
 import os
 import random
 
-from . import definition, nodes
+from . import definition
 from .definition import Bytes
 from .memory import Input
-from .nodes import Node, symbol, values_at
+from .nodes import symbol, values_at
 
 TOP = os.path.dirname(os.path.dirname(os.path.dirname(os.path.abspath(__file__))))
 LONGEST, LONGEST_SECRET = (1 << 64) - 1, 1 << 60        # maximum bytes of a message and of a secret
@@ -76,21 +76,6 @@ def differing_point(request, a, b, count=20):
     """Returns (symbols, value of a, value of b) at a point where two terms differ, or None if none is found."""
     for point in request.points(count, random.Random(7)):
         x, y = values_at([a, b], point)
-        if x != y:
-            return point, x, y
-    return None
-
-
-def differs(request, a, b):
-    """True if two values differ at one of the points."""
-    first, second = (x.values if isinstance(x, Node) else (x,) * nodes.POINTS for x in (a, b))
-    return first != second or differing_point(request, a, b) is not None
-
-
-def differing_point_of_numbers(request, entries, b, count=3):
-    """The same if the definition has no term: evaluates it on numbers."""
-    for point in request.points(count, random.Random(11)):
-        x, (y,) = request.definition_at(entries, point), values_at([b], point)
         if x != y:
             return point, x, y
     return None

@@ -8,14 +8,14 @@ import unittest.mock
 import mutants
 from reasons import Reasons, is_fault
 
-from . import header_mutants, mutation, comparison, every_length, self_tests, plain_streams, processes, xxh3_streams
+from . import comparison, cuts, header_mutants, mutation, every_length, self_tests, plain_streams, processes, xxh3_streams
 from .comparison import SECRETS, title_of
 from .machine import Module
 from .reference import HEADERS, VECTORS, llvm_text, of_reference
 
 PARTS = 4                    # tasks into which the changes are split
-SAMPLE = 64                  # in CI, step between tested changes of the definition
-LINES, FEW_LINES = 5000, 40  # changes of the LLVM code, with --all and without
+SAMPLE = 96                  # in CI, step between tested changes of the definition
+LINES, FEW_LINES = 5000, 25  # changes of the LLVM code, with --all and without
 GATE_SECRETS, STREAM_SECRETS = (136,), (136, 192)
 
 
@@ -46,7 +46,7 @@ def lengths(is_all, vector):
             yield compared(title_of(*kind), kind, range(301, 1101), vector)
             yield compared(f"{title_of(*kind)}, at edges", kind, comparison.edges(kind[2]), vector)
             if kind[2] in (None, *STREAM_SECRETS):
-                yield compared(f"{title_of(*kind)}, streams", kind, comparison.STREAMED, vector, True)
+                yield compared(f"{title_of(*kind)}, streams", kind, cuts.STREAMED, vector, cuts.streams)
 
 
 def some_lengths(hash_name, _, secret):
@@ -62,10 +62,10 @@ def vector_lengths(vectors):
             for vector in vectors for kind in kinds]
 
 
-def compared(title, kind, asked, vector, streams=False):
+def compared(title, kind, asked, vector, requests=comparison.requests):
     def ask(module):
         sides = {"the reference": lambda request: of_reference(request, module)}
-        equal, complaints = comparison.compare(sides, comparison.requests(*kind, asked, streams))
+        equal, complaints = comparison.compare(sides, requests(*kind, asked))
         return f"{equal} requests, each one term", complaints
     first, last = min(asked), max(asked)
     return Task(f"{title}: {first} to {last} bytes", ask, vector)
@@ -110,7 +110,7 @@ def of_changes(is_all, vector, headers):
     yield Task("changes by hand of the definitions, that differ on rare inputs alone", judged(mutation.by_hand), vector)
     if headers != HEADERS:      # the changes fit only Debian's header
         return
-    asked = {"asked by induction": header_mutants.CHANGES if is_all else header_mutants.CHANGES[::4],
+    asked = {"asked by induction": header_mutants.CHANGES if is_all else header_mutants.CHANGES[::8],
              **({"streams of XXH3": header_mutants.DEAR} if is_all else {})}
     yield from (Task(f"changes of the header 0.8.1, {how}", judged(
         lambda module, changed=changed: header_mutants.tell(changed), "queries")) for how, changed in asked.items())

@@ -9,22 +9,24 @@ import os
 import random
 import re
 import tempfile
+import unittest.mock
 
 import same_bytes
-from machine_code import (any_secret, any_updates, calls, cargo_calls, cargo_exports, cargo_streams, cargo_tasks,
+from machine_code import (any_secret, any_updates, calls, cargo_exports, cargo_streams, cargo_tasks,
                           coverage, disabled_checks,
-                          disassembly, every_length, exports, long_seeds, on_processor, one_shots, planted,
+                          disassembly, every_length, exports, instructions, long_seeds, object_contents, on_processor, one_shots, planted,
                           planted_values, sources, streams,
                           tasks, xxh3_updates)
 from machine_code.cargo import CargoProcessor, CargoProgram
 from machine_code.grammar import expect_grammar
 from machine_code.instructions import V1, V2, V3, V4
+from machine_code import objects as program_objects
 from machine_code.objects import Program
 from machine_code.processor import Processor
 from machine_code.unwinding import expect_frames
 from symbolic_terms import REFUSALS, TOP, Request, comparison, definition, nodes, polynomials, variable
 
-from . import edges, objects, processors, values
+from . import edges, inductions, objects, processors, values
 from .values import Wrong
 
 # Where a check belongs: values, the processor, sources that must pass, planted files.
@@ -44,6 +46,9 @@ def begin():
     polynomials.facts.clear()
     polynomials.least.clear()
     definition.suppositions.clear()
+    instructions.known.cache_clear()
+    disassembly.assembled.clear()
+    program_objects.operands.cache_clear()
 
 
 class Sources:
@@ -151,6 +156,14 @@ def same_objects(known):
         raise Wrong("two objects are the same")
 
 
+def each_symbol(known):
+    """Tests that each symbol of an object is compared with the list."""
+    object_, found = object_contents.Object(known.path(f"{C}/{V2}.s")), []
+    with unittest.mock.patch.object(object_contents, "expect_symbol", lambda _, symbol, *others: found.append(symbol) or set()):
+        values.refuses(lambda: object_contents.expect_listed(object_, Program.EXPORT), "sections without a symbol")
+    values.expect(len(found), len(object_.symbols) - 1, "symbols")
+
+
 def complete_cases(known):
     expect_none(any_updates.left_out("32") + any_updates.left_out("64"))
     for check in (tasks.plain_left_out, tasks.xxh3_left_out):
@@ -169,6 +182,8 @@ def complete_updates(known):
     pieces = list(proof.all_updates())
     if not any(coverage.without_update(pieces[:67] + pieces[68:], proof, 300)):
         raise Wrong("an update that isn't missed")
+    chunks = cargo_streams.CargoUpdates(CargoProcessor(known.programs["cargo"]))
+    expect_none(list(coverage.without_update(chunks.all_updates(), chunks, 200)))
     secrets = any_secret.AnySecret(known.processor(V2))
     expect_none(list(coverage.without_one_shot(secrets.cases(), secrets.facts_of_any(), 100)))
 
@@ -198,14 +213,18 @@ def right_checks(known):
         yield one(f"streams of {comparison.title_of(*kind)}", requests, V2, kind, (), CUTS)
         yield one(f"x86-64-v3, {comparison.title_of(*kind)}", requests, V3, kind, (5, 40, 150, 300))
     yield one("x86-64-v4", requests, V4, ("3-64", "secret", 192), (300, 1100))
-    for name, least, call in [*calls.OTHERS, *calls.SHORT_SECRETS]:
-        yield Check(name, RIGHT, lambda call=call, least=least: expect_count(call(known.processor(V2)), least))
-    for call in cargo_calls.ALL:
-        yield Check(f"cargo: {call.__name__}", RIGHT, lambda call=call: call(known.processor("cargo")))
+    for name, count, call in [*calls.OTHERS, *calls.SHORT_SECRETS]:
+        yield Check(name, RIGHT, lambda call=call, count=count: expect_count(call(known.processor(V2)), count))
+    for title, count, call in cargo_tasks.refusal_tasks(lambda *of_task: of_task):
+        yield Check(f"cargo: {title}", RIGHT, lambda call=call, count=count: expect_count(call(known.processor("cargo")), count))
+    yield Check("a state without a run", RIGHT, lambda: inductions.lost_runs(known.processor(V2)))
+    yield Check("the last stripe in a buffer", RIGHT, lambda: inductions.last_stripes(known.processor(V2)))
+    yield Check("places of x86-64-v4", RIGHT, lambda: inductions.places_of_v4(known.processor(V4)))
     yield Check("secrets of 2^32 bytes", RIGHT, lambda: long_seeds.made_secrets(known.processor(V2),
                                                                 tasks.OF_LONG_SEEDS))
     yield one("cargo: long inputs", requests, "cargo", ("3-64", "secret", 136), (241, 300, 700))
     yield one("updates of XXH64", of_updates, V2)
+    yield Check("a task of updates", RIGHT, lambda: shown(tasks.any_streams(lambda: known.processor(V2), "32", None, 3000, True)))
     yield one("updates of XXH32", of_updates, V2, hash_name="32")
     yield one("cargo: chunks of XXH32", of_updates, "cargo", hash_name="32", has_ends=False)
     for what, count in ((xxh3_updates.UPDATES, 6), (xxh3_updates.DIGESTS, 6), (xxh3_updates.STRIPES, 2)):
@@ -230,6 +249,7 @@ def right_checks(known):
     yield one("an object", of_program, V3)
     yield Check("bytes of instructions", RIGHT, lambda: disassembly.expect_bytes(known.programs["cargo"]))
     yield one("same objects", same_objects)
+    yield one("each symbol of an object", each_symbol)
     yield Check("changed objects", RIGHT, lambda: objects.changed_objects(known.path(f"{CARGO}/{V1}.s"),
                                                                 random.Random(1)))
     yield one("each length has its case", complete_cases)
@@ -242,9 +262,9 @@ def of_short(known):
     return proof, [functools.partial(proof.show_short, n) for n in (0, 3, 8, 16, 17, 129, 200, 240)]
 
 
-def expect_count(count, least):
-    if count < least:
-        raise Wrong(f"{count} cases, and {least} at least are wanted")
+def expect_count(actual, expected):
+    if actual != expected:
+        raise Wrong(f"{actual} cases, and not {expected}")
 
 
 # ---- planted files
@@ -266,7 +286,7 @@ def planted_checks():
 
 
 def value_checks(known):
-    for test in [*values.ALL, *edges.ALL, *objects.ALL, *processors.ALL]:
+    for test in [*values.ALL, *edges.ALL, *inductions.ALL, *objects.ALL, *processors.ALL]:
         yield Check(f"{test.__module__.rpartition('.')[2]}: {test.__name__}", VALUES, functools.partial(test,
                                                                 random.Random(1)))
     for first in range(0, len(known.snippets[2]), GROUP):
@@ -279,4 +299,4 @@ def prepare(folder, objects):
     return [*value_checks(known), *right_checks(known), *planted_checks()]
 
 
-assert cargo_tasks and planted
+assert planted

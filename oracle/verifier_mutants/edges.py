@@ -1,14 +1,22 @@
 """Tests of values at the edges of comparisons: jumps, requests, lengths, and files or copies that are refused. Each
 test takes a random generator, which it doesn't use, and raises Wrong."""
+import contextlib
 import struct
 import types
 
-from machine_code import disassembly, object_contents, stream_state
+import antt
+from machine_code import disassembly, object_contents, scalar, stream_state, whole_blocks
+from machine_code.instructions import TABLE
 from machine_code.memory import Words
-from symbolic_terms import Request, Unsupported, comparison, symbol
+from machine_code.objects import Immediate, Register
+from symbolic_terms import (Request, Unsupported, at_most, comparison, definition, given, is_same_number, operations, plus,
+                            polynomials, symbol, times, variable)
 from symbolic_terms.induction import Induction
 
+from . import processors
 from .values import Wrong, expect, refuses
+
+assert scalar                     # imported because it fills the table of instructions
 
 SHORT, LONG = {"jmp": b"\xeb", "jb": b"\x72"}, {"jmp": b"\xe9", "jb": b"\x0f\x82"}      # opcodes
 AT, SIZE = 0x1000, 2              # address and bytes of a jump
@@ -23,6 +31,74 @@ def jumps(_):
             wanted = opcode[mnemonic] + struct.pack(size, distance)
             if made != wanted:
                 raise Wrong(f"{mnemonic} over {distance} bytes: {made.hex()} and not {wanted.hex()}")
+
+
+def jumps_of_arm(_):
+    """Tests the required words of jumps and of an address for 64-bit ARM, by its manual."""
+    for at, text, word in ((0, "b 8 <f>", 0x14000002), (8, "bl 4", 0x97FFFFFF), (0, "b.ne 10", 0x54000081),
+                           (0, "cbz x3, 8", 0xB4000043), (8, "cbnz w5, 4", 0x35FFFFE5), (0, "tbz w1, #3, c", 0x36180061),
+                           (16, "tbnz x2, #33, 8", 0xB70FFFC2)):
+        made = disassembly.led_on_arm(at, b"", text, False)
+        expect(int.from_bytes(made, "little"), word, text)
+    for text, word in (("bl 0", 0x94000000), ("adrp x7, 0", 0x90000007)):
+        expect(int.from_bytes(disassembly.led_on_arm(4, b"", text, True), "little"), word, f"{text}, which is relocated")
+    expect(int.from_bytes(disassembly.led_on_arm(4, b"", "adrp x7, 0", False), "little"), 0, "an address without a relocation")
+    expect(disassembly.led_on_arm(0, b"", "add x1, x2, x3", False) is None, True, "no jump")
+
+
+def forms(_):
+    """Tests that the table lacks a form that no source has, and whose flags differ."""
+    expect(("rol", "bl") in TABLE, False, "a rotation by a register")
+    expect(("shl", "bl") in TABLE, True, "a shift by a register")
+
+
+def narrow_sums(_):
+    """Tests that a sum of 32 bits in a register that holds a number isn't one of 64 bits."""
+    n, x = variable("n"), processors.instruction("add", Immediate(1), Register("eax"))
+    with given(at_most(n, (1 << 32) - 1)):
+        for is_small in (True, False):
+            cpu = processors.made()
+            cpu.registers["rax"] = n
+            with given(at_most(n, 5)) if is_small else contextlib.nullcontext():
+                TABLE["add", "il"][1](cpu, x)
+            expect(is_same_number(cpu.registers["rax"], plus(n, 1)), is_small, "the sum of a number and 1")
+
+
+def lost_flags(_):
+    """Tests that no condition holds after a shift that takes bits of another register."""
+    cpu, x = processors.made(), processors.instruction("shld", Immediate(4), Register("rax"), Register("rbx"))
+    cpu.set_flags("logic", 64, 0, 0, 1)
+    TABLE["shld", "iqq"][1](cpu, x)
+    refuses(lambda: cpu.condition("e"), "a condition after shld")
+
+
+def unions(_):
+    """Tests the bitwise or of a term and a number that has all of its bits, in both orders."""
+    x = symbol("three bits", 3)
+    for found in (operations.either(x, 7), operations.either(7, x)):
+        expect(found, 7, "a term or all of its bits")
+
+
+def remainders(_):
+    """Tests that a number of unknown size has no remainder but by a power of two."""
+    n = variable("n")
+    expect(polynomials.remainder(n, 8).width, 3, "a remainder")
+    refuses(lambda: polynomials.remainder(n, 6), "a remainder by 6")
+
+
+def replaced_variables(_):
+    """Tests a polynomial with another one in place of a variable."""
+    n, m = variable("n"), variable("m")
+    found = whole_blocks.with_value(plus(times(2, times(n, m)), 3), "n", plus(m, 1))
+    expect(is_same_number(found, plus(times(2, times(m, m)), times(2, m), 3)), True, "a polynomial with another variable")
+
+
+def identities(_):
+    """Tests that two functions with other code are two values of an argument."""
+    first, second = (antt.Function(1, body) for body in (lambda x: x, lambda x: x + 1))
+    known = definition.Suppositions()
+    expect(known.identity(first) == known.identity(first), True, "one function")
+    expect(known.identity(first) == known.identity(second), False, "two functions")
 
 
 def sections(_):
@@ -79,4 +155,4 @@ def stored_words(_):
             raise Wrong(f"the word of a {cell} cell")
 
 
-ALL = [jumps, sections, copies_of_memory, seeds, lengths, orders, stored_words]
+ALL = [jumps, jumps_of_arm, forms, narrow_sums, lost_flags, unions, remainders, replaced_variables, identities, sections, copies_of_memory, seeds, lengths, orders, stored_words]

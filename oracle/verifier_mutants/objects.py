@@ -301,9 +301,9 @@ def bytes_of_text(draw):
     right = [(0, "b805000000", "mov $0x5,%eax"), (5, "4801d8", "add %rbx,%rax"), (8, "eb00", "jmp a <f+0xa>"),
              (10, "c3", "ret")]
 
-    def program(rows):
+    def program(rows, last="c3"):
         return types.SimpleNamespace(listing={"f": [(at, bytes.fromhex(raw), text) for at, raw, text in rows],
-                                              "g": [(0, b"\xc3", "ret # nothing")]},
+                                              "g": [(0, bytes.fromhex(last), "ret # nothing")]},
                                      object=types.SimpleNamespace(machine=62), is_relocated=lambda *_: False)
     disassembly.expect_bytes(program(right))
     for k, (raw, text) in enumerate((("b806000000", "mov $0x5,%eax"), ("4801d9", "add %rbx,%rax"),
@@ -311,6 +311,7 @@ def bytes_of_text(draw):
         refuses(lambda: disassembly.expect_bytes(program([*right[:k], (right[k][0], raw, text), *right[k + 1:]])),
                 f"another {text}")
     refuses(lambda: disassembly.expect_bytes(program([(0, "90", "no instruction")])), "a text that isn't assembled")
+    refuses(lambda: disassembly.expect_bytes(program(right, "cb")), "another last instruction")
 
 
 ALL = [jumps, bytes_of_text, frames, tables, effects, followed_frames, notes]

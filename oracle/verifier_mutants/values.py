@@ -134,6 +134,7 @@ def shapes(draw):
         if found.width <= 64:
             pool = [*pool, found][-9:]
     again = nodes.values_at(pool, {"m": message.values[0]})
+    expect(nodes.values_at([pool[0], 7], {"m": message.values[0]})[1], 7, "a number at a point")
     for x, y in zip(pool, again):
         expect(y, x.values[0], "a value at a point")
     x, y = (operations.bits(message, 64 * k, 64) for k in (0, 1))
@@ -560,6 +561,18 @@ def copies(draw):
                                                                 8), True, "apart")
 
 
+def rests_of_runs(message, n):
+    """Tests what is left of a run beside a store, also of a run from a symbolic offset on."""
+    for low, at, end, left in (
+            (0, 2, 20, [(0, 2)]), (0, 10, 20, [(0, 10)]), (0, -9, 0, [(0, 10)]), (0, 0, 4, [(4, 10)]), (5, 0, 5, [(5, 10)]),
+            (0, 3, 7, [(0, 3), (7, 10)]), (0, 0, 10, []), (0, -3, 13, []), (0, 9, 10, [(0, 9)])):
+        found = outside((low, 10, message, 0), at, end)
+        expect(found == [(*part, message, 0) for part in left], True, f"a run from {low} beside {at} to {end}")
+    found = outside((n, plus(n, 40), message, 0), 0, 7)
+    expect(found == [(plus(n, 8), plus(n, 40), message, 0)], True, "the rest of a run from a symbolic offset")
+    expect(outside((n, plus(n, 6), message, 0), 0, 7) == [], True, "a run that may be written over")
+
+
 def inputs(draw):
     n = variable("n")
     message = Input("m", plus(times(64, n), 10))
@@ -597,11 +610,7 @@ def inputs(draw):
         refuses(lambda: room.put_run(500, plus(n, 12), message, 0), "a run behind the end")
         expect(in_order(3, 5) == (3, 5) and in_order(5, 3) == (3, 5), True, "the order of two")
         refuses(lambda: in_order(n, 5), "an undecided order")
-        expect(outside((0, 10, message, 0), 2, 20) == [] and outside((0, 10, message, 0), 10, 20) == [(0, 10, message,
-                                                                0)] and
-               outside((0, 10, message, 0), 0, 4) == [(4, 10, message, 0)] and outside((5, 10, message, 0), 0,
-                                                                5) == [(5, 10, message, 0)], True,
-               "the rest of a run")
+        rests_of_runs(message, n)
     for at, size, length, expected in ((0, 8, 8, True), (1, 8, 8, False), (-1, 2, 8, False), (8, 0, 8, True),
                                        (7, 1, 8, True), (8, 1, 8, False)):
         expect(is_inside(at, size, length), expected, "inside")
@@ -615,7 +624,7 @@ def definition(draw):
     """Evaluates the definitions on test vectors of the reference library, with the evaluator's own library."""
     from symbolic_terms import definition as symbolic
     cases = [case for case in map(table.Case, table.lines()[::211]) if case.length <= 600]
-    entries = symbolic.program().run()
+    entries = symbolic.read().run()
     for case in cases:
         if not case.agrees(entries):
             raise Wrong(f"the definition disagrees with {case.line}")

@@ -3,7 +3,7 @@ import functools
 import os
 import types
 
-from symbolic_terms import TOP, comparison
+from symbolic_terms import TOP, comparison, cuts
 from symbolic_terms.processes import Task
 
 from .. import (calls, cargo_tasks, every_length, exports, planted_checks, planted_lines, planted_objects, removed,
@@ -34,7 +34,7 @@ def choose(given, found):
             asked = [*shared.MORE, every_length.PREFETCHED]
             out.append(shared.one_by_one(made, kind, asked, ", one-shots"))
         if kind[2] != SECRETS[1]:
-            asked = comparison.requests(*kind, comparison.STREAMED if given.all else STREAMED, True)
+            asked = cuts.streams(*kind, cuts.STREAMED if given.all else STREAMED)
             out.append(shared.compared(made, f"streams of {comparison.title_of(*kind)}", asked, streams))
     out += [shared.of_each(made, *call) for call in calls.OTHERS + calls.SHORT_SECRETS]
     out += [shared.twin_task({cargo.NAME: found}), shared.frames_task({cargo.NAME: found})]

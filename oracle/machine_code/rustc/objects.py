@@ -161,6 +161,7 @@ OWN = {(LOAD, "q"): load_address, (CALL, "q"): call_function, ("cpuid", ""): ask
            ("mov", "ib"): move, ("testl", "im"): test, ("or", "ib"): binary("or", "logic")}.items()}}
 
 
+@functools.cache
 def known_where_reached(instruction, name):
     """Returns the function of an instruction. One that the table lacks is refused when a run reaches it: rustc's object
     has functions that no call reaches."""

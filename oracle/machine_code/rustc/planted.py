@@ -18,8 +18,8 @@ SMALL = "return finalize.small(default_secret(), {}, &self.short[..self.used]);"
 SCRAMBLE = "v.round_scramble(&mut sums, secret.last_stripe());"
 TURNED = "(product)\n        .rotate_left({})"
 
-# A fault: its build; the file, the old and the new text; what detects it, as a function of a maker of processors; and
-# the pattern of its message.
+# A fault: its build, with a remark if another fault would hide it there; the file, the old and the new text; what detects
+# it, as a function of a maker of processors; and the pattern of its message.
 Fault = collections.namedtuple("Fault", "build file old new ask message")
 
 
@@ -94,28 +94,33 @@ FAULTS = [
           "Self::with_seed(seed ^ 1, room).ok().unwrap()",
           stream("3-128", "seed", "raw_boxed_3_128_", "allocate_with_seed", 300), "stream seed 300 bytes"),
     Fault("scalar", "lib.rs", "            self.0.finish()\n", "            self.0.finish() ^ 1\n",
-          stream("64", "seed", "xxh64_", "start", 40), "stream seed 40 bytes"),
+          stream("64", "seed", "xxh64_", "start", 36), "stream seed 36 bytes"),
     Fault("scalar", ERASED + "twox_plain/xxhash64/state.rs", "self.total_len.saturating_add(input.len().into_u64())",
           "self.total_len.wrapping_add(input.len().into_u64())", lost_total("64"),
           r"the total is .* and not 2\^64 - 1"),
-    Fault("x86-64", CORE + "stripes/blocks.rs", f"        {SCRAMBLE}", f"        if i < 2 {{ {SCRAMBLE} }}",
+    Fault("scalar, apart", CORE + "stripes/blocks.rs", f"        {SCRAMBLE}", f"        if i < 2 {{ {SCRAMBLE} }}",
           value("3-64", "default", 3137), DIFFERS),
     Fault("scalar", CORE + "large/scalar.rs", "(accumulator >> 47)", "(accumulator >> 46)",
           value("3-64", "default", 1025), DIFFERS),
     # Others.
-    Fault("x86-64", ERASED + "twox_plain/xxhash64/rounds.rs", "rotate_left(27)", "rotate_left(26)",
+    Fault("scalar", ERASED + "twox_plain/xxhash64/rounds.rs", "rotate_left(27)", "rotate_left(26)",
           value("64", "seed", 9), DIFFERS),
-    Fault("x86-64", ERASED + "twox_plain/xxhash32/rounds.rs", TURNED.format(13), TURNED.format(14),
+    Fault("scalar", ERASED + "twox_plain/xxhash32/rounds.rs", TURNED.format(13), TURNED.format(14),
           value("32", "seed", 16), DIFFERS),
-    Fault("x86-64", ERASED + "twox_core/width_64.rs", "rotate_left(49)", "rotate_left(48)", value("3-64", "seed", 5),
+    Fault("scalar", ERASED + "twox_core/width_64.rs", "rotate_left(49)", "rotate_left(48)", value("3-64", "seed", 5),
           DIFFERS),
-    Fault("x86-64", CORE + "mixing.rs", "input.len() as u8", "(input.len() as u8) ^ 1", value("3-128", "seed", 3),
+    Fault("scalar", CORE + "mixing.rs", "input.len() as u8", "(input.len() as u8) ^ 1", value("3-128", "seed", 3),
           DIFFERS),
 ]
 
 
+def build_of(group):
+    """Returns the name of a group's build."""
+    return group.partition(",")[0]
+
+
 def groups():
-    """Maps each build to its faults."""
+    """Maps each build, and each remark, to its faults."""
     out = collections.defaultdict(list)
     for fault in FAULTS:
         out[fault.build].append(fault)
@@ -124,7 +129,7 @@ def groups():
 
 def unnoticed(compilers, faults):
     """Compiles faults together. Returns how many are detected, and messages on the others."""
-    compiler = next(one for one in compilers if one.name == faults[0].build)
+    compiler = next(one for one in compilers if one.name == build_of(faults[0].build))
     program = compiler.program_of([(fault.file, fault.old, fault.new) for fault in faults])
     bad = [message for fault in faults if (message := told_of(fault, functools.partial(compiler.processor, program)))]
     return len(faults) - len(bad), bad

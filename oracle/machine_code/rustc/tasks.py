@@ -2,7 +2,7 @@
 import functools
 import re
 
-from symbolic_terms import comparison
+from symbolic_terms import comparison, cuts
 from symbolic_terms.comparison import title_of
 
 from .. import any_updates, every_length
@@ -34,10 +34,12 @@ def choose(given, compilers):
     """Returns the tasks, and compiles the builds that they run."""
     out = [counted("the program uses each public name", FEWEST_NAMES, names.left_out),
            counted("a public function without a use is refused", 1, new_name_is_missing)]
-    for compiler in compilers:
+    for compiler in compilers if given.all else [one for one in compilers if one.name != V3]:
         program = compiler.program_of()
         make = functools.partial(compiler.processor, program)
         made = {f"level {level}": functools.partial(make, level) for level in OF_BUILD.get(compiler.name, (1,))}
+        for one in made.values():
+            one()      # looks up the instructions' functions, which the tasks' processes share
         out += build_tasks(compiler.name, made, given.all)
         out += called_tasks(compiler.name, make, program, made, given.all)
     out += fault_tasks(given, compilers)
@@ -55,13 +57,12 @@ def build_tasks(name, made, is_all):
 
 
 def one_shot_tasks(name, made, first, is_all):
-    """Yields the tasks of one-shots. Without --all only the first build has every length of XXH32 and XXH64 up to 300,
-    and most of XXH3."""
+    """Yields the tasks of one-shots. Without --all the first build has the most lengths."""
     for kind in comparison.kinds(SECRETS):
         is_first = kind[2] is None and name in (V1, "aarch64")
         lengths = [*ONE_BY_ONE, *LONGER[kind[0]]] if is_all else FEW if name in (V3, SCALAR_BUILD) else SOME
         if is_first and not is_all:
-            lengths = ONE_BY_ONE if is_plain(kind[0]) else SOME_SHORT
+            lengths = SOME_SHORT
         yield compared(first, f"{name}: {title_of(*kind)}, one-shots", comparison.requests(*kind, lengths))
         if name in OF_BUILD and (is_all or kind in SOME_KINDS):
             more = [] if kind[2] or is_plain(kind[0]) else [every_length.PREFETCHED]
@@ -73,7 +74,8 @@ def stream_tasks(name, made, is_all):
     """Yields the tasks of streams. An XXH3 stream has a seed, and a custom secret or one derived from the seed."""
     for kind in comparison.kinds(SECRETS):
         if kind[1] != "secret":
-            asked = comparison.requests(*kind, comparison.STREAMED if is_all else STREAMED, True)
+            some = STREAMED[name == V1::2]      # the builds share the code of short streams
+            asked = cuts.streams(*kind, cuts.STREAMED if is_all else some)
             yield compared(made, f"{name}: {title_of(*kind)}, streams", asked, uses)
 
 
@@ -126,12 +128,13 @@ def called_tasks(name, make, program, made, is_all):
         return
     if is_all or name == ASSEMBLY:
         yield counted(f"{name}: each export of the program is called", FEWEST_USES,
-                      functools.partial(all_called, made[first], program))
+                      functools.partial(all_called, made[first], program, is_all))
     elif name != V3:
         others = made
     for level in others if is_all else [*others][-1:]:
-        yield of_each({level: made[level]}, f"{name}, {level}: streams by each way to start them", 150,
-                      functools.partial(uses.by_each_way, is_cloned=False))
+        some = uses.STREAMS[0 if is_all else 4:]
+        yield of_each({level: made[level]}, f"{name}, {level}: streams by each way to start them", 25 * len(some),
+                      functools.partial(uses.by_each_way, is_cloned=False, asked=some))
     if program.level and (is_all or name in (V1, ASSEMBLY)):
         yield of_each({first: make}, f"{name}: the level by `cpuid`", 48, choice.choice)
     if name == ASSEMBLY:
@@ -139,12 +142,12 @@ def called_tasks(name, make, program, made, is_all):
         yield of_each(made, "assembly: chunks of XXH3 of any length that don't fit the buffer", 58, choice.long_chunks)
 
 
-def all_called(make, program):
+def all_called(make, program, is_all):
     """Runs all uses, and compares the exports that they call with the program's."""
     cpu, called = make(), set()
     call = cpu.call
     cpu.call = lambda name, *arguments: called.add(name) or call(name, *arguments)
-    for _, least, ask in uses.ALL:
+    for least, ask in uses.calls(is_all):
         if ask(cpu) < least:
             return 0, ["fewer cases than expected"]
     for kind in comparison.kinds(SECRETS[:1]):
@@ -169,7 +172,7 @@ def fault_tasks(given, compilers):
     """Yields the tasks of planted faults: of each build together, and with --all one by one."""
     known = {compiler.name for compiler in compilers}      # ARM has no planted faults
     for build, faults in planted.groups().items():
-        if build in known:
+        if planted.build_of(build) in known:
             for some in ([[fault] for fault in faults] if given.all else [faults]):
                 title = some[0].file if given.all else f"{len(some)} faults"
                 yield counted(f"planted in {build}: {title}", len(some),

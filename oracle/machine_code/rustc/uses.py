@@ -167,12 +167,12 @@ def one_shot(cpu, request):
 STREAMS = [(0,), (9, 2), (70, 33, 64), (241, 239), (600, 512, 599), (1100, 64)]
 
 
-def by_each_way(cpu, is_cloned):
+def by_each_way(cpu, is_cloned, asked=STREAMS):
     """Compares streams by each way to start them, with each chunk written to a clone or not."""
     count, entries, texts = 0, definition.program().run(), {}
     for hash_name in HASHES:
         for way in ways(hash_name):
-            for length, *cuts in STREAMS:
+            for length, *cuts in asked:
                 fixed = 0 if way.kind == "zero" else None
                 request = Request(hash_name, "seed" if way.kind == "zero" else way.kind, length,
                                   SHORTEST if way.kind == "both" else None, fixed, cuts)
@@ -200,7 +200,8 @@ def written(cpu, hash_name, way, request, is_cloned=False):
     return streams.digest(cpu, hash_name, state)
 
 
-ALL = [("integers as chunks", 4 * 6 * 6, integers), ("seeds and lengths of streams", 6, told),
-       ("secrets that a call returns", 8, secrets), ("secrets that are too short", 20, refused),
-       ("streams by each way to start them", 150, functools.partial(by_each_way, is_cloned=False)),
-       ("streams whose chunks are written to a clone", 150, functools.partial(by_each_way, is_cloned=True))]
+def calls(is_all):
+    """Returns the minimum number of cases and the function of each test. Without `is_all`, streams have few lengths."""
+    some = STREAMS[0 if is_all else 1::1 if is_all else 2]
+    by_way = [(25 * len(some), functools.partial(by_each_way, is_cloned=is_cloned, asked=some)) for is_cloned in (False, True)]
+    return [(4 * 6 * 6, integers), (6, told), (8, secrets), (20, refused), *by_way]

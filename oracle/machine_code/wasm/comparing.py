@@ -1,5 +1,6 @@
 """Compares the modules with the definition: for each request both must compute the same term."""
 from symbolic_terms import Request, comparison, definition, nodes
+from symbolic_terms.cuts import cuts_of
 
 MOST_NODES = 300_000
 
@@ -29,7 +30,7 @@ def requests(kind, lengths, is_stream):
     """Yields the requests of a kind, (hash, function, length of the secret). A symbolic seed is nonzero if a module
     tests it."""
     for length in lengths:
-        for cuts in comparison.cuts_of(length) if is_stream else [None]:
+        for cuts in cuts_of(length) if is_stream else [None]:
             yield Request(*kind[:2], length, kind[2], cuts=cuts)
 
 

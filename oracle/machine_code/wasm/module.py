@@ -212,6 +212,8 @@ class Module:
         return opcode, self.given(body, opcode.behind)
 
     def given(self, body, behind):
+        if not behind:
+            return None
         if behind in ("label", "function", "local", "global"):
             return body.unsigned()
         if behind in ("i32", "i64"):
@@ -219,7 +221,7 @@ class Module:
             return body.signed(width) % (1 << width)
         if behind.startswith("bytes"):          # bytes loaded or stored: (alignment, offset)
             return body.unsigned(), body.unsigned()
-        return {"": lambda: None, "block": lambda: self.block_type(body), "v128": lambda: body.take(16),
+        return {"block": lambda: self.block_type(body), "v128": lambda: body.take(16),
                 "labels": lambda: [*body.many(body.unsigned), body.unsigned()], "lanes": lambda: body.take(16),
                 "lane2": body.byte, "lane4": body.byte, "zeros1": lambda: body.take(1),
                 "zeros2": lambda: body.take(2)}[behind]()

@@ -12,7 +12,8 @@ import os
 import random
 
 from reasons import CRASH, UNNOTICED, WRONG_RULE, Reasons, is_fault
-from symbolic_terms import REFUSALS, Request, WrongRule, comparison, differs, nodes
+from symbolic_terms import REFUSALS, Request, WrongRule, comparison, nodes
+from symbolic_terms.mutation import differs
 
 from ..xxh3_updates import TAKE_BLOCKS
 from . import calls, every_length, refusals
@@ -98,7 +99,7 @@ def asked(is_all=True):
         for n in LENGTHS[::1 if is_all else 3]:
             yield Request(*kind[:2], n, kind[2]), calls.one_shot
         for n in STREAM_LENGTHS if is_all else STREAM_LENGTHS[::3]:
-            for cuts in STREAM_CUTS:
+            for cuts in STREAM_CUTS[::1 if is_all else 2]:
                 if all(cut <= n for cut in cuts):
                     yield Request(*kind[:2], n, kind[2], cuts=cuts), calls.stream
     yield from refused()
@@ -132,7 +133,7 @@ class Covered:
             for place in sorted(vm.used):
                 seen[place, kind] += 1
                 for number in range(KEPT):
-                    if draw.randrange(seen[place, kind]) == 0:
+                    if draw.random() * seen[place, kind] < 1:
                         by_kind[place][kind, number] = query
         vm.used = None
         self.by_place = {place: draw.sample([*found.values()], len(found)) for place, found in sorted(by_kind.items())}

@@ -28,11 +28,11 @@ class PlainStreams(AnyUpdates):
 
     def updates(self, each):
         """Proves updates from stripe * a + r bytes, for every `each`-th r, by chunks that complete no stripe, one, or
-        more."""
+        more, and leave each number of bytes, or every second one if `each` isn't 1."""
         d = variable("d")
         for a in (0, variable("a")):
             for r in range(each - 1, self.stripe, each):
-                for s in range(self.stripe):
+                for s in range(self.stripe - 1, -1, -1 if each == 1 else -2):
                     if s >= r:
                         self.update_of_page(a, r, a, s, [])
                     if r:

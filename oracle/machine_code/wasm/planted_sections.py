@@ -136,12 +136,14 @@ def refusal(whole):
 
 def tell(machines, each=1):
     """Tests each module with each planted fault, or with every `each`-th type of an export. Returns faults that pass, and
-    unchanged modules that fail."""
+    unchanged modules that fail. The functions of a module with a fault only trap, so that reading it is short."""
     bad = []
     for name, vm in machines.items():
         whole = vm.module.whole
         sections = sections_of(whole)
         bad += [f"{name} is refused: {why}" for why in [refusal(joined(whole, sections))] if why]
+        sections = in_place(CODE, lambda _, count=len(vm.module.functions): vector([FUNCTION_BODY] * count))(vm.module, sections)
+        bad += [f"{name} without its code is refused: {why}" for why in [refusal(joined(whole, sections))] if why]
         asked = [*WRONG, *list(of_other_types())[::each]]
         bad += [f"{name} passes with {what}" for what, change in asked
                 if not refusal(joined(whole, change(vm.module, sections)))]

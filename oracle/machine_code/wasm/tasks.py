@@ -3,7 +3,7 @@ import functools
 import hashlib
 import os
 
-from symbolic_terms import comparison
+from symbolic_terms import comparison, cuts
 from symbolic_terms.processes import Task
 from symbolic_terms.comparison import title_of
 from symbolic_terms.tasks import STREAM_SECRETS
@@ -24,7 +24,7 @@ GATE_KINDS, GATE_CASES = [("32", "seed"), ("64", "seed"), ("3-64", "seed"), ("3-
 # Cases of XXH3's streams: size of a sample, and the number of parts of all.
 XXH3_CASES = {UPDATES: (8, 4), DIGESTS: (37, 2), STRIPES: (2, 2)}
 GATE_CHANGES, CHANGES = 12, 1000     # of a module
-GATE_TYPES, GATE_REMOVED = 13, 6     # steps between planted types of exports, and removed exports
+GATE_TYPES, GATE_REMOVED = 3, 6      # steps between planted types of exports, and removed exports
 PARTS = 4                            # tasks into which the changes of a module are split
 
 # Every export, with words of the titles of tasks that prove it.
@@ -132,7 +132,7 @@ def of_memory(vm, found):
 # ---- single lengths
 
 def lengths(is_all):
-    each, streamed = 1 if is_all else GATE_EACH, comparison.STREAMED if is_all else GATE_STREAMS
+    each, streamed = 1 if is_all else GATE_EACH, cuts.STREAMED if is_all else GATE_STREAMS
     for kind in comparison.kinds(SECRETS if is_all else GATE_SECRETS):
         of_kind = title_of(*kind)
         yield compared(f"{of_kind}, one-shots of 0 to 300 bytes", kind, one_by_one(each), False)
@@ -235,4 +235,5 @@ def of_changes(is_all):
         for part in range(parts):
             title = f"changes in the bytes of {module}" + (f", part {part + 1} of {parts}" if is_all else "")
             count = CHANGES // parts if is_all else GATE_CHANGES
-            yield title, functools.partial(mutation.tell, name=module, count=count, seed=part, is_all=is_all)
+            yield title, functools.partial(
+                mutation.tell, name=module, count=count, seed=part if is_all else PARTS, is_all=is_all)

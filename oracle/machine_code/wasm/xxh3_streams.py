@@ -10,13 +10,23 @@ from symbolic_terms import (LONGEST as MOST_BYTES, Node, NotShown, Request, at_m
                             same, symbol, times, variable)
 
 from ..cargo_streams import CargoUpdates
-from ..whole_blocks import BLOCKS, in_numbers, parted
+from ..whole_blocks import BLOCKS, in_few, in_numbers, may_hold, names_in
 from ..xxh3_updates import STRIPES, Start
 from . import calls, every_length
 from .induction import Loops
 from .stripes import Takers
 
 LONGEST = every_length.LONGEST    # bytes of a chunk and of a secret, by the size of the memory
+
+
+def parted(case, at):
+    """Splits a case, whose facts are at index `at`, by whether there are whole blocks."""
+    if BLOCKS not in names_in(case):
+        yield case
+        return
+    yield from (none for none in in_few(in_numbers(case, BLOCKS, 0)) if may_hold(none[at]))
+    facts = [*case[at], minus(variable(BLOCKS), 1)]
+    yield (*case[:at], facts, *case[at + 1:])
 
 
 class ModuleUpdates(CargoUpdates):
