@@ -26,7 +26,7 @@ from .parts import Part
 # Checks over symbols, which need no proof: they use the processors that the proofs leave idle.
 FOR_ALL_BYTES = [("the definitions beside the reference's code", 32, "oracle/symbolic"),
                  ("the assembly text beside the definitions", 140, "oracle/machine-text"),
-                 ("the crate's calls, as rustc compiles them, beside the definitions", 111, "oracle/rust-object"),
+                 ("the crate's calls, as rustc compiles them, beside the definitions", 95, "oracle/rust-object"),
                  ("the modules for browsers beside the definitions", 53, "oracle/modules")]
 
 
