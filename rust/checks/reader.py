@@ -168,6 +168,7 @@ IN_PROGRAMS = [(rows_of(old), rows_of(new), files) for old, new, files in (
     *((old, new, '*') for old, new in OF_RATTLE.items()),
     *((f'{name}::', f'crate::rattle::{name}::', '*') for name in PORTS),
     ('use std::{fmt, io};', 'use crate::rattle::io; use std::fmt;', 'xxh_io/words'),
+    ('use std::{fs, io};', 'use crate::rattle::fs; use crate::rattle::io;', 'xxhsum_fs/calls'),
     ('b" 0.1.0 of twox_hash, with the messages of xxhsum 0.8.1 and the options and lines of 0.8.3"',
      'b" 0.1.0 of twox_hash, compiled by rustc from proved source, with the messages of xxhsum 0.8.1 and the options and lines of 0.8.3"',
      'xxhsum_program/usage'),
