@@ -89,7 +89,7 @@ def unchanged_without_toolchain(eraser, folder):
     os.environ['PATH'] = folder
     package = eraser.packages.LIBRARY_PACKAGE
     crates = os.path.join(os.path.dirname(eraser.packages.RUST), 'crates')
-    return eraser.erase.run(SimpleNamespace(crates=crates, check=True), package, package.folder, True)
+    return eraser.erase.run(SimpleNamespace(crates=crates, check=True, of_ci=False), package, package.folder, True)
 
 
 def run_with(eraser, folder, **stored):
@@ -98,7 +98,7 @@ def run_with(eraser, folder, **stored):
     eraser.stored.STORED = os.path.join(folder, 'stored.txt')
     eraser.erase.sources, eraser.erase.erased = (lambda *_: CASE), (lambda *_: {'a.rs': ''})
     eraser.erase.stored, eraser.erase.calls = (lambda: stored), (lambda *_: {'crate case': ('1', [])})
-    return eraser.erase.run(SimpleNamespace(crates=folder, check=True), package, os.path.join(folder, 'tree'), True)
+    return eraser.erase.run(SimpleNamespace(crates=folder, check=True, of_ci=False), package, os.path.join(folder, 'tree'), True)
 
 
 def restored(run):
@@ -135,6 +135,15 @@ def unproved_crate(eraser, folder):
     return eraser.stored.proved_mir(os.path.join(folder, 'crates'), 'case')
 
 
+def crate_changed_since_ci(eraser, folder):
+    write(os.path.join(folder, 'crates.txt'), 'case:\n')
+    library = os.path.join(folder, 'crates', 'case', 'out', 'rlib', 'case.rlib')
+    write(os.path.join(library, 'toolchain', 'mir.json'), '[]')
+    os.utime(library, (0, 0))
+    write(os.path.join(folder, 'crates', 'case', 'src', 'lib.rt'), '')
+    return eraser.stored.proved_mir(os.path.join(folder, 'crates'), 'case', of_ci=True)
+
+
 def unread_program(eraser, folder):
     write(os.path.join(folder, 'crates.txt'), 'case:\n')
     package = SimpleNamespace(read=('case',), left_out=())
@@ -152,5 +161,5 @@ def stored_callee_that_is_unknown(eraser, folder):
 SCENARIOS = {run.__name__.replace('_', ' '): scenario(run) for run in (
     foreign_folder, foreign_file, file_that_is_not_rattle, no_toolchain, failing_toolchain, code_that_the_toolchain_reads_as_none,
     text_between_tokens, comment_between_tokens, name_in_brackets, changed_without_toolchain, unchanged_without_toolchain,
-    unknown_callee, unproved_crate, unread_program, stored_callee_that_is_unknown)}
+    unknown_callee, unproved_crate, crate_changed_since_ci, unread_program, stored_callee_that_is_unknown)}
 SCENARIOS |= {run.__name__.replace('_', ' '): scenario(restored(run)) for run in (tree_that_differs, stored_of_others)}
