@@ -233,12 +233,12 @@ The time of `get` in a `HashMap` of 1,024 keys, divided by that with SipHash, th
 #CARGO_MAPS
 Where the crate is slower:
 
-- One-shots of XXH3-128 of 129 to 240 bytes (0.90 to 0.92 beside `twox-hash`) are a call, so that shorter inputs save no registers.
-- XXH32 and XXH64 have the same loop as `twox-hash`, with more code before and after it (0.88 for XXH32 of 16 and 32 bytes, in one chunk).
-- Streams of XXH3 in chunks of 1 to 8 bytes check more per chunk than `xxhash-rust` (0.76 for chunks of 1 byte).
-- Compiled for this processor, `RawHasher` (0.67 to 0.80) and XXH32 (0.73 to 0.80) are slower at 16 to 64 bytes. The cause is unknown.
-- Without assembly source, one-shots of XXH3 of 16 KiB take 0.90 to 0.91.
-- A string is written in two parts. Above 8 bytes, the processor waits for the stores of both before the hash reads them, so keys of 16 and 25 bytes are slower than with SipHash.
+- One-shots of XXH3-128 of 129 to 240 bytes (0.90 to 0.94 beside `twox-hash`) are a call, so that shorter inputs save no registers.
+- XXH32 and XXH64 have the same loop as `twox-hash`, with more code before and after it (0.90 for XXH32 of 16 to 64 bytes, in one chunk).
+- Streams of XXH3 in chunks of 1 to 64 bytes check more per chunk than `xxhash-rust` (0.74 for chunks of 1 byte).
+- Compiled for this processor, `RawHasher` (0.71 to 0.89) and XXH32 (0.73 to 0.93) are slower in short chunks. The cause is unknown.
+- Without assembly source, one-shots of XXH3 of 16 KiB take 0.91 to 0.94, and chunks of 4,096 bytes 0.87.
+- A string is written in two parts. Above 8 bytes, the processor waits for the stores of both before the hash reads them.
 
 `xxhash-rust` does not detect the processor for more than 240 bytes.
 
