@@ -28,9 +28,8 @@ TARGET = 'wasm64-unknown-unknown'
 APART = 'rattle::export twox_xxh32'
 # Functions that are always inlined, and calls that are, by caller and callee: for inputs of up to 240 bytes with no
 # secret.
-INLINED = re.compile(r'^(define internal .*@"(?:rattle::export [^"]*|twox_core::width_128::oneshot_65_to_128)"\(.*) (#\d+) \{$', re.M)
-CALLS_INLINED = [('twox_core::width_128::oneshot', 'twox_core::width_128::impl_129_to_240_bytes'),
-                 ('twox_core::width_64::oneshot_with_secret', 'twox_core::width_64::impl_129_to_240_bytes')]
+INLINED = re.compile(r'^(define internal .*@"(?:rattle::export [^"]*|twox_core::width_128::oneshot_(?:65_to_128|129_to_240))"\(.*) (#\d+) \{$', re.M)
+CALLS_INLINED = [('twox_core::width_64::oneshot_with_secret', 'twox_core::width_64::impl_129_to_240_bytes')]
 # A kernel's default method of its trait: a call without an inline hint from the toolchain.
 OF_TRAIT = re.compile(r'^(define internal void @"twox_core::xxhash3::large::halves4::ImplVector::accumulate_four_stripes"'
                       r'\(.*) #\d+ \{$', re.M)

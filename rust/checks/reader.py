@@ -123,7 +123,7 @@ REPLACEMENTS = [(rows_of(old), rows_of(new), files) for old, new, files in (
     ('pub mod by_stripes; mod saved_text;', '', 'twox_plain'), ('mod build_hashers;', '', '*'), ('mod saved;', '', '*'),
     ('pub use build_hashers::{RandomState, State};', '', '*'), ('pub use saved::FormError;', '', '*'),
     ('#[inline]', '#[inline(always)]', 'twox_core/xxhash3/large/four'), ('#[inline]', '#[inline(always)]', 'twox_core/xxhash3/large/lanes4'),
-    *(('#[inline(never)] fn impl_129_to_240_bytes', '#[inline] fn impl_129_to_240_bytes', f'twox_core/width_{bits}') for bits in (64, 128)),
+    ('#[inline(never)] fn impl_129_to_240_bytes', '#[inline] fn impl_129_to_240_bytes', 'twox_core/width_64'),
     ('#[inline(never)] fn impl_long', '#[inline(always)] fn impl_long', 'twox_plain/xxhash64/rounds'),
     *((f'#[inline(never)] {head}', f'#[inline(always)] {head}', 'twox_core/xxhash3/*') for head in (
         'fn take_stripes<V', 'fn take_many_stripes<V', 'pub(super) fn take_many_blocks<V', 'fn write_through<V')),

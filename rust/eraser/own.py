@@ -46,7 +46,6 @@ INLINED = {
     'twox_core/src/xxhash3/stripes/blocks.rt': {'take_many_blocks': ALWAYS},
     'twox_core/src/xxhash3/streaming/core_state.rt': {'write_through': ALWAYS},
     'twox_core/src/width_64.rt': {'impl_129_to_240_bytes': 'inline'},
-    'twox_core/src/width_128.rt': {'impl_129_to_240_bytes': 'inline'},
     'twox_plain/src/xxhash64/rounds.rt': {'impl_long': ALWAYS},
 }
 # The functions that have the bound of their type, which itself has none: so it is with the types of the original.

@@ -65,7 +65,7 @@ pub fn oneshot(input: &[u8]) -> Wide
     } else if input.len() <= 128 {
         oneshot_65_to_128(input)
     } else if input.len() <= CUTOFF {
-        impl_129_to_240_bytes(default_secret(), DEFAULT_SEED, input)
+        oneshot_129_to_240(input)
     } else {
         oneshot_long(default_secret(), input)
     }
@@ -79,6 +79,16 @@ fn oneshot_65_to_128(input: &[u8]) -> Wide
         ≡ xxh3_128 0 default_secret input.now }
 {
     impl_65_to_128_bytes(default_secret(), DEFAULT_SEED, input)
+}
+
+#[inline(never)]
+fn oneshot_129_to_240(input: &[u8]) -> Wide
+    requires some { 129 ≤ length input.now }
+    requires few { length input.now ≤ 240 }
+    ensures { result.high * 2 ^ 64 + result.low
+        ≡ xxh3_128 0 default_secret input.now }
+{
+    impl_129_to_240_bytes(default_secret(), DEFAULT_SEED, input)
 }
 
 /// Returns the value with a seed: up to 240 bytes with the default secret, above that with the one derived from the
@@ -96,7 +106,7 @@ pub fn oneshot_with_seed(seed: u64, input: &[u8]) -> Wide
     } else if input.len() <= 128 {
         oneshot_with_seed_65_to_128(input, seed)
     } else if input.len() <= CUTOFF {
-        impl_129_to_240_bytes(default_secret(), seed, input)
+        oneshot_with_seed_129_to_240(input, seed)
     } else {
         oneshot_long_with_seed(seed, input)
     }
@@ -114,6 +124,17 @@ fn oneshot_with_seed_65_to_128(input: &[u8], seed: u64) -> Wide
     impl_65_to_128_bytes(default_secret(), seed, input)
 }
 
+#[inline(never)]
+#[tactic(auto, unfolding(crate::specs::Value::effective_secret))]
+fn oneshot_with_seed_129_to_240(input: &[u8], seed: u64) -> Wide
+    requires some { 129 ≤ length input.now }
+    requires few { length input.now ≤ 240 }
+    ensures { result.high * 2 ^ 64 + result.low
+        ≡ xxh3_128 seed (effective_secret (derived_secret seed) input.now) input.now }
+{
+    impl_129_to_240_bytes(default_secret(), seed, input)
+}
+
 /// Returns the value with a secret and the seed 0.
 #[inline(always)]
 pub fn oneshot_with_secret(secret: Secret<'_>, input: &[u8]) -> Wide
@@ -127,7 +148,7 @@ pub fn oneshot_with_secret(secret: Secret<'_>, input: &[u8]) -> Wide
     } else if input.len() <= 128 {
         oneshot_with_secret_65_to_128(input, secret)
     } else if input.len() <= CUTOFF {
-        impl_129_to_240_bytes(secret, DEFAULT_SEED, input)
+        oneshot_with_secret_129_to_240(input, secret)
     } else {
         oneshot_long(secret, input)
     }
@@ -141,6 +162,16 @@ fn oneshot_with_secret_65_to_128(input: &[u8], secret: Secret<'_>) -> Wide
         ≡ xxh3_128 0 (secret_bytes secret.entry) input.now }
 {
     impl_65_to_128_bytes(secret, DEFAULT_SEED, input)
+}
+
+#[inline(never)]
+fn oneshot_with_secret_129_to_240(input: &[u8], secret: Secret<'_>) -> Wide
+    requires some { 129 ≤ length input.now }
+    requires few { length input.now ≤ 240 }
+    ensures { result.high * 2 ^ 64 + result.low
+        ≡ xxh3_128 0 (secret_bytes secret.entry) input.now }
+{
+    impl_129_to_240_bytes(secret, DEFAULT_SEED, input)
 }
 
 /// Returns the value above 240 bytes, with a secret. No seed is used, so it is the value for every seed.
@@ -302,8 +333,18 @@ pub fn oneshot_short(secret: Secret<'_>, seed: u64, input: &[u8]) -> Wide
     } else if input.len() <= 128 {
         impl_65_to_128_bytes(secret, seed, input)
     } else {
-        impl_129_to_240_bytes(secret, seed, input)
+        short_129_to_240(secret, seed, input)
     }
+}
+
+#[inline(never)]
+fn short_129_to_240(secret: Secret<'_>, seed: u64, input: &[u8]) -> Wide
+    requires some { 129 ≤ length input.now }
+    requires few { length input.now ≤ 240 }
+    ensures { result.high * 2 ^ 64 + result.low
+        ≡ xxh3_128 seed (secret_bytes secret.entry) input.now }
+{
+    impl_129_to_240_bytes(secret, seed, input)
 }
 
 #[inline(always)]
@@ -545,7 +586,8 @@ fn mix_last(accumulators: Accumulators, secret: Secret<'_>, seed: u64, input: &[
     finalize_medium(accumulators, input.len().into_u64(), seed)
 }
 
-#[inline(never)]
+// Inlined into a function for each kind of call, since a known seed of 0 saves two steps in each product.
+#[inline(always)]
 fn impl_129_to_240_bytes(secret: Secret<'_>, seed: u64, input: &[u8]) -> Wide
     requires some { 129 ≤ length input.now }
     requires few { length input.now ≤ 240 }
