@@ -177,7 +177,8 @@ class SourceRoom(Room):
         registry = os.path.join(path, 'registry')
         for folder in (self.libraries, registry):
             os.mkdir(folder)
-        for folder in (CRATES, os.path.join(SOURCES, 'vendor')):
+        # Debian's packages of crates are there only if a check needs one.
+        for folder in filter(os.path.isdir, (CRATES, os.path.join(SOURCES, 'vendor'))):
             for name in os.listdir(folder):
                 os.symlink(os.path.join(folder, name), os.path.join(registry, name))
         self.use_registry(registry)
