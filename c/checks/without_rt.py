@@ -10,7 +10,6 @@ import aarch64
 import arm_roots
 import launcher
 import made
-import suits
 import values
 from report import Fault, tail, want
 from sides import THEIRS, Side
@@ -249,7 +248,6 @@ def check_x86(report, copy, room, has_v3, examples):
     made.check_all(report, built, paths)
     for compiler in ('gcc', 'clang'):
         report.attempt(f'the launcher of two builds by {compiler}', launcher.launches, room, has_v3, compiler)
-    suits.check_all(report, room)
     program = values.calls_program(built, 'calls')
     report.attempt('states after freeState', values.freed_states_are_refused, [program], THEIRS, built.plain, 1000)
     for path in paths:
