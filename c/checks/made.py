@@ -9,7 +9,7 @@ from library import C
 from tools import must, ran, text_of, write
 
 HEADER = '/usr/include/xxhash.h'
-# Faults of the C around the proved code, each of which own_states_3 must notice: a file, its text, and another one. An
+# Faults of the C around the proved code, each of which own_states_3 must detect: a file, its text, and another one. An
 # address that is passed without its mark changes no value, since the proved call tests the mark too.
 FAULTS = (('streams.c', 'state->mark == MARK_ADDRESS ||', ''),
           ('streams.c', '|| state->mark == MARK_ADDRESS_AND_SEED', ''),
@@ -70,7 +70,7 @@ def with_fault(built, folder, file, text, other):
     return library
 
 
-def faults_are_noticed(built):
+def faults_are_detected(built):
     """own_states_3 fails on each library with a fault, also by stopping."""
     program = os.path.join(built.room, 'own_states_3')
     must(['gcc', '-O2', '-I', built.include, os.path.join(C, 'checks', 'own_states_3.c'), '-o', program])
@@ -78,7 +78,7 @@ def faults_are_noticed(built):
         folder = os.path.join(built.room, f'fault-{number}')
         os.mkdir(folder)
         done = ran([program, THEIRS, with_fault(built, folder, *fault)])
-        want(done.returncode, f'{fault[0]} with {fault[2]} is not noticed')
+        want(done.returncode, f'{fault[0]} with {fault[2]} is not detected')
     return f'{len(FAULTS)} faults'
 
 
@@ -117,5 +117,5 @@ def check_all(report, built, paths):
                            THEIRS, paths, compiler, folder)
     for compiler in ('g++', 'clang++'):
         report.attempt(f'states of a program in C++ by {compiler}', states_in_cpp, built, compiler)
-    report.attempt('faults in c/streams.c and c/guards.c are noticed', faults_are_noticed, built)
+    report.attempt('faults in c/streams.c and c/guards.c are detected', faults_are_detected, built)
     report.attempt('XXH_featureTest', features_are_known, built)

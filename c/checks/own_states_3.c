@@ -3,10 +3,10 @@
  *
  *     own_states_3 REFERENCE OURS
  *
- * A state of exactly 576 bytes is placed at both ends of a page between two that may not be read, and at each multiple
- * of 8 bytes there, after memory of several kinds. Its digests of both widths are compared with the reference's
- * one-shots, for all four resets, secrets of 136 to 935 bytes, copies and splits. Memory without a mark is refused, and
- * its address isn't followed. Prints how much was compared, and returns 1 if something differs. */
+ * A state of exactly 576 bytes is placed at the start and at the end of a page between two that may not be read, and at
+ * multiples of 8 bytes there, after memory of several kinds. Its digests of both widths are compared with the
+ * reference's one-shots, for all four resets, secrets of 136 to 935 bytes, copies and splits. Memory without a mark is
+ * refused, and its address isn't followed. Prints how much was compared, and returns 1 if something differs. */
 #define XXH_STATIC_LINKING_ONLY
 #include <dlfcn.h>
 #include <stdint.h>
@@ -17,7 +17,7 @@
 #include <unistd.h>
 #include <xxhash.h>
 
-enum { BYTES = 576, MARK = 544, SEED = 552, LENGTH = 560, ADDRESS = 568, LONGEST_SECRET = 935 };
+enum { BYTES = 576, BUFFERED = 80, MARK = 544, LENGTH = 560, ADDRESS = 568, LONGEST_SECRET = 935 };
 _Static_assert(sizeof(XXH3_state_t) == BYTES && _Alignof(XXH3_state_t) == 64, "XXH3_state_t");
 
 #define EACH(X) \
@@ -139,8 +139,8 @@ static void stream(void *state, void *other, struct key key)
     want(reset(state, key) == XXH_OK, "a reset", key.length);
     for (size_t n = 0, length; n < sizeof input - most && random_word() % 12; n += length) {
         length = random_word() % most;
-        want((random_word() % 2 ? ours.XXH3_64bits_update : ours.XXH3_128bits_update)(state, input + n, length) == XXH_OK,
-             "an update", n);
+        __typeof__(&XXH3_64bits_update) update = random_word() % 2 ? ours.XXH3_64bits_update : ours.XXH3_128bits_update;
+        want(update(state, input + n, length) == XXH_OK, "an update", n);
         want(is_right(state, key, n + length), "a digest", n + length);
         if (random_word() % 3) continue;
         if (random_word() % 2) memcpy(other, state, BYTES);
@@ -202,7 +202,7 @@ static void beside_a_mark(unsigned char *state)
             refused(state, "a mark with another bit", 64 * i + bit);
         }
         want(reset((void *)state, keys[i]) == XXH_OK, "a reset", i);
-        state[80] = 1, state[81] = 1;
+        state[BUFFERED] = 1, state[BUFFERED + 1] = 1;
         refused(state, "257 bytes buffered", i);
     }
     for (uint64_t length = 0; length < 136; length += 27) {
