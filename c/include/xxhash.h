@@ -339,8 +339,8 @@ XXH_PUBLIC_API void XXH3_generateSecret_fromSeed(void *secret, XXH64_hash_t seed
 
 /* ==== The types of states: 48, 88 and 576 bytes, as in the C library ==== */
 
-/* The assembly library's state of XXH3 is larger than 576 bytes, so a program that links it must not have states of XXH3
- * of its own: they have no size there. This condition is the only place to change when that state has 576 bytes.
+/* The assembly library's state of XXH3 is larger than 576 bytes, so a program that links it must not have states of
+ * XXH3 of its own: they have no size there. This condition is the only place to change when that state has 576 bytes.
  * A program that links an object of source/xxhash.c without a prefix defines TWOX_HASH_SOURCE. */
 #undef XXH3_STATE_IS_VISIBLE
 #if XXH_IS_PRIVATE || defined(XXH_IMPLEMENTATION) || defined(XXH_NAMESPACE) || defined(TWOX_HASH_SOURCE)
@@ -1115,8 +1115,15 @@ XXH_FORCE_INLINE xxh3_vector xxh3_scramble_vector(xxh3_vector accumulators, xxh3
 typedef uint64x2_t xxh3_vector;
 #define XXH3_VECTORS 4
 
-XXH_FORCE_INLINE xxh3_vector xxh3_load(const void *at) { return vreinterpretq_u64_u8(vld1q_u8((const uint8_t *)at)); }
-XXH_FORCE_INLINE void xxh3_store(void *at, xxh3_vector vector) { vst1q_u8((uint8_t *)at, vreinterpretq_u8_u64(vector)); }
+XXH_FORCE_INLINE xxh3_vector xxh3_load(const void *at)
+{
+    return vreinterpretq_u64_u8(vld1q_u8((const uint8_t *)at));
+}
+
+XXH_FORCE_INLINE void xxh3_store(void *at, xxh3_vector vector)
+{
+    vst1q_u8((uint8_t *)at, vreinterpretq_u8_u64(vector));
+}
 
 XXH_FORCE_INLINE xxh3_vector xxh3_accumulate_vector(xxh3_vector accumulators, xxh3_vector lanes, xxh3_vector key)
 {
@@ -1134,22 +1141,28 @@ XXH_FORCE_INLINE xxh3_vector xxh3_scramble_vector(xxh3_vector accumulators, xxh3
 #endif
 
 #if XXH_VECTOR == XXH_SCALAR
-/* Accumulates stripes, and begins 8 bytes later in the secret with each. */
-XXH_FORCE_INLINE void xxh3_accumulate(uint64_t *accumulators, const uint8_t *stripe, const uint8_t *key, size_t count)
+typedef uint64_t xxh3_vector;
+#define XXH3_VECTORS 8
+
+XXH_FORCE_INLINE void xxh3_load_all(uint64_t *local, const uint64_t *accumulators)
 {
-    uint64_t local[8];
-    size_t i;
     XXH_COPY(local, accumulators, 64);
-    for (; count; count--, stripe += 64, key += 8) {
-        XXH_PREFETCH(stripe + 512);
-        XXH_UNROLLED
-        for (i = 0; i < 8; i++) {
-            uint64_t lane = xxh_read64(stripe + 8 * i), keyed = lane ^ xxh_read64(key + 8 * i);
-            local[i ^ 1] += lane;
-            local[i] += (uint64_t)(uint32_t)keyed * (keyed >> 32);
-        }
-    }
+}
+
+XXH_FORCE_INLINE void xxh3_store_all(uint64_t *accumulators, const uint64_t *local)
+{
     XXH_COPY(accumulators, local, 64);
+}
+
+XXH_FORCE_INLINE void xxh3_accumulate_stripe(uint64_t *local, const uint8_t *stripe, const uint8_t *key)
+{
+    size_t i;
+    XXH_UNROLLED
+    for (i = 0; i < 8; i++) {
+        uint64_t lane = xxh_read64(stripe + 8 * i), keyed = lane ^ xxh_read64(key + 8 * i);
+        local[i ^ 1] += lane;
+        local[i] += (uint64_t)(uint32_t)keyed * (keyed >> 32);
+    }
 }
 
 /* Scrambles the accumulators at the end of a block. */
@@ -1165,22 +1178,27 @@ XXH_FORCE_INLINE void xxh3_scramble(uint64_t *accumulators, const uint8_t *key)
 #define XXH3_VECTOR_BYTES (64 / XXH3_VECTORS)
 #define XXH3_VECTOR_WORDS (8 / XXH3_VECTORS)
 
-/* Accumulates stripes, and begins 8 bytes later in the secret with each. */
-XXH_FORCE_INLINE void xxh3_accumulate(uint64_t *accumulators, const uint8_t *stripe, const uint8_t *key, size_t count)
+XXH_FORCE_INLINE void xxh3_load_all(xxh3_vector *local, const uint64_t *accumulators)
 {
-    xxh3_vector local[XXH3_VECTORS];
     size_t i;
     XXH_UNROLLED
     for (i = 0; i < XXH3_VECTORS; i++) local[i] = xxh3_load(accumulators + XXH3_VECTOR_WORDS * i);
-    for (; count; count--, stripe += 64, key += 8) {
-        XXH_PREFETCH(stripe + 512);
-        XXH_UNROLLED
-        for (i = 0; i < XXH3_VECTORS; i++)
-            local[i] = xxh3_accumulate_vector(local[i], xxh3_load(stripe + XXH3_VECTOR_BYTES * i),
-                                              xxh3_load(key + XXH3_VECTOR_BYTES * i));
-    }
+}
+
+XXH_FORCE_INLINE void xxh3_store_all(uint64_t *accumulators, const xxh3_vector *local)
+{
+    size_t i;
     XXH_UNROLLED
     for (i = 0; i < XXH3_VECTORS; i++) xxh3_store(accumulators + XXH3_VECTOR_WORDS * i, local[i]);
+}
+
+XXH_FORCE_INLINE void xxh3_accumulate_stripe(xxh3_vector *local, const uint8_t *stripe, const uint8_t *key)
+{
+    size_t i;
+    XXH_UNROLLED
+    for (i = 0; i < XXH3_VECTORS; i++)
+        local[i] = xxh3_accumulate_vector(local[i], xxh3_load(stripe + XXH3_VECTOR_BYTES * i),
+                                          xxh3_load(key + XXH3_VECTOR_BYTES * i));
 }
 
 /* Scrambles the accumulators at the end of a block. */
@@ -1194,6 +1212,19 @@ XXH_FORCE_INLINE void xxh3_scramble(uint64_t *accumulators, const uint8_t *key)
     }
 }
 #endif
+
+/* Accumulates stripes, and begins 8 bytes later in the secret with each. */
+XXH_FORCE_INLINE void xxh3_accumulate_stripes(uint64_t *accumulators, const uint8_t *stripe, const uint8_t *key,
+                                              size_t count)
+{
+    xxh3_vector local[XXH3_VECTORS];
+    xxh3_load_all(local, accumulators);
+    for (; count; count--, stripe += 64, key += 8) {
+        XXH_PREFETCH(stripe + 512);
+        xxh3_accumulate_stripe(local, stripe, key);
+    }
+    xxh3_store_all(accumulators, local);
+}
 
 XXH_FORCE_INLINE void xxh3_start(uint64_t *accumulators)
 {
@@ -1252,12 +1283,12 @@ XXH_FORCE_INLINE void xxh3_accumulate_all(uint64_t *accumulators, const uint8_t 
     size_t block;
     xxh3_start(accumulators);
     for (block = 0; block < blocks; block++) {
-        xxh3_accumulate(accumulators, bytes + 64 * stripes_per_block * block, secret, stripes_per_block);
+        xxh3_accumulate_stripes(accumulators, bytes + 64 * stripes_per_block * block, secret, stripes_per_block);
         xxh3_scramble(accumulators, secret + secret_length - 64);
     }
-    xxh3_accumulate(accumulators, bytes + 64 * stripes_per_block * blocks, secret,
+    xxh3_accumulate_stripes(accumulators, bytes + 64 * stripes_per_block * blocks, secret,
                     stripes - stripes_per_block * blocks);
-    xxh3_accumulate(accumulators, bytes + length - 64, secret + secret_length - 71, 1);
+    xxh3_accumulate_stripes(accumulators, bytes + length - 64, secret + secret_length - 71, 1);
 }
 
 XXH_FORCE_INLINE uint64_t xxh3_64_long(const uint8_t *bytes, size_t length, const uint8_t *secret, size_t secret_length)
@@ -1426,18 +1457,18 @@ XXH_NO_INLINE size_t xxh3_accumulate_blocks(uint64_t *accumulators, size_t posit
 {
     const size_t left = stripes_per_block - position;
     if (count < left) {
-        xxh3_accumulate(accumulators, stripe, secret + 8 * position, count);
+        xxh3_accumulate_stripes(accumulators, stripe, secret + 8 * position, count);
         return position + count;
     }
-    xxh3_accumulate(accumulators, stripe, secret + 8 * position, left);
+    xxh3_accumulate_stripes(accumulators, stripe, secret + 8 * position, left);
     xxh3_scramble(accumulators, secret + secret_limit);
     stripe += 64 * left;
     count -= left;
     for (; count >= stripes_per_block; count -= stripes_per_block, stripe += 64 * stripes_per_block) {
-        xxh3_accumulate(accumulators, stripe, secret, stripes_per_block);
+        xxh3_accumulate_stripes(accumulators, stripe, secret, stripes_per_block);
         xxh3_scramble(accumulators, secret + secret_limit);
     }
-    xxh3_accumulate(accumulators, stripe, secret, count);
+    xxh3_accumulate_stripes(accumulators, stripe, secret, count);
     return count;
 }
 
@@ -1494,7 +1525,7 @@ XXH_FORCE_INLINE void xxh3_accumulate_last(uint64_t *accumulators, const XXH3_st
         XXH_COPY(joined + 64 - buffered, state->buffer, buffered);
         last = joined;
     }
-    xxh3_accumulate(accumulators, last, secret + state->secret_limit - 7, 1);
+    xxh3_accumulate_stripes(accumulators, last, secret + state->secret_limit - 7, 1);
 }
 
 XXH_FORCE_INLINE XXH_errorcode xxh3_reset(XXH3_state_t *state, const void *secret, size_t secret_length, uint64_t seed,
