@@ -132,12 +132,20 @@ def foreign_compiler(room, machine):
     return write(os.path.join(room, 'cc-' + machine), f'#!/bin/sh\necho {machine}\n', 0o755)
 
 
+def is_from_source(copy, word, *words):
+    """make prints in one line that it compiles C, and why."""
+    done = run_make(copy, '-n', *words)
+    first = done.stdout.splitlines()[0]
+    want(done.returncode == 0 and word in first and ' -c source/xxhash.c ' in done.stdout, tail(done.stdout))
+    return first
+
+
 def check_refusals(report, copy, room):
     for machine in ('riscv64-linux-gnu', 'aarch64-linux-android', 'x86_64-linux-gnux32', 'arm64-apple-darwin22'):
-        said = f'no assembly source for {machine}, only for Linux on'
-        report.attempt(f'{machine} is refused', is_refused, copy, said, f'CC={foreign_compiler(room, machine)}')
+        said = f'which is not proved: no assembly source for {machine}, only for Linux on'
+        report.attempt(f'{machine}: from C', is_from_source, copy, said, f'CC={foreign_compiler(room, machine)}')
     report.attempt('no compiler', is_refused, copy, "no C compiler: CC is '/nowhere/cc'", 'CC=/nowhere/cc')
-    report.attempt('gcc -m32', is_refused, copy, 'no assembly source for pointers of 32 bits', 'CC=gcc -m32')
+    report.attempt('gcc -m32: from C', is_from_source, copy, 'no assembly source for pointers of 32 bits', 'CC=gcc -m32')
     report.attempt('a PREFIX that is no whole path', is_refused, copy, 'PREFIX must begin with /', 'install',
                    'PREFIX=here')
     for goal in ('install', 'uninstall'):

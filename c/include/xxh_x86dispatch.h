@@ -8,6 +8,10 @@
 #error "xxh_x86dispatch.h is only for x86-64: include xxhash.h, and call without _dispatch"
 #endif
 
+#if defined(XXH_INLINE_ALL) || defined(XXH_PRIVATE_API) || defined(XXH_NAMESPACE)
+#error "xxh_x86dispatch.h declares calls of a library to link: include xxhash.h, and call without _dispatch"
+#endif
+
 #include "xxhash.h"
 
 #ifdef __cplusplus

@@ -25,6 +25,7 @@ from .parts import Part
 
 # Checks over symbols, which need no proof: they use the processors that the proofs leave idle.
 FOR_ALL_BYTES = [("the definitions beside the reference's code", 32, "oracle/symbolic"),
+                 ("the C header beside the definitions", 75, "oracle/symbolic --headers c/include"),
                  ("the assembly text beside the definitions", 140, "oracle/machine-text"),
                  ("the crate's calls, as rustc compiles them, beside the definitions", 95, "oracle/rust-object"),
                  ("the modules for browsers beside the definitions", 53, "oracle/modules")]
@@ -73,7 +74,7 @@ def parts(top, anew):
               Part(top, "scripts, and what is no Rattle", 13, "checks/lint"),
               Part(top, "the commands of the pages, as they are printed", 6, "checks/pages"),
               Part(top, "what the gate has to notice", 11, "checks/planted"),
-              *(Part(top, f"{what}, for all bytes", least, "nice", "-n10", command) for what, least, command in FOR_ALL_BYTES)]
+              *(Part(top, f"{what}, for all bytes", least, "nice", "-n10", *command.split()) for what, least, command in FOR_ALL_BYTES)]
     yield Part(top, "the table beside the reference library", 4, "oracle/make-vectors", "--check").follow()
     yield Part(top, "proofs of outside vectors, beside the table", 5, "oracle/make-proofs", "--check").follow()
     yield Part(top, "proofs, tests and programs", 36, "rt", "ci", *anew).follow(hearer=wrong_bodies)

@@ -15,7 +15,7 @@ PLATES = tuple(f'{it}/README.md' for it in ('assembly', 'bench', 'c', 'checks', 
 MOST_LINES_OF_PLATE = 12
 # The evidence in README.md: the columns, and the first cell of each row.
 COLUMNS = ['part', 'source proved', 'machine code verified', 'tested', 'you trust']
-PARTS = ['C library', 'crate', 'programs by cargo', 'programs by `rt`', 'Python', 'Node']
+PARTS = ['C library', 'C header', 'crate', 'programs by cargo', 'programs by `rt`', 'Python', 'Node']
 # The pages with short sentences.
 SHORT_SENTENCES = ('README.md', 'SECURITY.md', 'CONTRIBUTING.md', 'docs/C.md', 'docs/RUST.md', 'docs/PYTHON.md', 'web/README.md',
                    *PLATES, *MOST_OF_PAGE)

@@ -34,14 +34,19 @@ def lines_of_crate(crate):
     yield from (f'use {path} = {target}' for path, target in sorted(crate.others.items()))
 
 
+# Macros of xxhash.h that are no part of its interface.
+INTERNAL_MACROS = 'XXH_HAS_ATTRIBUTES', 'XXH_PUBLIC_API'
+
+
 def lines_of_c():
-    """The declarations, definitions and names of the headers."""
+    """The declarations, definitions and names of the headers, without the part of xxhash.h that is code."""
     for header in ('xxhash.h', 'xxh_x86dispatch.h'):
-        text = re.sub(r'/\*.*?\*/', '', text_of('c', 'include', header), flags=re.S)
+        text = text_of('c', 'include', header).split('/* ==== Types')[-1].partition('/* ==== The types of states')[0]
+        text = re.sub(r'/\*.*?\*/', '', text, flags=re.S).replace('XXH_PUBLIC_API ', '')
         calls = re.findall(r'^([A-Za-z][\w *]*?\bXXH\w*\([^;{]*\));', text, re.M)
         names = re.findall(r'^#define (XXH\w+)(?: |$)', text, re.M) + re.findall(r'(XXH\w+);(?=\n)', text)
         names += re.findall(r'^ +(XXH_\w+) = ', text, re.M)
-        names = {name for name in names if 'TWOX_HASH' not in name}
+        names = {name for name in names if 'TWOX_HASH' not in name and name not in INTERNAL_MACROS}
         names.update(re.findall(r'^(?:#define|extern) (TWOX_HASH_\w+|const [\w ]+)', text, re.M))
         yield from sorted(names | {re.sub(r'\s+', ' ', call) for call in calls})
 

@@ -5,6 +5,7 @@ A length is a polynomial. XXH32 and XXH64: n = stripe * a + r, r a number. XXH3 
 8. Without one, the call of the function for long inputs is checked."""
 from . import definition, nodes
 from .definition import Bytes, suppositions
+from .header_names import names_of
 from .loops import Loop, Loops
 from .refusals import NotShown
 from .requests import LONGEST, LONGEST_SECRET, seed_symbol
@@ -30,7 +31,7 @@ class Proof:
     """Proves one-shots of a module by induction. Keeps a report on the loops, and the number of cases."""
 
     def __init__(self, module, program=None):
-        self.module, self.told, self.cases = module, [], 0
+        self.module, self.names, self.told, self.cases = module, names_of(module), [], 0
         nodes.forget()
         suppositions.clear()
         self.texts = (program or definition.program()).run(traced=suppositions)
@@ -73,9 +74,9 @@ class Proof:
         with given(minus(turns, 1), at_most(n, LONGEST)):
             source = Input("m", n)
             message = Bytes(source, 0, n)
-            say = plain_loop(f"XXH{width} of {n} bytes", self.texts[f"Xxh{width}.accumulator"], seed, message,
-                             minus(turns, 1), width)
-            self.prepare({f"@XXH{width}_endian_align": say, f"@XXH{width}_consumeLong": say})
+            say = plain_loop(self.names, f"XXH{width} of {n} bytes", self.texts[f"Xxh{width}.accumulator"], seed,
+                             message, minus(turns, 1), width)
+            self.prepare({name.format(width): say for name in self.names.plain_loops})
             ours = self.module.call(f"@once_{width}_seed", [(source, 0), n, seed])
             self.expect(f"XXH{width} of {n} bytes", ours, self.texts[f"xxh{width}"](seed, message))
 
@@ -116,7 +117,7 @@ class Proof:
         with given(at_most(n, LONGEST), minus(n, 241), at_most(J, minus(q, 1)), at_most(t, 63), *of_secret):
             message = Input("m", n)
             listed = Bytes(message, 0, n)
-            said = long_loops(self.texts["Long.accumulator_after"], q, B, J, secret, listed)
+            said = long_loops(self.names, self.texts["Long.accumulator_after"], q, B, J, secret, listed)
             ours = self.call(hash_name, way, [(message, 0), n, (source, 0), source.length], seed, said)
             self.expect_internal(hash_name, message, n, (source, 0), source.length, ours)
             theirs = definition.value(self.texts, hash_name, way, seed, secret, listed)
@@ -145,7 +146,7 @@ class Proof:
         """Returns a one-shot of the reference. Without a custom secret, a long input's hash is a symbol."""
         out = Memory("out", 16)
         self.prepare(said, [out])
-        self.watch(f"@XXH3_hashLong_{hash_name[2:]}b_internal", runs=way in OWN_SECRET)
+        self.watch(self.names.long.format(hash_name[2:]), runs=way in OWN_SECRET)
         if isinstance(seed, Node):
             self.module.suppose_different(seed, 0)
         arguments = arguments + ([seed] if way not in ("default", "secret") else [])
@@ -179,15 +180,15 @@ class Proof:
             raise NotShown(f"{what}: another value")
 
 
-def plain_loop(name, accumulator, seed, message, last, width, first=0, cells=None):
+def plain_loop(names, name, accumulator, seed, message, last, width, first=0, cells=None):
     """Returns a function that describes the loop over stripes: after k iterations the accumulators are the words after
-    first + k stripes. They are in an array, or in the variables v1 to v4."""
+    first + k stripes. They are in `cells`, in an array, or in four variables."""
     def after(k):
         return lambda j: accumulator(seed, message, j, plus(first, k))
 
     def say(function, registers):
-        array = registers.get("%acc")
-        own = cells or [(array[0], array[1] + width // 8 * j) if array else registers[f"%v{j + 1}"] for j in range(4)]
+        array, variables = registers.get(names.plain_array), [registers.get(x) for x in names.plain_variables]
+        own = cells or ([(array[0], array[1] + width // 8 * j) for j in range(4)] if array else variables)
         return Loop(name, last, own, width, lambda k, values: suppositions.suppose(after(k), values),
                     lambda k: [after(k)(j) for j in range(4)])
     return say
@@ -203,23 +204,23 @@ def cells_at(address):
     return [(address[0], plus(address[1], 8 * i)) for i in range(8)]
 
 
-def long_loops(accumulator_after, q, B, J, secret, message):
+def long_loops(names, accumulator_after, q, B, J, secret, message):
     """Describes the loop over blocks, and the one over a block's stripes if their number is symbolic. The definition
     scrambles with the last stripe of a block, the library after it, so that stripe is the loop's last iteration."""
     def after(i, k):
         return accumulator_after(secret, message, i, k)
 
     def blocks(function, registers):
-        return xxh3_loop(after, "blocks", B, cells_at(registers["%acc"]), lambda k: times(q, k))
+        return xxh3_loop(after, "blocks", B, cells_at(registers[names.block_array]), lambda k: times(q, k))
 
     def stripes(function, registers):
-        turns = registers.get("%nbStripes")
+        turns = registers.get(names.count)
         if not isinstance(turns, Poly):
             return None
-        first, is_whole = divided(registers["%input"][1], 64)[0], is_same_number(turns, q)
+        first, is_whole = divided(registers[names.input][1], 64)[0], is_same_number(turns, q)
         return xxh3_loop(after, "stripes of a block" if is_whole else "stripes of the last block",
-                         minus(q, 1) if is_whole else J, cells_at(registers["%acc"]), lambda k: plus(first, k))
-    return {"@XXH3_hashLong_internal_loop": blocks, "@XXH3_accumulate": stripes}
+                         minus(q, 1) if is_whole else J, cells_at(registers[names.array]), lambda k: plus(first, k))
+    return {names.blocks: blocks, names.stripes: stripes}
 
 
 def show(module, kind, program=None):

@@ -82,12 +82,12 @@ def changed(header, function, old, new):
     return header[:at] + new + header[at + len(old):]
 
 
-def outcome(header, show, kind):
+def outcome(header, show, kind, vector="scalar"):
     """Returns the refusal of a header, or None if the kind is proved."""
     with tempfile.TemporaryDirectory(prefix="symbolic-") as room:
         with open(os.path.join(room, "xxhash.h"), "w", encoding="utf-8") as file:
             file.write(header)
-        wrong = module(room)
+        wrong = module(room, vector)
     try:
         show(wrong, kind)
     except REFUSALS as error:

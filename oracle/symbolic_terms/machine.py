@@ -1,6 +1,6 @@
 """Runs functions of LLVM code symbolically. Addresses, lengths and branches are numbers, or polynomials that the facts
 decide; bytes of an input are terms. A vector is one number, with its first lane in the lowest bits."""
-from . import operations
+from . import halves, operations
 from .llvm_text import (NOTHING, FunctionName, Pointer, Reader, Register, Struct, alignment_said, instruction, place_of)
 from .memory import Input, Memory, taken
 from .nodes import Node, symbol
@@ -12,10 +12,18 @@ from .words import BINARY, compare_numbers, rotated, signed
 
 WORD = 64
 HALF = 1 << WORD - 1
+NOTED = "add", "mul", "and", "or", "shl", "lshr"      # operations of a product by halves
 
 
 def is_address(x):
     return isinstance(x, tuple) and len(x) == 2 and isinstance(x[0], (Input, Memory)) and is_number(x[1])
+
+
+def pointed(x):
+    """Returns an address, which must not be null."""
+    if not is_address(x):
+        raise Unsupported("an access through null")
+    return x
 
 
 def binary(module, value, word, t, a, b):
@@ -30,7 +38,8 @@ def binary(module, value, word, t, a, b):
         a = a[1]
     if is_address(a) or is_address(b):
         raise Unsupported(f"{word} of an address")
-    return BINARY[word](t.bits, a, b)
+    result = BINARY[word](t.bits, a, b)
+    return halves.noted(word, a, b, result) if module.multiplies_by_halves and t.bits == WORD and word in NOTED else result
 
 
 # ---- vectors
@@ -110,7 +119,7 @@ def compare_terms(module, test, a, b):
 
 def load(module, value, t, operands):
     (_, address), = operands
-    memory, at = value(address)
+    memory, at = pointed(value(address))
     if isinstance(t, Struct):
         return tuple(memory.load(at + t.offset(k), part.size()) for k, part in enumerate(t.parts))
     return memory.load(at, t.size())
@@ -118,7 +127,7 @@ def load(module, value, t, operands):
 
 def store(module, value, t, a, operands):
     (_, address), = operands
-    (memory, at), a = value(address), value(a)
+    (memory, at), a = pointed(value(address)), value(a)
     if isinstance(t, Struct):
         for k, part in enumerate(t.parts):
             memory.store(at + t.offset(k), part.size(), a[k])
@@ -131,7 +140,7 @@ def address(module, value, t, operands):
     numbers = [signed(x, u.bits) if isinstance(x, int) else x for u, x in ((u, value(x)) for u, x in steps)]
     if not all(is_number(x) for x in numbers):
         raise Undecided("an address")
-    memory, at = place_of(t, value(base), *numbers)
+    memory, at = place_of(t, pointed(value(base)), *numbers)
     if constant_of(at) >= HALF and is_natural(minus(at, HALF)):   # offsets are numbers modulo 2 ^ 64
         at = minus(at, 1 << WORD)
     return memory, at
@@ -177,7 +186,7 @@ def intrinsic(name, arguments):
 
 def copy(to, source, n):
     """Performs memcpy. A copy of symbolic length, or to an area that keeps runs, is stored as a run of an input."""
-    (memory, at), (source, first) = to, source
+    (memory, at), (source, first) = pointed(to), pointed(source)
     area = memory.run_area
     if not (isinstance(n, int) and isinstance(at, int)) or area and area[0] <= at < area[1]:
         if isinstance(source, Input):
@@ -303,6 +312,7 @@ class Function:
 class Module:
     """A module of LLVM code, and the assumptions while its functions run.
 
+    multiplies_by_halves whether the code has no products of 128 bits, and computes them from products of halves
     different            pairs of values assumed to differ, if the library tests a seed for 0
     allows_unknown_bits  whether an undecided comparison of terms is an unknown bit instead of an error
     beside               how far outside of its object a compared address may be
@@ -313,7 +323,7 @@ class Module:
 
     def __init__(self, text):
         self.types, self.functions, self.globals, self.made = {}, {}, {}, 0
-        self.lines = text.split("\n")
+        self.lines, self.multiplies_by_halves = text.split("\n"), " i128 " not in text
         self.reset()
         for line in self.lines:
             name, _, rest = line.partition(" = type ")

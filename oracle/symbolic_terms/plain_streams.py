@@ -6,6 +6,7 @@ stripe stripes, its memsize is N % stripe, and its buffer begins with the last m
 definition's value and changes nothing."""
 from .definition import Bytes
 from .every_length import Proof, plain_loop
+from .header_names import REFERENCE
 from .refusals import NotShown
 from .requests import LONGEST, seed_symbol
 from .memory import Input, Memory, Piece
@@ -21,7 +22,7 @@ class PlainStreams(Proof):
     def __init__(self, module, width):
         super().__init__(module)
         self.width, self.stripe, self.word = width, width // 2, width // 8
-        layout = module.types[f"%struct.XXH_NAMESPACEXXH{width}_state_s"]
+        layout = module.types[self.names.state.format(width)]
         self.at = {name: layout.offset(k) for k, name in enumerate(FIELDS[width])}
         self.size, self.seed, self.whole = layout.size(), seed_symbol(str(width)), variable("whole")
         self.source = Input("m", self.whole)
@@ -101,11 +102,12 @@ class PlainStreams(Proof):
             self.prepare({})
             self.module.allows_unknown_bits, self.module.beside = self.width == 32, BESIDE
             memory = self.state(a, r)
-            cells = [(memory, self.at["accumulators"] + self.word * j) for j in range(4)]
-            say = plain_loop("an update's stripes", self.texts[f"Xxh{self.width}.accumulator"], self.seed, self.message,
-                             minus(minus(b, first), 1), self.width, first, cells)
-            self.module.loops.said.update({self.function("update"): say,
-                                           f"@XXH{self.width}_consumeLong": of_any_length(say)})
+            of_state = [(memory, self.at["accumulators"] + self.word * j) for j in range(4)]
+            cells = of_state if self.names is REFERENCE else None
+            say = plain_loop(self.names, "an update's stripes", self.texts[f"Xxh{self.width}.accumulator"], self.seed,
+                             self.message, minus(minus(b, first), 1), self.width, first, cells)
+            self.module.loops.said.update({self.function("update"): say, **{
+                name.format(self.width): of_any_length(say, self.names) for name in self.names.update_loops}})
             self.module.live.append(memory)
             length = minus(ended, begun)
             piece = Piece(self.source, begun, length)
@@ -141,9 +143,10 @@ def at_least_one(a):
     return [] if is_same_number(a, 0) else [minus(a, 1)]
 
 
-def of_any_length(say):
+def of_any_length(say, names):
     """Returns a function that describes a loop like `say`, if the length isn't a number."""
-    return lambda function, registers: None if isinstance(registers.get("%len"), int) else say(function, registers)
+    return lambda function, registers: (
+        None if isinstance(registers.get(names.plain_length), int) else say(function, registers))
 
 
 def show(module, kind):

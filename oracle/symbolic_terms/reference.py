@@ -17,6 +17,10 @@ from .nodes import Node
 
 HEADERS = "/usr/include"          # folder of Debian's libxxhash-dev
 VECTORS = {"scalar": ["-DXXH_VECTOR=0"], "sse2": ["-DXXH_VECTOR=1"], "avx2": ["-DXXH_VECTOR=2", "-mavx2"]}
+# Forms of c/include/xxhash.h: also without products of 128 bits, and with words that are read byte by byte, as on
+# processors that store the highest byte first.
+FORMS = {**VECTORS, "halves": ["-DXXH_VECTOR=0", "-U__SIZEOF_INT128__"],
+         "bytes": ["-DXXH_VECTOR=0", "-DXXH_CPU_LITTLE_ENDIAN=0", "-U__SIZEOF_INT128__"]}
 CLANG = "clang-14"
 DEBIAN_PYTHON = "/usr/lib/python3/dist-packages"
 BESIDE = 512                      # bytes around a chunk within which streams compare addresses
@@ -36,7 +40,7 @@ def llvm_text(headers=HEADERS, vector="scalar"):
     with tempfile.TemporaryDirectory(prefix="symbolic-") as room:
         out = f"{room}/reference.ll"
         shutil.copy(f"{headers}/xxhash.h", room)
-        subprocess.run([CLANG, "-O0", "-w", "-fno-discard-value-names", "-S", "-emit-llvm", *VECTORS[vector], "-I",
+        subprocess.run([CLANG, "-O0", "-w", "-fno-discard-value-names", "-S", "-emit-llvm", *FORMS[vector], "-I",
                         room, f"{FOLDER}/reference.c", "-o", out], check=True)
         with open(out, encoding="utf-8") as file:
             return file.read()

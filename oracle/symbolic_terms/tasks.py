@@ -8,10 +8,11 @@ import unittest.mock
 import mutants
 from reasons import Reasons, is_fault
 
-from . import comparison, cuts, header_mutants, mutation, every_length, self_tests, plain_streams, processes, xxh3_streams
+from . import (c_header, comparison, cuts, every_length, header_mutants, mutation, plain_streams, processes, self_tests,
+               xxh3_streams)
 from .comparison import SECRETS, title_of
 from .machine import Module
-from .reference import HEADERS, VECTORS, llvm_text, of_reference
+from .reference import FORMS, HEADERS, VECTORS, llvm_text, of_reference
 
 PARTS = 4                    # tasks into which the changes are split
 SAMPLE = 96                  # in CI, step between tested changes of the definition
@@ -28,13 +29,28 @@ class Task(processes.Task):
 
 
 def choose(given):
+    tasks = of_c_header(given) if c_header.is_ours(given.headers) else of_the_reference(given)
+    return [task for task in tasks if given.only in task.title]
+
+
+def of_the_reference(given):
     vectors = list(VECTORS) if given.all else [given.vector]
     tasks = [*induction(vectors, given.all), *lengths(given.all, given.vector)]
     if given.all:
         tasks += vector_lengths([vector for vector in vectors if vector != given.vector])
     tasks += of_changes(given.all, given.vector, given.headers)
-    tasks += of_machinery(given.all, given.vector, given.headers)
-    return [task for task in tasks if given.only in task.title]
+    return [*tasks, *of_machinery(given.all, given.vector, given.headers)]
+
+
+def of_c_header(given):
+    """Returns the tasks of c/include/xxhash.h: all its forms."""
+    tasks = [Task(title, functools.partial(c_header.proved, show, kind), form)
+             for title, show, kind, form in c_header.proofs(given.all)]
+    tasks += [Task(title, ask) for title, ask in c_header.planted(given.all, given.headers)]
+    title, ask = "changes of LLVM's text", functools.partial(line_changes, sample=LINES if given.all else FEW_LINES)
+    tasks += [Task(f"{title}, part {part + 1} of {PARTS}", functools.partial(ask, part=part, parts=PARTS), is_deep=False)
+              for part in range(PARTS if given.all else 1)]
+    return tasks + [summed(given.headers, form) for form in FORMS]
 
 
 # ---- single lengths
@@ -155,8 +171,12 @@ def header_is_the_one_named(headers, vector, _module):
     return "another one is passed over", [] if is_same else ["with another header beside it the text is another"]
 
 
+def summed(headers, vector):
+    return Task("the header is the one that is summed", functools.partial(header_is_the_one_named, headers, vector), vector)
+
+
 def of_machinery(is_all, vector, headers):
-    yield Task("the header is the one that is summed", functools.partial(header_is_the_one_named, headers, vector), vector)
+    yield summed(headers, vector)
     yield Task("the rules are the proved ones", self_tests.rules_are_proved, vector)
     yield Task("random operations and laws",
                functools.partial(self_tests.random_operations, rounds=300 if is_all else 30), vector)

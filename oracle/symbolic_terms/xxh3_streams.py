@@ -11,6 +11,7 @@ symbols: derived secrets and the default one are instances."""
 from . import definition, nodes
 from .definition import Bytes
 from .every_length import DEFAULT_STRIPES, SHORTEST_SECRET_STRIPES, Proof, cells_at, suppositions, xxh3_loop
+from .header_names import REFERENCE
 from .refusals import NotShown
 from .requests import LONGEST_SECRET, seed_symbol
 from .loops import loops_of
@@ -35,12 +36,12 @@ class Xxh3Streams(Proof):
 
     def __init__(self, module, place):
         super().__init__(module)
-        layout = module.types["%struct.XXH_NAMESPACEXXH3_state_s"]
+        layout = module.types[self.names.state_3]
         self.at = {name: layout.offset(k) for k, name in enumerate(FIELDS)}
         self.size, self.place, self.source = layout.size(), place, Input("m", 0)
         self.message = Bytes(self.source, 0, 0)
         self.seed, self.uses_seed = seed_symbol("3-64"), symbol("uses_seed", 32)
-        self.is_0_8_1 = bool(loops_of(module.functions["@XXH3_update"]))   # 0.8.3 has no loop there
+        self.is_0_8_1 = self.names is REFERENCE and bool(loops_of(module.functions["@XXH3_update"]))   # not in 0.8.3
         self.use_stripes(variable("q") if place == "outside" else DEFAULT_STRIPES)
 
     def use_stripes(self, q):
@@ -132,9 +133,9 @@ class Xxh3Streams(Proof):
             self.module.beside = BESIDE
             memory = self.state(*start, runs)
             self.module.live.append(memory)
-            self.module.loops.said.update({"@XXH3_accumulate": self.of_stripes})
+            self.module.loops.said[self.names.stripes] = self.of_stripes
             if blocks:
-                self.module.loops.said.update({"@XXH3_update": blocks, "@XXH3_consumeStripes": blocks})
+                self.module.loops.said.update(dict.fromkeys(self.names.update_blocks, blocks))
             if self.module.call("@XXH_INLINE_XXH3_128bits_update",
                                 [(memory, 0), (Piece(self.source, begun, length), 0), length]) != OK:
                 raise NotShown("an update answers an error")
@@ -147,6 +148,11 @@ class Xxh3Streams(Proof):
             self.seed, self.uses_seed = seed_symbol("3-64"), symbol("uses_seed", 32)
             self.texts = definition.program().run(traced=suppositions)
 
+    def update_by_ends(self, start, end, runs, facts, blocks=None):
+        """Proves an update that overwrites bytes of the last stripe in the buffer, or none: both cases."""
+        for of_end, wanted in self.ends(*end):
+            self.update(start, end, runs, [([], wanted)], [*facts, *of_end], blocks)
+
     def expect_some_stripes(self, start, end):
         """Checks that at least four stripes were taken, if any."""
         k = self.stripes(*end[:2])
@@ -156,15 +162,15 @@ class Xxh3Streams(Proof):
     def of_stripes(self, function, registers):
         """Describes the loop over stripes if their number is symbolic. At a block's end, the last iteration includes
         the scramble."""
-        count = registers.get("%nbStripes")
+        count = registers.get(self.names.count)
         if not isinstance(count, Poly):
             return None
-        piece, at = registers["%input"]
+        piece, at = registers[self.names.input]
         first = divided(piece.origin(at)[1], STRIPE)[0]
-        secret, place = registers["%secret"]
+        secret, place = registers[self.names.secret]
         position = divided(minus(place, self.at["inside"] if self.place == "inside" else 0), 8)[0]
         is_whole = is_same_number(plus(position, count), self.q)
-        return xxh3_loop(self.after, "stripes", minus(count, int(is_whole)), cells_at(registers["%acc"]),
+        return xxh3_loop(self.after, "stripes", minus(count, int(is_whole)), cells_at(registers[self.names.array]),
                          lambda k: plus(first, k))
 
     def loop(self, name, last, place, then=None):
@@ -200,7 +206,7 @@ class Xxh3Streams(Proof):
         start, end = (b, j, f), (b, j, after)
         for low, of_f in ((LAST_STRIPE, at_most(f, LAST_STRIPE)), (f, minus(f, LAST_STRIPE))):
             runs = [*self.buffered(*start), self.before(b, j, low)]
-            self.update(start, end, runs, self.ends(*end), [*there, of_f])
+            self.update_by_ends(start, end, runs, [*there, of_f])
 
     def starts(self):
         """Yields the states before an update that takes stripes, with facts, and the block and stripe after the
@@ -229,15 +235,25 @@ class Xxh3Streams(Proof):
         self.update(start, end, self.buffered(*start), self.ends(*end), [*facts, *more])
 
     def to_ends_of_blocks(self, start, facts, b, j):
-        """Proves stripes to the block's end, D blocks, e stripes, 1 + h bytes. The first turn ends the block."""
+        """Proves stripes to the block's end, D blocks, e stripes, 1 + h bytes."""
         h, e, D = (variable(name) for name in ("h", "e", "D"))
         for blocks, of_blocks in ((0, []), (D, [minus(D, 1)])):
-            say = self.loop("an update's blocks", minus(D, 1), lambda k: times(self.q, plus(b, 1, k)))
             for last, of_last in ((0, []), (e, [minus(e, 1), at_most(e, minus(self.q, 1))])):
                 S = plus(minus(self.q, j), times(self.q, blocks), last)
                 end = plus(b, 1, blocks), last, plus(1, h)
                 self.update(start, end, self.buffered(*start), self.ends(*end),
-                            [*facts, *of_blocks, *of_last, minus(S, 4), at_most(h, 63)], at_second_time(say))
+                            [*facts, *of_blocks, *of_last, minus(S, 4), at_most(h, 63)], self.loop_over_blocks(b, blocks))
+
+    def loop_over_blocks(self, b, blocks):
+        """Describes the loop over blocks of an update. In the reference, its first iteration ends the block of the
+        state. In c/include/xxhash.h it comes after that, and isn't described if the number of stripes is a number."""
+        def place(k):
+            return times(self.q, plus(b, 1, k))
+        if self.names is REFERENCE:
+            return at_second_time(self.loop("an update's blocks", minus(variable("D"), 1), place))
+        say = self.loop("an update's blocks", blocks, place)
+        return lambda function, registers: (
+            say(function, registers) if isinstance(registers.get(self.names.count), Poly) else None)
 
     # ---- the same: release 0.8.1
 
@@ -260,8 +276,8 @@ class Xxh3Streams(Proof):
         T, h = variable("T"), variable("h")
         end = b, plus(j, times(4, T)), h
         more = [*self.of_buffers(T), minus(T, 1), minus(minus(self.q, 1), end[1])]
-        self.update(start, end, self.buffered(*start), self.ends(*end), [*facts, *more],
-                    self.loop("four stripes", minus(T, 1), lambda k: plus(self.stripes(b, j), times(4, k))))
+        self.update_by_ends(start, end, self.buffered(*start), [*facts, *more],
+                            self.loop("four stripes", minus(T, 1), lambda k: plus(self.stripes(b, j), times(4, k))))
 
     def by_buffers_over_an_end(self):
         """Proves 4 K stripes in a block, four of which c end it, and 4 M stripes of the next block."""
@@ -273,8 +289,8 @@ class Xxh3Streams(Proof):
                 behind = None if is_same_number(times_more, 0) else self.loop(
                     "four stripes behind", minus(M, 1), lambda k: plus(times(self.q, plus(b, 1)), 4 - c, times(4, k)))
                 say = self.loop("four stripes to the next block", K, lambda k: plus(first, times(4, k)), behind)
-                self.update(start, end, self.buffered(*start), self.ends(*end),
-                            [*facts, *of_more, *self.of_buffers(plus(K, 1, times_more))], say)
+                self.update_by_ends(start, end, self.buffered(*start),
+                                    [*facts, *of_more, *self.of_buffers(plus(K, 1, times_more))], say)
         self.use_stripes(whole)
 
     def starts_before_an_end(self):
@@ -345,7 +361,7 @@ class Xxh3Streams(Proof):
     def resets(self):
         """Proves that each reset creates a state of 0 bytes. A seed's secret is derived, unless the state has it
         already. The seed 0 counts as no seed."""
-        seed, default = seed_symbol("3-64"), (self.module.globals["@XXH3_kSecret"], 0)
+        seed, default = seed_symbol("3-64"), (self.module.globals[self.names.default_secret], 0)
         if [default[0].load(k, 1) for k in range(DEFAULT_SECRET)] != list(self.texts["default_secret"]()) \
                 or self.texts["derived_secret"](0) != self.texts["default_secret"]():
             raise NotShown("another default secret")

@@ -1,0 +1,320 @@
+"""Checks the code of c/include/xxhash.h, compiled in all its forms by several compilers, here or for another processor.
+`c/check --source` runs this."""
+import itertools
+import os
+import re
+import tempfile
+
+from library import C
+from report import want
+from tools import TOP, bytes_of, install_packages, must, ran, replace_once, text_of, write
+
+HEADER, SOURCE = os.path.join(C, 'include', 'xxhash.h'), os.path.join(C, 'source', 'xxhash.c')
+THEIRS, VECTORS = '/usr/include/xxhash.h', os.path.join(TOP, 'oracle', 'vectors.c')
+VALUES = os.path.join(C, 'checks', 'source_values.c')
+PACKAGES = {'gcc': 'gcc', 'g++': 'g++', 'clang': 'clang', 'tcc': 'tcc', 'nm': 'binutils', THEIRS: 'libxxhash-dev',
+            '/usr/include/stdio.h': 'libc6-dev', 'x86_64-w64-mingw32-gcc': 'gcc-mingw-w64-x86-64'}
+WARNINGS = ('-Wall', '-Wextra', '-Wpedantic', '-Wconversion', '-Wshadow', '-Wcast-align', '-Wundef', '-Werror')
+# Compilers with the flags of a form of the code.
+FORMS = {'scalar': ['-DXXH_VECTOR=XXH_SCALAR'], 'halves': ['-DXXH_VECTOR=XXH_SCALAR', '-U__SIZEOF_INT128__'],
+         'bytes': ['-DXXH_CPU_LITTLE_ENDIAN=0'], 'sse2': ['-DXXH_VECTOR=XXH_SSE2'], 'avx2': ['-mavx2']}
+STANDARDS = {'gcc': ('c99', 'c11', 'c17'), 'clang': ('c99', 'c11', 'c17'), 'g++': ('c++11', 'c++17', 'c++20'),
+             'clang++': ('c++11', 'c++17', 'c++20')}
+# Other processors: the prefix of the compiler's name, Debian's packages, the emulator and the compiler's flags.
+TARGETS = {'i386': ('i686-linux-gnu-', ('gcc-i686-linux-gnu', 'libc6-dev-i386-cross'), 'qemu-i386'),
+           'arm64': ('aarch64-linux-gnu-', ('gcc-aarch64-linux-gnu', 'libc6-dev-arm64-cross'), 'qemu-aarch64'),
+           'armhf': ('arm-linux-gnueabihf-', ('gcc-arm-linux-gnueabihf', 'libc6-dev-armhf-cross'), 'qemu-arm'),
+           'ppc64el': ('powerpc64le-linux-gnu-', ('gcc-powerpc64le-linux-gnu', 'libc6-dev-ppc64el-cross'), 'qemu-ppc64le'),
+           'riscv64': ('riscv64-linux-gnu-', ('gcc-riscv64-linux-gnu', 'libc6-dev-riscv64-cross'), 'qemu-riscv64'),
+           's390x': ('s390x-linux-gnu-', ('gcc-s390x-linux-gnu', 'libc6-dev-s390x-cross'), 'qemu-s390x')}
+OF_TARGET = {'i386': {'sse2': ['-msse2'], 'avx2': ['-mavx2']}, 'armhf': {'neon': ['-mfpu=neon']}}
+# A call of the header that a fault makes wrong: old text, new text, and a function that the values name.
+FAULTS = (('hash ^ hash >> 15', 'hash ^ hash >> 14', 'XXH32'), ('state->is_large = 1;', '', 'XXH32_digest'),
+          ('hash ^ hash >> 29', 'hash ^ hash >> 28', 'XXH64'), ('secret + 119', 'secret + 118', 'XXH3_64bits'),
+          ('secret_length - 75', 'secret_length - 74', 'XXH3_128bits'),
+          ('bytes + capacity - 64, bytes - 64, 64', 'bytes + capacity - 64, bytes - 63, 64', 'digest'),
+          ('i % custom_seed_length', '(i + 1) % custom_seed_length', 'XXH3_generateSecret'),
+          ('a->low64 < b->low64 ? -1', 'a->low64 > b->low64 ? -1', 'XXH128_cmp'),
+          ('bytes->digest + 8, hash.low64', 'bytes->digest + 8, hash.high64', 'XXH128_canonicalFromHash'),
+          ('secret_length < XXH3_SECRET_SIZE_MIN || (!source', '(!source', 'refused secrets'))
+
+
+class Source:
+    """The header under test in a folder of its own, and what is compiled from it."""
+
+    def __init__(self, room, prefix='', run=()):
+        self.room, self.prefix, self.run = room, prefix, run
+        self.include = os.path.join(room, 'include')
+        write(os.path.join(self.include, 'xxhash.h'), text_of(HEADER))
+        self.made = 0
+
+    def path(self, end):
+        self.made += 1
+        return os.path.join(self.room, f'{self.made}{end}')
+
+    def compiler(self, name):
+        return [self.prefix + name] if self.prefix else [name]
+
+    def object(self, compiler, text, *flags, language='c'):
+        """Compiles a text, without a message of the compiler."""
+        path = self.path('.o')
+        words = [*self.compiler(compiler), *flags, '-I', self.include]
+        source = write(self.path('.cpp' if language == 'c++' else '.c'), text)
+        done = ran([*words, '-c', source, '-o', path])
+        want(done.returncode == 0 and not done.stdout, done.stdout[:300] or f'status {done.returncode}')
+        return path
+
+    def global_names(self, path):
+        """The symbols that an object defines for others, and those that it needs."""
+        lines = [line.split() for line in must([self.prefix + 'nm', path]).splitlines()]
+        return ({line[-1] for line in lines if line[-2] in 'TDBRC'}, {line[-1] for line in lines if line[-2] == 'U'})
+
+    def theirs(self):
+        """The reference's header as an object whose names begin with theirs_."""
+        return self.object('gcc', f'#define XXH_NAMESPACE theirs_\n#define XXH_STATIC_LINKING_ONLY\n'
+                                  f'#define XXH_IMPLEMENTATION\n#include "{self.their_header()}"\n', '-O2')
+
+    def their_header(self):
+        return write(os.path.join(self.room, 'theirs', 'reference.h'), text_of(THEIRS))
+
+    def program(self, compiler, source, *words):
+        path = self.path('.out')
+        language = 'c++' if compiler.endswith('++') else 'c'
+        objects = [word for word in words if word.endswith('.o')]
+        flags = [word for word in words if not word.endswith('.o')]
+        must([*self.compiler(compiler), *flags, '-I', self.include, '-x', language, source, '-x', 'none', *objects, '-o', path])
+        return [*self.run, path]
+
+
+# ---- symbols ----
+
+PLAIN, TAKES_STATE = 'XXH_versionNumber', ('createState', 'freeState', 'copyState', 'reset', 'update', 'digest')
+
+
+def public_names():
+    """The functions that the header declares."""
+    return set(re.findall(r'^#define (XXH\w+) XXH_NAME\(\1\)$', text_of(HEADER), re.M))
+
+
+def expected_names(macros):
+    names = public_names()
+    if 'XXH_NO_STREAM' in macros:
+        names = {name for name in names if not any(f'_{word}' in name for word in TAKES_STATE)}
+    if 'XXH_NO_XXH3' in macros:
+        names = {name for name in names if not name.startswith(('XXH3_', 'XXH128'))}
+    return {f'my_{name}' for name in names} if 'XXH_NAMESPACE=my_' in macros else names
+
+
+def combinations():
+    macros = ('XXH_NO_STREAM', 'XXH_NO_XXH3', 'XXH_NO_STDLIB', 'XXH_NAMESPACE=my_')
+    return [chosen for count in range(len(macros) + 1) for chosen in itertools.combinations(macros, count)]
+
+
+def object_has_names(source, compiler):
+    """c/source/xxhash.c defines the functions that are left, and needs malloc and free, or not."""
+    for macros in combinations():
+        path = source.object(compiler, text_of(SOURCE), '-O2', *(f'-D{macro}' for macro in macros))
+        defined, needed = source.global_names(path)
+        want(defined == expected_names(macros), f'{macros}: {sorted(defined ^ expected_names(macros))[:4]}')
+        allocates = {'XXH_NO_STREAM', 'XXH_NO_STDLIB'}.isdisjoint(macros)
+        want(({'malloc', 'free'} <= needed) == allocates, f'{macros}: it needs {sorted(needed)}')
+        want(needed <= {'malloc', 'free', 'memcpy', 'memmove', 'memset'}, f'{macros}: it needs {sorted(needed)}')
+    return f'{len(combinations())} combinations of macros'
+
+
+USES = 'uint64_t program(const void *bytes, size_t length)\n{\n    %sreturn XXH64(bytes, length, 1)%s;\n}\n'
+IN_ANY_ORDER = {
+    'inlined': ['XXH_INLINE_ALL'], 'plainly before': [None, 'XXH_INLINE_ALL'], 'plainly afterwards': ['XXH_INLINE_ALL', None],
+    'states before': ['XXH_STATIC_LINKING_ONLY', 'XXH_INLINE_ALL'], 'twice': ['XXH_INLINE_ALL', 'XXH_INLINE_ALL'],
+    'states afterwards': ['XXH_INLINE_ALL', 'XXH_STATIC_LINKING_ONLY'],
+    'with a prefix before': ['XXH_NAMESPACE my_', 'XXH_INLINE_ALL'], 'private': ['XXH_PRIVATE_API'],
+    'private, plainly before': [None, 'XXH_PRIVATE_API'], 'both macros': ['XXH_INLINE_ALL', 'XXH_PRIVATE_API']}
+HASH_OF_STREAM = 'XXH3_state_t state; XXH3_64bits_reset(&state); XXH3_64bits_update(&state, bytes, length); '
+
+
+def inclusions(macros):
+    return ''.join((f'#define {macro}\n' if macro else '') + '#include "xxhash.h"\n' for macro in macros)
+
+
+def no_name_leaves(source, compiler):
+    """A program that includes the code defines only its own function, and needs none of the library."""
+    language = 'c++' if compiler.endswith('++') else 'c'
+    for name, macros in IN_ANY_ORDER.items():
+        for more in combinations() if compiler == 'gcc' else [()]:
+            if 'XXH_NAMESPACE=my_' in more:
+                continue
+            stream = {'XXH_NO_STREAM', 'XXH_NO_XXH3'}.isdisjoint(more)
+            body = USES % ((HASH_OF_STREAM, ' + XXH3_64bits_digest(&state)') if stream else ('', ''))
+            text = inclusions(macros) + ('extern "C" ' if language == 'c++' else '') + body
+            flags = ['-O1', *(f'-D{macro}' for macro in more)]
+            defined, needed = source.global_names(source.object(compiler, text, *flags, language=language))
+            if compiler == 'tcc':      # it emits each function
+                defined, needed = defined & {'program', *public_names()}, needed - {'malloc', 'free'}
+            want(defined == {'program'}, f'{name} {more}: it defines {sorted(defined)[:5]}')
+            want(needed <= {'memcpy', 'memmove', 'memset', '__stack_chk_fail'}, f'{name} {more}: it needs {sorted(needed)}')
+    return f'{len(IN_ANY_ORDER)} orders of inclusion'
+
+
+# A header of the program that uses a type, and a file that inlines the code.
+SHARED = ('#include "xxhash.h"\nXXH128_hash_t shared(void);\n#define XXH_INLINE_ALL\n#include "xxhash.h"\n'
+          'XXH128_hash_t shared(void) { return XXH3_128bits("abc", 3); }\n')
+
+
+def types_are_shared(source, compiler):
+    source.object(compiler, SHARED, '-O2', language='c++' if compiler.endswith('++') else 'c')
+
+
+# ---- the library ----
+
+def make(source, *words):
+    done = ran(['make', '-s', '-C', C, f'out={source.room}/out', *words])
+    want(done.returncode == 0, done.stdout[-300:])
+    return done.stdout
+
+
+def library_is_built(source, *words):
+    """make compiles a library, tests and installs it; a program of the installed files allocates its own states."""
+    run = ' '.join(source.run)
+    said = make(source, f'CC={source.prefix}gcc', f'run={run}', *words, 'check')
+    want('compiled from source/xxhash.c, which is not proved' in said and 'all 49 names work in 2 libraries' in said, said[-300:])
+    make(source, f'CC={source.prefix}gcc', *words, 'install', f'PREFIX={source.room}/prefix')
+    text = text_of(os.path.join(source.room, 'prefix/lib/pkgconfig/libxxhash.pc'))
+    want('proved' not in text, 'its pkg-config file says that it is proved')
+    path, prefix = source.path('.out'), f'{source.room}/prefix'
+    must([source.prefix + 'gcc', '-w', '-DXXH_STATIC_LINKING_ONLY', VECTORS, '-I', f'{prefix}/include', f'{prefix}/lib/libxxhash.a', '-o', path])
+    want(ran([*source.run, path]).stdout.encode() == bytes_of('oracle/vectors.txt'), 'the table is another')
+    make(source, f'CC={source.prefix}gcc', *words, 'uninstall', f'PREFIX={prefix}')
+    want(not os.path.exists(prefix), f'uninstall leaves {os.listdir(prefix) if os.path.exists(prefix) else ""}')
+    return said.splitlines()[0]
+
+
+# ---- warnings ----
+
+def has_no_warning(source, compiler):
+    """The object and inlined code, in each form and standard, without a warning."""
+    language = 'c++' if compiler.endswith('++') else 'c'
+    inlined = text_of(VALUES)
+    for number, standard in enumerate(STANDARDS[compiler]):
+        for flags in [[], *FORMS.values()][:1 if number else None]:
+            source.object(compiler, text_of(SOURCE), f'-std={standard}', '-O2', *flags, *WARNINGS, language=language)
+    for flags in FORMS.values():
+        source.object(compiler, inlined, f'-std={standard}', '-O3', *flags, '-Wall', '-Wextra', '-Werror',
+                      language=language)
+    return f'{len(STANDARDS[compiler])} standards, {len(FORMS)} forms'
+
+
+def a_warning_is_detected(source):
+    write(os.path.join(source.include, 'xxhash.h'), text_of(HEADER).replace('(uint32_t)length, bytes, length % 16', 'length, bytes, length % 16'))
+    done = ran(['gcc', '-std=c99', '-O2', *WARNINGS, '-I', source.include, '-c', SOURCE, '-o', '/dev/null'])
+    write(os.path.join(source.include, 'xxhash.h'), text_of(HEADER))
+    want(done.returncode != 0 and 'onversion' in done.stdout, f'status {done.returncode}')
+
+
+def is_freestanding(source, compiler):
+    """Without a C library: only memcpy, memmove and memset are needed, which compilers call by themselves."""
+    path = source.object(compiler, text_of(SOURCE), '-O2', '-ffreestanding', '-nostdlib', '-DXXH_NO_STDLIB')
+    _, needed = source.global_names(path)
+    want(needed <= {'memcpy', 'memmove', 'memset'}, f'it needs {sorted(needed)}')
+    return ', '.join(sorted(needed)) or 'nothing'
+
+
+# ---- values ----
+
+def table_agrees(source, compiler, *flags):
+    """The oracle's table, inlined."""
+    program = source.program(compiler, VECTORS, '-w', '-DXXH_INLINE_ALL', *flags)
+    done = ran(program)
+    want(done.returncode == 0 and done.stdout.encode() == bytes_of('oracle/vectors.txt'), 'the table is another')
+    return f'{len(done.stdout.splitlines()) - 1} rows'
+
+
+def linked_table_agrees(source, compiler):
+    """The same with an object of c/source/xxhash.c, under a prefix and without one."""
+    for flags in ([], ['-DXXH_NAMESPACE=my_']):
+        made = source.object(compiler, text_of(SOURCE), '-O2', *flags)
+        done = ran(source.program(compiler, VECTORS, '-w', '-O2', *flags, made))
+        want(done.stdout.encode() == bytes_of('oracle/vectors.txt'), f'{flags}: the table is another')
+
+
+def values(source, compiler, rounds, theirs, *flags):
+    done = ran([*source.program(compiler, VALUES, theirs, *flags), str(rounds)])
+    return done.returncode, done.stdout
+
+
+def values_agree(source, compiler, rounds, theirs, *flags):
+    status, out = values(source, compiler, rounds, theirs, *flags)
+    want(status == 0 and out.endswith(' 0 differ\n'), out[-300:] or f'status {status}')
+    return out.strip()
+
+
+def fault_is_detected(source, theirs, old, new, call):
+    header = os.path.join(source.include, 'xxhash.h')
+    replace_once(header, old, new)
+    try:
+        status, out = values(source, 'gcc', 300, theirs, '-O1', '-DXXH_VECTOR=XXH_SCALAR')
+    finally:
+        write(header, text_of(HEADER))
+    want(status == 1 and call in out, f'status {status}: {out[-200:]}')
+    return out.strip().splitlines()[-1]
+
+
+SANITIZERS = ('-O1', '-g', '-fsanitize=address,undefined', '-fno-sanitize-recover=all')
+
+
+def check_symbols(report, source):
+    for compiler in ('gcc', 'clang', 'tcc'):
+        report.attempt(f'names of an object by {compiler}', object_has_names, source, compiler)
+    for compiler in ('gcc', 'clang', 'g++', 'clang++', 'tcc'):
+        report.attempt(f'names of inlined code by {compiler}', no_name_leaves, source, compiler)
+        report.attempt(f'types of both inclusions by {compiler}', types_are_shared, source, compiler)
+    for compiler in STANDARDS:
+        report.attempt(f'warnings of {compiler}', has_no_warning, source, compiler)
+    report.attempt('a planted warning is detected', a_warning_is_detected, source)
+    for compiler in ('gcc', 'clang'):
+        report.attempt(f'-ffreestanding by {compiler}', is_freestanding, source, compiler)
+
+
+def check_here(report, rounds):
+    install_packages(PACKAGES)
+    with tempfile.TemporaryDirectory() as room:
+        source = Source(room)
+        theirs = source.theirs()
+        check_symbols(report, source)
+        for compiler, level, (form, flags) in itertools.product(('gcc', 'clang'), ('-O2', '-O3'), FORMS.items()):
+            report.attempt(f'table by {compiler} {level}, {form}', table_agrees, source, compiler, level, *flags)
+            report.attempt(f'calls by {compiler} {level}, {form}', values_agree, source, compiler, rounds, theirs, level, *flags)
+        for compiler in ('tcc', 'g++', 'clang++'):
+            report.attempt(f'calls by {compiler}', values_agree, source, compiler, rounds, theirs)
+        for compiler in ('gcc', 'clang', 'tcc'):
+            report.attempt(f'table with an object by {compiler}', linked_table_agrees, source, compiler)
+        for compiler, (form, flags) in itertools.product(('gcc', 'clang'), FORMS.items()):
+            report.attempt(f'calls by {compiler} with sanitizers, {form}', values_agree, source, compiler, rounds // 4,
+                           theirs, *SANITIZERS, *flags)
+        for fault in FAULTS:
+            report.attempt(f'a fault is detected: {fault[1] or "without " + fault[0]}', fault_is_detected, source, theirs, *fault)
+        report.attempt('the library with SOURCE=1', library_is_built, source, 'SOURCE=1')
+        windows = Source(os.path.join(room, 'windows'), 'x86_64-w64-mingw32-')
+        report.attempt('names of an object by MinGW, not run', object_has_names, windows, 'gcc')
+
+
+def check_target(report, target, rounds):
+    """The code for another processor, under an emulator."""
+    prefix, packages, emulator = TARGETS[target]
+    install_packages({f'{prefix}gcc': packages[0], f'/usr/{prefix[:-1]}/include/stdio.h': packages[1],
+                      emulator: 'qemu-user', THEIRS: 'libxxhash-dev'})
+    with tempfile.TemporaryDirectory() as room:
+        source = Source(room, prefix, [emulator, '-L', f'/usr/{prefix[:-1]}'])
+        theirs = source.theirs()
+        forms = {'its own': [], 'scalar': FORMS['scalar'], **OF_TARGET.get(target, {})}
+        report.attempt('names of an object', object_has_names, source, 'gcc')
+        for level, (form, flags) in itertools.product(('-O2', '-O3'), forms.items()):
+            report.attempt(f'table, {level}, {form}', table_agrees, source, 'gcc', level, *flags)
+            report.attempt(f'calls, {level}, {form}', values_agree, source, 'gcc', rounds, theirs, level, *flags)
+        report.attempt('table with an object', linked_table_agrees, source, 'gcc')
+        report.attempt('the library', library_is_built, source, *(['SOURCE=1'] if target == 'arm64' else []))
+        for fault in FAULTS:
+            report.attempt(f'a fault is detected: {fault[1] or "without " + fault[0]}', fault_is_detected, source, theirs, *fault)
+
+
+def check_all(report, target, rounds):
+    check_target(report, target, rounds) if target in TARGETS else check_here(report, rounds)
