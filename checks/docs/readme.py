@@ -61,7 +61,7 @@ RELEASES = [
 ]
 # The pages that a script writes, and the most words of all other pages together.
 GENERATED = {'docs/SPEED.md', 'docs/CONTRACTS.md', 'docs/MANUAL.md', 'docs/EDITS.md'}
-MOST_WORDS = 18000
+MOST_WORDS = 17500
 WORKFLOW = '.github/workflows/checks.yml'
 INTERFACES = [('crates/twox_rust/src/lib.rt', r'fn twox_rust_interface_(\d+)'),
               ('docs/RELEASES.md', r"and interface (\d+) of the crate's assembly")]
