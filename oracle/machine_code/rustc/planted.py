@@ -16,6 +16,7 @@ LEVELS = {"Base": 1, "V3": 2, "V4": 3}
 TAKEN = "            self.write(stripe);\n            {}rest = after;"
 SMALL = "return finalize.small(default_secret(), {}, &self.short[..self.used]);"
 SCRAMBLE = "v.round_scramble(&mut sums, secret.last_stripe());"
+MINIMUM = "if secret.as_ref().len() >= SECRET_MINIMUM_LENGTH{} {{"
 TURNED = "(product)\n        .rotate_left({})"
 
 # A fault: its build, with a remark if another fault would hide it there; the file, the old and the new text; what detects
@@ -93,6 +94,8 @@ FAULTS = [
     Fault("assembly", "xxhash3.rs", "Self::with_seed(seed, room).ok().unwrap()",
           "Self::with_seed(seed ^ 1, room).ok().unwrap()",
           stream("3-128", "seed", "raw_boxed_3_128_", "allocate_with_seed", 300), "stream seed 300 bytes"),
+    Fault("assembly", CORE + "streaming/secret_buffer.rs", MINIMUM.format(""), MINIMUM.format(" || secret.as_ref().len() == 100"),
+          on(uses.refused), "== 100"),
     Fault("scalar", "lib.rs", "            self.0.finish()\n", "            self.0.finish() ^ 1\n",
           stream("64", "seed", "xxh64_", "start", 36), "stream seed 36 bytes"),
     Fault("scalar", ERASED + "twox_plain/xxhash64/state.rs", "self.total_len.saturating_add(input.len().into_u64())",
