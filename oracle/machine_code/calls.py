@@ -7,15 +7,14 @@ import random
 from symbolic_terms import (Bytes, Input, NotShown, Request, at_most, definition, given, is_same, minus, nodes, plus, symbol,
                             times, variable)
 
-from . import one_shots, streams
+from . import layouts, one_shots, streams
 from .memory import Numbers, OnlyRead, Words
 from .streams import ERROR, OK, contents, digest, expect_answer, expect_same, new_state, reset, update
 from .values import address, arithmetic, bits, low
 
 WIDTHS = {"XXH32": 32, "XXH64": 64, "XXH128": 128}
-SHORTEST, LONGEST_KEPT = 136, 256       # bytes of a secret: the minimum, and the longest that a state stores
-# Offsets in a state of XXH3, and the size of its buffer.
-PLACE, COUNTED, WAITING, TOTAL, SECRET_LENGTH, BUFFERED = 0x40, 0x48, 0x250, 0x258, 0x278, 512
+AT = layouts.STATE                      # of XXH3
+SHORTEST, LONGEST_KEPT = 136, layouts.LONGEST_KEPT       # bytes of a secret: the minimum, and the longest that a state stores
 # A message and a secret in one memory object: the offset and length of each.
 ONE_PLACE = [(0, 136, 0, 136), (0, 300, 0, 192), (64, 240, 0, 136), (0, 1100, 8, 200), (1, 17, 0, 136), (130, 16, 0, 136),
              (100, 700, 36, 143), (0, 129, 128, 136)]
@@ -168,28 +167,29 @@ def without_mark(cpu):
     return count
 
 
-def invalid_fields():
-    """Yields the invalid fields of states of XXH3 with a secret of 64 + 8 q + u bytes: (offset, value), .., with facts:
-    a position behind the secret's end, more buffered bytes than the buffer holds, or none although the total isn't 0.
-    All other fields are any words."""
-    v, q, w, most = *(variable(name) for name in "vqw"), LIMITS[64]
+def invalid_fields(at):
+    """Yields the invalid fields of streams of XXH3 of a layout, with a secret of 64 + 8 q + u bytes: (offset, value), ..,
+    with facts: a position behind the secret's end, more buffered bytes than the buffer holds, or none although the total
+    isn't 0. All other fields are any words."""
+    v, q, w, most, room = *(variable(name) for name in "vqw"), LIMITS[64], at.room
+    usage, total = at.buffer_usage, at.total_bytes
     places = [(False, v, [minus(q, plus(v, 1))]), (True, plus(v, q), [at_most(plus(v, q), most)])]
-    waiting = [(False, [(WAITING, 0), (TOTAL, 0)], []), (True, [(WAITING, 0), (TOTAL, plus(w, 1))], [at_most(w, most - 1)]),
-               (False, [(WAITING, plus(w, 1))], [at_most(w, BUFFERED - 2)]), (False, [(WAITING, BUFFERED)], []),
-               (True, [(WAITING, plus(w, BUFFERED + 1))], [at_most(w, most - BUFFERED - 1)])]
+    waiting = [(False, [(usage, 0), (total, 0)], []), (True, [(usage, 0), (total, plus(w, 1))], [at_most(w, most - 1)]),
+               (False, [(usage, plus(w, 1))], [at_most(w, room - 2)]), (False, [(usage, room)], []),
+               (True, [(usage, plus(w, room + 1))], [at_most(w, most - room - 1)])]
     for (is_behind, place, of_place), (is_wrong, fields, of_fields) in itertools.product(places, waiting):
         if is_behind or is_wrong:
-            yield [(PLACE, place), *fields], [*of_place, *of_fields]
+            yield [(at.current_stripe, place), *fields], [*of_place, *of_fields]
 
 
 def invalid_states():
     """Yields the same for states of the C library, and those with a secret that is too short or too long."""
     v, length = variable("v"), plus(64, times(8, variable("q")), variable("u"))
-    yield [(SECRET_LENGTH, v)], [at_most(v, SHORTEST - 1)]
-    yield [(SECRET_LENGTH, plus(v, LONGEST_KEPT + 1))], [at_most(v, LIMITS[64] - LONGEST_KEPT - 1)]
+    yield [(AT.secret_length, v)], [at_most(v, SHORTEST - 1)]
+    yield [(AT.secret_length, plus(v, LONGEST_KEPT + 1))], [at_most(v, LIMITS[64] - LONGEST_KEPT - 1)]
     valid = [at_most(variable("u"), 7), minus(variable("q"), 9), at_most(length, LONGEST_KEPT)]
-    for fields, facts in invalid_fields():
-        yield [(SECRET_LENGTH, length), *fields], [*valid, *facts]
+    for fields, facts in invalid_fields(AT):
+        yield [(AT.secret_length, length), *fields], [*valid, *facts]
 
 
 def out_of_range(cpu):
@@ -211,8 +211,8 @@ def out_of_range(cpu):
 
 def counters_stay(cpu):
     """Tests that a counter of bytes or of stripes saturates at 2 ^ 64 - 1."""
-    count, most = 0, LIMITS[64]
-    for hash_name, places in (("32", [0x14]), ("64", [0x18]), ("3-64", [TOTAL, COUNTED]), ("3-128", [TOTAL, COUNTED])):
+    count, most, counters = 0, LIMITS[64], [AT.total_bytes, AT.count]
+    for hash_name, places in (*((name, [at.total]) for name, at in layouts.PLAIN.items()), ("3-64", counters), ("3-128", counters)):
         for n in (5, 40, 200, 600, 3000):
             state = new_state(cpu, hash_name)
             request = Request(hash_name, "seed" if one_shots.is_plain(hash_name) else "default", 0)

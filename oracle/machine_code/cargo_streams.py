@@ -3,13 +3,14 @@ library. A stream has no mark, seed or secret: each call takes the secret as an 
 from symbolic_terms import LONGEST_SECRET, at_most, given, is_natural, is_same_number, minus, plus, variable
 
 from .whole_blocks import with_value
-from .xxh3_updates import ROOM, STRIPES, UPDATES, Xxh3Updates
+from . import layouts
+from .xxh3_updates import STRIPES, UPDATES, Xxh3Updates
 
 FEW = 64                                      # bytes of a chunk, up to which a write has a separate path
 
 
 class CargoUpdates(Xxh3Updates):
-    KINDS, longest_secret = (UPDATES, STRIPES), LONGEST_SECRET
+    at, KINDS, longest_secret = layouts.CORE, (UPDATES, STRIPES), LONGEST_SECRET
 
     def own(self):
         return []
@@ -41,8 +42,8 @@ class CargoUpdates(Xxh3Updates):
         """Makes a chunk of no bytes with a full buffer a separate case."""
         for (place, f), end, length, facts in super().small_pieces():
             if is_same_number(length, 0) and not is_same_number(f, 0):
-                yield (place, ROOM), (place, ROOM), length, facts
-                facts = [*facts, at_most(f, ROOM - 1)]
+                yield (place, self.room), (place, self.room), length, facts
+                facts = [*facts, at_most(f, self.room - 1)]
             yield (place, f), end, length, facts
 
     @staticmethod

@@ -4,14 +4,14 @@ import tempfile
 
 from symbolic_terms import TOP, variable
 
-from . import any_updates, calls, cargo_planted, every_length, exports, xxh3_updates
+from . import any_updates, calls, cargo_planted, every_length, exports, layouts, xxh3_updates
 from .aarch64 import objects, table
 from .aarch64.cargo import NAME as ARM
 from .cargo import CargoProcessor, CargoProgram
 from .instructions import V1, V2, V3, V4
 from .objects import Program
-from .planted import (END, FUNCTION, SOURCE, VERSION, Asked, Wrong, begun, ended, of_every_length, proving, raising_limit,
-                      request, substituted, unchanged)
+from .planted import (END, FUNCTION, SOURCE, VERSION, Asked, Wrong, begun, ended, field, of_every_length, proving,
+                      raising_limit, request, substituted, unchanged)
 from .planted_objects import ARM_SOURCE, in_section, local, of_object, of_twins
 from .processor import Processor
 from .sources import assembled, by_gnu
@@ -21,6 +21,9 @@ SAVED, TAKEN = ("push %rdi", "push %rsi", "push %rdx"), ("pop %rdx", "pop %rsi",
 FLIPPED = "sub $0x8,%rsp", "call 1f", "add $0x8,%rsp", "xor $0x1,%rax", "ret", "1:"      # inverts bit 0 of the result
 BEHIND = "push %rdi", "call 1f", "pop %rdx"           # calls the function; the next lines run afterwards
 UPDATE = "twox_c.xxh3_state.Xxh3State.update"
+STATE, STATE_64 = layouts.STATE, layouts.PLAIN["64"]
+TOTAL, TOTAL_64, PLACE = field(STATE.total_bytes), field(STATE_64.total), field(STATE.current_stripe)
+MARKED_64 = f"movl ${STATE_64.first_mark:#x},{field(STATE_64.marked)}"
 
 
 def in_function(name, old, new):
@@ -94,16 +97,16 @@ X86 = [
           "v == 100"),
     Wrong("a one-shot that reads behind a short secret", begun("XXH3_64bits_withSecret", *of_length(
         "%rsi", 2000, "cmp $0x64,%rcx", "jne 1f", "mov $0x88,%ecx")), lambda cpu: calls.short_secrets(cpu, "3-64"), "n == 2000"),
-    Wrong("an update that takes memory without a mark", begun("XXH64_update", *of_length("%rdx", 100, "movl $0x34365858,0x28(%rdi)")),
+    Wrong("an update that takes memory without a mark", begun("XXH64_update", *of_length("%rdx", 100, MARKED_64)),
           calls.without_mark, "n == 100"),
-    Wrong("an update that takes another place in a block", begun(UPDATE, "cmpq $0x1e,0x40(%rdi)", "jne 1f", "movq $0x0,0x40(%rdi)", "1:"),
+    Wrong("an update that takes another place in a block", begun(UPDATE, f"cmpq $0x1e,{PLACE}", "jne 1f", f"movq $0x0,{PLACE}", "1:"),
           calls.out_of_range, "."),
     Wrong("a total that restarts after 100 bytes", begun("XXH64_update", *of_length(
-        "%rdx", 100, "mov 0x18(%rdi),%rax", "add %rdx,%rax", "jae 1f", "movq $0x0,0x18(%rdi)")), plain_more, "100"),
-    Wrong("a total that restarts", begun("XXH64_update", "mov 0x18(%rdi),%rax", "add %rdx,%rax", "jae 1f", "movq $0x0,0x18(%rdi)",
-                                         "1:"), plain_total, "the total is 6 and not"),
+        "%rdx", 100, f"mov {TOTAL_64},%rax", "add %rdx,%rax", "jae 1f", f"movq $0x0,{TOTAL_64}")), plain_more, "100"),
+    Wrong("a total that restarts", begun("XXH64_update", f"mov {TOTAL_64},%rax", "add %rdx,%rax", "jae 1f",
+                                         f"movq $0x0,{TOTAL_64}", "1:"), plain_total, "the total is 6 and not"),
     Wrong("a total of XXH3 that restarts after 100 bytes", begun(UPDATE, *of_length(
-        "%rdx", 100, "mov 0x258(%rdi),%rax", "add %rdx,%rax", "jae 1f", "movq $0x0,0x258(%rdi)")), xxh3_total, "== 100"),
+        "%rdx", 100, f"mov {TOTAL},%rax", "add %rdx,%rax", "jae 1f", f"movq $0x0,{TOTAL}")), xxh3_total, "== 100"),
     # object_contents.py and objects.py
     Wrong("a function at a multiple of 128", in_section('.text.more,"ax",@progbits', ".p2align 7", ".type more,@function", "more:", "ret", ".size more,.-more"),
           of_object, "at a multiple of 128"),
@@ -151,22 +154,25 @@ X86 = [
     Wrong("a reset that says it was refused", in_function("XXH64_reset", "\txor %eax,%eax\n", "\tmov $0x1,%eax\n"),
           request("64", "seed", 5, cuts=[2]), "an answer of 1"),
     Wrong("a freed state that stays one", begun("twox_c_forget_xxh64", "ret"), calls.forgotten, "forget changes nothing"),
-    Wrong("a freed state of which more is changed", begun("twox_c_forget_xxh64", "movq $0x0,(%rdi)", "movq $0x0,0x8(%rdi)"),
+    Wrong("a freed state of which more is changed", begun("twox_c_forget_xxh64", "movq $0x0,(%rdi)", f"movq $0x0,{field(STATE_64.seed)}"),
           calls.forgotten, "more than a word"),
-    Wrong("a digest that changes a byte which no call reads", begun("XXH64_digest", "movl $0x7,0x50(%rdi)"),
+    Wrong("a digest that changes a byte which no call reads", begun("XXH64_digest", f"movl $0x7,{field(STATE_64.buffer + 24)}"),
           request("64", "seed", 5, cuts=[2]), "a digest changes the state"),
-    Wrong("another state by an update", begun("XXH64_update", "movq $0x7,0x8(%rdi)"), small_update, "the state at 8 is"),
+    Wrong("another state by an update", begun("XXH64_update", f"movq $0x7,{field(STATE_64.seed)}"), small_update,
+          f"the state at {STATE_64.seed} is"),
     Wrong("another value of a digest", begun("XXH64_digest", *FLIPPED), plain_digest, "a digest of .*: another value"),
     Wrong("another value at every length", begun("XXH64", *FLIPPED), of_every_length("64"), "turns.*: another value"),
     Wrong("another value with any secret", begun("XXH3_64bits_withSecret", *FLIPPED), short_with_secret,
           "of 5 bytes: another value"),
     Wrong("another value of a digest of XXH3", begun("XXH3_64bits_digest", *FLIPPED), xxh3_digest, "a digest of .*: another value"),
-    Wrong("a digest of XXH3 that changes the state", begun("XXH3_64bits_digest", "movq $0x0,0x250(%rdi)"), xxh3_digest, "."),
-    Wrong("a store into the bytes that wait", begun(UPDATE, "movq $0x0,0x58(%rdi)"), xxh3_update, "isn't 8 bytes of an input"),
+    Wrong("a digest of XXH3 that changes the state", begun("XXH3_64bits_digest", f"movq $0x0,{field(STATE.buffer_usage)}"),
+          xxh3_digest, "."),
+    Wrong("a store into the bytes that wait", begun(UPDATE, f"movq $0x0,{field(STATE.buffer + 8)}"), xxh3_update,
+          "isn't 8 bytes of an input"),
     Wrong("a reset of XXH3 that leaves another word", begun("proved_XXH3_64bits_reset", *BEHIND, "movq $0x7,(%rdx)", "ret", "1:"),
           xxh3_reset, "the state at 0 is"),
     Wrong("a reset that changes the secret behind it", begun("proved_XXH3_64bits_reset_withSecret", *BEHIND,
-                                                           "movq $0x7,0x288(%rdx)", "ret", "1:"), xxh3_reset,
+                                                           f"movq $0x7,{field(STATE.secret + 8, '%rdx')}", "ret", "1:"), xxh3_reset,
           "a store into a run"),
     Wrong("a reset that keeps another part of a secret", begun("proved_XXH3_64bits_reset_withSecret", "inc %rsi"), xxh3_reset, "."),
     Wrong("a record of stripes that is changed behind it", begun(xxh3_updates.TAKE_MANY.name, *BEHIND, "movq $0x7,(%rdx)", "ret",

@@ -11,7 +11,7 @@ import random
 from reasons import CRASH
 from symbolic_terms import REFUSALS, NotShown, Request, WrongRule, is_same, nodes
 
-from . import any_secret, any_updates, calls, every_length, long_seeds, one_shots, streams, xxh3_updates
+from . import any_secret, any_updates, calls, every_length, layouts, long_seeds, one_shots, streams, xxh3_updates
 from .memory import Numbers
 
 ANOTHER_VALUE, ANOTHER_TERM = "another value", "another term"
@@ -34,7 +34,7 @@ OF_BLOCKS = 3146, 600             # bytes of a stream whose second chunk has two
 # Bytes from which on a request takes longer than an induction. No requests near to it are generated.
 LONG = 10_000
 # Further requests, for changes still undetected: each short length, and each number of stripes of two blocks.
-BUFFERED, LENGTHS = 512, [*range(300), *range(300, 2400, 61)]
+BUFFERED, LENGTHS = layouts.STATE.room, [*range(300), *range(300, 2400, 61)]
 OTHER_SECRETS = [(2200, 195), (3300, 193), (5000, 140), (16_000, 184), (32_000, 195)]
 
 

@@ -10,7 +10,7 @@ from symbolic_terms.processes import Task
 
 from . import (any_updates, cargo_calls, cargo_exports, cargo_planted, cargo_streams, cargo_tasks, disabled_checks, exports,
                mutation, on_processor, planted, planted_checks, planted_lines, planted_objects, planted_values, removed,
-               tasks)
+               source_layouts, tasks)
 from .cargo_exports import BEGIN
 from .instructions import SETS, TABLE, V1, V4
 from .queries import CASES, Beside, plain_update, xxh3_update
@@ -40,6 +40,7 @@ def choose(texts, others, is_all):
             planted_task("calls with wrong operands are refused", planted_values.ASKED),
             counted("checks that are switched off are noticed", SWITCHED_OFF[is_all], functools.partial(disabled_checks.tell, is_all)),
             counted("faults of the check itself are noticed", len(planted.CHECKS), planted.noticed),
+            counted("the layouts of streams are those of the source", source_layouts.FEWEST, source_layouts.of_source),
             planted_task(f"{BEGIN}wrong texts are refused", cargo_planted.ASKED), *change_tasks(texts, others, is_all),
             *removal_tasks(texts, others, is_all)]
 

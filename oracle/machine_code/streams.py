@@ -1,25 +1,14 @@
 """Runs the streams of a source: reset, updates that end at given offsets, digest. A state has any content before its
 reset. Each update gets its chunk as a separate memory object. No digest changes the state."""
-import os
-import re
+from symbolic_terms import Piece, Unsupported, is_same, is_same_number
 
-from symbolic_terms import TOP, Piece, Unsupported, is_same, is_same_number
-
+from . import layouts
 from .memory import Words
 from .one_shots import NAMES, WAYS, is_plain, name_of, of_seed, suppose_seed, value_of
 from .values import address, low
 
 OK, ERROR = 0, 1
 ALIGNMENT = {"32": 4}             # of a state, by the header; 8 for the others
-
-
-def sizes():
-    """Returns the sizes of the states that the library's C files allocate."""
-    with open(os.path.join(TOP, "c", "asm", "state_sizes.h"), encoding="utf-8") as file:
-        return {name: int(size) for name, size in re.findall(r"#define XXH(\d+)_STATE_BYTES (\d+)", file.read())}
-
-
-SIZES = sizes()
 
 
 def state_name(hash_name):
@@ -83,7 +72,7 @@ def of_text(cpu, request):
 
 class ForC:
     """Calls the exports of the C library. cargo.py does this for the cargo crate."""
-    SIZES = SIZES     # of states, in bytes
+    SIZES = {"3": layouts.STATE.size, **{name: layout.size for name, layout in layouts.PLAIN.items()}}     # of states
 
     @staticmethod
     def has(request):

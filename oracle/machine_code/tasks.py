@@ -6,8 +6,8 @@ import os
 from symbolic_terms import REFUSALS, TOP, Request, WrongRule, comparison, nodes, variable
 from symbolic_terms.processes import Task
 
-from . import (any_secret, any_updates, calls, coverage, every_length, exports, lanes, long_seeds, one_shots, scalar,
-               streams, xxh3_updates)
+from . import (any_secret, any_updates, calls, coverage, every_length, exports, lanes, layouts, long_seeds, one_shots,
+               scalar, streams, xxh3_updates)
 from .cargo import CargoProcessor, CargoProgram
 from .instructions import V1, V2, V3, V4
 from .objects import Program
@@ -184,8 +184,8 @@ def few_streams(lengths, hash_name, kind, secret):
 
 
 def updates_left_out():
-    bad = [f"XXH{name}: no case has {left[:5]}" for name in any_updates.LAYOUTS if (left := any_updates.left_out(name))]
-    return len(any_updates.LAYOUTS) - len(bad), bad
+    bad = [f"XXH{name}: no case has {left[:5]}" for name in layouts.PLAIN if (left := any_updates.left_out(name))]
+    return len(layouts.PLAIN) - len(bad), bad
 
 
 def any_streams(make, hash_name, part, some, has_ends, kind=any_updates.AnyUpdates):

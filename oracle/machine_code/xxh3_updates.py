@@ -2,7 +2,7 @@
 lengths, digests of 64 and 128 bits. symbolic_terms/xxh3_streams.py does this for the reference.
 
 A state represents the first N = 64 K + f bytes of a message, K = q b + j stripes, j < q. q is the number of stripes in
-a block, f <= 512 the number of buffered bytes, f = 0 only if N = 0, and K is 0 or at least 4. Its accumulators are the
+a block, f the number of buffered bytes, f = 0 only if N = 0, and K is 0 or N above 240. Its accumulators are the
 definition's after K stripes. It has j, K, f, N, the mark and the secret, of 64 + 8 q + u bytes. Its buffer begins with
 the last f bytes. If K > 0 and f < 64, it ends with the last stripe. All else is unconstrained. The secret's bytes are
 symbols: the default secret and derived ones are instances.
@@ -16,7 +16,7 @@ import itertools
 from symbolic_terms import (LONGEST, LONGEST_SECRET, RUNS, Bytes, NotShown, Piece, at_most, given, is_natural, is_same,
                             is_same_number, minus, nodes, plus, same, suppositions, times, variable)
 
-from . import exports, streams
+from . import exports, layouts, streams
 from .every_length import FAR, Cases
 from .induction import Loops
 from .memory import ENTRY, Words
@@ -24,15 +24,11 @@ from .stream_state import Source, State
 from .stripes import DEEP, Part, Stripes, StripesProof, Summary
 from .values import address
 
-# Offsets in a state, and its mark.
-ACCUMULATORS, PLACE, COUNT, BUFFER, WAITING, TOTAL = 0, 64, 72, 80, 592, 600
-MARKED, HAS_SEED, SEED, SECRET_LENGTH, SECRET = 608, 616, 624, 632, 640
-ROOM, STRIPE, DERIVED, MARK = 512, 64, 192, int.from_bytes(b"twoxXXH3", "little")
+STRIPE, DERIVED, SHORT = 64, 192, 240        # bytes of a stripe, of a derived secret, of messages hashed without stripes
 LONG_PIECE = 2048                 # bytes from which on a separate function takes the stripes
-FIRST = 7                         # minimum number of stripes taken if a chunk doesn't fit in the buffer
 BLOCK = 16                        # stripes of a block with separate paths
 MANY = 29                         # minimum number of stripes of a long chunk, between the first ones and the last
-WIDTHS, LEAST, LONGEST_KEPT = ("64", "128"), 9, 256    # stripes of a block, at least; bytes of a stored secret, at most
+WIDTHS, LEAST = ("64", "128"), 9  # stripes of a block, at least
 UPDATES, DIGESTS, STRIPES = "any updates", "resets and digests", "functions that take stripes"
 # The functions that take stripes.
 TAKE = Summary("twox_core.xxhash3.stripes.take_stripes")
@@ -57,26 +53,27 @@ def lengths(name, spans):
         yield (low, []) if low == high else (x, [minus(x, low), at_most(x, high)])
 
 
-def starts(is_split, gs=None):
-    """Yields the nonempty states: g stripes in the buffer that end within the block, at its end, or behind it."""
+def starts(whole, is_split, gs=None):
+    """Yields the nonempty states of a buffer of `whole` stripes: g stripes in it that end within the block, at its end, or
+    behind it."""
     b, j, i, y, q = (variable(name) for name in "bjiyq")
     for r, of_r in [(0, []), *lengths("r", SHORT_COPIES)]:
         for g in gs or [variable("g")]:
-            of_g = [] if isinstance(g, int) else [minus(g, 1), at_most(g, 8)]
+            of_g = [] if isinstance(g, int) else [minus(g, 1), at_most(g, whole)]
             for k in (1, None) if is_split else (None,):
                 at, of_k = (minus(q, plus(g, 1)), []) if k else (j, [minus(minus(q, 1 + is_split), plus(j, g))])
                 yield Start((b, at), g, r, (b, plus(at, g)), [*of_r, *of_g, *of_k])
-            yield from ends_of_blocks(g, r, [*of_r, *of_g])
+            yield from ends_of_blocks(whole, g, r, [*of_r, *of_g])
 
 
-def ends_of_blocks(g, r, facts):
+def ends_of_blocks(whole, g, r, facts):
     b, i, y, q = (variable(name) for name in "biyq")
     if not isinstance(g, int):
         yield Start((b, minus(q, 1)), 1, r, (plus(b, 1), 0), facts[:-2])
         yield Start((b, minus(q, g)), g, r, (plus(b, 1), 0), [*facts, minus(g, 2)])
-        yield Start((b, minus(q, 1)), plus(1, y), r, (plus(b, 1), y), [*facts[:-2], minus(y, 1), at_most(y, 7)])
+        yield Start((b, minus(q, 1)), plus(1, y), r, (plus(b, 1), y), [*facts[:-2], minus(y, 1), at_most(y, whole - 1)])
         yield Start((b, minus(q, i)), plus(i, y), r, (plus(b, 1), y),
-                    [*facts[:-2], minus(i, 2), minus(y, 1), at_most(plus(i, y), 8)])
+                    [*facts[:-2], minus(i, 2), minus(y, 1), at_most(plus(i, y), whole)])
         return
     yield Start((b, minus(q, g)), g, r, (plus(b, 1), 0), facts)
     yield Start((b, minus(q, 1)), g, r, (plus(b, 1), g - 1), facts)
@@ -87,14 +84,15 @@ EMPTY = Start((0, 0), 0, 0, (0, 0), [])
 
 
 class Xxh3Updates(Cases):
-    CORE = 0                      # offset of the accumulators in a state, and of the fields except `own`
+    at, mark = layouts.STATE, layouts.MARK
     HAS_SEED = 0, 1               # whether a stream was created with a seed
     KINDS = UPDATES, DIGESTS, STRIPES                 # the kinds of tasks of a source
     HAS_COUNTERS = True           # that stay at 2 ^ 64 - 1
-    longest_secret, longest_piece = LONGEST_KEPT, LONGEST
+    longest_secret, longest_piece = layouts.LONGEST_KEPT, LONGEST
 
     def __init__(self, cpu):
-        self.cpu = cpu
+        self.cpu, self.room = cpu, self.at.room
+        self.whole = self.room // STRIPE
         self.use(variable("q"))
 
     def use(self, q, u=None):
@@ -161,49 +159,48 @@ class Xxh3Updates(Cases):
 
     def numbers(self, place, f):
         """Returns the numbers in a state, except accumulators and buffer: (offset, value) of 8 bytes."""
-        k = self.stripes(place)
-        core = (PLACE, place[1]), (COUNT, k), (WAITING, f), (TOTAL, plus(times(64, k), f))
-        return [*((self.CORE + at, x) for at, x in core), *self.own()]
+        k, at = self.stripes(place), self.at
+        return [(at.current_stripe, place[1]), (at.count, k), (at.buffer_usage, f), (at.total_bytes, plus(times(64, k), f)),
+                *self.own()]
 
     def own(self):
         """Returns the fields that only a state of the C library has."""
-        return [(MARKED, MARK), (SECRET_LENGTH, self.secret_length)]
+        return [(self.at.mark, self.mark), (self.at.secret_length, self.secret_length)]
 
     def seeds(self):
         """Returns the fields for the seed: whether there is one, and its value."""
-        return [(HAS_SEED, self.has_seed), (SEED, self.seed)]
+        return [(self.at.has_seed, self.has_seed), (self.at.seed, self.seed)]
 
     def buffered(self, place, f):
-        at = self.CORE + BUFFER
+        at = self.at.buffer
         return [] if is_same_number(f, 0) else [(at, plus(at, f), self.source,
                                                  minus(times(64, self.stripes(place)), at))]
 
     def secret_runs(self):
         """Returns the runs of the secret, if a state stores it."""
-        return [(SECRET, plus(SECRET, self.secret_length), self.secret_source, -SECRET)]
+        return [(self.at.secret, plus(self.at.secret, self.secret_length), self.secret_source, -self.at.secret)]
 
-    def words(self, at, values):
-        """Returns consecutive cells of eight bytes: (offset, value)."""
-        return [(self.CORE + at + 8 * k, x) for k, x in enumerate(values)]
+    def words(self, values):
+        """Returns the cells of accumulators: (offset, value)."""
+        return [(self.at.accumulator + 8 * k, x) for k, x in enumerate(values)]
 
     def last_stripe(self, source, end):
         """Returns the run of a buffer's last 64 bytes, if they are those of a source that end at `end`."""
-        high = self.CORE + BUFFER + ROOM
+        high = self.at.buffer + self.room
         return high - STRIPE, high, source, minus(end, high)
 
     def state(self, place, f, runs=(), has_seed=None, seed=None):
         self.has_seed = self.cpu.fresh("has a seed") if has_seed is None else has_seed
         self.seed = self.cpu.fresh("seed") if seed is None else seed
-        cells = [*self.words(ACCUMULATORS, self.accumulators(place)), *self.numbers(place, f), *self.seeds()]
-        at = self.CORE + BUFFER
+        cells = [*self.words(self.accumulators(place)), *self.numbers(place, f), *self.seeds()]
         state = State("state", self.library.SIZES["3"], [(at, 8, x) for at, x in cells],
-                      [*self.buffered(place, f), *runs, *self.secret_runs()], (at, at + ROOM))
+                      [*self.buffered(place, f), *runs, *self.secret_runs()], (self.at.buffer, self.at.buffer + self.room))
         state.secret = self.secret_source
         return state
 
     def expect_state(self, what, state, place, f, runs, counters):
         words = map(self.after(self.stripes(place)), range(8))
-        cells = [*self.words(ACCUMULATORS, words), *self.numbers(place, f), *self.seeds()]
+        cells = [*self.words(words), *self.numbers(place, f), *self.seeds()]
         for at, x in ((at, counters.get(at, x)) for at, x in cells):
             found = state.load(at, 8)
             if not (is_same(found, x) or is_same_number(found, x)):
@@ -216,14 +213,18 @@ class Xxh3Updates(Cases):
 
     def lost_totals(self, start, end, length, facts, parts=(), *more):
         """Proves the same update with another total: the sum with the chunk's length is 2 ^ 64 or more, and the total
-        becomes 2 ^ 64 - 1. If stripes are taken, also with another number of stripes, which some part makes so."""
+        becomes 2 ^ 64 - 1. If stripes are taken, also with another number of stripes, which some part makes so. Without
+        buffered bytes the total is 0."""
         total, taken = minus(LONGEST, variable("lost")), 0
-        if not is_same_number(length, 0):
-            self.update(start, end, length, [*facts, at_most(variable("lost"), minus(length, 1))], parts, *more, lost={TOTAL: total})
-        for part in parts if not is_same_number(length, 0) else ():
+        if is_same_number(length, 0) or is_same_number(start[1], 0):
+            return
+        self.update(start, end, length, [*facts, at_most(variable("lost"), minus(length, 1))], parts, *more,
+                    lost={self.at.total_bytes: total})
+        for part in parts:
             if not is_same_number(part.turns, 0):
                 first, last = minus(variable("lost"), taken), minus(plus(taken, part.turns), plus(variable("lost"), 1))
-                self.update(start, end, length, [*facts, first, last], parts, *more, lost={TOTAL: LONGEST, COUNT: total})
+                self.update(start, end, length, [*facts, first, last], parts, *more,
+                            lost={self.at.total_bytes: LONGEST, self.at.count: total})
                 taken = plus(taken, part.turns)
 
     def ways_to_end(self, end, facts):
@@ -254,14 +255,14 @@ class Xxh3Updates(Cases):
             last = [self.last_stripe(self.source, times(64, self.stripes(end[0])))] if is_short and parts else kept
             state = self.state(*start, kept)
             for at in lost:
-                state.store(self.CORE + at, 8, lost[at])
+                state.store(at, 8, lost[at])
             piece = Piece(self.source, begun, length)
             if not is_same_number(plus(begun, length), ended):
                 raise NotShown("the case's piece has another length")
             self.run([state], self.library.update, parts, self.cpu, "3-64", state, piece, summaries=summaries)
-            self.expect_state("an update", state, *end, last, {self.CORE + at: LONGEST for at in lost})
-            if parts and not is_natural(minus(self.stripes(end[0]), 4)):
-                raise NotShown("fewer than four stripes are taken")
+            self.expect_state("an update", state, *end, last, dict.fromkeys(lost, LONGEST))
+            if parts and not is_natural(minus(ended, SHORT + 1)):
+                raise NotShown("stripes of a short message are taken")
 
     def run(self, live, what, parts, *arguments, summaries=(), not_zero=(), **more):
         """Calls a function by its name, or `what`, with the proofs of loops over stripes, and with summaries of other
@@ -283,7 +284,7 @@ class Xxh3Updates(Cases):
         for place, of_place, buffered in (((0, 0), [], 0), ((b, j), [minus(minus(self.q, 1), j), minus(f, 1)], f)):
             for n, of_n in sizes:
                 yield (place, buffered), (place, plus(buffered, n)), n, [*of_place, *of_n,
-                                                                         at_most(plus(buffered, n), ROOM)]
+                                                                         at_most(plus(buffered, n), self.room)]
 
     @staticmethod
     def ways_from_33(more):
@@ -321,11 +322,12 @@ class Xxh3Updates(Cases):
         """Yields chunks that don't fit in the buffer, as arguments of `update`."""
         for start in begin:
             for left, of_left in lefts:
-                for n, place, of_n in self.end_of(start.behind, to, FIRST - start.g if isinstance(start.g, int) else 1):
+                least = self.whole - 1        # of stripes taken if a chunk doesn't fit in the buffer
+                for n, place, of_n in self.end_of(start.behind, to, least - start.g if isinstance(start.g, int) else 1):
                     f = minus(times(64, start.g), start.r)
                     length = plus(start.r, times(64, n), left)
-                    facts = [*start.facts, *of_left, *of_n, minus(plus(f, length), ROOM + 1),
-                             minus(plus(start.g, n), FIRST)]
+                    facts = [*start.facts, *of_left, *of_n, minus(plus(f, length), self.room + 1),
+                             minus(plus(start.g, n), least)]
                     facts.append(minus(length, LONG_PIECE) if to == "many" else at_most(length, LONG_PIECE - 1))
                     parts = Part(start.place, start.g, start.behind), Part(start.behind, n, place)
                     more = [TAKE_MANY] if to == "many" else []
@@ -335,14 +337,14 @@ class Xxh3Updates(Cases):
         """Yields all cases of updates, as arguments of `update`."""
         yield from self.small_pieces()
         whole = [(64, []), *lengths("left", [(65, 127)])]
-        yield from self.pieces("none", self.starts(False, [8]), [*lengths("left", SHORT_COPIES), *whole])
-        yield from self.pieces("none", self.starts(False, [7]), whole[1:])
+        yield from self.pieces("none", self.starts(False, [self.whole]), [*lengths("left", SHORT_COPIES), *whole])
+        yield from self.pieces("none", self.starts(False, [self.whole - 1]), whole[1:])
         yield from self.pieces("some", [EMPTY, *self.starts(True)], whole)
         yield from self.pieces("many", [EMPTY, *self.starts(False)], whole)
 
     def starts(self, is_split, gs=None):
         """Yields the states before updates that take stripes."""
-        return starts(is_split, gs)
+        return starts(self.whole, is_split, gs)
 
     # ---- reset
 
@@ -369,12 +371,12 @@ class Xxh3Updates(Cases):
                               not_zero=[seed] if isinstance(seed, nodes.Node) and not is_own else [])
             streams.expect_answer(answer, streams.OK)
             length = self.secret_length if is_own else DERIVED
-            expected = [(8 * i, self.after(0)(i)) for i in range(8)]
-            expected += [(at, length if at == SECRET_LENGTH else x) for at, x in self.numbers((0, 0), 0)]
-            expected += [(HAS_SEED, int(seed is not None))] + [(SEED, seed)] * (seed is not None)
+            expected = self.words(map(self.after(0), range(8)))
+            expected += [(at, length if at == self.at.secret_length else x) for at, x in self.numbers((0, 0), 0)]
+            expected += [(self.at.has_seed, int(seed is not None))] + [(self.at.seed, seed)] * (seed is not None)
             if not is_own:
                 secret = self.texts["derived_secret"](seed)
-                expected += [(SECRET + k, self.texts["word64"](secret, k)) for k in range(0, DERIVED, 8)]
+                expected += [(self.at.secret + k, self.texts["word64"](secret, k)) for k in range(0, DERIVED, 8)]
             elif not all(map(state.has_run, self.secret_runs())):
                 raise NotShown(f"{name}: the secret isn't there")
             for at, x in expected:
@@ -385,19 +387,19 @@ class Xxh3Updates(Cases):
 
     def digests(self):
         """Yields arguments of `digest`, without `has_seed` and `width`."""
-        for f in range(241):
+        for f in range(SHORT + 1):
             yield (0, 0), f, [], ()
         g, h, b, j = (variable(name) for name in "ghbj")
-        few = [minus(g, 3), at_most(g, 7), at_most(h, 63), minus(plus(times(64, g), h), 240)]
+        few = [minus(g, 3), at_most(g, self.whole - 1), at_most(h, 63), minus(plus(times(64, g), h), SHORT)]
         yield (0, 0), plus(times(64, g), h, 1), few, [Part((0, 0), g, (0, g))]
-        some = [minus(plus(times(self.q, b), j), 4), minus(minus(self.q, 1), j)]
         for f in range(1, 65):
-            yield (b, j), f, some, ()
-        for start in starts(True):
+            yield (b, j), f, [minus(plus(times(64, self.stripes((b, j))), f), SHORT + 1), minus(minus(self.q, 1), j)], ()
+        for start in starts(self.whole, True):
             if is_same_number(start.r, 0):
-                more = [minus(self.stripes(start.place), 4), at_most(start.g, 7), at_most(h, 63)]
-                yield (start.place, plus(times(64, start.g), h, 1), [*start.facts, *more],
-                       [Part(start.place, start.g, start.behind)])
+                f = plus(times(64, start.g), h, 1)
+                more = [minus(plus(times(64, self.stripes(start.place)), f), SHORT + 1), minus(self.stripes(start.place), 1),
+                        at_most(start.g, self.whole - 1), at_most(h, 63)]
+                yield start.place, f, [*start.facts, *more], [Part(start.place, start.g, start.behind)]
 
     def digest(self, place, f, facts, parts, has_seed, width):
         """Proves the digest of a state, whose stream has a seed or none. The state stays unchanged."""
@@ -436,7 +438,7 @@ class Xxh3Updates(Cases):
         with given(*self.facts_of_any(), *facts, at_most(self.source.length, LONGEST)):
             words = self.accumulators(place)
             cells = [(8 * i, 8, x) for i, x in enumerate(words)]
-            cells += [(PLACE, 8, place[1])] if summary.has_place else []
+            cells += [(layouts.TAKEN.current_stripe, 8, place[1])] if summary.has_place else []
             taken = Words("taken", summary.size, cells, alignment=8)
             to = Words("to", summary.size, [(at, 8, self.cpu.fresh("a word")) for at in range(0, summary.size, 8)],
                        alignment=8)

@@ -9,6 +9,7 @@ import functools
 from symbolic_terms import (LONGEST as MOST_BYTES, Node, NotShown, Request, at_most, given, is_same_number, minus, plus,
                             same, symbol, times, variable)
 
+from .. import layouts
 from ..cargo_streams import CargoUpdates
 from ..whole_blocks import BLOCKS, in_few, in_numbers, may_hold, names_in
 from ..xxh3_updates import STRIPES, Start
@@ -30,7 +31,7 @@ def parted(case, at):
 
 
 class ModuleUpdates(CargoUpdates):
-    CORE, HAS_SEED, HAS_COUNTERS = 16, (0, 1), False      # refusals.py tests the counters
+    at, HAS_SEED, HAS_COUNTERS = layouts.RECORD, (0, 1), False      # refusals.py tests the counters
     library, longest_secret, longest_piece = calls.Page, LONGEST, LONGEST
 
     def __init__(self, vm):
@@ -52,7 +53,7 @@ class ModuleUpdates(CargoUpdates):
     # ---- records
 
     def seeds(self):
-        return [(0, self.has_seed), (8, self.seed)]
+        return [(self.at.seeds, self.has_seed), (self.at.seed, self.seed)]
 
     def resets(self):
         """Yields arguments of `reset`: the way, and the seed, which a module may test for 0."""
@@ -69,7 +70,7 @@ class ModuleUpdates(CargoUpdates):
             if self.cpu.has_asked and not isinstance(seed, Node):
                 raise NotShown(f"a start, {way}: whether the seed is 0 was asked")
             self.has_seed, self.seed = int(seed is not None), seed
-            cells = [*self.words(0, map(self.after(0), range(8))), *self.numbers((0, 0), 0)]
+            cells = [*self.words(map(self.after(0), range(8))), *self.numbers((0, 0), 0)]
             self.expect_words(f"a start, {way}", stream.record, [*self.seeds()[:1 + self.has_seed], *cells])
             if way == "seed":
                 secret = self.texts["derived_secret"](seed)
