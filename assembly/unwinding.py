@@ -60,7 +60,7 @@ def wrong_ones_are_noticed(assembler, text, room, is_noticed):
 
 def program(framed, room):
     """unwind.c over an object of the library for C."""
-    out, sources = os.path.join(room, 'unwind'), [os.path.join(C, name) for name in ('states.c', 'guards.c')]
+    out, sources = os.path.join(room, 'unwind'), [os.path.join(C, name) for name in ('states.c', 'guards.c', 'streams.c')]
     words = ['gcc', '-O1', '-I', os.path.join(C, 'include'), '-I', os.path.join(C, 'asm'), os.path.join(ASSEMBLY, 'unwind.c'),
              *sources, framed, '-Wl,-T,' + os.path.join(ASSEMBLY, 'unwind.ld'), '-o', out]
     done = ran(words)

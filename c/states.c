@@ -5,9 +5,6 @@
 #include "state_sizes.h" /* the sizes that twox_c proves its states to have */
 #include "xxhash.h"
 
-/* The name that TWOX_HASH_REQUIRED refers to. */
-const char twox_hash_library = 1;
-
 XXH32_state_t *XXH32_createState(void)
 {
     XXH32_state_t *state = malloc(XXH32_STATE_BYTES);

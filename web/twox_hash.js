@@ -816,28 +816,35 @@ const SEED_AT = 8;
 const PADDING = { xxh32: [44, 48] };
 
 /**
- * A saved record of XXH3 has the last stripe taken before the number of stripes. In memory only a buffer with fewer
- * bytes than a stripe has it: as its end. Elsewhere it has no meaning.
+ * A saved record of XXH3 has the last stripe taken before the number of stripes, and the two numbers of bytes behind the
+ * buffer, as records of earlier versions did. In memory the numbers are before the buffer, and only a buffer with fewer
+ * bytes than a stripe has the last stripe: as its end. Elsewhere it has no meaning.
  */
 const STRIPE_BYTES = 64;
-const LAST_STRIPE_AT = 88;
-const BUFFER_END = 608;
+const STRIPES_AT = 88;
+const BYTES_AT = 96;
+const BUFFER_AT = 112;
 
 function toSavedRecord(kind, record) {
   if (!isXxh3(kind)) return record;
-  const saved = new Uint8Array(record.length + STRIPE_BYTES);
-  saved.set(record.subarray(0, LAST_STRIPE_AT));
-  saved.set(record.subarray(BUFFER_END - STRIPE_BYTES, BUFFER_END), LAST_STRIPE_AT);
-  saved.set(record.subarray(LAST_STRIPE_AT), LAST_STRIPE_AT + STRIPE_BYTES);
-  return saved;
+  const lastStripe = record.subarray(-STRIPE_BYTES);
+  return joined(record.subarray(0, STRIPES_AT), lastStripe, record.subarray(STRIPES_AT, BYTES_AT),
+    record.subarray(BUFFER_AT), record.subarray(BYTES_AT, BUFFER_AT));
 }
 
 function fromSavedRecord(kind, saved) {
   if (!isXxh3(kind)) return saved;
-  const record = new Uint8Array(saved.length - STRIPE_BYTES);
-  record.set(saved.subarray(0, LAST_STRIPE_AT));
-  record.set(saved.subarray(LAST_STRIPE_AT + STRIPE_BYTES), LAST_STRIPE_AT);
-  return record;
+  const end = saved.subarray(STRIPES_AT + STRIPE_BYTES);
+  const stripes = BYTES_AT - STRIPES_AT;
+  const bytes = BUFFER_AT - BYTES_AT;
+  return joined(saved.subarray(0, STRIPES_AT), end.subarray(0, stripes), end.subarray(-bytes),
+    end.subarray(stripes, -bytes));
+}
+
+function joined(...parts) {
+  const whole = new Uint8Array(parts.reduce((length, part) => length + part.length, 0));
+  parts.reduce((at, part) => (whole.set(part, at), at + part.length), 0);
+  return whole;
 }
 
 function savedOf(kind, record, digestOfSecret) {

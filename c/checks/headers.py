@@ -4,7 +4,6 @@ import os
 from report import want
 from tools import TOP, must, ran
 
-STATE_ON_THE_STACK = '#include <xxhash.h>\nint main(void) { XXH3_state_t s; return XXH3_64bits_reset(&s); }\n'
 DISPATCHED = ('#include <xxh_x86dispatch.h>\n'
               'int main(void) { return XXH3_64bits_dispatch("", 0) != XXH3_64bits("", 0); }\n')
 EXAMPLE_C = os.path.join(TOP, 'examples', 'c', 'hash-file.c')
@@ -82,6 +81,3 @@ def check_all(report, built):
     report.attempt('xxh_x86dispatch.h', dispatch_header_serves, built)
     report.attempt('xxh_x86dispatch.h with XXH_INLINE_ALL is refused',
                    lambda: dispatch_header_is_refused(built, '-DXXH_INLINE_ALL', word='library to link'))
-    for compiler in ('gcc', 'g++'):
-        report.attempt(f'a state on the stack is refused by {compiler}', refuses, built, STATE_ON_THE_STACK,
-                       'createState', compiler, '-DXXH_STATIC_LINKING_ONLY')

@@ -6,9 +6,21 @@ import subprocess
 from report import want
 from sides import THEIRS
 from library import C
-from tools import must, ran, text_of
+from tools import must, ran, text_of, write
 
 HEADER = '/usr/include/xxhash.h'
+# Faults of the C around the proved code, each of which own_states_3 must detect: a file, its text, and another one. An
+# address that is passed without its mark changes no value, since the proved call tests the mark too.
+FAULTS = (('streams.c', 'state->mark == MARK_ADDRESS ||', ''),
+          ('streams.c', '|| state->mark == MARK_ADDRESS_AND_SEED', ''),
+          ('streams.c', '#define MARK_ADDRESS 0x9', '#define MARK_ADDRESS 0x8'),
+          ('streams.c', 'uint64_t mark, seed;', 'uint64_t seed, mark;'),
+          ('streams.c', 'size_t secret_length;\n    const void *secret;', 'const void *secret;\n    size_t secret_length;'),
+          ('streams.c', 'members->secret, members->secret_length); \\\n    }\n#define', 'members->secret, 136); \\\n    }\n#define'),
+          ('streams.c', 'twox_c_digest_##width(state, members->secret,', 'twox_c_digest_##width(state, members->others,'),
+          ('guards.c', 'length, (uintptr_t)secret);', 'length, (uintptr_t)secret + 8);'),
+          ('guards.c', '(uintptr_t)secret, seed);', '(uintptr_t)secret, seed + 1);'),
+          ('guards.c', 'twox_c_reset_xxh3_secret(state, secret, length,', 'twox_c_reset_xxh3_secret(state, secret, length / 2,'))
 # The word comes after the header was included once, for example by another header.
 IN_CPP = '''#include <xxhash.h>
 #define XXH_STATIC_LINKING_ONLY
@@ -17,43 +29,57 @@ int main()
 {
     XXH32_state_t first;
     XXH64_state_t second;
+    XXH3_state_t third;
     XXH32_reset(&first, 7);
     XXH64_reset(&second, 7);
-    return XXH32_digest(&first) != XXH32("", 0, 7) || XXH64_digest(&second) != XXH64("", 0, 7);
+    XXH3_INITSTATE(&third);
+    XXH3_64bits_reset_withSeed(&third, 7);
+    return XXH32_digest(&first) != XXH32("", 0, 7) || XXH64_digest(&second) != XXH64("", 0, 7)
+        || XXH3_64bits_digest(&third) != XXH3_64bits_withSeed("", 0, 7) || sizeof third != 576;
 }
 '''
-# Both libraries have other results for it: the C library reads the secret at the digest.
-CHANGES_ITS_SECRET = '''#include <stdio.h>
-#include <string.h>
-#include <xxhash.h>
-LINE
-int main(void)
-{
-    unsigned char secret[XXH3_SECRET_SIZE_MIN];
-    XXH3_state_t *state = XXH3_createState();
-    XXH3_generateSecret(secret, sizeof secret, "a key", 5);
-    XXH3_64bits_reset_withSecret(state, secret, sizeof secret);
-    XXH3_64bits_update(state, "some bytes", 10);
-    memset(secret, 0, sizeof secret);
-    printf("%016llx", (unsigned long long)XXH3_64bits_digest(state));
-    return 0;
-}
-'''
-# The digest that docs/C.md prints for these bytes and this key.
-KEYED = '17863e6937e92ba0'
 ASKS = '#include <xxh_x86dispatch.h>\nint main(void) { return XXH_featureTest(); }\n'
 
 
 def own_states_agree(built, theirs, paths, compiler, folder, run=()):
     """States by a header, between bytes that must not change, and memory that was never reset."""
-    program = os.path.join(built.room, 'own-states')
-    must([compiler, '-O2', '-Wall', '-Wextra', '-I', folder, os.path.join(C, 'checks', 'own_states.c'), '-o', program])
     found = []
-    for path in paths:
-        done = ran([*run, program, theirs, path])
-        want(done.returncode == 0, done.stdout[-300:])
-        found.append(done.stdout.split()[0])
+    for name in ('own_states', 'own_states_3'):
+        program = os.path.join(built.room, name)
+        must([compiler, '-O2', '-Wall', '-Wextra', '-I', folder, os.path.join(C, 'checks', name + '.c'), '-o', program])
+        for path in paths:
+            done = ran([*run, program, theirs, path])
+            want(done.returncode == 0, done.stdout[-300:])
+            found.append(done.stdout.split()[0])
     return f'{", ".join(found)} compared'
+
+
+def with_fault(built, folder, file, text, other):
+    """The shared library with a fault in a C file."""
+    source = text_of(os.path.join(C, file))
+    want(source.count(text) == 1, f'{file} has {source.count(text)} times {text}')
+    path, objects = os.path.join(folder, file), os.path.join(folder, 'objects')
+    write(path, source.replace(text, other))
+    os.mkdir(objects)
+    must(['ar', 'x', '--output', objects, built.archive])
+    must(['gcc', '-O2', '-fPIC', '-I', built.include, '-I', os.path.join(C, 'asm'), '-c', path, '-o',
+          os.path.join(objects, file.replace('.c', '.o'))])
+    library = os.path.join(folder, 'libxxhash.so.0')
+    must(['gcc', '-shared', *(os.path.join(objects, name) for name in sorted(os.listdir(objects))),
+          '-Wl,-Bsymbolic-functions', '-o', library])
+    return library
+
+
+def faults_are_detected(built):
+    """own_states_3 fails on each library with a fault, also by stopping."""
+    program = os.path.join(built.room, 'own_states_3')
+    must(['gcc', '-O2', '-I', built.include, os.path.join(C, 'checks', 'own_states_3.c'), '-o', program])
+    for number, fault in enumerate(FAULTS):
+        folder = os.path.join(built.room, f'fault-{number}')
+        os.mkdir(folder)
+        done = ran([program, THEIRS, with_fault(built, folder, *fault)])
+        want(done.returncode, f'{fault[0]} with {fault[2]} is not detected')
+    return f'{len(FAULTS)} faults'
 
 
 def their_header(room):
@@ -83,27 +109,7 @@ def features_are_known(built):
     return f'{here} here, and on {len(others)} others'
 
 
-def demands_this_library(built, compiler, *flags):
-    """With TWOX_HASH_REQUIRED a program stops at its start on the C library. Without it, it prints another digest
-    there."""
-    found = []
-    for line in ('', 'TWOX_HASH_REQUIRED;'):
-        path = os.path.join(built.room, f'changes-its-secret-{len(line)}')
-        must([compiler, '-x', 'c++' if '++' in compiler else 'c', '-', '-I', built.include, '-pedantic', '-Wall', '-Wextra', '-Werror',
-              *flags, '-x', 'none', built.plain, '-o', path], input=CHANGES_ITS_SECRET.replace('LINE', line))
-        for folder in (built.folder, os.path.dirname(THEIRS)):
-            done = subprocess.run([path], capture_output=True, text=True, env={**os.environ, 'LD_LIBRARY_PATH': folder})
-            found.append((done.returncode == 0, done.stdout, 'twox_hash_library' in done.stderr))
-    (_, ours, _), (_, theirs, _), with_ours, with_theirs = found
-    want(ours == KEYED and theirs not in ('', KEYED), f'{ours} on ours, {theirs} on the other')
-    want((with_ours, with_theirs) == ((True, KEYED, False), (False, '', True)), f'with the line: {with_ours}, {with_theirs}')
-    return f'without it {theirs}'
-
-
 def check_all(report, built, paths):
-    for words in (['gcc'], ['gcc', '-std=c89', '-Wno-long-long'], ['gcc', '-no-pie'], ['clang'], ['g++'],
-                  ['gcc', '-O2', '-ffunction-sections', '-fdata-sections', '-Wl,--gc-sections']):
-        report.attempt(f'TWOX_HASH_REQUIRED by {" ".join(words)}', demands_this_library, built, *words)
     headers = {'theirs': their_header(built.room), 'ours': built.include}
     for compiler in ('gcc', 'clang'):
         for name, folder in headers.items():
@@ -111,4 +117,5 @@ def check_all(report, built, paths):
                            THEIRS, paths, compiler, folder)
     for compiler in ('g++', 'clang++'):
         report.attempt(f'states of a program in C++ by {compiler}', states_in_cpp, built, compiler)
+    report.attempt('faults in c/streams.c and c/guards.c are detected', faults_are_detected, built)
     report.attempt('XXH_featureTest', features_are_known, built)

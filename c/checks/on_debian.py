@@ -3,7 +3,7 @@ programs/.
 
 A script's first lines state what it does, its releases, and the packages that it needs. It runs in an empty folder on
 each library and must print the same, with the loader loading the intended library. On a library that stops at a hash it
-must fail or print something else. The verdict of c/suits on the program is compared with what happened.
+must fail or print something else.
 
 A script that names a source builds that, once with Debian's header and library and once with ours, with Debian's
 header removed. The program's own tests must print the same on both, and something else on a library that stops."""
@@ -73,7 +73,7 @@ def same_on_both(theirs, ours, stopping, script):
     wanted = theirs.run(script)
     want(DEBIANS in wanted[2], f"on Debian's library {wanted[2]} is loaded")
     lines = compared(wanted, ours.run(script), stopping.run(script), ours)
-    return f'{lines} lines are the same, and a library that stops is noticed; c/suits: {judged(ours.root, script)}'
+    return f'{lines} lines are the same, and a library that stops is noticed'
 
 
 def built_on_both(theirs, ours, stopping, script):
@@ -101,28 +101,13 @@ def compared(wanted, found, stopped, ours):
     return len(found[1].splitlines())
 
 
-def judged(root, script):
-    """The verdict of c/suits on the files of the script's first package that load the library: not no, if all ran as
-    expected, and not that its states are unknown, since it knows the programs that were tested."""
-    files = root.run(f'for file in $(dpkg -L {script.packages[0]} | grep -E "/s?bin/|[.]so"); do '
-                     'ldd "$file" 2> /dev/null | grep -q libxxhash && echo "$file"; done')[1].split()
-    lines = {line for file in files for line in root.run(f'c/suits {file}')[1].splitlines()}
-    verdicts = {line.split(': ')[1] for line in lines}
-    wrong = [line for line in lines if ': no: ' in line or line.endswith('its source says')]
-    want(verdicts and not wrong, f'of {files} c/suits says {wrong}')
-    return ' and '.join(sorted(verdicts))
-
-
 def laid_out(room):
-    """A folder of the files for the root: the scripts, c/suits, the library with its headers, and one that stops."""
+    """A folder of the files for the root: the scripts, the library with its headers, and one that stops."""
     copy, taken = os.path.join(room, 'copy'), os.path.join(room, 'taken')
     clean_copy(copy)
     built = Built.by_make(room, copy)
     shutil.copytree(os.path.join(CHECKS, 'programs'), os.path.join(taken, 'programs'))
     shutil.copy(os.path.join(CHECKS, 'python_hashes.py'), os.path.join(taken, 'programs'))
-    os.mkdir(os.path.join(taken, 'c'))
-    for name in ('suits', 'libxxhash.map'):
-        shutil.copy(os.path.join(C, name), os.path.join(taken, 'c'))
     shutil.copytree(built.prefix, os.path.join(taken, 'ours'), symlinks=True)
     os.mkdir(os.path.join(taken, 'stopping'))
     shutil.copy(built.wrong('stopping-library', '-DSTOPS'), os.path.join(taken, 'stopping'))

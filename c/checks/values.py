@@ -6,9 +6,8 @@ from report import want
 from library import C
 from tools import bytes_of, must, ran
 
-# What release 0.8.3 has in addition to the names of 0.8.1, on x86-64, and the name by which a program requires this
-# library.
-NEWER, OWN = {'XXH_featureTest'}, {'twox_hash_library'}
+# What release 0.8.3 has in addition to the names of 0.8.1, on x86-64.
+NEWER = {'XXH_featureTest'}
 
 
 def exported(path):
@@ -17,7 +16,7 @@ def exported(path):
 
 def names_are_theirs(path, their_path):
     ours, theirs = exported(path), exported(their_path)
-    newer = OWN | (NEWER if 'XXH3_64bits_dispatch' in theirs else set())
+    newer = NEWER if 'XXH3_64bits_dispatch' in theirs else set()
     want(not theirs - ours, f'without {", ".join(sorted(theirs - ours))}')
     want(ours - theirs == newer, f'with {", ".join(sorted(ours - theirs))}')
     return f'all {len(theirs)}' + ''.join(f', and {name}' for name in sorted(newer))

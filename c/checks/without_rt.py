@@ -10,7 +10,6 @@ import aarch64
 import arm_roots
 import launcher
 import made
-import suits
 import values
 from report import Fault, tail, want
 from sides import THEIRS, Side
@@ -29,7 +28,7 @@ WRONG_TEXTS = (('XXH64', '$0x9e3779b185ebca87', '$0x9e3779b185ebca89', 'check-va
 # What isn't a function's bytes: a word of the source, another in its place, and the part that then differs, or the
 # section of the word.
 OTHER_TEXTS = {
-    'a place in a mergeable section': (r'\.L90_10\(%rip\)', '.L90_0+0x10(%rip)', None),
+    'a place in a mergeable section': (r'(\.L\d+_)10\(%rip\)', r'\g<1>0+0x10(%rip)', None),
     'a function that chooses another': (r'(\.type \S+\.products_of_block),@function', r'\1,@gnu_indirect_function',
                                         '.text.twox_plain.xxhash32.rounds.impl_from_128'),
     "a section's flags": (r'(\.section \.rodata\.static\.0),"a"', r'\1,"aw"', '.rodata.static.0'),
@@ -163,19 +162,19 @@ def folders_stay_apart(copy):
         out = f'out/apart-{number}'
         make(copy, f'out={out}', f'lib={out}/{place}', 'all', 'check-values', 'check-bytes')
         found = names_of(copy, f'{out}/{place}')
-        want(found == 59, f'with lib={out}/{place} it has {found} names')
+        want(found == 58, f'with lib={out}/{place} it has {found} names')
     return f'{len(places)} folders'
 
 
 def processors_stay_apart(copy):
     """Two processors in one tree, in any order and with one folder: each library has the names of its processor."""
     arm = f'CC={ARM_GCC}'
-    for words, names in (([arm], 50), ([], 59), ([arm], 50), ([arm, 'lib=out/arm'], 50), (['lib=out/other'], 59),
-                         (['lib=out/arm'], 59), ([arm, 'lib=out/arm'], 50)):
+    for words, names in (([arm], 49), ([], 58), ([arm], 49), ([arm, 'lib=out/arm'], 49), (['lib=out/other'], 58),
+                         (['lib=out/arm'], 58), ([arm, 'lib=out/arm'], 49)):
         make(copy, *words)
         lib = next((word[4:] for word in words if word.startswith('lib=')), 'out/lib')
         want(names_of(copy, lib) == names, f'{words}: {names_of(copy, lib)} names')
-    return '50 and 59 names, in turns'
+    return '49 and 58 names, in turns'
 
 
 def files_below(folder):
@@ -249,7 +248,6 @@ def check_x86(report, copy, room, has_v3, examples):
     made.check_all(report, built, paths)
     for compiler in ('gcc', 'clang'):
         report.attempt(f'the launcher of two builds by {compiler}', launcher.launches, room, has_v3, compiler)
-    suits.check_all(report, room)
     program = values.calls_program(built, 'calls')
     report.attempt('states after freeState', values.freed_states_are_refused, [program], THEIRS, built.plain, 1000)
     for path in paths:

@@ -1,12 +1,12 @@
 /* SPDX-License-Identifier: MIT */
 /* XXH32, XXH64, XXH3 64-bit and XXH3 128-bit: the API of libxxhash 0.8.1, proved equal to the xxHash definition.
- * Programs written for <xxhash.h> compile with this header unchanged, if they create their states of XXH3 with
- * createState. docs/C.md explains how to link, and the differences from the C library.
+ * Programs written for <xxhash.h> compile with this header unchanged. docs/C.md explains how to link, and the
+ * differences from the C library.
  *
  * For every call:
  * - A length is in bytes. An input of length 0 may be null.
- * - A pointer and a length refer to memory of the caller that doesn't change during the call. No call keeps a pointer.
- *   The memory that a call writes to overlaps no other argument.
+ * - A pointer and a length refer to memory of the caller that doesn't change during the call. No call keeps a pointer,
+ *   except a reset of XXH3 with a secret. The memory that a call writes to overlaps no other argument.
  * - Calls on different states may run concurrently in several threads. Two calls on one state may not, unless both only
  *   read it.
  * - None of these hashes is safe against attackers.
@@ -33,20 +33,6 @@ extern "C" {
 
 /* XXH_VERSION_NUMBER of the library at run time. */
 unsigned XXH_versionNumber(void);
-
-/* At file scope, followed by a semicolon: the program starts only with this library. Programs that are linked with
- * it may be loaded with the C library, which has the same file name: set an rpath, or write this line if they depend
- * on the differences (docs/C.md#what-differs-from-the-c-library). The C library lacks the symbol twox_hash_library,
- * so the loader stops the program with the name of that symbol. */
-extern const char twox_hash_library;
-#ifdef __GNUC__
-#define TWOX_HASH_REQUIRED                                                      \
-    __attribute__((constructor)) static void twox_hash_required(void)           \
-    {                                                                           \
-        (void)*(const volatile char *)&twox_hash_library;                       \
-    }                                                                           \
-    extern const char twox_hash_library
-#endif
 
 typedef uint32_t XXH32_hash_t;
 typedef uint64_t XXH64_hash_t;
@@ -77,12 +63,10 @@ typedef enum {
 /* States of streams. */
 typedef struct XXH32_state_s XXH32_state_t;
 typedef struct XXH64_state_s XXH64_state_t;
-typedef struct XXH3_state_s XXH3_state_t; /* only XXH3_createState creates a state of XXH3 */
+typedef struct XXH3_state_s XXH3_state_t;
 
 /* Minimum length of a secret of XXH3, in bytes. */
 #define XXH3_SECRET_SIZE_MIN 136
-/* Maximum length of a stream's secret, in bytes. One-shots also accept longer ones. */
-#define XXH3_STREAM_SECRET_SIZE_MAX 256
 /* Length of the secret derived from a seed, in bytes. */
 #define XXH3_SECRET_DEFAULT_SIZE 192
 
@@ -143,10 +127,10 @@ XXH_errorcode XXH3_freeState(XXH3_state_t *state);
 void XXH3_copyState(XXH3_state_t *to, const XXH3_state_t *from);
 
 /* Reset the state to no bytes, with the seed 0, with a seed, with a secret, or with both as above. Return XXH_OK.
- * The state keeps a copy of the secret. The C library's state keeps the pointer, and reads the secret until the
- * digest: a program that changes or frees a secret before that, and may be loaded with the C library, needs
- * TWOX_HASH_REQUIRED. For a secret of fewer than XXH3_SECRET_SIZE_MIN bytes or of more than
- * XXH3_STREAM_SECRET_SIZE_MAX, a null secret, or a null state, these change nothing and return XXH_ERROR. */
+ * The state keeps the secret's address: the caller must not change or free the secret before the last digest of the
+ * state and of its copies. A secret of XXH3_SECRET_DEFAULT_SIZE bytes is copied, but not by the C library. For a secret
+ * of fewer than XXH3_SECRET_SIZE_MIN bytes, a null secret, or a null state, these change nothing and return
+ * XXH_ERROR. */
 XXH_errorcode XXH3_64bits_reset(XXH3_state_t *state);
 XXH_errorcode XXH3_64bits_reset_withSeed(XXH3_state_t *state, XXH64_hash_t seed);
 XXH_errorcode XXH3_64bits_reset_withSecret(XXH3_state_t *state, const void *secret, size_t secret_length);
@@ -203,8 +187,7 @@ void XXH3_generateSecret_fromSeed(void *secret, XXH64_hash_t seed);
 
 /* For states on the stack or in a struct, also if this header was included before without the word: states with the
  * sizes and the alignments of the C library's, and private members. Such a state must be reset before its first use.
- * A state of XXH3 is larger here than in the C library, so it has no size: if one is needed, clang shows the line of
- * its type, and gcc the message. */
+ * The library needs a state of XXH3 to be aligned only to 8 bytes. */
 #if defined(XXH_STATIC_LINKING_ONLY) && !defined(XXHASH_H_TWOX_HASH_STATES)
 #define XXHASH_H_TWOX_HASH_STATES
 struct XXH32_state_s {
@@ -213,7 +196,16 @@ struct XXH32_state_s {
 struct XXH64_state_s {
     uint64_t reserved[11];
 };
-#if defined(__GNUC__) && !defined(__clang__)
-#pragma message "only XXH3_createState creates a state of XXH3: it has no size here"
+struct XXH3_state_s {
+#ifdef __GNUC__
+    __attribute__((__aligned__(64)))
+#elif defined(__cplusplus) && __cplusplus >= 201103L
+    alignas(64)
+#elif defined(__STDC_VERSION__) && __STDC_VERSION__ >= 201112L
+    _Alignas(64)
 #endif
+    uint64_t reserved[72];
+};
+/* For programs written for the C library, which needs it before a reset with a seed: does nothing here. */
+#define XXH3_INITSTATE(state) ((void)(state))
 #endif

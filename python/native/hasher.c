@@ -300,8 +300,8 @@ static PyGetSetDef attributes[] = {
 
 TYPE(xxh32, XXH32_STATE_BYTES, "(input=b'', seed=0)", NO_SECRET)
 TYPE(xxh64, XXH64_STATE_BYTES, "(input=b'', seed=0)", NO_SECRET)
-TYPE(xxh3_64, XXH3_STATE_BYTES, "(input=b'', seed=0, *, secret=None)", SECRET)
-TYPE(xxh3_128, XXH3_STATE_BYTES, "(input=b'', seed=0, *, secret=None)", SECRET)
+TYPE(xxh3_64, KEYED_STATE_BYTES, "(input=b'', seed=0, *, secret=None)", SECRET)
+TYPE(xxh3_128, KEYED_STATE_BYTES, "(input=b'', seed=0, *, secret=None)", SECRET)
 
 int add_types(PyObject *module)
 {

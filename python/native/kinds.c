@@ -1,6 +1,8 @@
 /* The calls of each hash, in one form for all. */
 #include "kinds.h"
 
+#include <string.h>
+
 #include "proved.h"
 
 /* A value of 64 bits or fewer as the common type. */
@@ -61,19 +63,52 @@ PLAIN_KIND(64, 32)
 
 struct xxh3_state {
     uint64_t accumulators[8], place;
-    uint64_t stripes;
-    unsigned char buffer[512];
-    uint64_t waiting, total_length, mark, has_seed, seed, secret_length;
-    unsigned char secret[GREATEST_SECRET];
+    uint64_t stripes, waiting, total_length;
+    unsigned char buffer[256];
+    unsigned char secret[XXH3_SECRET_DEFAULT_SIZE];
+    uint64_t mark, seed, secret_length, address;
 };
 
 _Static_assert(sizeof(struct xxh3_state) == XXH3_STATE_BYTES, "the state of XXH3 has another layout");
 
+/* The marks of a state that copied a secret and has no seed, and of those that have the address of a secret. */
+#define MARK_COPY 0xc5a16e0f93d24b87
+#define MARK_ADDRESS 0x9b4ed3712ac8f516
+#define MARK_ADDRESS_AND_SEED 0x68d7b5aec13f0e9b
+
+/* The state of an object, and its secret if the state has no copy of it. The calls get this secret as an argument, so
+ * the address in the state is 0. */
+struct keyed_state {
+    struct xxh3_state state;
+    unsigned char secret[GREATEST_SECRET];
+};
+
+_Static_assert(sizeof(struct keyed_state) == KEYED_STATE_BYTES, "an object of XXH3 has another layout");
+
+static int borrows(const struct keyed_state *keyed)
+{
+    return keyed->state.mark == MARK_ADDRESS || keyed->state.mark == MARK_ADDRESS_AND_SEED;
+}
+
 static struct key key_of_3(const void *memory)
 {
-    const struct xxh3_state *state = memory;
-    const int has_seed = state->has_seed != 0;
-    return (struct key){has_seed ? state->seed : 0, has_seed, state->secret, state->secret_length};
+    const struct keyed_state *keyed = memory;
+    const struct xxh3_state *state = &keyed->state;
+    const int has_seed = state->mark != MARK_COPY && state->mark != MARK_ADDRESS;
+    const uint64_t seed = has_seed ? state->seed : 0;
+    if (borrows(keyed)) return (struct key){seed, has_seed, keyed->secret, state->secret_length};
+    return (struct key){seed, has_seed, state->secret, sizeof state->secret};
+}
+
+/* Resets with a secret, which is not in the memory. */
+static void start_with_secret(void *memory, const struct key *key)
+{
+    struct keyed_state *keyed = memory;
+    memcpy(keyed->secret, key->secret, key->secret_length);
+    if (key->has_seed)
+        proved.twox_c_reset_xxh3_secret_and_seed(memory, key->secret, key->secret_length, 0, key->seed);
+    else
+        proved.twox_c_reset_xxh3_secret(memory, key->secret, key->secret_length, 0);
 }
 
 static hash_value as_64(XXH64_hash_t hash)
@@ -97,24 +132,29 @@ static hash_value as_128(XXH128_hash_t hash)
     } \
     static void start_3_##bits(void *state, const struct key *key) \
     { \
-        if (!key->secret) \
-            proved.XXH3_##bits##bits_reset_withSeed(state, key->seed); \
-        else if (!key->has_seed) \
-            proved.XXH3_##bits##bits_reset_withSecret(state, key->secret, key->secret_length); \
+        if (key->secret) \
+            start_with_secret(state, key); \
         else \
-            proved.XXH3_##bits##bits_reset_withSecretandSeed(state, key->secret, key->secret_length, key->seed); \
+            proved.XXH3_##bits##bits_reset_withSeed(state, key->seed); \
     } \
     static void take_3_##bits(void *state, const void *input, size_t length) \
     { \
-        proved.XXH3_##bits##bits_update(state, input, length); \
+        const struct keyed_state *keyed = state; \
+        if (borrows(keyed)) \
+            proved.twox_c_update_xxh3(state, input, length, keyed->secret, keyed->state.secret_length); \
+        else \
+            proved.XXH3_##bits##bits_update(state, input, length); \
     } \
     static hash_value finish_3_##bits(const void *state) \
     { \
+        const struct keyed_state *keyed = state; \
+        if (borrows(keyed)) \
+            return as_##bits(proved.twox_c_digest_##bits(state, keyed->secret, keyed->state.secret_length)); \
         return as_##bits(proved.XXH3_##bits##bits_digest(state)); \
     } \
     const struct kind xxh3_##bits##_kind = { \
         .name = "XXH3_" #bits, .digest_bytes = bits / 8, .block_bytes = block, \
-        .has_secret = 1, .state_bytes = XXH3_STATE_BYTES, .hash = hash_3_##bits, .start = start_3_##bits, \
+        .has_secret = 1, .state_bytes = KEYED_STATE_BYTES, .hash = hash_3_##bits, .start = start_3_##bits, \
         .take = take_3_##bits, .finish = finish_3_##bits, .key_of = key_of_3, \
     };
 

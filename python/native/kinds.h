@@ -5,11 +5,15 @@
 #include <stddef.h>
 #include <stdint.h>
 
+#include "state_sizes.h"
 #include "xxhash.h"
 
-/* Minimum length of a secret, and maximum length of a stream's. */
+/* Minimum length of a secret, and maximum length of an object's. */
 #define LEAST_SECRET XXH3_SECRET_SIZE_MIN
-#define GREATEST_SECRET XXH3_STREAM_SECRET_SIZE_MAX
+#define GREATEST_SECRET 256
+
+/* Size of a state of XXH3 with a secret behind it. */
+#define KEYED_STATE_BYTES (XXH3_STATE_BYTES + GREATEST_SECRET)
 
 /* The key of a hash. Its secret is null if there is none. A secret without a seed takes effect at every length, and
  * one with a seed only above 240 bytes. */

@@ -1,5 +1,5 @@
 /* The proved calls that the package makes, by the processor's instruction set. Their results are documented in
- * xxhash.h, the header of the library for C. */
+ * xxhash.h, the header of the library for C, and in crates/twox_c. */
 #ifndef TWOX_HASH_PROVED_H
 #define TWOX_HASH_PROVED_H
 
@@ -16,6 +16,10 @@
     EACH(XXH_errorcode, XXH64_reset, (XXH64_state_t *, XXH64_hash_t)) \
     EACH(XXH_errorcode, XXH64_update, (XXH64_state_t *, const void *, size_t)) \
     EACH(XXH64_hash_t, XXH64_digest, (const XXH64_state_t *)) \
+    EACH(XXH_errorcode, twox_c_reset_xxh3_secret, (XXH3_state_t *, const void *, size_t, size_t)) \
+    EACH(XXH_errorcode, twox_c_reset_xxh3_secret_and_seed, \
+         (XXH3_state_t *, const void *, size_t, size_t, XXH64_hash_t)) \
+    EACH(XXH_errorcode, twox_c_update_xxh3, (XXH3_state_t *, const void *, size_t, const void *, size_t)) \
     EACH_OF_XXH3(EACH, 64, XXH64_hash_t) \
     EACH_OF_XXH3(EACH, 128, XXH128_hash_t)
 
@@ -24,11 +28,9 @@
     EACH(hash, XXH3_##bits##bits_withSecret, (const void *, size_t, const void *, size_t)) \
     EACH(hash, XXH3_##bits##bits_withSecretandSeed, (const void *, size_t, const void *, size_t, XXH64_hash_t)) \
     EACH(XXH_errorcode, XXH3_##bits##bits_reset_withSeed, (XXH3_state_t *, XXH64_hash_t)) \
-    EACH(XXH_errorcode, XXH3_##bits##bits_reset_withSecret, (XXH3_state_t *, const void *, size_t)) \
-    EACH(XXH_errorcode, XXH3_##bits##bits_reset_withSecretandSeed, \
-         (XXH3_state_t *, const void *, size_t, XXH64_hash_t)) \
     EACH(XXH_errorcode, XXH3_##bits##bits_update, (XXH3_state_t *, const void *, size_t)) \
-    EACH(hash, XXH3_##bits##bits_digest, (const XXH3_state_t *))
+    EACH(hash, XXH3_##bits##bits_digest, (const XXH3_state_t *)) \
+    EACH(hash, twox_c_digest_##bits, (const XXH3_state_t *, const void *, size_t))
 
 struct proved {
 #define MEMBER(answer, name, parameters) answer(*name) parameters;

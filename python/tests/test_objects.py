@@ -125,11 +125,11 @@ class Saved(unittest.TestCase):
     def test_the_last_stripe_of_a_stream(self):
         """It is saved if fewer bytes than a stripe follow it. With more, it may be any stripe, or zeros."""
         data = bytes_of(2000)
-        hasher = ours.xxh3_64(data[:512])
-        hasher.update(data[512:520])
+        hasher = ours.xxh3_64(data[:256])
+        hasher.update(data[256:264])
         record = json.loads(hasher.state())
-        self.assertEqual((record['last_stripe'], record['buffer']), (list(data[448:512]), list(data[512:520])))
-        self.assertEqual(ours.xxh3_64.from_state(json.dumps(record)).digest(), theirs.xxh3_64_digest(data[:520]))
+        self.assertEqual((record['last_stripe'], record['buffer']), (list(data[192:256]), list(data[256:264])))
+        self.assertEqual(ours.xxh3_64.from_state(json.dumps(record)).digest(), theirs.xxh3_64_digest(data[:264]))
         record = json.loads(ours.xxh3_64(data[:520]).state())
         self.assertEqual(record['buffer'], list(data[448:520]))
         for last in (data[384:448], bytes(64)):
@@ -137,6 +137,20 @@ class Saved(unittest.TestCase):
             self.assertEqual(loaded.digest(), theirs.xxh3_64_digest(data[:520]))
             loaded.update(data[520:])
             self.assertEqual(loaded.digest(), theirs.xxh3_64_digest(data))
+
+    def test_the_longer_buffer_of_earlier_versions(self):
+        """They saved up to 512 bytes that no stripe had taken."""
+        data = bytes_of(3000)
+        for kind, digest in ((ours.xxh3_64, theirs.xxh3_64_digest), (ours.xxh3_128, theirs.xxh3_128_digest)):
+            for taken in (200, 1000):
+                for length in (256, 257, 300, 400):
+                    record = json.loads(kind(data[:taken]).state())
+                    end = taken + length - len(record['buffer'])
+                    record |= {'buffer': list(data[end - length:end]), 'total_len': end}
+                    loaded = kind.from_state(json.dumps(record))
+                    self.assertEqual(loaded.digest(), digest(data[:end]))
+                    loaded.update(data[end:])
+                    self.assertEqual(loaded.digest(), digest(data))
 
     def test_states_that_xxh_saved(self):
         """Each case has a seed, the length of the input, whose bytes are 0, 1, 2 .. 250, repeated, and the state

@@ -676,7 +676,7 @@ COUNTED, OTHER, ITEM = ' times, not ', ' is for other code of ', ' items named '
 CHANGED_CRATES = (
     ('twox_words/src/words.rt', 'pub fn u32_at(', 'pub fn u32_of(', ITEM),
     ('twox_words/src/copies.rt', 'fn copy_chunk<', 'fn copy_ends<', ITEM),
-    ('twox_core/src/xxhash3/streaming/core_state.rt', '    #[inline(never)]\n    fn write_through', '    fn write_through', 'has no attribute'),
+    ('twox_core/src/xxhash3/streaming/stream_counts.rt', '    #[inline(never)]\n    fn write_through', '    fn write_through', 'has no attribute'),
     ('twox_plain/src/xxhash64/rounds.rt', 'const IN_PAIRS: bool', 'const PAIRS: bool', ITEM),
 )
 # The same in the programs, or a refusal: the text, and the reason.

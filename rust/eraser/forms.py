@@ -38,7 +38,7 @@ CASTS = {
     ('twox_plain/src/xxhash32/state.rt', 'total_high as u64'): (1, 'a u32'),
     ('twox_plain/src/xxhash32/state.rt', 'total_low as u64'): (1, 'a u32'),
     ('twox_plain/src/xxhash64/state.rt', ') as usize'): (1, 'less than 2^32, from a u32'),
-    ('twox_core/src/xxhash3/streaming/core_state.rt', 'total_bytes as usize'): (1, 'at most 240, as was tested'),
+    ('twox_core/src/xxhash3/streaming/stream_counts.rt', 'total_bytes as usize'): (1, 'at most 240, as was tested'),
     **{('twox_plain/src/xxhash32/saved.rt', f'{name} as u64'): (1, 'a u32') for name in ('v1', 'v2', 'v3', 'v4', 'seed')},
     ('xxh_program/src/program/memory.rt', ') as u64'): (1, 'a length has at most 64 bits'),
     ('xxh_program/src/program/blocks.rt', ') as u64'): (2, 'a length has at most 64 bits'),

@@ -44,7 +44,7 @@ INLINED = {
         ('scramble_four', 'times_prime', 'halves_of', 'joined'), ALWAYS),
     'twox_core/src/xxhash3/stripes.rt': dict.fromkeys(('take_stripes', 'take_many_stripes'), ALWAYS),
     'twox_core/src/xxhash3/stripes/blocks.rt': {'take_many_blocks': ALWAYS},
-    'twox_core/src/xxhash3/streaming/core_state.rt': {'write_through': ALWAYS},
+    'twox_core/src/xxhash3/streaming/stream_counts.rt': {'write_through': ALWAYS},
     'twox_core/src/width_64.rt': {'impl_129_to_240_bytes': 'inline'},
     'twox_core/src/width_128.rt': {'impl_129_to_240_bytes': 'inline'},
     'twox_plain/src/xxhash64/rounds.rt': {'impl_long': ALWAYS},

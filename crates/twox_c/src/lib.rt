@@ -1,8 +1,8 @@
 //! XXH32, XXH64 and XXH3 under the names of the C library `libxxhash` 0.8.1, as a static library.
 //!
 //! Has every name that the shared library of Debian's `libxxhash0` exports, except the six that allocate and free
-//! states. Each export's documentation begins with its declaration in C. A pointer and a length in C are one parameter
-//! here, a slice; a null pointer is an empty slice.
+//! states and the four that reset one with a secret. Each export's documentation begins with its declaration in C. A
+//! pointer and a length in C are one parameter here, a slice; a null pointer is an empty slice.
 //!
 //! No contract requires anything of a caller: what can be tested is tested. Memory without the mark of a reset, and a
 //! secret of a length that doesn't fit, are refused. A call with an error code then returns `XXH_ERROR` and changes
@@ -10,8 +10,8 @@
 //!
 //! Each call does what the header `xxhash.h` of that release documents, with these differences:
 //!
-//! - A state of XXH3 stores its secret, of 136 to 256 bytes. The C library keeps a pointer, so its caller has to keep
-//!   the secret, of any length from 136 bytes on.
+//! - A state of XXH3 copies a secret of 192 bytes. Of another one, of any length from 136 bytes on, it stores the
+//!   address, as the C library does of each, so the caller has to keep it.
 //! - A state whose secret was refused stays as it was. In the C library `_reset_withSecret` resets it anyway.
 //! - After `XXH3_128bits_reset_withSecretandSeed` with the seed 0, up to 240 bytes are hashed with the default
 //!   secret, as `XXH3_128bits_withSecretandSeed` does. The C library's stream uses the caller's secret there.
@@ -20,7 +20,6 @@
 //! - A null pointer to a state is not detected, nor one to a secret or to bytes with a length above 0. For these in a
 //!   reset of XXH3 and in `XXH3_generateSecret` the C library returns `XXH_ERROR`, and so does `c/guards.c`, which
 //!   wraps these exports. The C library ignores a null input of an update.
-//! - A state of XXH3 is larger than the C library's, so no client may put one on its stack with that library's header.
 //!
 //! # Types
 //!
@@ -28,7 +27,7 @@
 //! |---|---|---|---|
 //! | `XXH32_state_t` | `Xxh32State` | 48 | 4 |
 //! | `XXH64_state_t` | `Xxh64State` | 88 | 8 |
-//! | `XXH3_state_t` | `Xxh3State` | 896 | 8 |
+//! | `XXH3_state_t` | `Xxh3State` | 576 | 8 |
 //! | `XXH128_hash_t` | `Xxh128Hash` | 16 | 8 |
 //! | `XXH32_canonical_t`, `XXH64_canonical_t`, `XXH128_canonical_t` | arrays of bytes | 4, 8, 16 | 1 |
 //! | `XXH_errorcode` | `u32` | 4 | 4 |
@@ -62,9 +61,6 @@
 //!                                            XXH64_hash_t seed);
 //! XXH_errorcode XXH3_64bits_reset(XXH3_state_t* state);
 //! XXH_errorcode XXH3_64bits_reset_withSeed(XXH3_state_t* state, XXH64_hash_t seed);
-//! XXH_errorcode XXH3_64bits_reset_withSecret(XXH3_state_t* state, const void* secret, size_t secretSize);
-//! XXH_errorcode XXH3_64bits_reset_withSecretandSeed(XXH3_state_t* state, const void* secret, size_t secretSize,
-//!                                                   XXH64_hash_t seed);
 //! XXH_errorcode XXH3_64bits_update(XXH3_state_t* state, const void* input, size_t length);
 //! XXH64_hash_t XXH3_64bits_digest(const XXH3_state_t* state);
 //! void XXH3_copyState(XXH3_state_t* dst, const XXH3_state_t* src);
@@ -77,9 +73,6 @@
 //!                                              size_t secretSize, XXH64_hash_t seed);
 //! XXH_errorcode XXH3_128bits_reset(XXH3_state_t* state);
 //! XXH_errorcode XXH3_128bits_reset_withSeed(XXH3_state_t* state, XXH64_hash_t seed);
-//! XXH_errorcode XXH3_128bits_reset_withSecret(XXH3_state_t* state, const void* secret, size_t secretSize);
-//! XXH_errorcode XXH3_128bits_reset_withSecretandSeed(XXH3_state_t* state, const void* secret, size_t secretSize,
-//!                                                    XXH64_hash_t seed);
 //! XXH_errorcode XXH3_128bits_update(XXH3_state_t* state, const void* input, size_t length);
 //! XXH128_hash_t XXH3_128bits_digest(const XXH3_state_t* state);
 //! int XXH128_isEqual(XXH128_hash_t h1, XXH128_hash_t h2);
@@ -98,6 +91,18 @@
 //! void twox_c_forget_xxh32(XXH32_state_t* state);
 //! void twox_c_forget_xxh64(XXH64_state_t* state);
 //! void twox_c_forget_xxh3(XXH3_state_t* state);
+//! ```
+//!
+//! Only for `c/guards.c` and `c/streams.c`, which pass the secret of a caller; the shared library doesn't export these:
+//!
+//! ```c
+//! XXH_errorcode twox_c_reset_xxh3_secret(XXH3_state_t* state, const void* secret, size_t secretSize, size_t address);
+//! XXH_errorcode twox_c_reset_xxh3_secret_and_seed(XXH3_state_t* state, const void* secret, size_t secretSize,
+//!                                                 size_t address, XXH64_hash_t seed);
+//! XXH_errorcode twox_c_update_xxh3(XXH3_state_t* state, const void* input, size_t length, const void* secret,
+//!                                  size_t secretSize);
+//! XXH64_hash_t twox_c_digest_64(const XXH3_state_t* state, const void* secret, size_t secretSize);
+//! XXH128_hash_t twox_c_digest_128(const XXH3_state_t* state, const void* secret, size_t secretSize);
 //! ```
 //!
 //! With `_dispatch` after the name, and the same declaration: `XXH3_64bits`, `XXH3_64bits_withSeed`,

@@ -5,7 +5,7 @@ ghost use Rattle.twox_hash.specs.Secret.{default_secret, derived_secret};
 ghost use Rattle.twox_hash.specs.Value.{effective_secret, stream_64, xxh3_64};
 ghost use Rattle.twox_hash.specs.AfterWrite.{core_after_write};
 ghost use Rattle.twox_hash.specs.Streams.{value_64};
-ghost use Rattle.twox_c.specs.State3.{IsSecretLength, IsUsable, WasGiven, stream_of};
+ghost use Rattle.twox_c.specs.State3.{IsUsable, IsUsableWith, WasGiven, WasGivenWith, stream_of, stream_with};
 
 use crate::xxh3_state::Xxh3State;
 use crate::{XXH_ERROR, XXH_OK};
@@ -78,45 +78,11 @@ pub extern "C" fn XXH3_64bits_reset_withSeed(state: &mut Xxh3State, seed: u64) -
     state.reset(Some(seed), &derived_secret(seed))
 }
 
-/// `XXH_errorcode XXH3_64bits_reset_withSecret(XXH3_state_t* state, const void* secret, size_t secretSize)`: resets the
-/// state to one of no bytes, with only the secret, whatever it held, and returns `XXH_OK`. Copies the secret.
-///
-/// For a secret of fewer than 136 bytes or of more than 256, leaves the state as it is and returns `XXH_ERROR`. The C
-/// library keeps a pointer instead of the secret, and accepts longer ones.
-#[unsafe(no_mangle)]
-pub extern "C" fn XXH3_64bits_reset_withSecret(state: &mut Xxh3State, secret: &[u8]) -> u32
-    ensures accepted { IsSecretLength (length secret.now)
-        → (result ≡ XXH_OK) × WasGiven state.new None secret.now [] }
-    ensures refused { (¬ IsSecretLength (length secret.now))
-        → (result ≡ XXH_ERROR) × (state.new ≡ state.old) }
-{
-    state.reset(None, secret)
-}
-
-/// `XXH_errorcode XXH3_64bits_reset_withSecretandSeed(XXH3_state_t* state, const void* secret, size_t secretSize,
-/// XXH64_hash_t seed)`: resets the state to one of no bytes, with the seed and the secret, whatever it held, and
-/// returns `XXH_OK`. Copies the secret.
-///
-/// For a secret of fewer than 136 bytes or of more than 256, leaves the state as it is and returns `XXH_ERROR`. The C
-/// library keeps a pointer instead of the secret, and accepts longer ones.
-#[unsafe(no_mangle)]
-pub extern "C" fn XXH3_64bits_reset_withSecretandSeed(
-    state: &mut Xxh3State,
-    secret: &[u8],
-    seed: u64,
-) -> u32
-    ensures accepted { IsSecretLength (length secret.now)
-        → (result ≡ XXH_OK) × WasGiven state.new (Some seed) secret.now [] }
-    ensures refused { (¬ IsSecretLength (length secret.now))
-        → (result ≡ XXH_ERROR) × (state.new ≡ state.old) }
-{
-    state.reset(Some(seed), secret)
-}
-
 /// `XXH_errorcode XXH3_64bits_update(XXH3_state_t* state, const void* input, size_t length)`: hashes `length` bytes
 /// after those before. `input` may be null if `length` is 0.
 ///
-/// Returns `XXH_OK`. For memory without the mark of a reset, changes nothing and returns `XXH_ERROR`.
+/// Returns `XXH_OK`. For memory without the mark of a reset, or for a state whose secret the caller has, changes
+/// nothing and returns `XXH_ERROR`.
 #[unsafe(no_mangle)]
 pub extern "C" fn XXH3_64bits_update(state: &mut Xxh3State, input: &[u8]) -> u32
     ensures message { (seed : Option ℕ) (s m : List ℕ)
@@ -131,9 +97,9 @@ pub extern "C" fn XXH3_64bits_update(state: &mut Xxh3State, input: &[u8]) -> u32
 }
 
 /// `XXH64_hash_t XXH3_64bits_digest(const XXH3_state_t* state)`: returns the hash of the bytes so far, and doesn't
-/// change the state. Up to 240 bytes it uses the default secret and the seed or, after `XXH3_64bits_reset_withSecret`,
+/// change the state. Up to 240 bytes it uses the default secret and the seed or, after a reset with only a secret,
 /// that secret and the seed 0; above that it uses the state's secret and no seed. Returns 0 for memory without the mark
-/// of a reset.
+/// of a reset, and for a state whose secret the caller has.
 #[unsafe(no_mangle)]
 #[tactic(auto, unfolding(twox_hash::specs::Streams::value_64))]
 pub extern "C" fn XXH3_64bits_digest(state: &Xxh3State) -> u64
@@ -143,6 +109,21 @@ pub extern "C" fn XXH3_64bits_digest(state: &Xxh3State) -> u64
     ensures refused { (¬ IsUsable state.now) → result ≡ 0 }
 {
     state.finish(&Finalize64).unwrap_or(0)
+}
+
+/// `XXH64_hash_t twox_c_digest_64(const XXH3_state_t* state, const void* secret, size_t secretSize)`: does the same for
+/// a state whose caller has the secret. Returns 0 for memory without the mark of a reset with such a secret, or for a
+/// secret of fewer than 136 bytes.
+#[unsafe(no_mangle)]
+#[tactic(auto, unfolding(twox_hash::specs::Streams::value_64))]
+pub extern "C" fn twox_c_digest_64(state: &Xxh3State, secret: &[u8]) -> u64
+    ensures message { (seed : Option ℕ) (m : List ℕ)
+        → WasGivenWith state.now seed secret.now m → result ≡ stream_64 seed secret.now m }
+    ensures exact { IsUsableWith state.now secret.now
+        → result ≡ value_64 (λ x. x) (stream_with state.now secret.now) }
+    ensures refused { (¬ IsUsableWith state.now secret.now) → result ≡ 0 }
+{
+    state.finish_with(secret, &Finalize64).unwrap_or(0)
 }
 
 /// Another name of `XXH3_64bits`. In the C library it chooses the instruction set at run time.

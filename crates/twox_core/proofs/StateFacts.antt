@@ -2,7 +2,7 @@
 use Rattle.std.proofs.Common.{◌≡◌, ℕ, Option, Some, None, ◌+◌, ◌-◌, ◌^◌, ◌<◌, ◌≤◌, min, nat_le, true, List, [], ◌++◌, length, take, drop, replicate, refl, sym, ap, ◌∙◌, arith, length-append, length-drop}
 use Rattle.twox_core.proofs.Prelude.{CoreState, nat_tests, short_secret, stream_seed, stripes_of}
 use Rattle.std.proofs.lemmas.List.{append_assoc, drop-drop, drop_at, take_at, length-take-le}
-use Rattle.twox_core.specs.AfterWrite.{empty_state, state_after_write, with_buffered, with_longer_length}
+use Rattle.twox_core.specs.AfterWrite.{empty_state, no_bytes, state_after_write, state_over, with_buffered, with_longer_length}
 use Rattle.twox_core.specs.Finish.{state_finish}
 use Rattle.twox_core.specs.InRange.{IsInRange}
 use Rattle.twox_core.specs.Secret.{default_secret, derived_secret}
@@ -11,20 +11,29 @@ use Rattle.twox_core.specs.StreamState.{short_state, state_in, state_of}
 use Rattle.twox_core.specs.declared.xxhash3.streaming.stream_state.StreamState.{StreamState}
 
 -- a chunk that fits
-fitted : (s : List ℕ) (c : CoreState) (d : List ℕ) → c.buffer_usage + length d ≤ 512 → state_after_write s c d ≡ with_buffered (with_longer_length c d) d
+fitted : (s : List ℕ) (c : CoreState) (d : List ℕ) → c.counts.buffer_usage + length d ≤ length c.buffer → state_after_write s c d ≡ with_buffered (with_longer_length c d) d
 unfolding state_after_write
 fitted s c d fits =
-    let test : nat_le (length d) (512 - c.buffer_usage) ≡ true = grind (arith, nat_tests, fits) in
+    let test : nat_le (length d) (length c.buffer - c.counts.buffer_usage) ≡ true = grind (arith, nat_tests, fits) in
     rw test refl
 
 abbrev short_form : List ℕ → CoreState
-short_form m = record empty_state { buffer = m ++ drop (length m) (replicate 512 0); buffer_usage = length m; total_bytes = length m }
+short_form m = state_over (record no_bytes { buffer_usage = length m; total_bytes = length m }) (m ++ drop (length m) (replicate 512 0))
+
+-- the size of its buffer
+form_size : (m : List ℕ) → length m ≤ 512 → length (m ++ drop (length m) (replicate 512 0)) ≡ 512
+form_size m few =
+    let z : List ℕ = replicate 512 0 in
+    let whole : length z ≡ 512 = refl in
+    omega (arith, few, length-append m (drop (length m) z), length-drop (length m) z, whole)
 
 form : (s m : List ℕ) → length m ≤ 512 → state_after_write s empty_state m ≡ short_form m
 form s m few =
     let used : 0 + length m ≡ length m = omega arith in
     let total : min (0 + length m) (2 ^ 64 - 1) ≡ length m = omega (arith, few) in
-    fitted s empty_state m (omega (arith, few)) ∙ rw (total, used) refl
+    let z : List ℕ = replicate 512 0 in
+    let whole : length z ≡ 512 = refl in
+    fitted s empty_state m (omega (arith, few, whole)) ∙ rw (total, used) refl
 
 form_more : (s m d : List ℕ) → length m + length d ≤ 512 → state_after_write s (short_form m) d ≡ short_form (m ++ d)
 form_more s m d few =
@@ -36,7 +45,7 @@ form_more s m d few =
     let width : length (m ++ d) ≡ length m + length d = length-append m d in
     let total : min (length m + length d) (2 ^ 64 - 1) ≡ length m + length d = omega (arith, few) in
     let joined : (m ++ d) ++ drop (length m + length d) z ≡ m ++ (d ++ drop (length m + length d) z) = append_assoc m d (drop (length m + length d) z) in
-    fitted s (short_form m) d (omega (arith, few)) ∙ rw (front, back, far, width, total, joined) refl
+    fitted s (short_form m) d (omega (arith, few, form_size m (omega (arith, few)))) ∙ rw (front, back, far, width, total, joined) refl
 
 -- Lemma: bytes that fit the buffer of an empty state have this effect under any secret.
 pub short_any : (s m : List ℕ) → length m ≤ 512 → state_after_write s empty_state m ≡ short_state m
@@ -69,10 +78,7 @@ short_finish small large seed s m few =
 
 pub short_size : (m : List ℕ) → length m ≤ 512 → length (short_state m).buffer ≡ 512
 unfolding short_state
-short_size m few =
-    let z : List ℕ = replicate 512 0 in
-    let whole : length z ≡ 512 = refl in
-    rw (form [] m few) (omega (arith, few, length-append m (drop (length m) z), length-drop (length m) z, whole))
+short_size m few = rw (form [] m few) (form_size m few)
 
 -- Lemma: with a longer state, that is the state.
 pub state_of_long : (t : StreamState) (c : CoreState) → t.long ≡ Some c → state_of t ≡ c

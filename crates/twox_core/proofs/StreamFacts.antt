@@ -1,11 +1,11 @@
 -- Lemmas on streams: a stream represents the concatenation of its chunks.
-use Rattle.std.proofs.Common.{◌≡◌, ℕ, Option, zero, suc, ◌+◌, ◌-◌, ◌*◌, ◌/◌, ◌%◌, ◌^◌, ◌<◌, ◌≤◌, min, nat_le, nat_lt, if◌then◌else◌, Bool, true, false, List, [], ◌++◌, length, take, drop, refl, sym, ap, ◌∙◌, arith, length-append, length-drop}
+use Rattle.std.proofs.Common.{◌≡◌, ℕ, Option, zero, suc, ◌+◌, ◌-◌, ◌*◌, ◌/◌, ◌%◌, ◌^◌, ◌<◌, ◌≤◌, min, nat_le, nat_lt, if◌then◌else◌, Bool, true, false, List, [], ◌++◌, length, take, drop, replicate, refl, sym, ap, ◌∙◌, arith, length-append, length-drop}
 use Rattle.twox_core.proofs.Prelude.{CoreState, CoreView, StreamKey, TakenStripes, buffered_of, counted, done_of, nat_tests, short_secret, stream_seed, stripes_of, take-append-add, total_of}
 use Rattle.std.proofs.lemmas.List.{append-nil, append_assoc, drop-append-le, drop-drop, drop-take, drop_all, drop_at, take_at, length-take-le, take-append-drop, take-append-le, take_all}
 use Rattle.std.proofs.lemmas.Slice.{drop-append-drop}
 use Rattle.twox_core.specs.Parts.{stripe_at}
 use Rattle.twox_core.specs.Ending.{accumulators_after, stream_accumulators, stream_block, last_stripe}
-use Rattle.twox_core.specs.AfterWrite.{after_taking, empty_state, stripes_in_place, after_rest, after_long_piece, state_after_write, core_after_write}
+use Rattle.twox_core.specs.AfterWrite.{after_taking, empty_state, no_bytes, state_over, stripes_in_place, after_rest, after_long_piece, state_after_write, core_after_write}
 use Rattle.twox_core.specs.Finish.{last_bytes, buffered_bytes, stripes_left, end_accumulators, end_block, state_finish, core_finish}
 use Rattle.twox_core.specs.Represents.{Holds, LeavesLast, Follows, Represents, IsCopy}
 use Rattle.twox_core.proofs.StripeFacts.{folded_more}
@@ -13,9 +13,9 @@ use Rattle.twox_core.proofs.TakenFacts.{took_none, took_longer, took_more}
 
 -- ---- a chunk that fits the buffer
 
-holds_added : (s m d b : List ℕ) (k u : ℕ) (t : TakenStripes) → Holds s m k t b u → length b ≡ 512 → u + length d ≤ 512
+holds_added : (s m d b : List ℕ) (k u : ℕ) (t : TakenStripes) → Holds s m k t b u → u + length d ≤ length b
     → Holds s (m ++ d) k t (take u b ++ (d ++ drop (length d) (drop u b))) (u + length d)
-holds_added s m d b k u t held size fits =
+holds_added s m d b k u t held fits =
     let all = held.all in
     let front : length (take u b) ≡ u = length-take-le u b (omega arith) in
     let placed : take (length (take u b) + length d) (take u b ++ (d ++ drop (length d) (drop u b))) ≡ take u b ++ d =
@@ -64,48 +64,56 @@ counted_more t n m d count sum = omega (arith, length-append m d)
 stripe_longer : (m d : List ℕ) (i : ℕ) → i + 64 ≤ length m → stripe_at (m ++ d) i ≡ stripe_at m i
 stripe_longer m d i fits = rw (drop-append-le i m d (omega arith)) (take-append-le 64 (drop i m) d (omega (arith, length-drop i m)))
 
+written_length : (b d : List ℕ) (u : ℕ) → u + length d ≤ length b → length (take u b ++ (d ++ drop (length d) (drop u b))) ≡ length b
+written_length b d u fits =
+    omega (arith, length-append (take u b) (d ++ drop (length d) (drop u b)), length-append d (drop (length d) (drop u b)), length-take-le u b (omega arith), length-drop (length d) (drop u b), length-drop u b)
+
 -- Lemma: bytes written before the buffer's last stripe leave it.
-end_stays : (b d : List ℕ) (u : ℕ) → u + length d ≤ 448 → u ≤ length b → drop 448 (take u b ++ (d ++ drop (length d) (drop u b))) ≡ drop 448 b
-end_stays b d u before within =
+end_stays : (b d : List ℕ) (u : ℕ) → 64 ≤ length b → u + length d ≤ length b - 64
+    → drop (length b - 64) (take u b ++ (d ++ drop (length d) (drop u b))) ≡ drop (length b - 64) b
+end_stays b d u some fits =
     let written : take u b ++ (d ++ drop (length d) (drop u b)) ≡ (take u b ++ d) ++ drop (u + length d) b =
     ap (λ (x : List ℕ). take u b ++ (d ++ x)) (drop-drop (length d) u b) ∙ sym (append_assoc (take u b) d (drop (u + length d) b)) in
-    rw written (drop-append-drop (u + length d) b (take u b ++ d) 448 before (omega (arith, length-append (take u b) d, length-take-le u b within)))
+    rw written (drop-append-drop (u + length d) b (take u b ++ d) (length b - 64) fits (omega (arith, length-append (take u b) d, length-take-le u b (omega arith))))
 
-late_more : (m d b : List ℕ) (k u : ℕ) → LeavesLast m k b u → u ≤ length b → 64 * k ≤ length m
+late_more : (m d b : List ℕ) (k u : ℕ) → LeavesLast m k b u → 240 < length b → u + length d ≤ length b → 64 * k ≤ length m
     → LeavesLast (m ++ d) k (take u b ++ (d ++ drop (length d) (drop u b))) (u + length d)
-late_more m d b k u late within fits = record {
+late_more m d b k u late enough within fits = record {
   left = λ some. omega (arith, late.left some);
   long = λ some. omega (arith, late.long some, length-append m d);
-  last = λ some few. end_stays b d u (omega arith) within ∙ late.last some (omega arith) ∙ sym (stripe_longer m d (64 * k - 64) (omega arith));
+  last = λ some few. rw (written_length b d u within) (end_stays b d u (omega arith) (omega arith) ∙ late.last some (omega arith) ∙ sym (stripe_longer m d (64 * k - 64) (omega arith)));
 }
 
--- Lemma: after fewer than 64 bytes, which begin the buffer again, a full buffer still ends with the last stripe taken.
-end_after_full : (m r b : List ℕ) (k : ℕ) → length b ≡ 512 → length r < 64 → 64 * k + 512 ≡ length m → b ≡ drop (64 * k) m
-    → drop 448 (r ++ drop (length r) b) ≡ stripe_at (m ++ r) (64 * (k + 8) - 64)
-end_after_full m r b k size few full bytes =
-    let place : 64 * k + 448 ≡ 64 * (k + 8) - 64 = omega arith in
-    let whole : length (drop (64 * k + 448) m) ≡ 64 = omega (arith, length-drop (64 * k + 448) m) in
-    drop-append-drop (length r) b r 448 (omega arith) refl
-    ∙ ap (drop 448) bytes
-    ∙ drop-drop 448 (64 * k) m
-    ∙ sym (take_all 64 (drop (64 * k + 448) m) (omega arith))
+-- Lemma: where fewer than 64 bytes begin the buffer again, it was full, and its last stripe is the last taken.
+late_again : (m r b : List ℕ) (k w : ℕ) → length b ≡ 64 * w → 1 < w → length r < 64 → 64 * k + length b ≡ length m → b ≡ drop (64 * k) m
+    → drop (length (r ++ drop (length r) b) - 64) (r ++ drop (length r) b) ≡ stripe_at (m ++ r) (64 * (k + w) - 64)
+late_again m r b k w size some few full bytes =
+    let place : 64 * k + (length b - 64) ≡ 64 * (k + w) - 64 = omega (arith, size) in
+    let same : length (r ++ drop (length r) b) ≡ length b = omega (arith, length-append r (drop (length r) b), length-drop (length r) b, size) in
+    let end : drop (length b - 64) b ≡ drop (64 * k + (length b - 64)) m = ap (drop (length b - 64)) bytes ∙ drop-drop (length b - 64) (64 * k) m in
+    let whole : length (drop (64 * k + (length b - 64)) m) ≡ 64 = omega (arith, length-drop (64 * k + (length b - 64)) m, size) in
+    rw same (
+    drop-append-drop (length r) b r (length b - 64) (omega (arith, size)) refl
+    ∙ end
+    ∙ sym (take_all 64 (drop (64 * k + (length b - 64)) m) (omega (arith, whole)))
     ∙ ap (stripe_at m) place
-    ∙ sym (stripe_longer m r (64 * (k + 8) - 64) (omega arith))
+    ∙ sym (stripe_longer m r (64 * (k + w) - 64) (omega (arith, size)))
+    )
 
-written_in : (b : Bool) (s m d : List ℕ) (c : CoreState) → nat_le (length d) (512 - c.buffer_usage) ≡ b → 0 < stripes_of s → length c.buffer ≡ 512 → c.buffer_usage ≤ 512
+written_in : (b : Bool) (s m d : List ℕ) (c : CoreState) → nat_le (length d) (length c.buffer - c.counts.buffer_usage) ≡ b → 0 < stripes_of s → (length c.buffer) % 64 ≡ 0 → 240 < length c.buffer → c.counts.buffer_usage ≤ length c.buffer
     → Follows s c m → Follows s (state_after_write s c d) (m ++ d)
 unfolding Follows state_after_write after_long_piece after_rest
-written_in true s m d c e some size within held =
-    let fits : length d ≤ 512 - c.buffer_usage = grind (arith, nat_tests, e) in
+written_in true s m d c e some size enough within held =
+    let fits : length d ≤ length c.buffer - c.counts.buffer_usage = grind (arith, nat_tests, e) in
     rw e (
       held.0,
-      counted_more c.total_bytes _ m d held.1 refl,
-      late_more m d c.buffer held.0 c.buffer_usage held.2 (omega arith) (omega (arith, held.3.all)),
-      holds_added s m d c.buffer held.0 c.buffer_usage c.taken held.3 size (omega arith),
+      counted_more c.counts.total_bytes _ m d held.1 refl,
+      late_more m d c.buffer held.0 c.counts.buffer_usage held.2 enough (omega arith) (omega (arith, held.3.all)),
+      holds_added s m d c.buffer held.0 c.counts.buffer_usage c.counts.taken held.3 (omega arith),
     )
-written_in false s m d c e some size within held =
-    let more : 512 - c.buffer_usage < length d = grind (arith, nat_tests, e) in
-    let u = c.buffer_usage in
+written_in false s m d c e some size enough within held =
+    let more : length c.buffer - c.counts.buffer_usage < length d = grind (arith, nat_tests, e) in
+    let u = c.counts.buffer_usage in
     let k = held.0 in
     let part = (64 - u % 64) % 64 in
     let head = take part d in
@@ -115,34 +123,36 @@ written_in false s m d c e some size within held =
     let width : length head ≡ part = length-take-le part d (omega arith) in
     let left : length rest ≡ length d - part = length-drop part d in
     let whole : 64 * ((u + length head) / 64) ≡ u + length head = omega arith in
-    let fits : u + length head ≤ 512 = omega arith in
+    let fits : u + length head ≤ length c.buffer = omega arith in
     let buffer = take u c.buffer ++ (head ++ drop (length head) (drop u c.buffer)) in
-    let wide : length buffer ≡ 512 = omega (arith, length-append (take u c.buffer) (head ++ drop (length head) (drop u c.buffer)), length-append head (drop (length head) (drop u c.buffer)), length-take-le u c.buffer (omega arith), length-drop (length head) (drop u c.buffer), length-drop u c.buffer) in
-    let filled = holds_added s m head c.buffer k u c.taken held.3 size fits in
-    let taken = holds_rest s (m ++ head) rest buffer (k + (u + length head) / 64) n _ some (holds_emptied s (m ++ head) buffer k (u + length head) c.taken some filled (omega arith) whole) refl in
+    let wide : length buffer ≡ length c.buffer = written_length c.buffer head u fits in
+    let filled = holds_added s m head c.buffer k u c.counts.taken held.3 fits in
+    let taken = holds_rest s (m ++ head) rest buffer (k + (u + length head) / 64) n _ some (holds_emptied s (m ++ head) buffer k (u + length head) c.counts.taken some filled (omega arith) whole) refl in
     let joined : (m ++ head) ++ rest ≡ m ++ d = append_assoc m head rest ∙ ap (λ (x : List ℕ). m ++ x) (take-append-drop part d) in
-    let last : length rest - 64 * n < 64 → drop 448 (drop (64 * n) rest ++ drop (length rest - 64 * n) buffer) ≡ stripe_at (m ++ d) (64 * (k + (u + length head) / 64 + n) - 64) =
+    let again = drop (64 * n) rest ++ drop (length rest - 64 * n) buffer in
+    let last : length rest - 64 * n < 64 → drop (length again - 64) again ≡ stripe_at (m ++ d) (64 * (k + (u + length head) / 64 + n) - 64) =
     λ few.
     let start : 64 * n ≡ 0 = omega arith in
     let entire : length rest - 64 * n ≡ length rest = omega arith in
-    let full : u + length head ≡ 512 = omega arith in
-    let eight : k + (u + length head) / 64 + n ≡ k + 8 = omega arith in
+    let full : u + length head ≡ length c.buffer = omega arith in
+    let w = length c.buffer / 64 in
+    let count : k + (u + length head) / 64 + n ≡ k + w = omega arith in
     let bytes : buffer ≡ drop (64 * k) (m ++ head) = sym (take_all (u + length head) buffer (omega arith)) ∙ filled.bytes in
-    rw (eight, entire, start) (end_after_full (m ++ head) rest buffer k wide (omega arith) (omega (arith, filled.all)) bytes ∙ ap (λ (x : List ℕ). stripe_at x (64 * (k + 8) - 64)) joined) in
+    rw (count, entire, start) (late_again (m ++ head) rest buffer k w (omega arith) (omega arith) (omega arith) (omega (arith, filled.all)) bytes ∙ ap (λ (x : List ℕ). stripe_at x (64 * (k + w) - 64)) joined) in
     rw e (
       k + (u + length head) / 64 + n,
-      counted_more c.total_bytes _ m d held.1 refl,
+      counted_more c.counts.total_bytes _ m d held.1 refl,
       record { left = λ _. omega arith; long = λ _. omega (arith, length-append m d); last = λ _ few. last few },
       rw joined at taken,
     )
 
-written_follows : (s m d : List ℕ) (c : CoreState) → 0 < stripes_of s → length c.buffer ≡ 512 → c.buffer_usage ≤ 512
+written_follows : (s m d : List ℕ) (c : CoreState) → 0 < stripes_of s → (length c.buffer) % 64 ≡ 0 → 240 < length c.buffer → c.counts.buffer_usage ≤ length c.buffer
     → Follows s c m → Follows s (state_after_write s c d) (m ++ d)
-written_follows s m d c some size within held = written_in (nat_le (length d) (512 - c.buffer_usage)) s m d c refl some size within held
+written_follows s m d c some size enough within held = written_in (nat_le (length d) (length c.buffer - c.counts.buffer_usage)) s m d c refl some size enough within held
 
 -- ---- the end of a stream
 
-no_stripes : (k n : ℕ) → (0 < k → 512 < n) → n ≤ 240 → k ≡ 0
+no_stripes : (k n : ℕ) → (0 < k → 240 < n) → n ≤ 240 → k ≡ 0
 no_stripes zero n late short = refl
 no_stripes (suc k) n late short = absurd (omega (arith, late (omega arith)))
 
@@ -150,30 +160,30 @@ some_left : (k u : ℕ) → (0 < k → 0 < u) → 0 < 64 * k + u → 0 < u
 some_left zero u left long = omega arith
 some_left (suc k) u left long = left (omega arith)
 
-follows_count : (s m : List ℕ) (c : CoreState) → Follows s c m → c.total_bytes ≡ counted (length m)
+follows_count : (s m : List ℕ) (c : CoreState) → Follows s c m → c.counts.total_bytes ≡ counted (length m)
 unfolding Follows
 follows_count s m c held = held.1
 
-short_bytes : (s m : List ℕ) (c : CoreState) → Follows s c m → length m ≤ 240 → take c.total_bytes c.buffer ≡ m
+short_bytes : (s m : List ℕ) (c : CoreState) → Follows s c m → length m ≤ 240 → take c.counts.total_bytes c.buffer ≡ m
 unfolding Follows
 short_bytes s m c held short =
     let none : held.0 ≡ 0 = no_stripes held.0 (length m) held.2.long short in
     let all = held.3.all in
-    let used : c.total_bytes ≡ c.buffer_usage = omega (arith, held.1) in
+    let used : c.counts.total_bytes ≡ c.counts.buffer_usage = omega (arith, held.1) in
     let start : 64 * held.0 ≡ 0 = omega arith in
     rw used (held.3.bytes ∙ rw start refl)
 
-end_accumulators_follow : (s m : List ℕ) (c : CoreState) → 0 < stripes_of s → length c.buffer ≡ 512 → c.buffer_usage ≤ 512
+end_accumulators_follow : (s m : List ℕ) (c : CoreState) → 0 < stripes_of s → (length c.buffer) % 64 ≡ 0 → 240 < length c.buffer → c.counts.buffer_usage ≤ length c.buffer
     → Follows s c m → 240 < length m → end_accumulators s c ≡ stream_accumulators s m
 unfolding Follows end_accumulators stream_accumulators accumulators_after
-end_accumulators_follow s m c some size within held long =
+end_accumulators_follow s m c some size enough within held long =
     let k = held.0 in
     let n = stripes_left c in
     let all = held.3.all in
-    let left = some_left k c.buffer_usage held.2.left (omega arith) in
+    let left = some_left k c.counts.buffer_usage held.2.left (omega arith) in
     let last : k + n ≡ (length m - 1) / 64 = omega arith in
-    let width : length (buffered_bytes c) ≡ c.buffer_usage = length-take-le c.buffer_usage c.buffer (omega arith) in
-    let done = folded_more s m (buffered_bytes c) [] k n c.taken.stripes some held.3.taken.stripes (sym held.3.bytes ∙ sym (append-nil (buffered_bytes c))) (omega arith) in
+    let width : length (buffered_bytes c) ≡ c.counts.buffer_usage = length-take-le c.counts.buffer_usage c.buffer (omega arith) in
+    let done = folded_more s m (buffered_bytes c) [] k n c.counts.taken.stripes some held.3.taken.stripes (sym held.3.bytes ∙ sym (append-nil (buffered_bytes c))) (omega arith) in
     rw (sym last) done.accumulators
 
 end_block_follows : (s m : List ℕ) (c : CoreState) → Follows s c m → 240 < length m → end_block c ≡ stream_block m
@@ -182,21 +192,20 @@ end_block_follows s m c held long =
     let k = held.0 in
     let n = stripes_left c in
     let all = held.3.all in
-    let left = some_left k c.buffer_usage held.2.left (omega arith) in
+    let left = some_left k c.counts.buffer_usage held.2.left (omega arith) in
     let last : 64 * k + 64 * n ≡ 64 * ((length m - 1) / 64) = omega arith in
     ap (drop (64 * n)) held.3.bytes ∙ drop-drop (64 * n) (64 * k) m ∙ rw last refl
 
-last_in : (b : Bool) (s m buffer : List ℕ) (k u : ℕ) (t : TakenStripes) → nat_lt u 64 ≡ b → Holds s m k t buffer u → LeavesLast m k buffer u → 64 ≤ length m
-    → last_bytes buffer u ≡ last_stripe m
+last_in : (b : Bool) (s m buffer : List ℕ) (k u : ℕ) (t : TakenStripes) → nat_lt u 64 ≡ b → Holds s m k t buffer u → LeavesLast m k buffer u → 64 ≤ length m → last_bytes buffer u ≡ last_stripe m
 unfolding last_bytes last_stripe
 last_in true s m buffer k u t e held late long =
     let few : u < 64 = grind (arith, nat_tests, e) in
     let all = held.all in
     let some : 0 < k = omega arith in
-    let kept : drop (448 + u) buffer ≡ take (64 - u) (drop (length m - 64) m) =
+    let kept : drop (length buffer - 64 + u) buffer ≡ take (64 - u) (drop (length m - 64) m) =
     let there : 64 * k - 64 + u ≡ length m - 64 = omega arith in
     let width : u + (64 - u) ≡ 64 = omega arith in
-    sym (drop-drop u 448 buffer) ∙ ap (drop u) (late.last some few)
+    sym (drop-drop u (length buffer - 64) buffer) ∙ ap (drop u) (late.last some few)
     ∙ rw width at (drop-take u (64 - u) (drop (64 * k - 64) m))
     ∙ ap (take (64 - u)) (drop-drop u (64 * k - 64) m ∙ rw there refl) in
     let rest : take u buffer ≡ drop (64 - u) (drop (length m - 64) m) =
@@ -210,15 +219,15 @@ last_in false s m buffer k u t e held late long =
     let there : 64 * k + (u - 64) ≡ length m - 64 = omega arith in
     rw e (sym (rw width at (drop-take (u - 64) 64 buffer)) ∙ ap (drop (u - 64)) held.bytes ∙ drop-drop (u - 64) (64 * k) m ∙ rw there refl)
 
-end_stripe_follows : (s m : List ℕ) (c : CoreState) → Follows s c m → 240 < length m → last_bytes c.buffer c.buffer_usage ≡ last_stripe m
+end_stripe_follows : (s m : List ℕ) (c : CoreState) → Follows s c m → 240 < length m → last_bytes c.buffer c.counts.buffer_usage ≡ last_stripe m
 unfolding Follows
-end_stripe_follows s m c held long = last_in (nat_lt c.buffer_usage 64) s m c.buffer held.0 c.buffer_usage c.taken refl held.3 held.2 (omega arith)
+end_stripe_follows s m c held long = last_in (nat_lt c.counts.buffer_usage 64) s m c.buffer held.0 c.counts.buffer_usage c.counts.taken refl held.3 held.2 (omega arith)
 
 -- ---- the clauses of the core's contracts
 
 -- Lemma: a core with an empty state and any bytes in its buffer represents the empty list.
 pub stands_cleared : {S : Type 0} (bytes : S → List ℕ) (h : StreamKey S) (buffer : List ℕ)
-    → Represents bytes (record { key = h; state = record empty_state { buffer = buffer } }) h.seed (bytes h.secret) []
+    → Represents bytes (record { key = h; state = state_over no_bytes buffer }) h.seed (bytes h.secret) []
 unfolding Represents Follows
 stands_cleared bytes h buffer = (
   refl,
@@ -226,7 +235,7 @@ stands_cleared bytes h buffer = (
   (
     0,
     refl,
-    record { left = λ some. absurd (omega (arith, some)); long = λ some. absurd (omega (arith, some)); last = λ some _. absurd (omega (arith, some)) },
+    record { left = λ some. absurd (omega (arith, some)); long = λ some. absurd (omega (arith, some)); last = λ some few. absurd (omega (arith, some)) },
     record { taken = took_none (bytes h.secret) []; all = refl; bytes = refl },
   ),
 )
@@ -236,11 +245,11 @@ pub stands_fresh : {S : Type 0} (bytes : S → List ℕ) (h : StreamKey S) → R
 stands_fresh bytes h = stands_cleared bytes h empty_state.buffer
 
 pub stands_written : {S : Type 0} (bytes : S → List ℕ) (h : CoreView S) (seed : Option ℕ) (s m d : List ℕ)
-    → 0 < stripes_of (bytes h.key.secret) → length h.state.buffer ≡ 512 → h.state.buffer_usage ≤ 512
+    → 0 < stripes_of (bytes h.key.secret) → length h.state.buffer % 64 ≡ 0 → 240 < length h.state.buffer → h.state.counts.buffer_usage ≤ length h.state.buffer
     → Represents bytes h seed s m → Represents bytes (core_after_write bytes h d) seed s (m ++ d)
 unfolding Represents core_after_write
-stands_written bytes h seed s m d some size within held =
-    (held.0, held.1, rw held.1 (written_follows s m d h.state (rw held.1 at some) size within held.2))
+stands_written bytes h seed s m d some size enough within held =
+    (held.0, held.1, rw held.1 (written_follows s m d h.state (rw held.1 at some) size enough within held.2))
 
 pub stands_count : {S : Type 0} (bytes : S → List ℕ) (h : CoreView S) (seed : Option ℕ) (s m : List ℕ) → Represents bytes h seed s m → total_of h ≡ counted (length m)
 unfolding Represents
@@ -252,7 +261,7 @@ stands_none bytes h seed s held = omega (arith, held.2.3.all)
 
 pub stands_some : {S : Type 0} (bytes : S → List ℕ) (h : CoreView S) (seed : Option ℕ) (s m : List ℕ) → Represents bytes h seed s m → 0 < length m → 0 < buffered_of h
 unfolding Represents Follows
-stands_some bytes h seed s m held some = some_left held.2.0 h.state.buffer_usage held.2.2.left (omega (arith, held.2.3.all))
+stands_some bytes h seed s m held some = some_left held.2.0 h.state.counts.buffer_usage held.2.2.left (omega (arith, held.2.3.all))
 
 pub stands_all : {S : Type 0} (bytes : S → List ℕ) (h : CoreView S) (seed : Option ℕ) (s m : List ℕ) → Represents bytes h seed s m → length m < 2 ^ 64
     → 64 * done_of h + buffered_of h ≡ length m
@@ -264,8 +273,8 @@ unfolding Represents
 stands_secret bytes h seed s m held = held.1
 
 finished_in : {R : Type 0} (b : Bool) (small : List ℕ → ℕ → List ℕ → R) (large : List ℕ → List ℕ → List ℕ → List ℕ → ℕ → R) (seed : Option ℕ) (s : List ℕ) (c : CoreState)
-    → nat_le c.total_bytes 240 ≡ b → state_finish small large seed s c
-    ≡ (if b then small (short_secret seed s) (stream_seed seed) (take c.total_bytes c.buffer) else large (end_accumulators s c) (end_block c) (last_bytes c.buffer c.buffer_usage) s c.total_bytes)
+    → nat_le c.counts.total_bytes 240 ≡ b → state_finish small large seed s c
+    ≡ (if b then small (short_secret seed s) (stream_seed seed) (take c.counts.total_bytes c.buffer) else large (end_accumulators s c) (end_block c) (last_bytes c.buffer c.counts.buffer_usage) s c.counts.total_bytes)
 unfolding state_finish
 finished_in b small large seed s c e = rw e refl
 
@@ -273,18 +282,18 @@ pub stands_finished_short : {S R : Type 0} (small : List ℕ → ℕ → List �
     → Represents bytes h seed s m → length m ≤ 240 → core_finish small large bytes h ≡ small (short_secret seed s) (stream_seed seed) m
 unfolding Represents core_finish
 stands_finished_short small large bytes h seed s m held short =
-    let test : nat_le h.state.total_bytes 240 ≡ true = grind (arith, nat_tests, follows_count s m h.state held.2) in
+    let test : nat_le h.state.counts.total_bytes 240 ≡ true = grind (arith, nat_tests, follows_count s m h.state held.2) in
     finished_in true small large h.key.seed (bytes h.key.secret) h.state test
     ∙ rw (held.0, held.1, short_bytes s m h.state held.2 short) refl
 
 pub stands_finished_long : {S R : Type 0} (small : List ℕ → ℕ → List ℕ → R) (large : List ℕ → List ℕ → List ℕ → List ℕ → ℕ → R) (bytes : S → List ℕ) (h : CoreView S) (seed : Option ℕ) (s m : List ℕ)
-    → 0 < stripes_of (bytes h.key.secret) → length h.state.buffer ≡ 512 → h.state.buffer_usage ≤ 512
+    → 0 < stripes_of (bytes h.key.secret) → length h.state.buffer % 64 ≡ 0 → 240 < length h.state.buffer → h.state.counts.buffer_usage ≤ length h.state.buffer
     → Represents bytes h seed s m → 240 < length m → core_finish small large bytes h ≡ large (stream_accumulators s m) (stream_block m) (last_stripe m) s (counted (length m))
 unfolding Represents core_finish
-stands_finished_long small large bytes h seed s m some size within held long =
-    let test : nat_le h.state.total_bytes 240 ≡ false = grind (arith, nat_tests, follows_count s m h.state held.2) in
+stands_finished_long small large bytes h seed s m some size enough within held long =
+    let test : nat_le h.state.counts.total_bytes 240 ≡ false = grind (arith, nat_tests, follows_count s m h.state held.2) in
     finished_in false small large h.key.seed (bytes h.key.secret) h.state test
-    ∙ rw (held.1, end_accumulators_follow s m h.state (rw held.1 at some) size within held.2 long, end_block_follows s m h.state held.2 long, end_stripe_follows s m h.state held.2 long, follows_count s m h.state held.2) refl
+    ∙ rw (held.1, end_accumulators_follow s m h.state (rw held.1 at some) size enough within held.2 long, end_block_follows s m h.state held.2 long, end_stripe_follows s m h.state held.2 long, follows_count s m h.state held.2) refl
 
 -- Lemma: a core with the seed, the secret's bytes and the state of another is a copy of it.
 pub stands_copied : {S : Type 0} (bytes : S → List ℕ) (a b : CoreView S) → b.key.seed ≡ a.key.seed → bytes b.key.secret ≡ bytes a.key.secret → b.state ≡ a.state

@@ -3,14 +3,22 @@ use Rattle.std.specs.Prelude.{ℕ, List, ◌++◌, ◌+◌, ◌-◌, ◌*◌, �
 use Rattle.twox_core.specs.Stripes.{after_stripes, no_stripe}
 use Rattle.twox_core.specs.CoreView.{CoreView}
 use Rattle.twox_core.specs.declared.xxhash3.streaming.taken_stripes.TakenStripes.{TakenStripes}
+use Rattle.twox_core.specs.declared.xxhash3.streaming.stream_counts.StreamCounts.{StreamCounts}
 use Rattle.twox_core.specs.declared.xxhash3.streaming.core_state.CoreState.{CoreState}
+
+-- the state of these counts and this buffer, which may have any length
+abbrev pub state_over : StreamCounts → List ℕ → CoreState
+state_over t b = record { counts = t; buffer = b }
 
 -- nothing taken, and the state of no bytes
 abbrev pub none_taken : TakenStripes
 none_taken = record { stripes = no_stripe; count = 0 }
 
+abbrev pub no_bytes : StreamCounts
+no_bytes = record { taken = none_taken; buffer_usage = 0; total_bytes = 0 }
+
 abbrev pub empty_state : CoreState
-empty_state = record { taken = none_taken; buffer = replicate 512 0; buffer_usage = 0; total_bytes = 0 }
+empty_state = state_over no_bytes (replicate 512 0)
 
 -- t after the first n stripes of xs, under the secret s
 unfoldable pub after_taking : List ℕ → TakenStripes → List ℕ → ℕ → TakenStripes
@@ -21,16 +29,18 @@ after_taking s t xs n = record {
 
 -- the bytes d put after the buffered ones
 abbrev pub with_buffered : CoreState → List ℕ → CoreState
-with_buffered c d = record c {
-  buffer = take c.buffer_usage c.buffer ++ (d ++ drop (length d) (drop c.buffer_usage c.buffer));
-  buffer_usage = c.buffer_usage + length d;
+with_buffered c d = record {
+  counts = record c.counts { buffer_usage = c.counts.buffer_usage + length d };
+  buffer = take c.counts.buffer_usage c.buffer ++ (d ++ drop (length d) (drop c.counts.buffer_usage c.buffer));
 }
 
 -- the buffered stripes are taken
 abbrev pub with_empty_buffer : List ℕ → CoreState → CoreState
 with_empty_buffer s c = record c {
-  taken = after_taking s c.taken (take c.buffer_usage c.buffer) (c.buffer_usage / 64);
-  buffer_usage = 0;
+  counts = record c.counts {
+    taken = after_taking s c.counts.taken (take c.counts.buffer_usage c.buffer) (c.counts.buffer_usage / 64);
+    buffer_usage = 0;
+  };
 }
 
 -- how many stripes of n bytes are taken in place: all except a last one, whole or not
@@ -41,19 +51,18 @@ stripes_in_place n = (n - 64) / 64
 unfoldable pub after_rest : List ℕ → CoreState → List ℕ → CoreState
 after_rest s c r =
     let n = stripes_in_place (length r) in
-    record c {
-      taken = after_taking s c.taken r n;
+    record {
+      counts = record c.counts { taken = after_taking s c.counts.taken r n; buffer_usage = length r - 64 * n };
       buffer = drop (64 * n) r ++ drop (length r - 64 * n) c.buffer;
-      buffer_usage = length r - 64 * n;
     }
 
 -- the length of d is counted
 abbrev pub with_longer_length : CoreState → List ℕ → CoreState
-with_longer_length c d = record c { total_bytes = min (c.total_bytes + length d) (2 ^ 64 - 1) }
+with_longer_length c d = record c { counts = record c.counts { total_bytes = min (c.counts.total_bytes + length d) (2 ^ 64 - 1) } }
 
 -- how many bytes fill the buffered ones up to whole stripes
 abbrev pub bytes_to_stripe_end : CoreState → ℕ
-bytes_to_stripe_end c = (64 - c.buffer_usage % 64) % 64
+bytes_to_stripe_end c = (64 - c.counts.buffer_usage % 64) % 64
 
 -- the chunk d fills a stripe, the buffered stripes are taken, and the rest of d comes after them
 unfoldable pub after_long_piece : List ℕ → CoreState → List ℕ → CoreState
@@ -64,7 +73,7 @@ after_long_piece s c d =
 -- the state after the chunk d, under the secret s
 unfoldable pub state_after_write : List ℕ → CoreState → List ℕ → CoreState
 state_after_write s c d =
-    if nat_le (length d) (512 - c.buffer_usage) then with_buffered (with_longer_length c d) d
+    if nat_le (length d) (length c.buffer - c.counts.buffer_usage) then with_buffered (with_longer_length c d) d
     else after_long_piece s (with_longer_length c d) d
 
 -- the core after the chunk d, where `bytes` is the function from its secret to that secret's bytes

@@ -9,10 +9,10 @@ pub record CoreView (S : Type 0) : Type 0 where
 
 -- how many bytes were counted, how many stripes the accumulators have taken, and how many bytes are left for them
 abbrev pub total_of : {S : Type 0} → CoreView S → ℕ
-total_of h = h.state.total_bytes
+total_of h = h.state.counts.total_bytes
 
 abbrev pub done_of : {S : Type 0} → CoreView S → ℕ
-done_of h = h.state.taken.count
+done_of h = h.state.counts.taken.count
 
 abbrev pub buffered_of : {S : Type 0} → CoreView S → ℕ
-buffered_of h = h.state.buffer_usage
+buffered_of h = h.state.counts.buffer_usage

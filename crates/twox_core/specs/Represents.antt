@@ -18,17 +18,17 @@ pub record Holds (s m : List ℕ) (k : ℕ) (t : TakenStripes) (buffer : List �
   pub all : 64 * k + u ≡ length m
   pub bytes : take u buffer ≡ drop (64 * k) m
 
--- stripes are taken only of a list that is longer than the buffer, and at least one byte is then left; if fewer bytes
--- than a stripe are left, the buffer ends with the last stripe taken
+-- stripes are taken only of a list that is longer than 240 bytes, and at least one byte is then left; if those left
+-- are fewer than a stripe, the buffer ends with the last stripe taken
 pub record LeavesLast (m : List ℕ) (k : ℕ) (buffer : List ℕ) (u : ℕ) : Type 0 where
   pub left : 0 < k → 0 < u
-  pub long : 0 < k → 512 < length m
-  pub last : 0 < k → u < 64 → drop 448 buffer ≡ stripe_at m (64 * k - 64)
+  pub long : 0 < k → 240 < length m
+  pub last : 0 < k → u < 64 → drop (length buffer - 64) buffer ≡ stripe_at m (64 * k - 64)
 
 -- the state c under the secret s has taken m
 unfoldable pub Follows : List ℕ → CoreState → List ℕ → Type 0
 Follows s c m =
-    (k : ℕ) × (c.total_bytes ≡ counted (length m)) × LeavesLast m k c.buffer c.buffer_usage × Holds s m k c.taken c.buffer c.buffer_usage
+    (k : ℕ) × (c.counts.total_bytes ≡ counted (length m)) × LeavesLast m k c.buffer c.counts.buffer_usage × Holds s m k c.counts.taken c.buffer c.counts.buffer_usage
 
 -- the core h has this seed, or none if it was made with only a secret; its secret has these bytes (by `bytes`), and it
 -- has hashed m

@@ -8,7 +8,7 @@ use crate::xxhash3::CoreState;
 /// Buffers a chunk of a few bytes for which the buffer has space, without a call and for any secret.
 #[inline(always)]
 pub fn keep_few(core: &mut CoreState, input: &[u8])
-    requires room { core.old.buffer_usage + length input.now ≤ 512 }
+    requires room { core.old.counts.buffer_usage + length input.now ≤ 512 }
     requires few { length input.now ≤ 64 }
     ensures { (s : List ℕ) → core.new ≡ state_after_write s core.old input.now }
 {

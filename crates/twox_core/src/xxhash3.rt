@@ -28,7 +28,7 @@ pub use secret::{OneshotWithSecretError, SECRET_MINIMUM_LENGTH, Secret};
 pub use streaming::{
     AllocRawHasher, BUFFERED_BYTES, ClonedBuffer, ClonedKey, CoreState, FixedBuffer,
     FixedMutBuffer, Key, KeyedCore, LazyKey, RawHasherCore, SecretBuffer, SecretTooShortError,
-    SecretWithSeedError, TakenStripes,
+    SecretWithSeedError, StreamCounts, TakenStripes,
 };
 pub(crate) use stripes::MANY_BYTES;
 pub use stripes::StripeAccumulator;

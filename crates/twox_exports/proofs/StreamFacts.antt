@@ -33,12 +33,12 @@ unfolding Follows
 follows_in_range s m c enough size held =
     let k = held.0 in
     let holds = held.3 in
-    let bytes : min c.buffer_usage (length c.buffer) ≡ length m - 64 * k =
-    sym (length-take c.buffer_usage c.buffer) ∙ ap length holds.bytes ∙ length-drop (64 * k) m in
+    let bytes : min c.counts.buffer_usage (length c.buffer) ≡ length m - 64 * k =
+    sym (length-take c.counts.buffer_usage c.buffer) ∙ ap length holds.bytes ∙ length-drop (64 * k) m in
     record {
       place = omega (arith, holds.taken.stripes.place);
       within = omega (arith, bytes, holds.all);
-      left = byte_left k c.buffer_usage (length m) c.total_bytes held.1 holds.all held.2.left;
+      left = byte_left k c.counts.buffer_usage (length m) c.counts.total_bytes held.1 holds.all held.2.left;
     }
 
 -- The core that the library's laws are about: the state, the secret, and the seed, if any.
@@ -55,7 +55,7 @@ pub follows_written : (s m d : List ℕ) (c : CoreState) → 136 ≤ length s �
 unfolding Represents core_after_write
 follows_written s m d c enough size held =
     let within = (follows_in_range s m c enough size held).within in
-    (stands_written own (view_of c None s) None s m d (omega arith) size within (stands s m c None held)).2
+    (stands_written own (view_of c None s) None s m d (omega arith) (omega arith) (omega arith) (omega arith) (stands s m c None held)).2
 
 -- Lemma: the value of a state that follows m is the value of a stream of m.
 pub finished_64 : (s m : List ℕ) (c : CoreState) (seed : Option ℕ) (r : ℕ) → 136 ≤ length s → length c.buffer ≡ 512 → Follows s c m
@@ -66,7 +66,7 @@ finished_64 s m c seed r enough size held exact =
     let stood = stands s m c seed held in
     value_64_stands r seed s m
     (λ short. exact ∙ stands_finished_short _ _ own (view_of c seed s) seed s m stood short)
-    (λ long. exact ∙ stands_finished_long _ _ own (view_of c seed s) seed s m (omega arith) size within stood long)
+    (λ long. exact ∙ stands_finished_long _ _ own (view_of c seed s) seed s m (omega arith) (omega arith) (omega arith) (omega arith) stood long)
 
 pub finished_128 : (s m : List ℕ) (c : CoreState) (seed : Option ℕ) (r : ℕ) → 136 ≤ length s → length c.buffer ≡ 512 → Follows s c m
     → r ≡ state_value_128 seed s c → r ≡ stream_128 seed s m
@@ -76,4 +76,4 @@ finished_128 s m c seed r enough size held exact =
     let stood = stands s m c seed held in
     value_128_stands r seed s m
     (λ short. exact ∙ stands_finished_short _ _ own (view_of c seed s) seed s m stood short)
-    (λ long. exact ∙ stands_finished_long _ _ own (view_of c seed s) seed s m (omega arith) size within stood long)
+    (λ long. exact ∙ stands_finished_long _ _ own (view_of c seed s) seed s m (omega arith) (omega arith) (omega arith) (omega arith) stood long)

@@ -66,11 +66,11 @@ pub fn write<V: Vector>(core: &mut CoreState, v: V, secret: &[u8], input: &[u8])
 #[inline(always)]
 fn has_room(core: &CoreState, secret: Secret<'_>, input: &[u8]) -> bool
     ensures in_range { IsTrue result → IsInRange (secret_bytes secret.entry) core.now }
-    ensures room { IsTrue result → core.now.buffer_usage + length input.now ≤ 512 }
+    ensures room { IsTrue result → core.now.counts.buffer_usage + length input.now ≤ 512 }
     ensures few { IsTrue result → length input.now ≤ 64 }
     ensures size { length core.now.buffer ≡ BUFFERED_BYTES }
 {
-    let used = core.buffer_usage;
+    let used = core.counts.buffer_usage;
     input.len() <= FEW_BYTES
         && used <= BUFFERED_BYTES
         && input.len() <= BUFFERED_BYTES - used
@@ -113,7 +113,7 @@ fn finish<V: Vector, F: Finalize>(
     let Some(own) = seed else {
         return finish_far(core, v, finalize, seed, secret);
     };
-    if core.total_bytes > CUTOFF.into_u64() {
+    if core.counts.total_bytes > CUTOFF.into_u64() {
         return finish_far(core, v, finalize, seed, secret);
     }
     finish_short(core, finalize, own)
@@ -122,11 +122,11 @@ fn finish<V: Vector, F: Finalize>(
 // Returns the value of up to 240 bytes, with the default secret and a seed.
 #[inline(always)]
 fn finish_short<F: Finalize>(core: &CoreState, finalize: &F, seed: u64) -> F::Output
-    requires { core.now.total_bytes ≤ 240 }
-    ensures { let bytes = take core.now.total_bytes core.now.buffer in
+    requires { core.now.counts.total_bytes ≤ 240 }
+    ensures { let bytes = take core.now.counts.total_bytes core.now.buffer in
         result ≡ F.small_of finalize.now default_secret seed bytes }
 {
-    let input = &core.buffer[..core.total_bytes as usize];
+    let input = &core.buffer[..core.counts.total_bytes as usize];
     finalize.small(default_secret(), seed, input)
 }
 

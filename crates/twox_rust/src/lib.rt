@@ -17,8 +17,8 @@ pub const INPUT_TOO_SHORT: u32 = 3;
 /// Returns the number of this interface, which is part of the name. The number changes with every change of an export
 /// or of a record's layout, so a caller of another number doesn't link.
 #[unsafe(no_mangle)]
-pub extern "C" fn twox_rust_interface_6() -> u32
-    ensures { result ≡ 6 }
+pub extern "C" fn twox_rust_interface_7() -> u32
+    ensures { result ≡ 7 }
 {
-    6
+    7
 }

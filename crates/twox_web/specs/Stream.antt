@@ -18,8 +18,8 @@ pub record Represents (t : Stream) (s : List ℕ) (seed : Option ℕ) (m : List 
 -- the length agrees with the stripes taken and the bytes buffered; with no stripe taken, the accumulators are the
 -- initial ones
 pub record IsCounted (c : CoreState) : Type 0 where
-  pub all : c.total_bytes ≡ min (64 * c.taken.count + c.buffer_usage) (2 ^ 64 - 1)
-  pub start : c.taken.count ≡ 0 → c.taken.stripes ≡ no_stripe
+  pub all : c.counts.total_bytes ≡ min (64 * c.counts.taken.count + c.counts.buffer_usage) (2 ^ 64 - 1)
+  pub start : c.counts.taken.count ≡ 0 → c.counts.taken.stripes ≡ no_stripe
 
 -- the parts agree with each other and with the secret s
 pub record Fits (s : List ℕ) (c : CoreState) : Type 0 where

@@ -66,25 +66,27 @@ impl Stream {
 fn is_counted(core: &CoreState) -> bool
     ensures { IsTrue result ↔ IsCounted core.now }
 {
-    core.total_bytes == counted_bytes(core) && (core.taken.count > 0 || has_no_stripe(core))
+    core.counts.total_bytes == counted_bytes(core)
+        && (core.counts.taken.count > 0 || has_no_stripe(core))
 }
 
 // Number of bytes of the stripes taken and in the buffer.
 fn counted_bytes(core: &CoreState) -> u64
-    ensures { result ≡ min (64 * core.now.taken.count + core.now.buffer_usage) (2 ^ 64 - 1) }
+    ensures { result ≡ min (64 * core.now.counts.taken.count + core.now.counts.buffer_usage) (2 ^ 64 - 1) }
 {
-    core.taken
+    core.counts
+        .taken
         .count
         .saturating_mul(64)
-        .saturating_add(core.buffer_usage.into_u64())
+        .saturating_add(core.counts.buffer_usage.into_u64())
 }
 
 // True if the accumulators are those before the first stripe.
 fn has_no_stripe(core: &CoreState) -> bool
-    ensures { IsTrue result ↔ (core.now.taken.stripes ≡ no_stripe) }
+    ensures { IsTrue result ↔ (core.now.counts.taken.stripes ≡ no_stripe) }
 {
-    core.taken.stripes.current_stripe() == 0
-        && core.taken.stripes.accumulators() == INITIAL_ACCUMULATORS
+    core.counts.taken.stripes.current_stripe() == 0
+        && core.counts.taken.stripes.accumulators() == INITIAL_ACCUMULATORS
 }
 
 // Returns the reason to refuse a record whose numbers don't agree. The secret is tested first.

@@ -113,16 +113,21 @@ class _Plain:
 class _Stream:
     """XXH3 of both widths: a state is accepted if its parts fit each other and the secret. Whether some bytes lead
     to its accumulators is known only for those of no stripe. `seed` is null in one that was made with only a secret."""
-    taken = struct.Struct('<8QQQ512sQQ')
-    # The seed, the end of the buffer and the end of the secret aren't written if they have no meaning.
-    whole = struct.Struct('<8QQQ512sQQ8xQ8sQ256s')
-    room, stripe = 512, 64
+    taken = struct.Struct('<8QQQQQ256s')
+    # The seed, the length, the end of the buffer and the secrets aren't written if they have no meaning.
+    whole = struct.Struct('<8QQQQQ256s192sQ8s8s8x256s')
+    # The end of a state's buffer, and that of earlier versions.
+    room, greatest, stripe = 256, 512, 64
+    # The marks of a state whose secret is behind it: without a seed and with one. Of one that has its secret, without.
+    behind, behind_with_seed, copied = 0x9b4ed3712ac8f516, 0x68d7b5aec13f0e9b, 0xc5a16e0f93d24b87
 
     def record_of(self, memory: bytes) -> dict[str, Any]:
-        *accumulators, place, stripes, buffer, usage, total, has_seed, seed, length, secret = self.whole.unpack(memory)
+        *accumulators, place, stripes, usage, total, buffer, own, mark, seed, length, other = self.whole.unpack(memory)
+        secret = other[:int.from_bytes(length, 'little')] if mark in (self.behind, self.behind_with_seed) else own
+        has_seed = mark not in (self.behind, self.copied)
         return {'accumulators': accumulators, 'buffer': list(buffer[:usage]),
                 'last_stripe': self._last_stripe(stripes, buffer, usage), 'place': place,
-                'secret': list(secret[:length]), 'seed': int.from_bytes(seed, 'little') if has_seed else None,
+                'secret': list(secret), 'seed': int.from_bytes(seed, 'little') if has_seed else None,
                 'stripes': stripes, 'total_len': total}
 
     def _last_stripe(self, stripes: int, buffer: bytes, usage: int) -> list[int]:
@@ -132,7 +137,7 @@ class _Stream:
 
     def hasher_of(self, kind: Any, record: dict[str, Any]) -> Hasher:
         accumulators = _numbers(record.get('accumulators'), 8, 8, WORD)
-        buffer = _numbers(record.get('buffer'), 0, self.room)
+        buffer = _numbers(record.get('buffer'), 0, self.greatest)
         last = _numbers(record.get('last_stripe'), self.stripe, self.stripe)
         secret = bytes(_numbers(record.get('secret'), 136, 256))
         place, stripes, total = (_number(record.get(name)) for name in ('place', 'stripes', 'total_len'))
@@ -145,8 +150,12 @@ class _Stream:
         if not stripes and accumulators != self.record_of(hasher._memory())['accumulators']:
             raise ValueError('The accumulators are not those of no stripe')
         end = bytes(last) if len(buffer) < self.stripe else b''
-        room = bytes(buffer).ljust(self.room - len(end), b'\0') + end
-        return _with_fields(hasher, self.taken, *accumulators, place, stripes, room, len(buffer), total)
+        first, rest = bytes(buffer[:self.room]), bytes(buffer[self.room:])
+        room = first.ljust(self.room - len(end), b'\0') + end
+        total = min(64 * stripes + len(first), WORD - 1)
+        _with_fields(hasher, self.taken, *accumulators, place, stripes, len(first), total, room)
+        hasher.update(rest)
+        return hasher
 
     @staticmethod
     def _test_place(place: int, stripes: int, secret: bytes) -> None:

@@ -34,13 +34,13 @@ macro_rules! exports {
         $(mod $name {
             use super::*;
             extern "C" {
-                #[link_name = concat!("twox_rust_6_", stringify!($name))]
+                #[link_name = concat!("twox_rust_7_", stringify!($name))]
                 pub fn base($(_: $kind),*) -> $answer;
                 #[cfg(target_arch = "x86_64")]
-                #[link_name = concat!("twox_rust_6_", stringify!($name), "_v3")]
+                #[link_name = concat!("twox_rust_7_", stringify!($name), "_v3")]
                 pub fn v3($(_: $kind),*) -> $answer;
                 #[cfg(target_arch = "x86_64")]
-                #[link_name = concat!("twox_rust_6_", stringify!($name), "_v4")]
+                #[link_name = concat!("twox_rust_7_", stringify!($name), "_v4")]
                 pub fn v4($(_: $kind),*) -> $answer;
             }
         })*

@@ -1,29 +1,13 @@
 //! The state of a stream without its secret and its seed: the stripes taken, and the bytes after them.
 
-ghost use Rattle.std.specs.Prelude.{◌≡◌, ◌↔◌, ℕ, List, ◌++◌, ◌+◌, ◌-◌, ◌*◌, ◌/◌, ◌<◌, ◌≤◌, min, take, drop, length, IsTrue};
-ghost use Rattle.twox_core.specs.Long.{stripes_of};
+ghost use Rattle.std.specs.Prelude.{◌≡◌, ◌↔◌, ℕ, List, ◌+◌, ◌<◌, ◌≤◌, take, length, IsTrue};
 ghost use Rattle.twox_core.specs.SecretBytes.{secret_bytes};
-ghost use Rattle.twox_core.specs.Stripes.{current_stripe_of};
 
-use super::taken_stripes::TakenStripes;
-use crate::xxhash3::parts::array_at;
-use crate::xxhash3::{CUTOFF, DEFAULT_SEED, Finalize, Kernel, Secret, Vector, default_secret};
-use twox_words::copies::{copy_short, copy_up_to_128};
-use twox_words::words::IntoU64;
+use super::stream_counts::{StreamCounts, finish_keyed};
+use crate::xxhash3::{CUTOFF, Finalize, Kernel, Secret, Vector, default_secret};
 
 /// Size of a stream's buffer in bytes: whole stripes, and more than the maximum length that is hashed with no stripes.
 pub const BUFFERED_BYTES: usize = 512;
-
-// Where the buffer's last stripe begins. Fewer than 64 bytes are left in the buffer only after it was full, so the last
-// stripe taken is still there.
-const LAST_STRIPE: usize = BUFFERED_BYTES - 64;
-
-/// Chunks of up to this many bytes are buffered without a call.
-const FEW_BYTES: usize = 32;
-
-/// From this many bytes on, the stripes of a chunk are taken in a separate function, in the way that is fastest for
-/// their number.
-const LONG_PIECE_BYTES: usize = 2_048;
 
 const _: () = prove!(BUFFERED_BYTES > CUTOFF);
 
@@ -32,7 +16,7 @@ const _: () = prove!(BUFFERED_BYTES % 64 == 0);
 const _: () = prove!(size_of::<CoreState>() == 608);
 
 /// The state of a stream without its secret and its seed. [`RawHasherCore`](super::RawHasherCore) holds all three and
-/// is the type to use; this one is for streams in memory of another layout, such as one that C holds.
+/// is the type to use; this one is for streams in memory of another layout.
 ///
 /// The calls take the secret as an argument, which must be the same at each. They require three things, which are true
 /// of a new state and after each call: the accumulators' place lies in the secret; at most `BUFFERED_BYTES` bytes are
@@ -41,19 +25,15 @@ const _: () = prove!(size_of::<CoreState>() == 608);
 #[repr(C)]
 #[derive(Clone, Copy)]
 pub struct CoreState {
-    /// The stripes taken.
-    pub taken: TakenStripes,
+    /// The stripes taken, and the numbers of bytes.
+    pub counts: StreamCounts,
     /// The buffer. Begins with the bytes that are in use.
     pub buffer: [u8; BUFFERED_BYTES],
-    /// Number of bytes buffered.
-    pub buffer_usage: usize,
-    /// Total bytes taken, saturating at 2^64 - 1.
-    pub total_bytes: u64,
 }
 
 impl CoreState {
-    ghost use Rattle.twox_core.specs.AfterWrite.{after_long_piece, after_rest, empty_state, state_after_write, with_buffered, with_empty_buffer};
-    ghost use Rattle.twox_core.specs.Finish.{last_bytes, state_finish};
+    ghost use Rattle.twox_core.specs.AfterWrite.{empty_state, state_after_write};
+    ghost use Rattle.twox_core.specs.Finish.{state_finish};
     ghost use Rattle.twox_core.specs.InRange.{IsInRange};
     ghost use Rattle.twox_core.specs.Value.{short_secret, stream_seed};
 
@@ -63,21 +43,9 @@ impl CoreState {
         ensures { result ≡ empty_state }
     {
         CoreState {
-            taken: TakenStripes::new(),
+            counts: StreamCounts::new(),
             buffer: [0; BUFFERED_BYTES],
-            buffer_usage: 0,
-            total_bytes: 0,
         }
-    }
-
-    /// Resets to the state of no bytes. The bytes of the buffer stay, unused.
-    #[inline(always)]
-    pub fn clear(&mut self)
-        ensures { self.new ≡ record empty_state { buffer = self.old.buffer } }
-    {
-        self.taken = TakenStripes::new();
-        self.buffer_usage = 0;
-        self.total_bytes = 0;
     }
 
     /// True if the calls can continue from this state under that secret: the test for a state from elsewhere.
@@ -86,10 +54,7 @@ impl CoreState {
         ensures in_range { IsTrue result ↔ IsInRange (secret_bytes secret.entry) self.now }
         ensures size { length self.now.buffer ≡ BUFFERED_BYTES }
     {
-        let room = self.buffer[..].len();
-        self.taken.stripes.current_stripe() < secret.n_stripes()
-            && self.buffer_usage <= room
-            && (0 < self.buffer_usage || self.total_bytes == 0)
+        self.counts.is_in_range(&self.buffer, secret)
     }
 
     /// Hashes `input` after the bytes before.
@@ -101,73 +66,50 @@ impl CoreState {
         ensures in_range { IsInRange (secret_bytes secret.entry) self.new }
         ensures size { length self.old.buffer ≡ BUFFERED_BYTES }
         ensures in_place { 512 < length input.now
-            → (64 ≤ self.new.buffer_usage) × (self.new.buffer_usage ≤ 127) }
+            → (64 ≤ self.new.counts.buffer_usage) × (self.new.counts.buffer_usage ≤ 127) }
     {
-        // A chunk that fits the buffer is buffered, even if it fills it, since only `finish` takes the last stripe of a
-        // stream.
-        self.total_bytes = self.total_bytes.saturating_add(input.len().into_u64());
-        if input.len() <= BUFFERED_BYTES - self.buffer_usage {
-            self.keep(input);
-        } else if input.len() < LONG_PIECE_BYTES {
-            self.write_through::<V, false>(v, input, secret);
-        } else {
-            self.write_through::<V, true>(v, input, secret);
-        }
+        self.counts.write(&mut self.buffer, v, input, secret);
     }
 
     // Buffers a chunk of a few bytes that fits, without a call and for any secret.
-    #[tactic(auto, using(std::proofs::lemmas::Bool::Decides::nat_tests), unfolding(crate::specs::AfterWrite::state_after_write))]
     #[inline(always)]
     pub(crate) fn keep_few(&mut self, input: &[u8])
-        requires room { self.old.buffer_usage + length input.now ≤ 512 }
+        requires room { self.old.counts.buffer_usage + length input.now ≤ 512 }
         requires few { length input.now ≤ 64 }
         ensures { (s : List ℕ) → self.new ≡ state_after_write s self.old input.now }
     {
-        let len = input.len().into_u64();
-        self.total_bytes = self.total_bytes.saturating_add(len);
-        self.add_few(input);
+        self.counts.keep_few(&mut self.buffer, input);
     }
 
     // True if the buffer has space for so many bytes.
     #[inline(always)]
     pub(super) fn has_room(&self, len: usize) -> bool
-        requires { self.now.buffer_usage ≤ 512 }
-        ensures room { IsTrue result ↔ (self.now.buffer_usage + len ≤ 512) }
+        requires { self.now.counts.buffer_usage ≤ 512 }
+        ensures room { IsTrue result ↔ (self.now.counts.buffer_usage + len ≤ 512) }
         ensures size { length self.now.buffer ≡ BUFFERED_BYTES }
     {
         let room = self.buffer[..].len();
-        len <= room - self.buffer_usage
+        len <= room - self.counts.buffer_usage
     }
 
     // Buffers a chunk that fits, for any secret.
-    #[tactic(auto, using(std::proofs::lemmas::Bool::Decides::nat_tests), unfolding(crate::specs::AfterWrite::state_after_write))]
     #[inline(always)]
     pub(super) fn hold(&mut self, input: &[u8])
-        requires { self.old.buffer_usage + length input.now ≤ 512 }
+        requires { self.old.counts.buffer_usage + length input.now ≤ 512 }
         ensures exact { (s : List ℕ) → self.new ≡ state_after_write s self.old input.now }
         ensures in_range { (s : List ℕ) → IsInRange s self.old → IsInRange s self.new }
     {
-        let more = input.len().into_u64();
-        self.total_bytes = self.total_bytes.saturating_add(more);
-        if input.len() <= 64 {
-            self.add_few(input);
-        } else {
-            self.keep(input);
-        }
+        self.counts.hold(&mut self.buffer, input);
     }
 
     // Buffers an array that fits, for any secret. Its length is known, so this is a few moves.
-    #[tactic(auto, using(std::proofs::lemmas::Bool::Decides::nat_tests), unfolding(crate::specs::AfterWrite::state_after_write))]
     #[inline(always)]
     pub(super) fn hold_array<const N: usize>(&mut self, bytes: &[u8; N])
-        requires { self.old.buffer_usage + N ≤ 512 }
+        requires { self.old.counts.buffer_usage + N ≤ 512 }
         ensures exact { (s : List ℕ) → self.new ≡ state_after_write s self.old bytes.now }
         ensures in_range { (s : List ℕ) → IsInRange s self.old → IsInRange s self.new }
     {
-        self.total_bytes = self.total_bytes.saturating_add(N.into_u64());
-        let used = self.buffer_usage;
-        self.buffer_usage = used + N;
-        self.buffer[used..used + N].copy_from_slice(&bytes[..]);
+        self.counts.hold_array(&mut self.buffer, bytes);
     }
 
     // Does what `write` does, with the kernel of calls that name none.
@@ -179,7 +121,7 @@ impl CoreState {
         ensures in_range { IsInRange (secret_bytes secret.entry) self.new }
         ensures size { length self.old.buffer ≡ BUFFERED_BYTES }
         ensures in_place { 512 < length input.now
-            → (64 ≤ self.new.buffer_usage) × (self.new.buffer_usage ≤ 127) }
+            → (64 ≤ self.new.counts.buffer_usage) × (self.new.counts.buffer_usage ≤ 127) }
     {
         self.write(Kernel {}, input, secret);
     }
@@ -193,7 +135,7 @@ impl CoreState {
         ensures in_range { IsInRange (secret_bytes secret.entry) self.new }
         ensures size { length self.old.buffer ≡ BUFFERED_BYTES }
         ensures in_place { 512 < length input.now
-            → (64 ≤ self.new.buffer_usage) × (self.new.buffer_usage ≤ 127) }
+            → (64 ≤ self.new.counts.buffer_usage) × (self.new.counts.buffer_usage ≤ 127) }
     {
         if self.has_room(input.len()) {
             self.hold(input);
@@ -230,116 +172,6 @@ impl CoreState {
         self.write_by_default(input, secret);
     }
 
-    // Fills the buffer up to whole stripes, takes these, and takes the rest in place. A separate function, so that
-    // small chunks have no frame, and a separate one for many bytes, so that others keep no register for the call that
-    // takes their stripes.
-    #[tactic(auto, unfolding(crate::specs::AfterWrite::after_long_piece))]
-    #[inline(never)]
-    fn write_through<V: Vector, const MANY: bool>(&mut self, v: V, input: &[u8], secret: Secret<'_>)
-        requires place { self.old.taken.stripes.current_stripe < stripes_of (secret_bytes secret) }
-        requires within { self.old.buffer_usage ≤ 512 }
-        requires more { 512 - self.old.buffer_usage < length input.now }
-        ensures exact { self.new ≡ after_long_piece (secret_bytes secret.entry) self.old input.now }
-        ensures in_range { IsInRange (secret_bytes secret.entry) self.new }
-        ensures in_place { 512 < length input.now
-            → (64 ≤ self.new.buffer_usage) × (self.new.buffer_usage ≤ 127) }
-    {
-        let (head, rest) = input.split_at((64 - self.buffer_usage % 64) % 64);
-        self.fill_stripe(head);
-        self.empty(v, secret);
-        self.restart::<V, MANY>(v, rest, secret);
-    }
-
-    // Appends `head`, which may be empty, to the buffered bytes.
-    #[inline(always)]
-    fn fill_stripe(&mut self, head: &[u8])
-        requires room { self.old.buffer_usage + length head.now ≤ 512 }
-        requires few { length head.now ≤ 64 }
-        ensures { self.new ≡ with_buffered self.old head.now }
-    {
-        // A chunk of whole stripes has no head.
-        if !head.is_empty() {
-            self.add_few(head);
-        }
-    }
-
-    // Appends a few bytes to the buffered ones.
-    #[inline(always)]
-    fn add_few(&mut self, input: &[u8])
-        requires room { self.old.buffer_usage + length input.now ≤ 512 }
-        requires few { length input.now ≤ 64 }
-        ensures { self.new ≡ with_buffered self.old input.now }
-    {
-        let used = self.buffer_usage;
-        let (_, room) = self.buffer.split_at_mut(used);
-        copy_up_to_128(&mut room[..input.len()], input);
-        let end = used + input.len();
-        self.buffer_usage = end;
-    }
-
-    // Appends a chunk to the buffered bytes. Stores their number first: the call that copies bytes is then the last
-    // step, and `write` keeps no register for what comes after it.
-    #[inline(always)]
-    fn keep(&mut self, input: &[u8])
-        requires { self.old.buffer_usage + length input.now ≤ 512 }
-        ensures { self.new ≡ with_buffered self.old input.now }
-    {
-        let used = self.buffer_usage;
-        self.buffer_usage = used + input.len();
-        let (_, room) = self.buffer.split_at_mut(used);
-        let place = &mut room[..input.len()];
-        if input.len() > FEW_BYTES {
-            place.copy_from_slice(input);
-        } else {
-            copy_short(place, input);
-        }
-    }
-
-    // Takes the buffered stripes.
-    #[inline(always)]
-    fn empty<V: Vector>(&mut self, v: V, secret: Secret<'_>)
-        requires place { self.old.taken.stripes.current_stripe < stripes_of (secret_bytes secret) }
-        requires in_range { self.old.buffer_usage ≤ 512 }
-        ensures exact { self.new ≡ with_empty_buffer (secret_bytes secret.entry) self.old }
-        ensures place { self.new.taken.stripes.current_stripe
-            < stripes_of (secret_bytes secret.entry) }
-    {
-        self.taken
-            .process::<V, false>(v, &self.buffer[..self.buffer_usage], secret);
-        self.buffer_usage = 0;
-    }
-
-    // Takes whole stripes of `rest` in place, and buffers the rest: for 64 bytes or more, at least 64.
-    #[inline(always)]
-    fn restart<V: Vector, const MANY: bool>(&mut self, v: V, rest: &[u8], secret: Secret<'_>)
-        requires { self.old.taken.stripes.current_stripe < stripes_of (secret_bytes secret) }
-        ensures exact { self.new ≡ after_rest (secret_bytes secret.entry) self.old rest.now }
-        ensures place { self.new.taken.stripes.current_stripe
-            < stripes_of (secret_bytes secret.entry) }
-        ensures in_range { self.new.buffer_usage ≤ 512 }
-        ensures some { min (length rest.now) 1 ≤ self.new.buffer_usage }
-        ensures in_place { 64 ≤ length rest.now
-            → (64 ≤ self.new.buffer_usage) × (self.new.buffer_usage ≤ 127) }
-    {
-        let count = rest.len().saturating_sub(64) / 64;
-        let (whole, last) = rest.split_at(64 * count);
-        self.taken.process::<V, MANY>(v, whole, secret);
-        self.begin_with(last);
-    }
-
-    // Begins the buffer with `last`.
-    #[inline(always)]
-    fn begin_with(&mut self, last: &[u8])
-        requires { length last.now ≤ 128 }
-        ensures { self.new ≡ record self.old {
-          buffer = last.now ++ drop (length last.now) self.old.buffer;
-          buffer_usage = length last.now;
-        } }
-    {
-        copy_up_to_128(&mut self.buffer[..last.len()], last);
-        self.buffer_usage = last.len();
-    }
-
     /// Returns the value of the bytes taken, by `finalize`. The state stays. Up to 240 bytes it uses the default secret
     /// and the seed or, without a seed, the secret and the seed 0; above that it uses the secret.
     #[inline(always)]
@@ -355,22 +187,7 @@ impl CoreState {
             result ≡ state_finish (F.small_of finalize.now) (F.large_of finalize.now) seed s self.now }
         ensures size { length self.now.buffer ≡ BUFFERED_BYTES }
     {
-        if self.total_bytes <= CUTOFF.into_u64() {
-            return self.finish_short(finalize, seed, secret);
-        }
-        let last_stripe = self.last_stripe();
-        let count = (self.buffer_usage - 1) / 64;
-        let (whole, last_block) = self.buffer[..self.buffer_usage].split_at(64 * count);
-        let mut stripes = self.taken.stripes;
-        stripes.process_stripes(v, whole, secret);
-        finalize.large(
-            v,
-            stripes.accumulators(),
-            last_block,
-            &last_stripe,
-            secret,
-            self.total_bytes,
-        )
+        self.counts.finish(&self.buffer, v, finalize, seed, secret)
     }
 
     // Does what `finish` does. The value of one word, such as a map's key, is computed inline, and the others are
@@ -388,7 +205,7 @@ impl CoreState {
             result ≡ state_finish (F.small_of finalize.now) (F.large_of finalize.now) seed s self.now }
         ensures size { length self.now.buffer ≡ BUFFERED_BYTES }
     {
-        if self.total_bytes == 8 {
+        if self.counts.total_bytes == 8 {
             return self.finish_word(finalize, seed, secret);
         }
         self.finish_any(v, finalize, seed, secret)
@@ -418,9 +235,9 @@ impl CoreState {
         seed: Option<u64>,
         secret: Secret<'_>,
     ) -> F::Output
-        requires { self.now.total_bytes ≡ 8 }
+        requires { self.now.counts.total_bytes ≡ 8 }
         ensures { let s = short_secret seed (secret_bytes secret.entry) in
-            result ≡ F.small_of finalize.now s (stream_seed seed) (take self.now.total_bytes self.now.buffer) }
+            result ≡ F.small_of finalize.now s (stream_seed seed) (take self.now.counts.total_bytes self.now.buffer) }
     {
         let word = &self.buffer[..8];
         match seed {
@@ -437,53 +254,12 @@ impl CoreState {
         seed: Option<u64>,
         secret: Secret<'_>,
     ) -> F::Output
-        requires { self.now.total_bytes ≤ 240 }
+        requires { self.now.counts.total_bytes ≤ 240 }
         ensures exact { let s = short_secret seed (secret_bytes secret.entry) in
-            result ≡ F.small_of finalize.now s (stream_seed seed) (take self.now.total_bytes self.now.buffer) }
+            result ≡ F.small_of finalize.now s (stream_seed seed) (take self.now.counts.total_bytes self.now.buffer) }
         ensures size { length self.now.buffer ≡ BUFFERED_BYTES }
     {
-        let input = &self.buffer[..self.total_bytes as usize];
-        match seed {
-            Some(seed) => finalize.small(default_secret(), seed, input),
-            None => finish_keyed(finalize, secret, input),
-        }
+        self.counts
+            .finish_short(&self.buffer, finalize, seed, secret)
     }
-
-    // Returns the last 64 bytes of the stream: the end of the buffered ones, or the end of the last stripe taken and
-    // these.
-    #[inline(always)]
-    #[tactic(auto, unfolding(crate::specs::Finish::last_bytes))]
-    fn last_stripe(&self) -> [u8; 64]
-        requires { self.now.buffer_usage ≤ 512 }
-        ensures { result ≡ last_bytes self.now.buffer self.now.buffer_usage }
-    {
-        let used = self.buffer_usage;
-        if used < 64 {
-            stripe_of_parts(&self.buffer[LAST_STRIPE + used..], &self.buffer[..used])
-        } else {
-            *array_at(&self.buffer, used - 64)
-        }
-    }
-}
-
-// Separate function, so that the default secret's words are constants of the other code.
-#[inline(never)]
-fn finish_keyed<F: Finalize>(finalize: &F, secret: Secret<'_>, input: &[u8]) -> F::Output
-    requires { length input.now ≤ 240 }
-    ensures { result ≡ F.small_of finalize.now (secret_bytes secret.entry) 0 input.now }
-{
-    finalize.small(secret, DEFAULT_SEED, input)
-}
-
-// Joins two parts to a stripe.
-#[inline(always)]
-fn stripe_of_parts(front: &[u8], back: &[u8]) -> [u8; 64]
-    requires { length front.now + length back.now ≡ 64 }
-    ensures { result ≡ front.now ++ back.now }
-{
-    let mut stripe = [0; 64];
-    let (head, tail) = stripe.split_at_mut(front.len());
-    head.copy_from_slice(front);
-    tail.copy_from_slice(back);
-    stripe
 }

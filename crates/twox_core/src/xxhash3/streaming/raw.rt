@@ -27,8 +27,8 @@ impl<S: FixedBuffer> Model for RawHasherCore<S> {
 
     ghost view = { λ h. record { key = h.secret_buffer; state = h.state } };
 
-    ghost invariant = { λ h. (136 ≤ length (S.bytes h.secret_buffer.secret) → h.state.taken.stripes.current_stripe < stripes_of (S.bytes h.secret_buffer.secret))
-        × (h.state.buffer_usage ≤ 512) × (min h.state.total_bytes 1 ≤ h.state.buffer_usage) };
+    ghost invariant = { λ h. (136 ≤ length (S.bytes h.secret_buffer.secret) → h.state.counts.taken.stripes.current_stripe < stripes_of (S.bytes h.secret_buffer.secret))
+        × (h.state.counts.buffer_usage ≤ 512) × (min h.state.counts.total_bytes 1 ≤ h.state.counts.buffer_usage) };
 }
 
 impl<S: FixedBuffer> RawHasherCore<S> {
@@ -127,7 +127,7 @@ impl<S: FixedBuffer> RawHasherCore<S> {
         ensures message { (seed : Option ℕ) (s m : List ℕ) → Represents S.bytes self.now seed s m
             → result ≡ counted (length m) }
     {
-        self.state.total_bytes
+        self.state.counts.total_bytes
     }
 
     /// Number of stripes that the accumulators have taken, saturating at 2^64 - 1.
@@ -140,7 +140,7 @@ impl<S: FixedBuffer> RawHasherCore<S> {
             → length m < 2 ^ 64
             → 64 * result + buffered_of self.now ≡ length m }
     {
-        self.state.taken.count
+        self.state.counts.taken.count
     }
 
     /// Number of bytes buffered: none before the first byte, and then from 1 to `BUFFERED_BYTES`.
@@ -156,7 +156,7 @@ impl<S: FixedBuffer> RawHasherCore<S> {
             → length m < 2 ^ 64
             → 64 * done_of self.now + result ≡ length m }
     {
-        self.state.buffer_usage
+        self.state.counts.buffer_usage
     }
 
     /// Returns the secret.

@@ -44,7 +44,7 @@ impl StreamState {
     #[inline(always)]
     pub(super) fn hold(&mut self, input: &[u8]) -> bool
         requires few { IsShort self.old }
-        requires room { (state_of self.old).buffer_usage ≤ 512 }
+        requires room { (state_of self.old).counts.buffer_usage ≤ 512 }
         ensures held { IsTrue result → (s : List ℕ)
             → state_of self.new ≡ state_after_write s (state_of self.old) input.now }
         ensures refused { (¬ IsTrue result) → self.new ≡ self.old }
@@ -226,7 +226,7 @@ impl StreamState {
         match &self.long {
             None => finalize.small(default_secret(), seed, &self.short[..self.used]),
             Some(state) => {
-                if state.total_bytes <= CUTOFF.into_u64() {
+                if state.counts.total_bytes <= CUTOFF.into_u64() {
                     state.finish_short(finalize, Some(seed), default_secret())
                 } else if seed == DEFAULT_SEED {
                     state.finish(v, finalize, Some(seed), default_secret())

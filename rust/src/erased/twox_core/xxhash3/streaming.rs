@@ -11,6 +11,7 @@ mod lazy_key;
 mod raw;
 mod secret_buffer;
 mod short_bytes;
+mod stream_counts;
 mod stream_state;
 mod taken_stripes;
 
@@ -21,4 +22,5 @@ pub use keyed_core::KeyedCore;
 pub use lazy_key::LazyKey;
 pub use raw::{AllocRawHasher, RawHasherCore};
 pub use secret_buffer::{SecretBuffer, SecretTooShortError, SecretWithSeedError};
+pub use stream_counts::StreamCounts;
 pub use taken_stripes::TakenStripes;

@@ -16,5 +16,6 @@ returns-clause-short g c = λ seed s m given short.
 pub returns-clause-long : goal.returns-clause-long
 returns-clause-long g c = λ seed s m given long.
     let usable = given.usable in
+    let size = c.finish.ensures.size in
     returns-clause-exact g c usable
-    ∙ ap (λ x. Some x) (stands_finished_long _ _ (λ x. x) (stream_of c.args.self.now) seed s m (omega (arith, usable.in_range.place)) c.finish.ensures.size usable.in_range.within given.message long)
+    ∙ ap (λ x. Some x) (stands_finished_long _ _ (λ x. x) (stream_of c.args.self.now) seed s m (omega (arith, usable.in_range.place)) (omega (arith, size)) (omega (arith, size)) (omega (arith, size, usable.in_range.within)) given.message long)

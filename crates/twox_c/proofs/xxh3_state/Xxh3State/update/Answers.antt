@@ -15,12 +15,12 @@ pub returns-clause-message : goal.returns-clause-message
 returns-clause-message c = λ seed s m given.
     let d = c.args.input.now in
     let usable = given.usable in
+    let size = c.write.ensures.size in
     record {
       usable = record {
         mark = usable.mark;
-        secret_length = usable.secret_length;
         in_range = rw c.lent-secret.ensures at c.write.ensures.in_range;
       };
       message = subst (λ h. Represents (λ x. x) h seed s (m ++ d)) (sym (returns-clause-exact c usable))
-          (stands_written (λ x. x) (stream_of c.args.self.now) seed s m d (omega (arith, usable.in_range.place)) c.write.ensures.size usable.in_range.within given.message);
+          (stands_written (λ x. x) (stream_of c.args.self.now) seed s m d (omega (arith, usable.in_range.place)) (omega (arith, size)) (omega (arith, size)) (omega (arith, size, usable.in_range.within)) given.message);
     }

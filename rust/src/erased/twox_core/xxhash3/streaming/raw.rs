@@ -66,19 +66,19 @@ impl<S> RawHasherCore<S> {
 
     /// Total bytes taken, saturating at 2^64 - 1.
     pub fn total_len(&self) -> u64 {
-        self.state.total_bytes
+        self.state.counts.total_bytes
     }
 
     /// Number of stripes that the accumulators have taken, saturating at 2^64 - 1.
     ///
     /// With the bytes that `buffered` counts, these are all bytes taken so far.
     pub fn stripes_done(&self) -> u64 {
-        self.state.taken.count
+        self.state.counts.taken.count
     }
 
     /// Number of bytes buffered: none before the first byte, and then from 1 to `BUFFERED_BYTES`.
     pub fn buffered(&self) -> usize {
-        self.state.buffer_usage
+        self.state.counts.buffer_usage
     }
 
     /// Returns the secret.

@@ -158,7 +158,7 @@ impl StreamState {
         match &self.long {
             None => finalize.small(default_secret(), seed, &self.short[..self.used]),
             Some(state) => {
-                if state.total_bytes <= CUTOFF.into_u64() {
+                if state.counts.total_bytes <= CUTOFF.into_u64() {
                     state.finish_short(finalize, Some(seed), default_secret())
                 } else if seed == DEFAULT_SEED {
                     state.finish(v, finalize, Some(seed), default_secret())

@@ -5,5 +5,5 @@ use Rattle.twox_core.proofs.xxhash3.streaming.core_state.CoreState.finish_key.Go
 pub returns-then-self-eq8-clause-exact : goal.returns-then-self-eq8-clause-exact
 unfolding state_finish
 returns-then-self-eq8-clause-exact g c =
-    let test : nat_le c.args.self.now.total_bytes 240 ≡ true = grind (arith, nat_tests) in
+    let test : nat_le c.args.self.now.counts.total_bytes 240 ≡ true = grind (arith, nat_tests) in
     rw test c.finish_word.ensures

@@ -21,6 +21,7 @@ returns-clause-long g c = λ seed s m held long.
     let small = g.F.Finalize.small_of c.args.finalize in
     let large = g.F.Finalize.large_of c.args.finalize in
     let range = c.self.invariant.0 in
+    let size = c.finish.ensures.size in
     let ended = subst (λ h. Represents g.K.Key.bytes h seed s m → core_finish small large g.K.Key.bytes h ≡ large (stream_accumulators s m) (stream_block m) (last_stripe m) s (counted (length m))) c.self.view_is
-    (λ held. stands_finished_long small large g.K.Key.bytes _ seed s m (omega (arith, range.place)) c.finish.ensures.size range.within held long) in
+    (λ held. stands_finished_long small large g.K.Key.bytes _ seed s m (omega (arith, range.place)) (omega (arith, size)) (omega (arith, size)) (omega (arith, size, range.within)) held long) in
     returns-clause-exact g c ∙ ended held

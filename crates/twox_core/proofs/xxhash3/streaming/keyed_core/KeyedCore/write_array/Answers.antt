@@ -12,6 +12,7 @@ pub returns-else-not-hold_array-clause-message : goal.returns-else-not-hold_arra
 returns-else-not-hold_array-clause-message g c = λ seed s m held.
     let d = c.args.bytes.now in
     let range = c.self.invariant.0 in
+    let size = c.hold_array.ensures.size c.if-not-hold_array.false in
     let follows = subst (λ h. Represents g.K.Key.bytes h seed s m → Represents g.K.Key.bytes (core_after_write g.K.Key.bytes h d) seed s (m ++ d)) c.self.view_is
-    (stands_written g.K.Key.bytes _ seed s m d (omega (arith, range.place)) (c.hold_array.ensures.size c.if-not-hold_array.false) range.within) in
+    (stands_written g.K.Key.bytes _ seed s m d (omega (arith, range.place)) (omega (arith, size)) (omega (arith, size)) (omega (arith, size, range.within))) in
     rw (returns-else-not-hold_array-clause-exact g c) (follows held)

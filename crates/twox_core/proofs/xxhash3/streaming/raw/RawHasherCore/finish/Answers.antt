@@ -23,5 +23,5 @@ returns-clause-long g c = λ seed s m held long.
     let bytes = g.S.FixedBuffer.bytes in
     let enough = rw c.secret-secret.ensures at c.secret-secret.result.long_enough in
     let ended = subst (λ h. Represents bytes h seed s m → core_finish small large bytes h ≡ large (stream_accumulators s m) (stream_block m) (last_stripe m) s (counted (length m))) c.self.view_is
-    (λ held. stands_finished_long small large bytes _ seed s m (omega (arith, enough)) c.finish_key.ensures.size (omega arith) held long) in
+    (λ held. stands_finished_long small large bytes _ seed s m (omega (arith, enough)) (omega arith) (omega arith) (omega arith) held long) in
     returns-clause-exact g c ∙ ended held

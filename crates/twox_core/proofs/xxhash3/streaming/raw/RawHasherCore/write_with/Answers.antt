@@ -17,5 +17,5 @@ returns-clause-message g c = λ seed s m held.
     let d = c.args.input.now in
     let enough = rw c.secret.ensures at c.secret.result.long_enough in
     let follows = subst (λ h. Represents bytes h seed s m → Represents bytes (core_after_write bytes h d) seed s (m ++ d)) c.self.view_is
-    (stands_written bytes _ seed s m d (omega (arith, enough)) (omega arith) (omega arith)) in
+    (stands_written bytes _ seed s m d (omega (arith, enough)) (omega arith) (omega arith) (omega arith)) in
     rw (returns-clause-exact g c) (follows held)

@@ -27,7 +27,7 @@ returns-in-None-clause-exact g c =
 pub returns-then-state-into_u64-clause-exact : goal.returns-then-state-into_u64-clause-exact
 unfolding state_finish
 returns-then-state-into_u64-clause-exact g c =
-    let test : nat_le c.in-Some.state.total_bytes 240 ≡ true = grind (arith, nat_tests, c.if-state-into_u64.true) in
+    let test : nat_le c.in-Some.state.counts.total_bytes 240 ≡ true = grind (arith, nat_tests, c.if-state-into_u64.true) in
     rw (state_of_long c.args.self.now c.in-Some.state c.in-Some.is, test) c.finish_short.ensures.exact
 
 pub returns-then-seed-eq-DEFAULT_SEED-clause-exact : goal.returns-then-seed-eq-DEFAULT_SEED-clause-exact

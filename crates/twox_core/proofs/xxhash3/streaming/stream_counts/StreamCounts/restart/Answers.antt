@@ -1,7 +1,7 @@
 use Rattle.twox_core.proofs.Prelude.{◌*◌, ◌/◌, ◌∙◌, ◌≡◌, arith, length, length-drop, length-take-le, refl, secret_bytes, take}
 use Rattle.twox_core.specs.AfterWrite.{after_rest, after_taking, stripes_in_place}
 use Rattle.twox_core.proofs.TakenFacts.{after_taking-take}
-use Rattle.twox_core.proofs.xxhash3.streaming.core_state.CoreState.restart.Goals as goal
+use Rattle.twox_core.proofs.xxhash3.streaming.stream_counts.StreamCounts.restart.Goals as goal
 
 pub returns-clause-exact : goal.returns-clause-exact
 unfolding after_rest
