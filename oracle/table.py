@@ -1,12 +1,10 @@
 """The test cases of the oracle's table, and the definition's value for each."""
 import os
 
+from specs import CRATES, ENTRIES, HASHES, TOP
+
 FOLDER = os.path.dirname(os.path.abspath(__file__))
-TOP = os.path.dirname(FOLDER)
-CRATES = ["twox_words", "twox_plain", "twox_core"]
-# Names of the definitions' entries.
-ENTRIES = ["xxh32", "xxh64", "xxh3_64", "xxh3_128", "default_secret", "derived_secret", "effective_secret", "counted"]
-HASHES = {"32": "xxh32", "64": "xxh64", "3-64": "xxh3_64", "3-128": "xxh3_128"}
+__all__ = ["CRATES", "ENTRIES", "HASHES", "TOP"]
 
 
 def drawn(start, length):

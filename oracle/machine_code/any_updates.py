@@ -12,15 +12,10 @@ import functools
 from symbolic_terms import (LONGEST, Bytes, Input, NotShown, Piece, Request, at_most, given, is_same, is_same_number,
                             lifted, minus, plus, same, seed_symbol, suppositions, times, variable)
 
-from . import streams
+from . import layouts, streams
 from .every_length import UNROLLED, Cases
 from .induction import Family, Loops
 from .memory import Words
-
-# Offsets in a state of the accumulators, the seed, the marked word, the total and the buffer; and the mark.
-Layout = collections.namedtuple("Layout", "accumulators seed marked total buffer mark")
-LAYOUTS = {"32": Layout((0, 8, 16, 28), 4, 12, 20, 32, 0x32335858),
-           "64": Layout((0, 16, 32, 48), 8, 40, 24, 56, 0x34365858)}
 
 # An update of a state with r buffered bytes. It fills their stripe or not, takes `further` stripes, plus any number of
 # turns of the unrolled loop with `more`, and leaves s bytes in the buffer.
@@ -51,7 +46,7 @@ def left_out(hash_name):
 
 
 class AnyUpdates(Cases):
-    LAYOUTS, MARKED, longest = LAYOUTS, 4, LONGEST     # MARKED is the size of the marked word
+    LAYOUTS, MARKED, longest = layouts.PLAIN, 4, LONGEST     # MARKED is the size of the marked word
 
     def __init__(self, cpu, hash_name):
         self.hash_name = hash_name
@@ -76,7 +71,7 @@ class AnyUpdates(Cases):
         """Yields the content of a state that represents stripe * a + r bytes: (offset, size, value)."""
         word, n = self.width // 8, plus(times(self.stripe, a), r)
         yield from ((at, word, x) for at, x in zip(self.at.accumulators, accumulators, strict=True))
-        yield from ((self.at.seed, word, self.seed), (self.at.marked, self.MARKED, self.at.mark + r), (self.at.total, 8, n))
+        yield from ((self.at.seed, word, self.seed), (self.at.marked, self.MARKED, self.at.first_mark + r), (self.at.total, 8, n))
         for k in range(r):
             yield self.at.buffer + k, 1, self.source.load(plus(times(self.stripe, a), k), 1)
 

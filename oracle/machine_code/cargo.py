@@ -7,6 +7,7 @@ import re
 
 from symbolic_terms import TOP, NotShown, Unsupported, is_same
 
+from . import layouts
 from .object_contents import HIDDEN, WEAK
 from .memory import Words
 from .objects import TEXT, Program
@@ -99,7 +100,7 @@ def expect_code(name, code, expected):
 
 
 class ForCargo:
-    SIZES = {"32": 48, "3": 608}  # of states, in bytes
+    SIZES = {"32": layouts.PLAIN["32"].size, "3": layouts.CORE.size}     # of states, in bytes
 
     @staticmethod
     def has(request):

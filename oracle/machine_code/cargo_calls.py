@@ -2,16 +2,17 @@
 import itertools
 import re
 
-from symbolic_terms import LONGEST_SECRET, Input, at_most, given, is_natural, is_same_number, minus, plus, times, variable
+from symbolic_terms import Input, at_most, given, is_natural, is_same_number, minus, plus, variable
 
-from . import any_updates
-from .calls import BUFFERED, LIMITS, WAITING, expect, invalid_fields
+from . import layouts
+from .calls import LIMITS, callers_secret, expect, invalid_fields
 from .cargo import FEW, LONGEST_WITHOUT, NO_STREAM, SHORTEST, TOO_SHORT, call_into, expect_code, export_name, write_of
 from .streams import contents, expect_same, new_state
 from .values import address, low
 
 HASHES = "3-64", "3-128"
 FEW_BYTES = 64                    # of a chunk, up to which a write has a separate path
+ROOM = layouts.CORE.room
 
 
 def interface(cpu):
@@ -67,9 +68,9 @@ def chunks(waiting):
     """Yields the lengths of a chunk by the paths of a write, which has another one for a few bytes that fit in the buffer
     beside the waiting ones."""
     (place, n, facts), *few = lengths_of(FEW_BYTES)
-    more = minus(plus(n, waiting), BUFFERED + 1)
-    is_split = not is_same_number(waiting, 0) and is_natural(minus(BUFFERED, waiting))
-    yield place, n, [*facts, *([at_most(plus(n, waiting), BUFFERED)] if is_split else [])]
+    more = minus(plus(n, waiting), ROOM + 1)
+    is_split = not is_same_number(waiting, 0) and is_natural(minus(ROOM, waiting))
+    yield place, n, [*facts, *([at_most(plus(n, waiting), ROOM)] if is_split else [])]
     yield from [*([(place, n, [*facts, more])] if is_split else []), *few, *lengths_of(LIMITS[64], FEW_BYTES + 1)]
 
 
@@ -83,21 +84,21 @@ def refused(cpu, hash_name, state, code, secret=(), waiting=0):
         expect_same(name, before, state)
 
 
-def not_marked(layout, stripe):
+def not_marked(mark, stripe):
     """Yields words that aren't marks, with facts: all below the marks, and all above a stripe's marks, with the sign
     bit clear and set."""
-    v, first, half = variable("v"), layout.mark + stripe, 1 << 31
-    yield v, [at_most(v, layout.mark - 1)]
+    v, first, half = variable("v"), mark + stripe, 1 << 31
+    yield v, [at_most(v, mark - 1)]
     yield first, []
     yield plus(v, first, 1), [at_most(v, half - first - 2)]
-    yield plus(v, half), [at_most(v, layout.mark - 1)]
-    yield plus(v, half, layout.mark), [at_most(v, LIMITS[32] - half - layout.mark)]
+    yield plus(v, half), [at_most(v, mark - 1)]
+    yield plus(v, half, mark), [at_most(v, LIMITS[32] - half - mark)]
 
 
 def without_mark(cpu):
     """Tests records of XXH32 with any content, and any word in the mark's place that isn't a mark."""
-    layout, count = any_updates.LAYOUTS["32"], 0
-    for word, facts in not_marked(layout, 16):
+    layout, count = layouts.PLAIN["32"], 0
+    for word, facts in not_marked(layout.first_mark, layout.room):
         with given(*facts):
             state = new_state(cpu, "32")
             state.store(layout.marked, 4, word)
@@ -108,15 +109,13 @@ def without_mark(cpu):
 
 def out_of_range(cpu):
     """Tests streams of XXH3 with a secret of any length from 136 bytes on and fields that no call leaves."""
-    count = 0
-    length = plus(64, times(8, variable("q")), variable("u"))
-    valid = [at_most(variable("u"), 7), minus(variable("q"), 9), at_most(length, LONGEST_SECRET)]
-    for fields, facts in invalid_fields():
+    count, (secret, valid) = 0, callers_secret()
+    for fields, facts in invalid_fields(layouts.CORE, variable("q")):
         with given(*valid, *facts):
             state = new_state(cpu, "3-64")
             for at, value in fields:
                 state.store(at, 8, value)
-            refused(cpu, "3-64", state, NO_STREAM, (address(Input("s", length)), length), dict(fields)[WAITING])
+            refused(cpu, "3-64", state, NO_STREAM, (address(secret), secret.length), dict(fields)[layouts.CORE.buffer_usage])
             count += 1
     return count
 

@@ -14,11 +14,12 @@ FAR_OFF = 31_744, 32_000, 100_000, 1 << 40
 def points(count, proof):
     """Yields points (q, u, b, j, f, L): edges and random numbers, the same each time."""
     draw = random.Random(5)
-    stripes = [*STRIPES, *(LONG_BLOCKS if proof.has_long_blocks() else ())]
+    stripes = [proof.q] if isinstance(proof.q, int) else [*STRIPES, *LONG_BLOCKS]
     for k in range(count):
         q = draw.choice(stripes)
         j, b = draw.choice((0, q - 1, draw.randrange(q))), draw.choice((0, 1, draw.randrange(1 << 40)))
-        f = min(512, max(0, draw.choice((64 * draw.randrange(9) + draw.randrange(-2, 3), draw.randrange(513)))))
+        f = min(proof.room, max(0, draw.choice((64 * draw.randrange(proof.whole + 1) + draw.randrange(-2, 3),
+                                                draw.randrange(proof.room + 1)))))
         L = max(0, draw.choice((*EDGES, *FAR_OFF, 64 * draw.randrange(600), draw.randrange(3000))) + draw.randrange(-2, 3))
         if not f:
             b = j = 0
@@ -28,7 +29,7 @@ def points(count, proof):
 
 def states(count, proof):
     for q, u, b, j, f, _ in points(count, proof):
-        if not (b or j) or q * b + j >= 4:
+        if not (b or j) or 64 * (q * b + j) + f > xxh3_updates.SHORT:
             yield q, u, b, j, f
 
 
@@ -56,7 +57,7 @@ def without_update(cases, proof, count):
     for q, u, b, j, f, L in points(count, proof):
         point = variables(q, u, b, j, f, L)
         K, total = q * b + j, 64 * (q * b + j) + f + L
-        taken = 0 if f + L <= 512 else point["g"] + point["n"]
+        taken = 0 if f + L <= proof.room else point["g"] + point["n"]
         end = K + taken, total - 64 * (K + taken)
         if not any(has(point, [*of_case, *proof.facts], [(x, n) for x, n in zip(
                 (*start[0], start[1], length, *to[0], to[1]), (b, j, f, L, end[0] // q, end[0] % q, end[1]))])
@@ -124,5 +125,7 @@ def left_out(proof, count):
     """Returns the points that no case contains: of updates, digests, and functions that take stripes."""
     taken = [(xxh3_updates.TAKE.name, 0), (xxh3_updates.TAKE_MANY.name, xxh3_updates.MANY)]
     taken += [(xxh3_updates.TAKE_WIDENED.name, xxh3_updates.BLOCK)] * proof.is_widened()
-    return [*without_update(proof.all_updates(), proof, count), *without_digest(proof.digests(), proof, count),
-            *without_taken(proof.all_taken(), proof, taken, count)]
+    found = [*without_digest(proof.digests(), proof, count)] if xxh3_updates.DIGESTS in proof.KINDS else []
+    if xxh3_updates.STRIPES in proof.KINDS:
+        found += [*without_update(proof.all_updates(), proof, count), *without_taken(proof.all_taken(), proof, taken, count)]
+    return found

@@ -8,7 +8,7 @@ import collections
 import functools
 import itertools
 
-import table
+import specs
 from symbolic_terms import (LONGEST, LONGEST_SECRET, REFUSALS, Bytes, Input, NotShown, Poly, Request, at_most,
                             definition, given, minus, nodes, parts_of, plus, seed_symbol, suppositions, times, value_at,
                             variable)
@@ -207,7 +207,7 @@ class EveryLength(Cases):
         self.cpu.not_zero = [x for x in seed if not isinstance(x, int)] if self.way == "seed" else []
         ours = self.call(case, 64, 8, lambda k: lambda i: after(secret, message, i, k),
                          address(source), case.length, *handed, *seed)
-        return ours, self.texts[table.HASHES[self.hash_name]](seed[0] if seed else 0, secret, message)
+        return ours, self.texts[specs.HASHES[self.hash_name]](seed[0] if seed else 0, secret, message)
 
     def call(self, case, stripe, count, after, *arguments):
         ask = functools.partial(self.library.one_shot, self.cpu, self.hash_name, self.way, *arguments)

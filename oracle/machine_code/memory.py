@@ -162,12 +162,12 @@ def copy(to, source, n, may_overlap):
 
 
 def fill(to, byte, n):
-    """Performs memset of a whole number of 8-byte words."""
+    """Performs memset."""
     memory, at = place_of(to)
-    if not isinstance(byte, int) or not isinstance(n, int) or n % 8:
+    if not isinstance(byte, int) or not isinstance(n, int):
         raise Unsupported(f"{n} bytes of {byte}")
     for k in range(0, n, 8):
-        memory.store(at + k, 8, int.from_bytes(bytes([byte]) * 8, "little"))
+        memory.store(at + k, min(8, n - k), int.from_bytes(bytes([byte]) * min(8, n - k), "little"))
 
 
 def is_apart(a, b, n):

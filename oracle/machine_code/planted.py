@@ -9,8 +9,8 @@ import unittest.mock
 
 from symbolic_terms import REFUSALS, TOP, NotShown, Request, WrongRule, definition, nodes, operations, variable
 
-from . import (any_updates, calls, coverage, every_length, exports, on_processor, one_shots, streams, values,
-               xxh3_updates)
+from . import (any_updates, calls, coverage, every_length, exports, layouts, on_processor, one_shots, source_layouts,
+               streams, values, xxh3_states, xxh3_updates)
 from .instructions import TABLE, V1, V2
 from .objects import Program
 from .processor import Processor
@@ -22,6 +22,11 @@ Wrong = collections.namedtuple("Wrong", "what change ask words")
 
 
 # ---- changes of a source
+
+def field(at, register="%rdi"):
+    """Returns the operand of a place in a state, whose address a register has."""
+    return f"{at:#x}({register})"
+
 
 def begun(name, *lines):
     """Returns a change that inserts lines at the start of a function."""
@@ -52,7 +57,7 @@ def hidden_register(text):
     """Changes XXH64's reset and digest to read a caller's register."""
     text = begun("XXH64_reset", "xor %r11,%rsi")(text)
     function = text.index("\nXXH64_digest:")
-    old = "\tmov 0x8(%rdi),%r8\n"
+    old = f"\tmov {field(layouts.PLAIN['64'].seed)},%r8\n"
     return text[:function] + text[function:].replace(old, f"{old}\txor %r11,%r8\n", 1)
 
 
@@ -113,8 +118,8 @@ def whole_blocks(proof):
 
 
 far_case = of_every_length("3-64:seed", case=1)      # whole blocks have a separate function, from 31,744 bytes on
-any_blocks = proving(xxh3_updates.Xxh3Updates, whole_blocks)
-any_update = proving(xxh3_updates.Xxh3Updates, small_update)
+any_blocks = proving(xxh3_states.Through, whole_blocks)
+any_update = proving(xxh3_states.OwnSecret, small_update)
 
 
 def adds_where(word, register):
@@ -129,7 +134,7 @@ def adds_to(place):
 
 
 SEED_0 = begun("XXH3_64bits_withSeed", "test %rdx,%rdx", "jne 1f", "xor %eax,%eax", "ret", "1:")
-VERSION = "XXH_versionNumber"
+VERSION, WHOLE_STATE = "XXH_versionNumber", f"mov ${layouts.STATE.size:#x},%edx"
 FUNCTION = '.section .text.elsewhere,"ax",@progbits', ".type elsewhere,@function", "elsewhere:"
 END = ".size elsewhere,.-elsewhere",
 NEAR = "mov %rdi,%rax", "sub %rdx,%rax", "cmp $0x8,%rax", "jae 1f"      # tests if one address is just behind another
@@ -151,7 +156,7 @@ TEXTS = [
           request("3-64", "seed", 16), "another value"),
     Wrong("blocks that are taken wrongly from 2 ^ 20 on", FROM_MANY_BLOCKS, any_blocks, r"D \+ 1 == 1"),
     Wrong("a stream's accumulator that is another one from 2 ^ 40 bytes on",
-          begun("twox_c.xxh3_state.Xxh3State.update", "mov 0x258(%rdi),%rax", "shr $0x28,%rax",
+          begun("twox_c.xxh3_state.Xxh3State.update", f"mov {field(layouts.STATE.total_bytes)},%rax", "shr $0x28,%rax",
                 *adds_to("(%rdi)")),
           any_update, "the state at 0 is"),
     Wrong("the upper half of a hash that is lost", begun("XXH128_canonicalFromHash", "mov %esi,%esi"),
@@ -181,10 +186,10 @@ TEXTS = [
     Wrong("the red zone over a call", begun("XXH3_copyState", *SAVED, "sub $0x8,%rsp", "mov $0x10,%edx",
                                             "call memmove@PLT", "add $0x8,%rsp", *TAKEN), calls.copies,
           "byte .* of stack"),
-    Wrong("a call with the stack at no multiple of 16", begun("XXH3_copyState", "mov $0x380,%edx", "call memmove@PLT",
+    Wrong("a call with the stack at no multiple of 16", begun("XXH3_copyState", WHOLE_STATE, "call memmove@PLT",
                                                               "ret"), calls.copies, "no multiple of 16"),
     Wrong("a copy of bytes onto themselves", begun("XXH3_copyState", "push %rdi", "push %rsi", "mov %rdi,%rsi",
-                                                   "mov $0x380,%edx", "push %rax", "call memcpy@PLT", "pop %rax",
+                                                   WHOLE_STATE, "push %rax", "call memcpy@PLT", "pop %rax",
                                                    "pop %rsi", "pop %rdi"), calls.copies, "onto themselves"),
     Wrong("a store above the stack pointer of the caller", begun(VERSION, "movq $0x0,0x8(%rsp)"), calls.version,
           "the caller's frame"),
@@ -259,7 +264,7 @@ def lacks_a_case(room):
     updates = list(any_updates.updates("64"))
     with unittest.mock.patch.object(any_updates, "updates", lambda name: updates[:99] + updates[100:]):
         is_seen = bool(any_updates.left_out("64"))
-    proof = xxh3_updates.Xxh3Updates(processor(room))
+    proof = xxh3_states.Through(processor(room))
     pieces = list(proof.all_updates())
     is_missed = any(coverage.without_update(pieces[:67] + pieces[68:], proof, 300))
     return is_seen and is_missed and len(every_length.left_out(cases[:13] + cases[14:], 1101, 1024)) > 1
@@ -302,7 +307,18 @@ def raises(kind, call):
     return False
 
 
-CHECKS = [lacks_a_case, has_a_wrong_sum, has_a_wrong_join, has_a_wrong_table]
+def has_a_wrong_layout(_):
+    """Plants another offset of a field, in each layout."""
+    known = [layouts.STATE, layouts.CORE, layouts.RECORD, layouts.TAKEN, *layouts.PLAIN.values(), *layouts.PLAIN_RECORDS.values()]
+    for layout in known:
+        name = next(name for name in ("accumulator", "marked") if hasattr(layout, name))
+        with unittest.mock.patch.object(layout, name, getattr(layout, name) + 8):
+            if len(source_layouts.of_source()[1]) != 1:
+                return False
+    return True
+
+
+CHECKS = [lacks_a_case, has_a_wrong_sum, has_a_wrong_join, has_a_wrong_table, has_a_wrong_layout]
 ASKED = [Asked(wrong, SOURCE, lambda path: Processor(Program(path), V2)) for wrong in (*TEXTS, LONGEST)]
 
 

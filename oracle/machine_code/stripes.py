@@ -10,13 +10,15 @@ import functools
 from symbolic_terms import (REFUSALS, Input, NotShown, divided, given, is_natural, is_same_number, minus, moved, plus,
                             same, suppositions, times, variable)
 
+from . import layouts
 from .induction import Family, Proof
 from .memory import ENTRY
 from .values import Address
 
 # Consecutive stripes: the first place, their number, and the place behind them.
 Part = collections.namedtuple("Part", "start turns end")
-WORDS, PLACE, TAKEN = 64, 64, 72        # bytes of accumulators; offset of the position in a block; bytes of both
+WORDS = PLACE = layouts.TAKEN.current_stripe      # bytes of accumulators, behind which the position in a block lies
+TAKEN = layouts.TAKEN.size                        # bytes of both
 # For guessed iterations: stripes left, stripes to the block's end, and whether to run two iterations.
 GUESSES = (4, 2, True), (64, 8, True), (64, 4, False)
 DEEP = 2048                              # bytes of stack that a summarised function uses, at most

@@ -5,14 +5,14 @@ of calls in a recursion."""
 import functools
 
 import antt
-import table
+import specs
 
 from . import operations
 from .nodes import WrongRule, is_same, memo
 from .refusals import Undecided
 from .polynomials import Poly, is_number, is_natural, minus, monus, plus, smaller
 
-ENTRIES = table.ENTRIES + ["word64", "Xxh32.accumulator", "Xxh64.accumulator", "Long.accumulator_after"]
+ENTRIES = specs.ENTRIES + ["word64", "Xxh32.accumulator", "Xxh64.accumulator", "Long.accumulator_after"]
 RECURSIONS = "after_units", "accumulator_after"
 FARTHEST = 64            # calls in a recursion without a hypothesis
 
@@ -174,7 +174,7 @@ class Named(antt.Definitions):
 
 def read(crates=(), entries=()):
     """Returns the definitions, with those of further crates. Callers that change the text need their own copy."""
-    return antt.Program(Named(table.TOP, [*table.CRATES, *crates]), [*ENTRIES, *entries])
+    return antt.Program(Named(specs.TOP, [*specs.CRATES, *crates]), [*ENTRIES, *entries])
 
 
 program = functools.cache(read)      # the same, read once
@@ -182,7 +182,7 @@ program = functools.cache(read)      # the same, read once
 
 def value(entries, hash_name, kind, seed, secret, message):
     """Returns the definition's value, by the rule of table.Case.ask: `kind` is seed, default, secret or both."""
-    entry = entries[table.HASHES[hash_name]]
+    entry = entries[specs.HASHES[hash_name]]
     if hash_name in ("32", "64"):
         return entry(seed, message)
     if kind == "secret":

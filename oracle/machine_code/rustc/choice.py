@@ -6,6 +6,7 @@ import functools
 from symbolic_terms import (LONGEST_SECRET, Input, NotShown, Piece, Request, at_most, definition, given, is_same,
                             is_same_number, minus, plus, seed_symbol, symbol, variable)
 
+from .. import layouts
 from ..cargo import LONGEST_WITHOUT, SHORTEST
 from ..one_shots import value_of
 from ..values import address, place_of
@@ -26,7 +27,8 @@ OF_V4 = {"AVX512F": (SEVENTH, EBX, 16), "AVX512DQ": (SEVENTH, EBX, 17), "AVX512C
          "saved upper halves": (SAVED, EAX, 6), "saved upper registers": (SAVED, EAX, 7)}
 NUMBERS = {"x86-64": 0, "x86-64-v3": 1, "x86-64-v4": 2}     # of the variants of `Level`
 LONGEST_SLICE = (1 << 63) - 1
-FILLED, ROOM = 200, 312           # buffered bytes of a stream, and bytes that still fit
+FILLED = 200                      # buffered bytes of a stream
+ROOM = layouts.CORE.room - FILLED              # and bytes that still fit
 SWITCH = 2048                     # bytes of a chunk from which on the code for x86-64-v4 is called
 
 

@@ -11,7 +11,7 @@ import collections
 import functools
 import re
 
-from symbolic_terms import Unsupported
+from symbolic_terms import Unsupported, is_natural, is_number, is_same_number, minus
 from symbolic_terms.memory import Unset
 
 from .. import lanes
@@ -22,6 +22,7 @@ from ..objects import PC32, PLT32, Instruction, Program, Register, split
 from ..processor import Processor
 from ..scalar import binary, compare, divide, move, step, test, whole_product
 from ..values import address, low
+from ..stream_state import State
 from .library import ForRust
 
 TABLES = lanes,                   # imported because it fills the table of instructions
@@ -158,7 +159,7 @@ OWN = {(LOAD, "q"): load_address, (CALL, "q"): call_function, ("cpuid", ""): ask
        **{key: with_operands(function) for key, function in {
            ("add", "qm"): binary("add", "add"), ("sub", "qm"): binary("sub", "sub"), ("cmpb", "im"): compare,
            ("divl", "m"): divide, ("divq", "m"): divide, ("mulq", "m"): whole_product, ("dec", "b"): step,
-           ("mov", "ib"): move, ("testl", "im"): test, ("or", "ib"): binary("or", "logic")}.items()}}
+           ("testl", "im"): test, ("or", "ib"): binary("or", "logic")}.items()}}
 
 
 @functools.cache
@@ -195,11 +196,12 @@ class Allocator:
         raise Unsupported(f"a call of the allocator's {name}")
 
     def allocate(self, size, alignment, is_zero):
-        if not isinstance(size, int) or not isinstance(alignment, int) or not size:
+        is_known = isinstance(size, int)
+        if not isinstance(alignment, int) or is_zero and not is_known or not is_number(size) or not is_natural(minus(size, 1)):
             raise Unsupported(f"memory of {size} bytes")
-        cells = [(at, 1, 0 if is_zero else self.cpu.fresh("a byte", 8)) for at in range(size)]
+        cells = [(at, 1, 0 if is_zero else self.cpu.fresh("a byte", 8)) for at in range(size)] if is_known else []
         self.count += 1
-        block = Words(f"block {self.count}", size, cells, alignment=alignment)
+        block = State(f"block {self.count}", size, cells, [], (0, 0), alignment)
         self.blocks.append((block, alignment))
         self.cpu.live = [*self.cpu.live, block]
         return block
@@ -207,7 +209,7 @@ class Allocator:
     def free(self, place, size, alignment):
         memory, at = place.place()
         found = [pair for pair in self.blocks if pair[0] is memory]
-        if not found or (at, size, alignment) != (0, memory.length, found[0][1]):
+        if not found or (at, alignment) != (0, found[0][1]) or not is_same_number(size, memory.length):
             raise Unsupported(f"a release of {size} bytes at {at} of {memory.name}")
         self.blocks.remove(found[0])
         self.cpu.live = [other for other in self.cpu.live if other is not memory]

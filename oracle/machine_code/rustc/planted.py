@@ -5,9 +5,9 @@ import re
 
 from symbolic_terms import REFUSALS, Request, WrongRule, comparison, definition
 
-from .. import any_updates, every_length, one_shots
+from .. import any_updates, every_length, one_shots, xxh3_updates
 from ..tasks import count_shown
-from . import choice, uses
+from . import choice, uses, xxh3_streams
 from .inductions import RustUpdates, cases_of
 from .library import ways
 
@@ -16,6 +16,8 @@ LEVELS = {"Base": 1, "V3": 2, "V4": 3}
 TAKEN = "            self.write(stripe);\n            {}rest = after;"
 SMALL = "return finalize.small(default_secret(), {}, &self.short[..self.used]);"
 SCRAMBLE = "v.round_scramble(&mut sums, secret.last_stripe());"
+MINIMUM = "if secret.as_ref().len() >= SECRET_MINIMUM_LENGTH{} {{"
+CUT = "if self.total_bytes <= CUTOFF.into_u64(){} {{"
 TURNED = "(product)\n        .rotate_left({})"
 
 # A fault: its build, with a remark if another fault would hide it there; the file, the old and the new text; what detects
@@ -66,6 +68,12 @@ def lost_total(hash_name):
     return ask
 
 
+def raw_digests(make):
+    """Returns the digests of a `RawHasher` that aren't shown."""
+    proof = xxh3_streams.RawStreams(make(LEVELS["Base"]))
+    return count_shown(proof, proof.queries(xxh3_updates.DIGESTS)[-8:])[1]
+
+
 DIFFERS, WRONG_CHUNK = "by the definition and", r"write_u64 after \d+ bytes"
 
 RAW_INTEGERS = functools.partial(uses.integers, only="raw_given")
@@ -93,6 +101,10 @@ FAULTS = [
     Fault("assembly", "xxhash3.rs", "Self::with_seed(seed, room).ok().unwrap()",
           "Self::with_seed(seed ^ 1, room).ok().unwrap()",
           stream("3-128", "seed", "raw_boxed_3_128_", "allocate_with_seed", 300), "stream seed 300 bytes"),
+    Fault("assembly", CORE + "streaming/secret_buffer.rs", MINIMUM.format(""), MINIMUM.format(" || secret.as_ref().len() == 100"),
+          on(uses.refused), "== 100"),
+    Fault("assembly", CORE + "streaming/stream_counts.rs", CUT.format(""), CUT.format(" || self.total_bytes > 1 << 40"),
+          raw_digests, "the order of|== 0|<|another value"),
     Fault("scalar", "lib.rs", "            self.0.finish()\n", "            self.0.finish() ^ 1\n",
           stream("64", "seed", "xxh64_", "start", 36), "stream seed 36 bytes"),
     Fault("scalar", ERASED + "twox_plain/xxhash64/state.rs", "self.total_len.saturating_add(input.len().into_u64())",

@@ -1,15 +1,16 @@
 """Chooses the tasks of oracle/rust-object: the crate's public calls in rustc's object, compared with the definition."""
 import functools
+import itertools
 import re
 
 from symbolic_terms import comparison, cuts
 from symbolic_terms.comparison import title_of
 
-from .. import any_updates, every_length
+from .. import any_updates, every_length, xxh3_updates
 from ..instructions import V1, V3
 from ..one_shots import is_plain
 from ..tasks import SOME_SHORT, UPDATE_PARTS, any_streams, compared, count_shown, counted, of_each
-from . import choice, names, planted, uses
+from . import choice, names, planted, uses, xxh3_streams
 from .compilers import ASSEMBLY, SCALAR_BUILD
 from .inductions import RustUpdates, cases_of, of_any_secret
 from .objects import LEVELS
@@ -21,11 +22,12 @@ FEW = [0, 3, 7, 16, 33, 100, 129, 240, 241, 300]
 LONG = [1024, 1025, 3137]         # bytes: the edge of a block, and more than two blocks
 SOME_KINDS = [("3-64", "default", None), ("3-128", "secret", 136)]      # of long one-shots, without --all
 STREAMED = [3, 8, 17, 33, 70]
-SOME_CASES, SOME_OF_XXH3, SOME_UPDATES = 16, 32, 389      # steps between cases of the inductions, without --all
+SOME_CASES, SOME_OF_XXH3, SOME_UPDATES, SOME_OF_RAW = 16, 32, 389, 7      # steps between cases of the inductions, without --all
 LONGER = {"32": range(301, 2001), "64": range(301, 2001), "3-64": range(301, 1101), "3-128": range(301, 1101)}
 # The levels of each build: x86-64 has a choice of AVX2, and the assembly source of three instruction sets.
 OF_BUILD = {V1: (1, 2), V3: (2,), SCALAR_BUILD: (1,), ASSEMBLY: tuple(LEVELS)}
 FEWEST_USES, FEWEST_NAMES = 90, 40
+FEWEST_OF_RAW = {xxh3_updates.UPDATES: 80, xxh3_updates.DIGESTS: 300}
 # Exports that no task calls, with the reason.
 NOT_CALLED = {f"xxh{name}_equal": "instructions that the processor's model lacks" for name in ("32", "64")}
 
@@ -140,6 +142,20 @@ def called_tasks(name, make, program, made, is_all):
     if name == ASSEMBLY:
         yield of_each(made, "assembly: one-shots of XXH3 of any length above 240 bytes", 10, choice.long_inputs)
         yield of_each(made, "assembly: chunks of XXH3 of any length that don't fit the buffer", 58, choice.long_chunks)
+        yield from raw_stream_tasks(name, first, make, is_all)
+
+
+def raw_stream_tasks(name, level, make, is_all):
+    """Yields the tasks of streams of `RawHasher` over a secret of the caller, with any updates: all cases, or a sample."""
+    each = 1 if is_all else SOME_OF_RAW
+    for width, what in itertools.product(xxh3_updates.WIDTHS, xxh3_streams.RawStreams.KINDS):
+        yield counted(f"{name}, {level}: streams of XXH3-{width} by a RawHasher: {what}, to 2^64 - 1 bytes", FEWEST_OF_RAW[what] // each,
+                      functools.partial(raw_streams, make, width, what, each))
+
+
+def raw_streams(make, width, what, each):
+    proof = xxh3_streams.RawStreams(make(), width)
+    return count_shown(proof, proof.queries(what)[::each])
 
 
 def all_called(make, program, is_all):

@@ -2,13 +2,16 @@
 an update. A call that succeeds must write its value; a refused one must write nothing."""
 from symbolic_terms import Memory, Node, Piece, Unsupported
 
+from .. import layouts
 from .values import address
 
 DONE, SECRET_TOO_SHORT, NOT_A_STREAM = 0, 1, 2
 BYTES = {"32": 4, "64": 8, "3-64": 8, "3-128": 16}          # of a hash
 WAYS = {"default": "", "seed": "_with_seed", "secret": "_with_secret", "both": "_with_seed_and_secret"}
-RECORDS = {"xxh32": 56, "xxh64": 88, "xxh3": 624}           # bytes of a stream's record, as documented
-PADDING = {"xxh32": range(44, 48)}                          # bytes that the JavaScript sets to 0 in a saved state
+OF_32 = layouts.PLAIN_RECORDS["32"]
+# Layouts of streams' records, and bytes that the JavaScript sets to 0 in a saved state.
+RECORDS = {"xxh32": OF_32, "xxh64": layouts.PLAIN_RECORDS["64"], "xxh3": layouts.RECORD}
+PADDING = {"xxh32": range(OF_32.buffer + OF_32.room, OF_32.marked)}
 DERIVED = 192                                               # bytes of the secret derived from a seed
 
 
@@ -92,7 +95,7 @@ def expect_kept(what, memory, cells):
 
 class Page:
     """Calls the exports for streams like a page's JavaScript. `vm.loops` proves loops."""
-    SIZES = {"32": RECORDS["xxh32"], "64": RECORDS["xxh64"], "3": RECORDS["xxh3"]}
+    SIZES = {name[3:]: layout.size for name, layout in RECORDS.items()}
 
     @staticmethod
     def of_stream(state):
@@ -127,7 +130,7 @@ class Stream:
     def __init__(self, vm, request):
         self.vm, self.request, self.family = vm, request, family(request.hash_name)
         size, = vm.call(f"twox_{self.family}_stream_size", [])
-        if size != RECORDS[self.family]:
+        if size != RECORDS[self.family].size:
             raise Unsupported(f"a record of {size} bytes")
         self.record, self.derived = anything(vm, "the record", size), None
         self.secret = of_secret(request)

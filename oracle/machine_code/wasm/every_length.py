@@ -5,7 +5,7 @@ XXH32 and XXH64: stripe * a + r bytes, r a number. XXH3 above 240 bytes: 64 q B 
 secrets, of 64 + 8 q + u bytes, u < 8, J is symbolic, and q is a number below 16, or symbolic and at least 17."""
 import collections
 
-import table
+import specs
 from symbolic_terms import (Bytes, NotShown, Request, at_most, given, minus, nodes, plus, seed_symbol, suppositions,
                             times, variable)
 
@@ -159,7 +159,7 @@ class Proof(Cases):
             return lambda i: accumulator(secret, message, i, k)
         name = f"XXH{hash_name}, {way}, of {n} bytes"
         loops = family(name, after, lambda k, values: suppositions.suppose(after(k), values))
-        self.expect(name, self.call(loops, request), self.texts[table.HASHES[hash_name]](seed, secret, message))
+        self.expect(name, self.call(loops, request), self.texts[specs.HASHES[hash_name]](seed, secret, message))
 
     def short(self, hash_name, way, n):
         """Proves n bytes, n <= 240, with a secret of any length."""

@@ -8,14 +8,14 @@ import functools
 
 from symbolic_terms import at_most, minus, plus, times, variable
 
-from ..any_updates import AnyUpdates, Layout
+from .. import layouts
+from ..any_updates import AnyUpdates
 from . import calls, every_length
 from .induction import proved
 
 
 class PlainStreams(AnyUpdates):
-    LAYOUTS = {"32": Layout((12, 16, 20, 24), 8, 48, 0, 28, 0), "64": Layout((16, 24, 32, 40), 8, 80, 0, 48, 0)}
-    MARKED, library = 8, calls.Page            # the number of buffered bytes, without a mark
+    LAYOUTS, MARKED, library = layouts.PLAIN_RECORDS, 8, calls.Page      # the number of buffered bytes, without a mark
     longest = (1 << 64) - 2                    # bytes of a stream, up to which its length is exact
 
     def __init__(self, vm, hash_name):

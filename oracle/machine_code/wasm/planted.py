@@ -3,7 +3,7 @@ import functools
 
 from symbolic_terms import REFUSALS, Poly, Request, is_same, is_same_number, variable
 
-from .. import coverage
+from .. import coverage, layouts
 from ..xxh3_updates import TAKE, TAKE_MANY
 from . import calls, every_length, refusals
 from .assembler import assembled, unsigned
@@ -104,7 +104,7 @@ def tell(machines):
 
 # ---- streams of XXH3 of any updates
 
-FULL = "; ".join(["local.get 0; i32.wrap_i64; i64.load 592; i64.const 512; i64.eq", "if",
+FULL = "; ".join([f"local.get 0; i32.wrap_i64; i64.load {layouts.CORE.buffer_usage}; i64.const {layouts.CORE.room}", "i64.eq; if",
                   "local.get 0; i32.wrap_i64; i64.const 1; i64.store 0", "end"])
 
 

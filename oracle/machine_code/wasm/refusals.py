@@ -15,38 +15,39 @@ FEW, TAKEN = 64, (0, 300, 700)    # bytes of a chunk, up to which an update has 
 XXH3 = "3-64", "3-128"
 # Invalid records: hash, bytes of the stream, title, and fields that don't fit these: (offset, size, value), ..
 MOST = 2 ** 64 - 1
-LOST = 0, 8, MOST             # the saturated length
+LOST = calls.RECORDS["xxh64"].total, 8, MOST             # the saturated length
 # Offsets of a record's counters, of bytes and of stripes.
-COUNTERS = {"32": [0], "64": [0], "3-64": [616, 88], "3-128": [616, 88]}
+OF_32, OF_64, OF_3 = calls.RECORDS.values()
+COUNTERS = {"32": [OF_32.total], "64": [OF_64.total], **dict.fromkeys(XXH3, [OF_3.total_bytes, OF_3.count])}
 PIECES = 5, 40, 200, 600, 3000
 WRONG_RECORDS = [
-    ("32", 5, "fewer bytes wait", (48, 8, 4)), ("32", 5, "more bytes wait", (48, 8, 6)),
-    ("32", 5, "a whole stripe waits", (48, 8, 16)), ("32", 5, "2^32 bytes more wait", (48, 8, 5 + 2 ** 32)),
-    ("32", 5, "another length", (0, 8, 4)), ("32", 5, "an accumulator, with no stripe", (12, 4, 1)),
-    ("32", 5, "the last accumulator, with no stripe", (24, 4, 1)), ("32", 5, "another seed", (8, 4, 8)),
-    ("32", 15, "an accumulator, just below a stripe", (12, 4, 1)),
-    ("64", 31, "an accumulator, just below a stripe", (16, 8, 1)),
-    ("32", 5, "a length that is lost, and a whole stripe waits", (48, 8, 16), LOST),
-    ("32", 5, "a length that is lost, and 2^63 bytes wait", (48, 8, 2 ** 63), LOST),
-    ("64", 5, "a length that is lost, and a whole stripe waits", (80, 8, 32), LOST),
-    ("64", 5, "a length that is lost, and 2^63 bytes wait", (80, 8, 2 ** 63), LOST),
-    ("64", 5, "fewer bytes wait", (80, 8, 4)), ("64", 5, "more bytes wait", (80, 8, 6)),
-    ("64", 5, "a whole stripe waits", (80, 8, 32)), ("64", 5, "another length", (0, 8, 2 ** 63 + 4)),
-    ("64", 5, "an accumulator, with no stripe", (16, 8, 1)), ("64", 5, "the last accumulator, with no stripe", (40, 8, 1)),
-    ("64", 5, "another seed", (8, 8, 8)), ("64", 40, "fewer bytes wait", (80, 8, 7)),
-    ("3-64", 5, "no byte waits", (608, 8, 0)), ("3-64", 5, "more bytes wait than there is room", (608, 8, 513)),
-    ("3-64", 5, "another length", (616, 8, 6)), ("3-64", 5, "2^63 bytes more", (616, 8, 5 + 2 ** 63)),
-    ("3-64", 5, "a stripe more", (88, 8, 1)), ("3-64", 5, "an accumulator, with no stripe", (16, 8, 1)),
-    ("3-64", 5, "the last accumulator, with no stripe", (72, 8, 1)), ("3-64", 5, "a place in the block", (80, 8, 1)),
-    ("3-64", 700, "a place behind the secret", (80, 8, 16)), ("3-64", 700, "no byte waits", (608, 8, 0)),
-    ("3-64", 700, "another length", (616, 8, 699)), ("3-64", 700, "a stripe fewer", (88, 8, 6)),
-    ("3-64", 5, "513 bytes are said to wait and to have been taken", (608, 8, 513), (616, 8, 513)),
+    ("32", 5, "fewer bytes wait", (OF_32.marked, 8, 4)), ("32", 5, "more bytes wait", (OF_32.marked, 8, 6)),
+    ("32", 5, "a whole stripe waits", (OF_32.marked, 8, 16)), ("32", 5, "2^32 bytes more wait", (OF_32.marked, 8, 5 + 2 ** 32)),
+    ("32", 5, "another length", (OF_32.total, 8, 4)), ("32", 5, "an accumulator, with no stripe", (OF_32.accumulators[0], 4, 1)),
+    ("32", 5, "the last accumulator, with no stripe", (OF_32.accumulators[3], 4, 1)), ("32", 5, "another seed", (OF_32.seed, 4, 8)),
+    ("32", 15, "an accumulator, just below a stripe", (OF_32.accumulators[0], 4, 1)),
+    ("64", 31, "an accumulator, just below a stripe", (OF_64.accumulators[0], 8, 1)),
+    ("32", 5, "a length that is lost, and a whole stripe waits", (OF_32.marked, 8, 16), LOST),
+    ("32", 5, "a length that is lost, and 2^63 bytes wait", (OF_32.marked, 8, 2 ** 63), LOST),
+    ("64", 5, "a length that is lost, and a whole stripe waits", (OF_64.marked, 8, 32), LOST),
+    ("64", 5, "a length that is lost, and 2^63 bytes wait", (OF_64.marked, 8, 2 ** 63), LOST),
+    ("64", 5, "fewer bytes wait", (OF_64.marked, 8, 4)), ("64", 5, "more bytes wait", (OF_64.marked, 8, 6)),
+    ("64", 5, "a whole stripe waits", (OF_64.marked, 8, 32)), ("64", 5, "another length", (OF_64.total, 8, 2 ** 63 + 4)),
+    ("64", 5, "an accumulator, with no stripe", (OF_64.accumulators[0], 8, 1)), ("64", 5, "the last accumulator, with no stripe", (OF_64.accumulators[3], 8, 1)),
+    ("64", 5, "another seed", (OF_64.seed, 8, 8)), ("64", 40, "fewer bytes wait", (OF_64.marked, 8, 7)),
+    ("3-64", 5, "no byte waits", (OF_3.buffer_usage, 8, 0)), ("3-64", 5, "more bytes wait than there is room", (OF_3.buffer_usage, 8, 513)),
+    ("3-64", 5, "another length", (OF_3.total_bytes, 8, 6)), ("3-64", 5, "2^63 bytes more", (OF_3.total_bytes, 8, 5 + 2 ** 63)),
+    ("3-64", 5, "a stripe more", (OF_3.count, 8, 1)), ("3-64", 5, "an accumulator, with no stripe", (OF_3.accumulator, 8, 1)),
+    ("3-64", 5, "the last accumulator, with no stripe", (OF_3.accumulator + 56, 8, 1)), ("3-64", 5, "a place in the block", (OF_3.current_stripe, 8, 1)),
+    ("3-64", 700, "a place behind the secret", (OF_3.current_stripe, 8, 16)), ("3-64", 700, "no byte waits", (OF_3.buffer_usage, 8, 0)),
+    ("3-64", 700, "another length", (OF_3.total_bytes, 8, 699)), ("3-64", 700, "a stripe fewer", (OF_3.count, 8, 6)),
+    ("3-64", 5, "513 bytes are said to wait and to have been taken", (OF_3.buffer_usage, 8, 513), (OF_3.total_bytes, 8, 513)),
 ]
 # More, each after the length of its secret, or None. Only changes that nothing else detects are tested with these.
-NO_BYTE_WAITS = "3-64", 700, "no byte waits, and the length is that of the stripes", (608, 8, 0), (616, 8, 576)
+NO_BYTE_WAITS = "3-64", 700, "no byte waits, and the length is that of the stripes", (OF_3.buffer_usage, 8, 0), (OF_3.total_bytes, 8, 576)
 OWN_SECRET = 140
 MORE_WRONG_RECORDS = [(None, *NO_BYTE_WAITS), (OWN_SECRET, *NO_BYTE_WAITS),
-                      (OWN_SECRET, "3-64", 700, "a place behind a secret of 4 bytes more than stripes", (80, 8, 9))]
+                      (OWN_SECRET, "3-64", 700, "a place behind a secret of 4 bytes more than stripes", (OF_3.current_stripe, 8, 9))]
 
 
 def short_secret(n):
