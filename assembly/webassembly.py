@@ -117,7 +117,7 @@ def with_functions_inlined(module):
     def inlined(head):
         return f'{head[1]} {head[2]} optsize {{' if f'@"{APART}"(' in head[1] else f'{head[1]} {always} {{'
     module, count = INLINED.subn(inlined, module)
-    if count != module.count('"wasm-export-name"=') + 1 or module.count(' optsize {') != 1:
+    if count != module.count('"wasm-export-name"=') + 2 or module.count(' optsize {') != 1:
         stop(f'this module has {count} functions that are to be inlined')
     module, count = OF_TRAIT.subn(rf'\1 {always} {{', module)
     if count != 1:
