@@ -50,7 +50,7 @@ pub fn oneshot(input: &[u8]) -> Wide {
     } else if input.len() <= 128 {
         oneshot_65_to_128(input)
     } else if input.len() <= CUTOFF {
-        impl_129_to_240_bytes(default_secret(), DEFAULT_SEED, input)
+        oneshot_129_to_240(input)
     } else {
         oneshot_long(default_secret(), input)
     }
@@ -59,6 +59,11 @@ pub fn oneshot(input: &[u8]) -> Wide {
 #[inline(never)]
 fn oneshot_65_to_128(input: &[u8]) -> Wide {
     impl_65_to_128_bytes(default_secret(), DEFAULT_SEED, input)
+}
+
+#[inline(never)]
+fn oneshot_129_to_240(input: &[u8]) -> Wide {
+    impl_129_to_240_bytes(default_secret(), DEFAULT_SEED, input)
 }
 
 /// Returns the value with a seed: up to 240 bytes with the default secret, above that with the one derived from the
@@ -72,7 +77,7 @@ pub fn oneshot_with_seed(seed: u64, input: &[u8]) -> Wide {
     } else if input.len() <= 128 {
         oneshot_with_seed_65_to_128(input, seed)
     } else if input.len() <= CUTOFF {
-        impl_129_to_240_bytes(default_secret(), seed, input)
+        oneshot_with_seed_129_to_240(input, seed)
     } else {
         oneshot_long_with_seed(seed, input)
     }
@@ -82,6 +87,11 @@ pub fn oneshot_with_seed(seed: u64, input: &[u8]) -> Wide {
 #[inline(never)]
 fn oneshot_with_seed_65_to_128(input: &[u8], seed: u64) -> Wide {
     impl_65_to_128_bytes(default_secret(), seed, input)
+}
+
+#[inline(never)]
+fn oneshot_with_seed_129_to_240(input: &[u8], seed: u64) -> Wide {
+    impl_129_to_240_bytes(default_secret(), seed, input)
 }
 
 /// Returns the value with a secret and the seed 0.
@@ -94,7 +104,7 @@ pub fn oneshot_with_secret(secret: Secret<'_>, input: &[u8]) -> Wide {
     } else if input.len() <= 128 {
         oneshot_with_secret_65_to_128(input, secret)
     } else if input.len() <= CUTOFF {
-        impl_129_to_240_bytes(secret, DEFAULT_SEED, input)
+        oneshot_with_secret_129_to_240(input, secret)
     } else {
         oneshot_long(secret, input)
     }
@@ -103,6 +113,11 @@ pub fn oneshot_with_secret(secret: Secret<'_>, input: &[u8]) -> Wide {
 #[inline(never)]
 fn oneshot_with_secret_65_to_128(input: &[u8], secret: Secret<'_>) -> Wide {
     impl_65_to_128_bytes(secret, DEFAULT_SEED, input)
+}
+
+#[inline(never)]
+fn oneshot_with_secret_129_to_240(input: &[u8], secret: Secret<'_>) -> Wide {
+    impl_129_to_240_bytes(secret, DEFAULT_SEED, input)
 }
 
 /// Returns the value above 240 bytes, with a secret. No seed is used, so it is the value for every seed.
@@ -209,8 +224,13 @@ pub fn oneshot_short(secret: Secret<'_>, seed: u64, input: &[u8]) -> Wide {
     } else if input.len() <= 128 {
         impl_65_to_128_bytes(secret, seed, input)
     } else {
-        impl_129_to_240_bytes(secret, seed, input)
+        short_129_to_240(secret, seed, input)
     }
+}
+
+#[inline(never)]
+fn short_129_to_240(secret: Secret<'_>, seed: u64, input: &[u8]) -> Wide {
+    impl_129_to_240_bytes(secret, seed, input)
 }
 
 #[inline(always)]
@@ -373,7 +393,8 @@ fn mix_last(accumulators: Accumulators, secret: Secret<'_>, seed: u64, input: &[
     finalize_medium(accumulators, input.len().into_u64(), seed)
 }
 
-#[inline]
+// Inlined into a function for each kind of call, since a known seed of 0 saves two steps in each product.
+#[inline(always)]
 fn impl_129_to_240_bytes(secret: Secret<'_>, seed: u64, input: &[u8]) -> Wide {
     expect_middle(input, secret);
     let pairs = pairs_of_u64_bytes(input);
