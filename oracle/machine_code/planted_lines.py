@@ -77,7 +77,7 @@ IN_CARGO = [
     ("a guard that GNU as alone knows", put(".ifndef .gasversion.", place=GUARD)),
     ("a guard by a name that the text hasn't", put(".ifndef memcpy", place=GUARD)),
     ("a guard by a function that isn't weak", put(".ifndef twox_plain.xxhash32.rounds.products_of_block.i5", place=GUARD)),
-    ("a second guard", put(".ifndef twox_rust_6_more", ".endif", place=r"(?<=\n)(?=\t\.section)")),
+    ("a second guard", put(".ifndef twox_rust_7_more", ".endif", place=r"(?<=\n)(?=\t\.section)")),
     ("a weak name that isn't hidden", put(place=r"\t\.hidden .*\n")),
 ]
 IN_ARM = [

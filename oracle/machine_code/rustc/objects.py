@@ -159,7 +159,7 @@ OWN = {(LOAD, "q"): load_address, (CALL, "q"): call_function, ("cpuid", ""): ask
        **{key: with_operands(function) for key, function in {
            ("add", "qm"): binary("add", "add"), ("sub", "qm"): binary("sub", "sub"), ("cmpb", "im"): compare,
            ("divl", "m"): divide, ("divq", "m"): divide, ("mulq", "m"): whole_product, ("dec", "b"): step,
-           ("mov", "ib"): move, ("testl", "im"): test, ("or", "ib"): binary("or", "logic")}.items()}}
+           ("testl", "im"): test, ("or", "ib"): binary("or", "logic")}.items()}}
 
 
 @functools.cache

@@ -103,7 +103,7 @@ FAULTS = [
           stream("3-128", "seed", "raw_boxed_3_128_", "allocate_with_seed", 300), "stream seed 300 bytes"),
     Fault("assembly", CORE + "streaming/secret_buffer.rs", MINIMUM.format(""), MINIMUM.format(" || secret.as_ref().len() == 100"),
           on(uses.refused), "== 100"),
-    Fault("assembly", CORE + "streaming/core_state.rs", CUT.format(""), CUT.format(" || self.total_bytes > 1 << 40"),
+    Fault("assembly", CORE + "streaming/stream_counts.rs", CUT.format(""), CUT.format(" || self.total_bytes > 1 << 40"),
           raw_digests, "the order of|== 0|<|another value"),
     Fault("scalar", "lib.rs", "            self.0.finish()\n", "            self.0.finish() ^ 1\n",
           stream("64", "seed", "xxh64_", "start", 36), "stream seed 36 bytes"),
