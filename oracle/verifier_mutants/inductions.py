@@ -132,7 +132,7 @@ def places_of_v4(cpu):
 
 def states(_):
     """Tests the states at which digests are tested: no stripes, or more than 240 bytes."""
-    proof = types.SimpleNamespace(has_long_blocks=lambda: False, longest_secret=256, longest_piece=1 << 40, room=512, whole=8)
+    proof = types.SimpleNamespace(q=None, longest_secret=1 << 60, longest_piece=1 << 40, room=512, whole=8)
     found = list(coverage.states(90, proof))
     expect(len(found) > 60, True, "the number of states")
     expect(all(not (b or j) or 64 * (q * b + j) + f > 240 for q, _, b, j, f in found), True, "the stripes of a state")
