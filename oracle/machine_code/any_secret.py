@@ -46,7 +46,7 @@ class AnySecret(Xxh3Updates):
         self.begin(n)
         seed = [symbol("seed64", 64)] if way == "both" else []
         parts = [Part((0, 0), times(self.q, B), (B, 0)), Part((B, 0), J, (B, J))]
-        with given(*self.facts_of_any(), *case.facts, at_most(n, LONGEST)):
+        with given(*self.facts, *case.facts, at_most(n, LONGEST)):
             ask = functools.partial(self.cpu.library.one_shot, self.cpu, f"3-{width}", way)
             value = self.run([], ask, parts, address(self.source), n, address(self.secret_source), self.secret_length,
                              *seed, summaries=[TAKE])

@@ -4,8 +4,8 @@ import functools
 import itertools
 import random
 
-from symbolic_terms import (Bytes, Input, NotShown, Request, at_most, definition, given, is_same, minus, nodes, plus, symbol,
-                            times, variable)
+from symbolic_terms import (LONGEST_SECRET, Bytes, Input, NotShown, Request, at_most, definition, given, is_same, minus, nodes,
+                            plus, symbol, times, variable)
 
 from . import layouts, one_shots, streams
 from .memory import Numbers, OnlyRead, Words
@@ -13,8 +13,7 @@ from .streams import ERROR, OK, contents, digest, expect_answer, expect_same, ne
 from .values import address, arithmetic, bits, low
 
 WIDTHS = {"XXH32": 32, "XXH64": 64, "XXH128": 128}
-AT = layouts.STATE                      # of XXH3
-SHORTEST, LONGEST_KEPT = 136, layouts.LONGEST_KEPT       # bytes of a secret: the minimum, and the longest that a state stores
+AT, SHORTEST = layouts.STATE, 136       # the layout of XXH3's states; bytes of a secret
 # A message and a secret in one memory object: the offset and length of each.
 ONE_PLACE = [(0, 136, 0, 136), (0, 300, 0, 192), (64, 240, 0, 136), (0, 1100, 8, 200), (1, 17, 0, 136), (130, 16, 0, 136),
              (100, 700, 36, 143), (0, 129, 128, 136)]
@@ -116,32 +115,38 @@ def copies(cpu):
     return 3
 
 
-def marked(cpu, hash_name):
-    """Returns a state whose mark `forget` has removed, the offsets of the removed words, and their values."""
-    state = new_state(cpu, hash_name)
-    expect_answer(reset(cpu, Request(hash_name, "seed" if one_shots.is_plain(hash_name) else "default", 0), state), OK)
-    before = contents(state, 4)
-    cpu.call(f"twox_c_forget_xxh{streams.state_name(hash_name)}", address(state))
-    places = [4 * k for k, (x, y) in enumerate(zip(before, contents(state, 4))) if not is_same(x, y)]
-    if not places:
-        raise NotShown("forget changes nothing")
-    return state, places, [before[place // 4] for place in places]
+def mark_of(hash_name):
+    """Returns the offset and the bytes of the mark of a state."""
+    return (layouts.PLAIN[hash_name].marked, 4) if one_shots.is_plain(hash_name) else (AT.mark, 8)
 
 
 def forgotten(cpu):
-    """Tests that a freed state is refused, and that `forget` changes only the mark."""
+    """Tests that a freed state is refused, also with a secret of the caller, and that `forget` changes only the mark."""
     for hash_name in ("32", "64", "3-64", "3-128"):
-        state, places, _ = marked(cpu, hash_name)
-        if len(places) > 2 or len(places) == 2 and (places[1] - places[0] != 4 or places[0] % 8):
-            raise NotShown(f"forget changes more than a word: {places}")
+        state, (at, n) = new_state(cpu, hash_name), mark_of(hash_name)
+        expect_answer(reset(cpu, Request(hash_name, "seed" if one_shots.is_plain(hash_name) else "default", 0), state), OK)
+        before = contents(state, 4)
+        cpu.call(f"twox_c_forget_xxh{streams.state_name(hash_name)}", address(state))
+        before[at // 4:(at + n) // 4] = contents(state, 4)[at // 4:(at + n) // 4]
+        expect_same("forgetting", before, state, 4)
         refused(cpu, hash_name, state)
-    return 4
+        if not one_shots.is_plain(hash_name):
+            secret, facts = callers_secret()
+            with given(*facts):
+                refused(cpu, hash_name, state, secret)
+    return 6
 
 
-def refused(cpu, hash_name, state):
+def callers_secret():
+    """Returns a secret of any length that isn't too short, with the facts of this length."""
+    length = plus(64, times(8, variable("q")), variable("u"))
+    return Input("s", length), [at_most(variable("u"), 7), minus(variable("q"), 9), at_most(length, LONGEST_SECRET)]
+
+
+def refused(cpu, hash_name, state, secret=None):
     """Tests that an update of any length and a digest of memory without a valid state return an error and 0, and change
-    nothing."""
-    before, n = contents(state), variable("n")
+    nothing. With a secret these are the calls for a state with a secret of the caller."""
+    before, n, state.secret = contents(state), variable("n"), secret
     with given(at_most(n, LIMITS[64])):
         for piece in (Input("m", n), None):
             expect_answer(update(cpu, hash_name, state, piece), ERROR)
@@ -149,29 +154,36 @@ def refused(cpu, hash_name, state):
     expect("a refused digest", digest(cpu, hash_name, state), 0)
 
 
+def forms():
+    """Yields the forms of states of XXH3: hash, marks, the caller's secret if there is one, with facts, and the stripes of a
+    block."""
+    for hash_name in ("3-64", "3-128"):
+        yield hash_name, layouts.OWN_MARKS, None, [], 16
+        yield hash_name, layouts.CALLERS_MARKS, *callers_secret(), variable("q")
+
+
 def without_mark(cpu):
-    """Tests memory with any content, and any word in the mark's place that isn't a mark: all below the first mark, and
-    all above the last."""
-    count = 0
-    for hash_name, marks in (("32", 16), ("64", 32), ("3-64", 1), ("3-128", 1)):
-        _, places, values = marked(cpu, hash_name)
-        width = 32 * len(places)
-        mark = sum(value << 32 * k for k, value in enumerate(values))
-        v = variable("v")
-        for word, most in ((v, mark - 1), (plus(v, mark, marks), LIMITS[width] - mark - marks)):
-            with given(at_most(v, most)):
+    """Tests memory with any content, and any word in the mark's place that isn't a mark: all below the first mark, between
+    two, and above the last."""
+    count, v = 0, variable("v")
+    plain = [(name, [(at.first_mark, at.room)], None, []) for name, at in layouts.PLAIN.items()]
+    for hash_name, marks, secret, facts in [*plain, *((name, [(mark, 1) for mark in sorted(marks)], secret, facts)
+                                                      for name, marks, secret, facts, _ in forms())]:
+        (at, n), first = mark_of(hash_name), 0
+        for mark, some in [*marks, (1 << 8 * n, 0)]:
+            with given(at_most(v, mark - first - 1), *facts):
                 state = new_state(cpu, hash_name)
-                state.store(places[0], width // 8, word)
-                refused(cpu, hash_name, state)
-                count += 1
+                state.store(at, n, plus(v, first))
+                refused(cpu, hash_name, state, secret)
+            first, count = mark + some, count + 1
     return count
 
 
-def invalid_fields(at):
-    """Yields the invalid fields of streams of XXH3 of a layout, with a secret of 64 + 8 q + u bytes: (offset, value), ..,
-    with facts: a position behind the secret's end, more buffered bytes than the buffer holds, or none although the total
-    isn't 0. All other fields are any words."""
-    v, q, w, most, room = *(variable(name) for name in "vqw"), LIMITS[64], at.room
+def invalid_fields(at, q):
+    """Yields the invalid fields of streams of XXH3 of a layout, with q stripes in a block: (offset, value), .., with facts: a
+    position behind the secret's end, more buffered bytes than the buffer holds, or none although the total isn't 0. All
+    other fields are any words."""
+    v, w, most, room = variable("v"), variable("w"), LIMITS[64], at.room
     usage, total = at.buffer_usage, at.total_bytes
     places = [(False, v, [minus(q, plus(v, 1))]), (True, plus(v, q), [at_most(plus(v, q), most)])]
     waiting = [(False, [(usage, 0), (total, 0)], []), (True, [(usage, 0), (total, plus(w, 1))], [at_most(w, most - 1)]),
@@ -182,63 +194,32 @@ def invalid_fields(at):
             yield [(at.current_stripe, place), *fields], [*of_place, *of_fields]
 
 
-def invalid_states():
-    """Yields the same for states of the C library, and those with a secret that is too short or too long."""
-    v, length = variable("v"), plus(64, times(8, variable("q")), variable("u"))
-    yield [(AT.secret_length, v)], [at_most(v, SHORTEST - 1)]
-    yield [(AT.secret_length, plus(v, LONGEST_KEPT + 1))], [at_most(v, LIMITS[64] - LONGEST_KEPT - 1)]
-    valid = [at_most(variable("u"), 7), minus(variable("q"), 9), at_most(length, LONGEST_KEPT)]
-    for fields, facts in invalid_fields(AT):
-        yield [(AT.secret_length, length), *fields], [*valid, *facts]
-
-
 def out_of_range(cpu):
-    """Tests states of XXH3 with a mark and fields that no call leaves."""
-    count = 0
-    for hash_name in ("3-64", "3-128"):
-        _, places, values = marked(cpu, hash_name)
-        for fields, facts in invalid_states():
+    """Tests states of XXH3 with a mark and fields that no call leaves, and secrets of the caller that are too short."""
+    count, v = 0, variable("v")
+    for hash_name, marks, secret, of_secret, q in forms():
+        asked = [(secret, fields, [*of_secret, *facts]) for fields, facts in invalid_fields(AT, q)]
+        if secret:
+            asked += [(Input("s", v), [], [at_most(v, SHORTEST - 1)])]
+        for mark, (given_secret, fields, facts) in itertools.product(marks, asked):
             with given(*facts):
                 state = new_state(cpu, hash_name)
-                for at, value in zip(places, values):
-                    state.store(at, 4, value)
-                for at, value in fields:
+                for at, value in [(AT.mark, mark), *fields]:
                     state.store(at, 8, value)
-                refused(cpu, hash_name, state)
+                refused(cpu, hash_name, state, given_secret)
                 count += 1
-    return count
-
-
-def counters_stay(cpu):
-    """Tests that a counter of bytes or of stripes saturates at 2 ^ 64 - 1."""
-    count, most, counters = 0, LIMITS[64], [AT.total_bytes, AT.count]
-    for hash_name, places in (*((name, [at.total]) for name, at in layouts.PLAIN.items()), ("3-64", counters), ("3-128", counters)):
-        for n in (5, 40, 200, 600, 3000):
-            state = new_state(cpu, hash_name)
-            request = Request(hash_name, "seed" if one_shots.is_plain(hash_name) else "default", 0)
-            expect_answer(reset(cpu, request, state), OK)
-            expect_answer(update(cpu, hash_name, state, Input("m", 5)), OK)
-            for at in places:
-                state.store(at, 8, most)
-            expect_answer(update(cpu, hash_name, state, Input("m", n)), OK)
-            for at in places:
-                expect(f"XXH{hash_name}, a counter after {n} bytes", state.load(at, 8), most)
-            count += 1
     return count
 
 
 def refused_resets(cpu):
-    """Tests that a reset refuses a secret of each invalid length. The state stays unchanged."""
-    count, v = 0, variable("v")
-    for hash_name, kind in itertools.product(("3-64", "3-128"), ("secret", "both")):
-        for length, most in ((v, SHORTEST - 1), (plus(v, LONGEST_KEPT + 1), LIMITS[64] - LONGEST_KEPT - 1)):
-            with given(at_most(v, most)):
-                state, request = new_state(cpu, hash_name), Request(hash_name, kind, 0, length)
-                before = contents(state)
-                expect_answer(reset(cpu, request, state), ERROR)
-                expect_same("a refused reset", before, state)
-                count += 1
-    return count
+    """Tests that a reset refuses a secret of each length that is too short. The state stays unchanged."""
+    for kind in ("secret", "both"):
+        with given(at_most(variable("v"), SHORTEST - 1)):
+            state, request = new_state(cpu, "3-64"), Request("3-64", kind, 0, variable("v"))
+            before = contents(state)
+            expect_answer(reset(cpu, request, state), ERROR)
+            expect_same("a refused reset", before, state)
+    return 2
 
 
 # ---- secrets
@@ -294,9 +275,10 @@ def in_one_place(cpu):
 def updates_of_nothing(cpu):
     """Tests that a null chunk of length 0, before, between and after other chunks, leaves the digest unchanged."""
     entries, count = definition.program().run(), 0
-    for hash_name, kind in (("32", "seed"), ("64", "seed"), ("3-64", "default"), ("3-128", "default")):
+    for hash_name, kind, size in (("32", "seed", None), ("64", "seed", None), ("3-64", "default", None),
+                                  ("3-128", "default", None), ("3-64", "secret", SHORTEST), ("3-128", "both", SHORTEST)):
         for n in (0, 5, 33, 300, 700):
-            request = Request(hash_name, kind, n)
+            request = Request(hash_name, kind, n, size)
             state = new_state(cpu, hash_name)
             expect_answer(reset(cpu, request, state), OK)
             for piece in (None, request.message, None):
@@ -344,12 +326,11 @@ def some_secrets(cpu):
 WITHOUT_MESSAGE = [("canonical forms and back", 6, canonical_forms), ("equal hashes", 4, is_equal),
                    ("the order of hashes", 9, compare), ("the order of hashes in one place", 36, compare_in_one_place),
                    ("the version", 1, version), ("copies of states", 3, copies),
-                   ("freed states are refused", 4, forgotten), ("the derived secret", 2, derived_secret)]
-OF_MESSAGES = [("streams: memory without the mark of a reset", 8, without_mark),
-               ("streams: states of XXH3 that no call leaves", 18, out_of_range),
-               ("streams: counters that stay at 2^64 - 1", 20, counters_stay),
-               ("streams: secrets that a state doesn't keep", 8, refused_resets),
-               ("streams: null pieces of no bytes", 20, updates_of_nothing),
+                   ("freed states are refused", 6, forgotten), ("the derived secret", 2, derived_secret)]
+OF_MESSAGES = [("streams: memory without the mark of a reset", 16, without_mark),
+               ("streams: states of XXH3 that no call leaves", 60, out_of_range),
+               ("streams: resets with secrets that are too short", 2, refused_resets),
+               ("streams: null pieces of no bytes", 30, updates_of_nothing),
                ("null inputs and secrets of no bytes", 14, null_pointers),
                ("a message and a secret in one place", 32, in_one_place)]
 SHORT_SECRETS = [(f"XXH{name}, secrets that are too short, every length", 243, functools.partial(short_secrets, hash_name=name))

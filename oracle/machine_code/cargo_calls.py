@@ -2,10 +2,10 @@
 import itertools
 import re
 
-from symbolic_terms import LONGEST_SECRET, Input, at_most, given, is_natural, is_same_number, minus, plus, times, variable
+from symbolic_terms import Input, at_most, given, is_natural, is_same_number, minus, plus, variable
 
 from . import layouts
-from .calls import LIMITS, expect, invalid_fields
+from .calls import LIMITS, callers_secret, expect, invalid_fields
 from .cargo import FEW, LONGEST_WITHOUT, NO_STREAM, SHORTEST, TOO_SHORT, call_into, expect_code, export_name, write_of
 from .streams import contents, expect_same, new_state
 from .values import address, low
@@ -109,15 +109,13 @@ def without_mark(cpu):
 
 def out_of_range(cpu):
     """Tests streams of XXH3 with a secret of any length from 136 bytes on and fields that no call leaves."""
-    count = 0
-    length = plus(64, times(8, variable("q")), variable("u"))
-    valid = [at_most(variable("u"), 7), minus(variable("q"), 9), at_most(length, LONGEST_SECRET)]
-    for fields, facts in invalid_fields(layouts.CORE):
+    count, (secret, valid) = 0, callers_secret()
+    for fields, facts in invalid_fields(layouts.CORE, variable("q")):
         with given(*valid, *facts):
             state = new_state(cpu, "3-64")
             for at, value in fields:
                 state.store(at, 8, value)
-            refused(cpu, "3-64", state, NO_STREAM, (address(Input("s", length)), length), dict(fields)[layouts.CORE.buffer_usage])
+            refused(cpu, "3-64", state, NO_STREAM, (address(secret), secret.length), dict(fields)[layouts.CORE.buffer_usage])
             count += 1
     return count
 

@@ -81,8 +81,8 @@ WRONG = [
           "the code 0"),
     Wrong("an instruction of x86-64-v2", export("xxh3_64_long", "pmulld %xmm0,%xmm0"), LONG, "hasn't here"),
     Wrong("a name that isn't hidden", substituted(r"^\t\.hidden .*_interface\n", "", 0), exported, "visibility 0"),
-    Wrong("an export that no task shows", ended(*function("twox_rust_6_more", *(
-        f"{word} twox_rust_6_more" for word in (".weak", ".hidden")))), exported, "more"),
+    Wrong("an export that no task shows", ended(*function("twox_rust_7_more", *(
+        f"{word} twox_rust_7_more" for word in (".weak", ".hidden")))), exported, "more"),
     Wrong("a function that isn't the other text's", local(TAKER, "nop"), same_code, f"other code: {LEADS}, {TAKER}"),
 ]
 

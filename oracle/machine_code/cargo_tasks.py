@@ -63,11 +63,10 @@ def piece_tasks(made, is_all, some=tasks.SOME_UPDATES):
     return tasks.plain_stream_tasks(made, is_all, some, "pieces of XXH{}", ("32",))
 
 
-def xxh3_tasks(made, is_all, kind=cargo_streams.CargoUpdates, like=LIKE):
+def xxh3_tasks(made, is_all, like=LIKE):
     """Yields the tasks of XXH3 chunks. With --all c/asm's tasks cover functions of LIKE that take stripes."""
     left_out = [name for name in made if name.endswith(like)] if is_all else []
-    for task in tasks.xxh3_tasks(made, is_all, kind):
-        task.title = task.title.replace("streams of XXH3", "pieces of XXH3")
+    for task in tasks.xxh3_tasks(made, is_all, cargo_streams.KINDS):
         if xxh3_updates.STRIPES not in task.title or not any(f", {name}," in task.title for name in left_out):
             yield task
 

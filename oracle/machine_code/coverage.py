@@ -14,7 +14,7 @@ FAR_OFF = 31_744, 32_000, 100_000, 1 << 40
 def points(count, proof):
     """Yields points (q, u, b, j, f, L): edges and random numbers, the same each time."""
     draw = random.Random(5)
-    stripes = [*STRIPES, *(LONG_BLOCKS if proof.has_long_blocks() else ())]
+    stripes = [proof.q] if isinstance(proof.q, int) else [*STRIPES, *LONG_BLOCKS]
     for k in range(count):
         q = draw.choice(stripes)
         j, b = draw.choice((0, q - 1, draw.randrange(q))), draw.choice((0, 1, draw.randrange(1 << 40)))
@@ -125,5 +125,7 @@ def left_out(proof, count):
     """Returns the points that no case contains: of updates, digests, and functions that take stripes."""
     taken = [(xxh3_updates.TAKE.name, 0), (xxh3_updates.TAKE_MANY.name, xxh3_updates.MANY)]
     taken += [(xxh3_updates.TAKE_WIDENED.name, xxh3_updates.BLOCK)] * proof.is_widened()
-    return [*without_update(proof.all_updates(), proof, count), *without_digest(proof.digests(), proof, count),
-            *without_taken(proof.all_taken(), proof, taken, count)]
+    found = [*without_digest(proof.digests(), proof, count)] if xxh3_updates.DIGESTS in proof.KINDS else []
+    if xxh3_updates.STRIPES in proof.KINDS:
+        found += [*without_update(proof.all_updates(), proof, count), *without_taken(proof.all_taken(), proof, taken, count)]
+    return found

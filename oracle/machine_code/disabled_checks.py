@@ -21,7 +21,7 @@ import traceback
 HERE = os.path.dirname(os.path.abspath(__file__))
 UNPLANTED = os.path.join(HERE, "unplanted.txt")
 MODULES = ("grammar", "object_contents", "objects", "disassembly", "sources", "unwinding", "processor", "memory", "stream_state",
-           "streams", "calls", "cargo", "exports", "instructions", "any_updates", "every_length", "xxh3_updates",
+           "streams", "calls", "cargo", "exports", "instructions", "any_updates", "every_length", "xxh3_updates", "xxh3_states",
            "aarch64.objects", "aarch64.processor", "induction", "stripes", "values", "flags",
            "../symbolic_terms/memory", "../symbolic_terms/induction")
 TAKING = {"take": "lines.number += 1", "take_exactly": "lines.number += {count}", "refuse": "pass", "want": "pass"}

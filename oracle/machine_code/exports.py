@@ -2,6 +2,7 @@
 another name, or without one of these, fails."""
 from symbolic_terms import NotShown
 
+from . import streams
 from .cargo_exports import shared
 from .one_shots import NAMES, WAYS, is_plain
 
@@ -9,7 +10,7 @@ SAME = "names of another's code"
 STREAMS, FORGET = "streams", "freed states"
 
 
-def shown_by():
+def shown_by(program=None):
     """Maps each name to the beginning of a task's title."""
     out = {"XXH_versionNumber": "the version", "XXH128_isEqual": "equal hashes", "XXH128_cmp": "the order of hashes",
            "proved_XXH3_generateSecret": "made secrets", "XXH3_generateSecret_fromSeed": "the derived secret"}
@@ -19,27 +20,28 @@ def shown_by():
         out.update({f"XXH{name}_copyState": "copies of states", f"twox_c_forget_xxh{name}": FORGET})
     for hash_name, name in NAMES.items():
         kinds = ["seed"] if is_plain(hash_name) else WAYS
-        prefix = "" if is_plain(hash_name) else "proved_"
-        for kind in kinds:
-            way = "" if is_plain(hash_name) else WAYS[kind]
-            out[name + way] = f"XXH{hash_name}, {kind}"
-            out[f"{prefix}{name}_reset{way}"] = STREAMS
-        out.update({f"{name}_update": STREAMS, f"{name}_digest": STREAMS})
-    return {**out, **dict.fromkeys(twins(), SAME)}
+        out.update({name + ("" if is_plain(hash_name) else WAYS[kind]): f"XXH{hash_name}, {kind}" for kind in kinds})
+        ways = ["reset", "update", "digest", *([] if is_plain(hash_name) else ["reset_withSeed"])]
+        out.update({f"{streams.proved(hash_name)}_{way}": STREAMS for way in ways})
+    ways = "reset_xxh3_secret", "reset_xxh3_secret_and_seed", "update_xxh3", "digest_64", "digest_128"
+    out.update({f"twox_c_{way}": STREAMS for way in ways})
+    return {**out, **dict.fromkeys(twins(program), SAME)}
 
 
-def twins():
-    """Maps names to the name with the same code: calls with two names, and `_dispatch` variants."""
+def twins(program=None):
+    """Maps names to the name with the same code: calls with two names, and `_dispatch` variants. On ARM no C file wraps these."""
     out = {"XXH128": "XXH3_128bits_withSeed"}
     for name in ("XXH3_64bits", "XXH3_128bits"):
-        for way in ("", "_withSeed", "_withSecret", "_update"):
+        for way in ("", "_withSeed", "_withSecret"):
             out[f"{name}{way}_dispatch"] = name + way
+        update = f"{name}_update_dispatch"
+        out[update if program and update in program.exports else f"proved_{update}"] = f"proved_{name}_update"
     return out
 
 
 def expect_all(program, titles):
     """Checks that the source exports exactly the names of the table, and that each has its task."""
-    known = shown_by()
+    known = shown_by(program)
     for name in sorted({*known, *program.exports}):
         if name not in known:
             raise NotShown(f"{name} is exported, and no task shows it")
@@ -52,10 +54,10 @@ def expect_all(program, titles):
 
 def expect_twins(program):
     """Checks that each twin has the same instructions as the other name."""
-    for name, other in twins().items():
+    for name, other in twins(program).items():
         if code_of(program, name) != code_of(program, other):
             raise NotShown(f"{name} has other code than {other}")
-    return len(twins())
+    return len(twins(program))
 
 
 # ---- the exports of x86-64-v4 that have the code of x86-64-v3

@@ -10,7 +10,7 @@ import unittest.mock
 from symbolic_terms import REFUSALS, TOP, NotShown, Request, WrongRule, definition, nodes, operations, variable
 
 from . import (any_updates, calls, coverage, every_length, exports, layouts, on_processor, one_shots, source_layouts,
-               streams, values, xxh3_updates)
+               streams, values, xxh3_states, xxh3_updates)
 from .instructions import TABLE, V1, V2
 from .objects import Program
 from .processor import Processor
@@ -118,8 +118,8 @@ def whole_blocks(proof):
 
 
 far_case = of_every_length("3-64:seed", case=1)      # whole blocks have a separate function, from 31,744 bytes on
-any_blocks = proving(xxh3_updates.Xxh3Updates, whole_blocks)
-any_update = proving(xxh3_updates.Xxh3Updates, small_update)
+any_blocks = proving(xxh3_states.Through, whole_blocks)
+any_update = proving(xxh3_states.OwnSecret, small_update)
 
 
 def adds_where(word, register):
@@ -264,7 +264,7 @@ def lacks_a_case(room):
     updates = list(any_updates.updates("64"))
     with unittest.mock.patch.object(any_updates, "updates", lambda name: updates[:99] + updates[100:]):
         is_seen = bool(any_updates.left_out("64"))
-    proof = xxh3_updates.Xxh3Updates(processor(room))
+    proof = xxh3_states.Through(processor(room))
     pieces = list(proof.all_updates())
     is_missed = any(coverage.without_update(pieces[:67] + pieces[68:], proof, 300))
     return is_seen and is_missed and len(every_length.left_out(cases[:13] + cases[14:], 1101, 1024)) > 1

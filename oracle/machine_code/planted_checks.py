@@ -4,13 +4,13 @@ import tempfile
 
 from symbolic_terms import TOP, variable
 
-from . import any_updates, calls, cargo_planted, every_length, exports, layouts, xxh3_updates
+from . import any_updates, calls, cargo_planted, every_length, exports, layouts, xxh3_states, xxh3_updates
 from .aarch64 import objects, table
 from .aarch64.cargo import NAME as ARM
 from .cargo import CargoProcessor, CargoProgram
 from .instructions import V1, V2, V3, V4
 from .objects import Program
-from .planted import (END, FUNCTION, SOURCE, VERSION, Asked, Wrong, begun, ended, field, of_every_length, proving,
+from .planted import (END, FUNCTION, SOURCE, VERSION, Asked, Wrong, any_update, begun, ended, field, of_every_length, proving,
                       raising_limit, request, substituted, unchanged)
 from .planted_objects import ARM_SOURCE, in_section, local, of_object, of_twins
 from .processor import Processor
@@ -42,8 +42,8 @@ def of_plain(prove):
     return proving(any_updates.AnyUpdates, prove, "64")
 
 
-def of_xxh3(prove):
-    return proving(xxh3_updates.Xxh3Updates, prove)
+def of_xxh3(prove, kind=xxh3_states.OwnSecret):
+    return proving(kind, prove)
 
 
 plain_update = of_plain(lambda proof: proof.update(next(one for one in any_updates.updates("64") if one.more)))
@@ -52,9 +52,17 @@ plain_digest = of_plain(lambda proof: proof.digest(variable("a"), 3))
 xxh3_digest = of_xxh3(lambda proof: proof.digest(*list(proof.digests())[-1], False, 64))
 xxh3_reset = of_xxh3(lambda proof: [proof.reset(*one) for one in proof.resets()])
 xxh3_update = of_xxh3(lambda proof: proof.update(*next(iter(proof.small_pieces()))))
-two_widths = of_xxh3(xxh3_updates.Xxh3Updates.one_update)
+xxh3_long = of_xxh3(lambda proof: [proof.long_update(*one, False) for one in proof.long_pieces()])
+two_widths = of_xxh3(xxh3_states.OwnSecret.one_update)
 many_stripes = of_xxh3(lambda proof: proof.taken_of(*next(
-    x for x in proof.all_taken() if x[1][0].name == xxh3_updates.TAKE_MANY.name)))
+    x for x in proof.all_taken() if x[1][0].name == xxh3_updates.TAKE_MANY.name)), xxh3_states.Through)
+through = of_xxh3(lambda proof: proof.queries(xxh3_updates.UPDATES)[0](), xxh3_states.Through)
+# The same with a secret of the caller.
+callers_digest = of_xxh3(lambda proof: [proof.digest((0, 0), 17, [], (), has_seed, 64) for has_seed in (0, 1)], xxh3_states.CallersSecret)
+callers_digest_128 = of_xxh3(lambda proof: proof.digest((0, 0), 17, [], (), 0, 128), xxh3_states.CallersSecret)
+callers_reset = of_xxh3(lambda proof: [proof.reset(*one) for one in proof.resets()], xxh3_states.CallersSecret)
+callers_update = of_xxh3(lambda proof: proof.update(*list(proof.small_pieces())[-1]), xxh3_states.CallersSecret)
+callers_long = of_xxh3(lambda proof: [proof.long_update(*one, False) for one in proof.long_pieces()], xxh3_states.CallersSecret)
 short_with_secret = proving(every_length.EveryLength, lambda proof: proof.show_short(5), "3-64:secret")
 
 
@@ -88,11 +96,64 @@ def of_length(register, n, *lines):
 plain_total = of_plain(lambda proof: proof.lost_total(any_updates.Update(3, 9, False, 0, False)))
 plain_more = of_plain(lambda proof: proof.lost_total(next(one for one in any_updates.updates("64") if one.more)))
 xxh3_total = of_xxh3(lambda proof: proof.lost_totals(*list(proof.small_pieces())[-1]))
-OK_AT_ONCE, RESET = ("xor %eax,%eax", "ret"), "proved_XXH3_64bits_reset_withSecret"
+OK_AT_ONCE, RESET, RESET_WITH_SEED = ("xor %eax,%eax", "ret"), "twox_c_reset_xxh3_secret", "twox_c_reset_xxh3_secret_and_seed"
+UPDATE_WITH, DIGEST, DIGEST_WITH = "twox_c_update_xxh3", "proved_XXH3_64bits_digest", "twox_c_digest_64"
+
+
+def with_other_mark(mark, other):
+    """Returns lines that put another mark in the place of one."""
+    place = field(STATE.mark)
+    return f"movabs ${mark:#x},%rax", f"cmp %rax,{place}", "jne 1f", f"movabs ${other:#x},%rax", f"mov %rax,{place}", "1:"
+
+
+def changed(at):
+    """Returns lines that change a word of a state, after the function."""
+    return *BEHIND, f"movq $0x7,{field(at, '%rdx')}", "ret", "1:"
+
+
+OWN_FIELDS = [("its mark", STATE.mark), ("its seed", STATE.seed), ("its address", STATE.address), ("its secret", STATE.secret + 8),
+              ("its total", STATE.total_bytes), ("its stripes", STATE.count), ("its place", STATE.current_stripe)]
+CALLERS_FIELDS = [*OWN_FIELDS[:3], ("its secret's length", STATE.secret_length), *OWN_FIELDS[4:]]
+MARKS = {"an own secret": layouts.OWN_MARKS, "an own secret and a seed": layouts.OWN_MARKS[::-1],
+         "a secret of the caller": layouts.CALLERS_MARKS, "a secret of the caller and a seed": layouts.CALLERS_MARKS[::-1]}
+OF_STATES = [
+    *(Wrong(f"an update that changes {what}", begun(UPDATE, *changed(at)), any_update, ".") for what, at in OWN_FIELDS),
+    *(Wrong(f"an update with a secret of the caller that changes {what}", begun(UPDATE_WITH, *changed(at)), callers_update, ".")
+      for what, at in CALLERS_FIELDS),
+    *(Wrong(f"an update that takes the mark of {what}", begun(function, *with_other_mark(mark, theirs)), calls.without_mark, "==|mark|.")
+      for function, theirs, others in ((UPDATE, layouts.OWN_MARKS[1], ["a secret of the caller", "a secret of the caller and a seed"]),
+                                       (UPDATE_WITH, layouts.CALLERS_MARKS[0], ["an own secret", "an own secret and a seed"]))
+      for what in others for mark in [MARKS[what][0]]),
+    *(Wrong(f"a digest that takes the mark of {what}", begun(function, *with_other_mark(mark, theirs)), calls.without_mark, ".")
+      for function, theirs, what in ((DIGEST, layouts.OWN_MARKS[1], "a secret of the caller"),
+                                     (DIGEST_WITH, layouts.CALLERS_MARKS[0], "an own secret"))
+      for mark in [MARKS[what][0]]),
+    *(Wrong(f"a reset that leaves the mark of a state with {what}", begun(name, *changed(STATE.mark)), ask, "the state at 544 is")
+      for what, name, ask in (("a derived secret", "proved_XXH3_64bits_reset_withSeed", xxh3_reset), ("a copied secret", RESET, xxh3_reset),
+                              ("a copied secret and a seed", RESET_WITH_SEED, xxh3_reset), ("a secret of the caller", RESET, callers_reset),
+                              ("a secret of the caller and a seed", RESET_WITH_SEED, callers_reset))),
+    Wrong("a reset that keeps the address of a copied secret", begun(RESET, *changed(STATE.address)), xxh3_reset, "the state at 568 is"),
+    Wrong("a reset with another address", begun(RESET, "inc %rcx"), callers_reset, "the state at 568 is"),
+    Wrong("a reset with another length", begun(RESET, *changed(STATE.secret_length)), callers_reset, "the state at 560 is"),
+    Wrong("a reset that copies a part of a secret of 777 bytes", begun(RESET, *of_length("%rdx", 777, "mov $0xc0,%edx")),
+          callers_reset, "== 777"),
+    Wrong("another value of a digest with a secret of the caller", begun(DIGEST_WITH, *FLIPPED), callers_digest, "another value"),
+    Wrong("another value of 128 bits with a secret of the caller", begun("twox_c_digest_128", *FLIPPED), callers_digest_128, "another value"),
+    Wrong("an update that takes a secret of 100 bytes", begun(UPDATE_WITH, *of_length("%r8", 100, *OK_AT_ONCE)), calls.out_of_range,
+          "v == 100"),
+    Wrong("a digest that takes a secret of 100 bytes", begun(DIGEST_WITH, *of_length("%rdx", 100, "mov $0x88,%edx")), calls.out_of_range,
+          "v == 100"),
+    Wrong("a secret that another length is passed on with", begun(UPDATE_WITH, "sub $0x8,%r8"), callers_long, "."),
+    Wrong("a chunk that doesn't fit and is passed on with another length", begun(UPDATE, "dec %rdx"), xxh3_long, "."),
+    Wrong("an update that changes the state after a chunk that doesn't fit", begun(UPDATE, *changed(STATE.buffer_usage)), xxh3_long,
+          "after one|another"),
+    Wrong("much of the stack for a chunk that doesn't fit", begun(xxh3_states.THROUGH, "sub $0x3000,%rsp", "push %rax", "pop %rax",
+                                                                  "add $0x3000,%rsp"), through, "bytes of stack"),
+    Wrong("another accumulator after a chunk that doesn't fit", begun(xxh3_states.THROUGH, *changed(0)), through, "the state at 0 is"),
+]
 X86 = [
     # Refusals: wrong ones of one length.
-    Wrong("a reset that takes a secret of 777 bytes", begun(RESET, *of_length("%rdx", 777, *OK_AT_ONCE)), calls.refused_resets,
-          r"v \+ 257 == 777"),
+    *OF_STATES,
     Wrong("a reset that takes a secret of 100 bytes", begun(RESET, *of_length("%rdx", 100, *OK_AT_ONCE)), calls.refused_resets,
           "v == 100"),
     Wrong("a one-shot that reads behind a short secret", begun("XXH3_64bits_withSecret", *of_length(
@@ -153,9 +214,9 @@ X86 = [
     # states and values
     Wrong("a reset that says it was refused", in_function("XXH64_reset", "\txor %eax,%eax\n", "\tmov $0x1,%eax\n"),
           request("64", "seed", 5, cuts=[2]), "an answer of 1"),
-    Wrong("a freed state that stays one", begun("twox_c_forget_xxh64", "ret"), calls.forgotten, "forget changes nothing"),
+    Wrong("a freed state that stays one", begun("twox_c_forget_xxh64", "ret"), calls.forgotten, "n < 32"),
     Wrong("a freed state of which more is changed", begun("twox_c_forget_xxh64", "movq $0x0,(%rdi)", f"movq $0x0,{field(STATE_64.seed)}"),
-          calls.forgotten, "more than a word"),
+          calls.forgotten, "forgetting changes the state"),
     Wrong("a digest that changes a byte which no call reads", begun("XXH64_digest", f"movl $0x7,{field(STATE_64.buffer + 24)}"),
           request("64", "seed", 5, cuts=[2]), "a digest changes the state"),
     Wrong("another state by an update", begun("XXH64_update", f"movq $0x7,{field(STATE_64.seed)}"), small_update,
@@ -164,21 +225,19 @@ X86 = [
     Wrong("another value at every length", begun("XXH64", *FLIPPED), of_every_length("64"), "turns.*: another value"),
     Wrong("another value with any secret", begun("XXH3_64bits_withSecret", *FLIPPED), short_with_secret,
           "of 5 bytes: another value"),
-    Wrong("another value of a digest of XXH3", begun("XXH3_64bits_digest", *FLIPPED), xxh3_digest, "a digest of .*: another value"),
-    Wrong("a digest of XXH3 that changes the state", begun("XXH3_64bits_digest", f"movq $0x0,{field(STATE.buffer_usage)}"),
+    Wrong("another value of a digest of XXH3", begun(DIGEST, *FLIPPED), xxh3_digest, "a digest of .*: another value"),
+    Wrong("a digest of XXH3 that changes the state", begun(DIGEST, f"movq $0x0,{field(STATE.buffer_usage)}"),
           xxh3_digest, "."),
     Wrong("a store into the bytes that wait", begun(UPDATE, f"movq $0x0,{field(STATE.buffer + 8)}"), xxh3_update,
           "isn't 8 bytes of an input"),
     Wrong("a reset of XXH3 that leaves another word", begun("proved_XXH3_64bits_reset", *BEHIND, "movq $0x7,(%rdx)", "ret", "1:"),
           xxh3_reset, "the state at 0 is"),
-    Wrong("a reset that changes the secret behind it", begun("proved_XXH3_64bits_reset_withSecret", *BEHIND,
-                                                           f"movq $0x7,{field(STATE.secret + 8, '%rdx')}", "ret", "1:"), xxh3_reset,
-          "a store into a run"),
-    Wrong("a reset that keeps another part of a secret", begun("proved_XXH3_64bits_reset_withSecret", "inc %rsi"), xxh3_reset, "."),
+    Wrong("a reset that changes the secret behind it", begun(RESET, *changed(STATE.secret + 8)), xxh3_reset, "."),
+    Wrong("a reset that keeps another part of a secret", begun(RESET, "inc %rsi"), xxh3_reset, "."),
     Wrong("a record of stripes that is changed behind it", begun(xxh3_updates.TAKE_MANY.name, *BEHIND, "movq $0x7,(%rdx)", "ret",
                                                                 "1:"), many_stripes, "."),
     Wrong("a second name that is missing", local("XXH128"), of_twins, "XXH128 isn't exported"),
-    Wrong("updates of two kinds", begun("XXH3_128bits_update", "nop"), two_widths, "two updates"),
+    Wrong("updates of two kinds", begun("proved_XXH3_128bits_update", "nop"), two_widths, "two updates"),
     Wrong("another accumulator of many stripes", begun(xxh3_updates.TAKE_MANY.name, "movq $0x0,(%rdi)", "movq $0x0,(%rsi)"),
           many_stripes, "."),
     Wrong("much of the stack", begun(xxh3_updates.TAKE_MANY.name, "sub $0x3000,%rsp", "push %rax", "pop %rax",

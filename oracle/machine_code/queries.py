@@ -10,8 +10,9 @@ import random
 
 from reasons import CRASH
 from symbolic_terms import REFUSALS, NotShown, Request, WrongRule, is_same, nodes
+from symbolic_terms.mutation import definition_at
 
-from . import any_secret, any_updates, calls, every_length, layouts, long_seeds, one_shots, streams, xxh3_updates
+from . import any_secret, any_updates, calls, every_length, layouts, long_seeds, one_shots, streams, xxh3_states, xxh3_updates
 from .memory import Numbers
 
 ANOTHER_VALUE, ANOTHER_TERM = "another value", "another term"
@@ -123,7 +124,7 @@ class OfRequest:
     @functools.cached_property
     def value(self):
         of = self.numbers
-        return of.definition_at(self.entries, {"m": of.message.data, "s": of.secret.data if of.secret else b""})
+        return definition_at(of, self.entries, {"m": of.message.data, "s": of.secret.data if of.secret else b""})
 
     def with_numbers(self, cpu):
         return noticed_by(lambda: None if is_same(self.value, self.answer(cpu, self.numbers)) else ANOTHER_VALUE)
@@ -198,30 +199,30 @@ def reaching(cpu, asked):
     return {place: bits for place, bits in found.items() if place[0] in cpu.program.sections}
 
 
-# Queries of a library besides requests: other calls, the class that proves updates of XXH3, and a function that
+# Queries of a library besides requests: other calls, the classes that prove updates of XXH3, and a function that
 # yields calls for changes that are still undetected; and the length of its shortest one-shots.
 Beside = collections.namedtuple("Beside", "calls updates more shortest")
-FOR_C = Beside([call for _, _, call in calls.OTHERS], xxh3_updates.Xxh3Updates, lambda cpu: (), 0)
+FOR_C = Beside([call for _, _, call in calls.OTHERS], xxh3_states.KINDS, lambda cpu: (), 0)
 
 
 # ---- queries by induction
 
 def by_induction(program, asked, section, updates):
     """Returns queries that prove some cases of updates and one-shots, chosen by the requests that run a section, and
-    of the section if it takes stripes. `updates` proves the streams of XXH3."""
+    of the section if it takes stripes. The classes `updates` prove the streams of XXH3."""
     found = {}
     for one in (query.request for query in asked):
         if one_shots.is_plain(one.hash_name):
             found.setdefault((one.hash_name, one.cuts is None), functools.partial(
                 one_shot if one.cuts is None else plain_update, one.hash_name))
         elif one.cuts is not None:
-            found.update({ask: functools.partial(ask, updates) for ask in (xxh3_reset, xxh3_update, xxh3_digest)})
+            found.update({(ask, kind): functools.partial(ask, kind) for kind in updates for ask in of_streams(kind)})
         elif one.length > 240:
             for ask in (one_shot,) if one.secret_length is None else (own_secret, any_secret_of):
                 found.setdefault(ask, functools.partial(ask, f"{one.hash_name}:{one.kind}"))
     for summary in TAKING:
         if program.functions.get(summary.name, (None,))[0] == section:
-            found[summary.name] = functools.partial(stripes_taken, updates, summary.name)
+            found[summary.name] = functools.partial(stripes_taken, updates[0], summary.name)
     if section == f".text.{long_seeds.WRITES}":
         found[section] = secret_of_long_seed
     return [Call(functools.partial(ask, k)) for ask in found.values() for k in range(CASES)]
@@ -261,14 +262,18 @@ def own_secret(kind, k, cpu):
     every_length.EveryLength(cpu, kind).show(case_of(cases, k))
 
 
+def of_streams(kind):
+    """Returns the queries of a class that proves streams of XXH3."""
+    return [xxh3_update, *([xxh3_reset, xxh3_digest] if xxh3_updates.DIGESTS in kind.KINDS else [])]
+
+
 def xxh3_reset(updates, k, cpu):
     proof = updates(cpu)
     proof.reset(*case_of(proof.resets(), k))
 
 
 def xxh3_update(updates, k, cpu):
-    proof = updates(cpu)
-    proof.update(*case_of(proof.all_updates(), k))
+    case_of(updates(cpu).queries(xxh3_updates.UPDATES), k)()
 
 
 def xxh3_digest(updates, k, cpu):

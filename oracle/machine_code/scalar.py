@@ -28,7 +28,7 @@ def never(cpu, x):
     raise Unsupported("ud2")
 
 
-@form(V1, "mov", "il iq ml mq wm lm ll qm qq bm hm bb")
+@form(V1, "mov", "ib il iq ml mq wm lm ll qm qq bm hm bb")
 @form(V1, "movl movq", "im")
 @form(V1, "movabs", "iq")
 def move(cpu, x, source, to):

@@ -10,7 +10,7 @@ from symbolic_terms.processes import Task
 
 from . import (any_updates, cargo_calls, cargo_exports, cargo_planted, cargo_streams, cargo_tasks, disabled_checks, exports,
                mutation, on_processor, planted, planted_checks, planted_lines, planted_objects, planted_values, removed,
-               source_layouts, tasks)
+               source_layouts, tasks, xxh3_updates)
 from .cargo_exports import BEGIN
 from .instructions import SETS, TABLE, V1, V4
 from .queries import CASES, Beside, plain_update, xxh3_update
@@ -74,7 +74,7 @@ def change_tasks(texts, others, is_all):
             yield change_task(name, (12, 100), is_all, name, make)
     name = f"cargo's {V1}"
     task = change_task(name, (6, 30), is_all, f"cargo-{V1}", makers(others)[name],
-                     beside=Beside([*OF_CARGO, *pieces()], cargo_streams.CargoUpdates, each_piece, 241))
+                     beside=Beside([*OF_CARGO, *pieces()], cargo_streams.KINDS, each_piece, 241))
     task.title = BEGIN + task.title
     yield task
 
@@ -83,14 +83,13 @@ def pieces():
     """Yields queries that prove cases of chunks: a changed cargo source has no requests of whole streams."""
     for k in range(CASES):
         yield functools.partial(plain_update, "32", k)
-        yield functools.partial(xxh3_update, cargo_streams.CargoUpdates, k)
+        yield from (functools.partial(xxh3_update, kind, k) for kind in cargo_streams.KINDS)
 
 
 def each_piece(cpu):
     """Yields calls that prove each case of chunks, of which `pieces` has some: of XXH32 and of XXH3 in turn."""
     plain = [lambda cpu, one=one: any_updates.AnyUpdates(cpu, "32").update(one) for one in any_updates.updates("32")]
-    proof = cargo_streams.CargoUpdates(cpu)
-    updates = [lambda _, case=case: proof.update(*case) for case in list(proof.all_updates())]
+    updates = [lambda _, ask=ask: ask() for kind in cargo_streams.KINDS for ask in kind(cpu).queries(xxh3_updates.UPDATES)]
     for both in itertools.zip_longest(spread(plain), spread(updates)):
         yield from filter(None, both)
 

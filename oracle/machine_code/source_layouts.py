@@ -91,7 +91,8 @@ def of_source():
         source = f"twox_plain/src/xxhash{name}"
         bad += differences(f"a state of XXH{name}", layouts.PLAIN[name], Structure("StateInMemory", source))
         bad += differences(f"a record of XXH{name}", layouts.PLAIN_RECORDS[name], Structure("SavedState", source), "buffer_usage")
-    known = {"secrets": (layouts.LONGEST_KEPT, state.fields["secret"][1]), "marks": (layouts.MARK, state.number("MARK_3")),
-             "sizes": (ForC.SIZES, allocated())}
+    marks = [state.number(name) for name in ("MARK_COPY", "MARK_3", "MARK_ADDRESS", "MARK_ADDRESS_AND_SEED")]
+    known = {"secrets": (layouts.OWN, state.fields["secret"][1]), "sizes": (ForC.SIZES, allocated()),
+             "marks": ([*layouts.OWN_MARKS, *layouts.CALLERS_MARKS], marks)}
     bad += [f"{what}: {ours}, and in the source {theirs}" for what, (ours, theirs) in known.items() if ours != theirs]
     return 4 + 2 * len(layouts.PLAIN) + len(known), bad

@@ -38,18 +38,28 @@ def expect_answer(answer, code):
 
 
 def reset(cpu, request, state):
-    """Resets a state. For XXH3 this calls the function behind c/guards.c, which tests for null."""
-    name = f"{NAMES[request.hash_name]}_reset"
-    name = name if is_plain(request.hash_name) else f"proved_{name}{WAYS[request.kind]}"
-    arguments = [address(state)]
-    if request.secret:
-        arguments += [address(request.secret), request.secret_length]
-    return cpu.call(name, *arguments, *of_seed(request))
+    """Resets a state by the functions behind c/guards.c. A secret of another length than OWN stays the caller's."""
+    name, state.secret = f"{NAMES[request.hash_name]}_reset", None
+    if not request.secret:
+        name = name if is_plain(request.hash_name) else f"proved_{name}{WAYS[request.kind]}"
+        return cpu.call(name, address(state), *of_seed(request))
+    if request.secret_length != layouts.OWN:
+        state.secret = request.secret
+    name = "twox_c_reset_xxh3_secret" + ("_and_seed" if request.kind == "both" else "")
+    return cpu.call(name, address(state), address(request.secret), request.secret_length, cpu.fresh("an address"), *of_seed(request))
 
 
 def update(cpu, hash_name, state, piece):
-    return cpu.call(f"{NAMES[hash_name]}_update", address(state), address(piece) if piece else 0,
-                    piece.length if piece else 0)
+    """Updates a state: one with a secret of the caller as c/streams.c does, which reads the address in it."""
+    chunk = (address(piece), piece.length) if piece else (0, 0)
+    if getattr(state, "secret", None):
+        return cpu.call("twox_c_update_xxh3", address(state), *chunk, address(state.secret), state.secret.length)
+    return cpu.call(f"{proved(hash_name)}_update", address(state), *chunk)
+
+
+def proved(hash_name):
+    """Returns the beginning of the names of a hash's calls that the library's C files may wrap."""
+    return NAMES[hash_name] if is_plain(hash_name) else f"proved_{NAMES[hash_name]}"
 
 
 def digest(cpu, hash_name, state):
@@ -94,4 +104,7 @@ class ForC:
     @staticmethod
     def digest(cpu, hash_name, state):
         """Returns the hash of everything written to a state."""
-        return value_of(hash_name, cpu.call(f"{NAMES[hash_name]}_digest", address(state)))
+        if getattr(state, "secret", None):
+            name, secret = f"twox_c_digest_{hash_name[2:]}", (address(state.secret), state.secret.length)
+            return value_of(hash_name, cpu.call(name, address(state), *secret))
+        return value_of(hash_name, cpu.call(f"{proved(hash_name)}_digest", address(state)))

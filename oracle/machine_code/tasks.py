@@ -7,7 +7,7 @@ from symbolic_terms import REFUSALS, TOP, Request, WrongRule, comparison, nodes,
 from symbolic_terms.processes import Task
 
 from . import (any_secret, any_updates, calls, coverage, every_length, exports, lanes, layouts, long_seeds, one_shots,
-               scalar, streams, xxh3_updates)
+               scalar, streams, xxh3_states, xxh3_updates)
 from .cargo import CargoProcessor, CargoProgram
 from .instructions import V1, V2, V3, V4
 from .objects import Program
@@ -21,7 +21,7 @@ ONE_BY_ONE, MORE = range(301), range(301, 1101)     # lengths tested one by one:
 SOME_SHORT = sorted({*range(0, 301, 6), *range(20), 33, 63, 65, 127, 128, 130, 239, 242, 256, 257})      # without --all
 FEW_LENGTHS = [0, 2, 6, 12, 17, 70, 129, 200, 241, 300]        # of x86-64-v4 with a secret, without --all
 EDGES_OF_BLOCKS = [1023, 1024, 1025, 1088, 1089, 2048, 2049, 2112]
-SECRETS, STREAM_SECRETS = (136,), (136, 193, 256)
+SECRETS, SOME_OF_STREAMS, STREAM_SECRETS = (136,), (136, 192), (136, 192, 193, 256)
 FEW_STREAMS = [(0,), (5, 2), (33, 1), (70, 33, 64), (200, 31, 160), (240, 239), (257, 256), (300, 64, 192),
                (600, 512, 599), (1100, 64), (1500, 40, 1100)]      # lengths of streams, each with its cuts
 SOME_UPDATES, UPDATE_PARTS = 293, 4                 # step of the sample of updates, and the number of parts of all
@@ -71,7 +71,7 @@ def choose(options, texts):
 
 
 def export_task(texts, titles):
-    return counted("each export has its task", 54 * len(texts),
+    return counted("each export has its task", 55 * len(texts),
                    lambda: (sum(exports.expect_all(program, titles) for program in texts.values()), []))
 
 
@@ -124,7 +124,7 @@ def secret_tasks(made, is_all):
 
 
 def stream_tasks(made, is_all):
-    for kind in comparison.kinds(STREAM_SECRETS if is_all else SECRETS):
+    for kind in comparison.kinds(STREAM_SECRETS if is_all else SOME_OF_STREAMS):
         asked = list(few_streams(FEW_STREAMS[::1 if is_all else 2], *kind))
         yield compared(made, f"streams of {comparison.title_of(*kind)}", asked, streams)
     yield from plain_stream_tasks(before_v4(made), is_all)
@@ -144,25 +144,23 @@ def plain_stream_tasks(made, is_all, some=SOME_UPDATES, title="streams of XXH{}:
                     any_streams, make, hash_name, part, some, len(names) > 1))
 
 
-def xxh3_tasks(made, is_all, kind=xxh3_updates.Xxh3Updates):
-    """Yields the tasks of streams of XXH3 with any updates: all cases, in parts, or a sample."""
-    yield counted("each update of XXH3 has its task", COVERED[is_all] * len(made),
-                  functools.partial(points_left_out, made, is_all, kind))
-    for name, make in made.items():
+def xxh3_tasks(made, is_all, kinds=xxh3_states.KINDS):
+    """Yields the tasks of streams of XXH3 with any updates, by proofs of some kinds: all cases, in parts, or a sample."""
+    for kind, (name, make) in itertools.product(kinds, made.items()):
+        yield counted(f"{kind.TITLE}: each case has its task, {name}", COVERED[is_all] // 3,
+                      functools.partial(points_left_out, make, is_all, kind))
         for what in kind.KINDS:
             some, parts = XXH3_CASES[what]
             for part in range(parts) if is_all else [None]:
                 words = f"part {part + 1} of {parts}" if is_all else "some cases"
-                yield counted(f"streams of XXH3: {what}, to 2^64 - 1 bytes, {name}, {words}", some,
+                yield counted(f"{kind.TITLE}: {what}, to 2^64 - 1 bytes, {name}, {words}", some,
                               functools.partial(any_xxh3, make, what, part, kind))
 
 
-def points_left_out(made, is_all, kind):
+def points_left_out(make, is_all, kind):
     """Returns the number of points, and messages for those that no case contains."""
-    count = COVERED[is_all] // 3
-    bad = [f"{name}: no case has {point}" for name, make in made.items()
-           for point in coverage.left_out(kind(make()), count)]
-    return 3 * count * len(made), bad[:5]
+    bad = [f"no case has {point}" for point in coverage.left_out(kind(make()), COVERED[is_all] // 3)]
+    return COVERED[is_all] // 3, bad[:5]
 
 
 def any_xxh3(make, what, part, kind):
@@ -291,7 +289,7 @@ def shown(make, kind, asked, seed):
 def secrets_left_out(made, is_all):
     """The same for lengths with secrets of any length."""
     proof = any_secret.AnySecret(next(iter(made.values()))())
-    found = list(coverage.without_one_shot(proof.cases(), proof.facts_of_any(), COVERED[is_all]))
+    found = list(coverage.without_one_shot(proof.cases(), proof.facts, COVERED[is_all]))
     return COVERED[is_all], [f"no case has {point}" for point in found[:5]]
 
 

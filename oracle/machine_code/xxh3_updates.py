@@ -8,7 +8,7 @@ the last f bytes. If K > 0 and f < 64, it ends with the last stripe. All else is
 symbols: the default secret and derived ones are instances.
 
 Bytes written at a symbolic offset or of a symbolic length are runs (stream_state.py). The separate functions that take
-stripes are proved on their own, from any place in a block (stripes.py)."""
+stripes (stripes.py), and those for chunks that don't fit in the buffer (xxh3_states.py), are proved on their own."""
 import collections
 import functools
 import itertools
@@ -16,7 +16,7 @@ import itertools
 from symbolic_terms import (LONGEST, LONGEST_SECRET, RUNS, Bytes, NotShown, Piece, at_most, given, is_natural, is_same,
                             is_same_number, minus, nodes, plus, same, suppositions, times, variable)
 
-from . import exports, layouts, streams
+from . import layouts
 from .every_length import FAR, Cases
 from .induction import Loops
 from .memory import ENTRY, Words
@@ -24,8 +24,9 @@ from .stream_state import Source, State
 from .stripes import DEEP, Part, Stripes, StripesProof, Summary
 from .values import address
 
-STRIPE, DERIVED, SHORT = 64, 192, 240        # bytes of a stripe, of a derived secret, of messages hashed without stripes
+STRIPE, SHORT = 64, 240           # bytes of a stripe, and of messages hashed without stripes
 LONG_PIECE = 2048                 # bytes from which on a separate function takes the stripes
+FEW_STRIPES = 4                   # of a buffer, over which loops run turn by turn
 BLOCK = 16                        # stripes of a block with separate paths
 MANY = 29                         # minimum number of stripes of a long chunk, between the first ones and the last
 WIDTHS, LEAST = ("64", "128"), 9  # stripes of a block, at least
@@ -53,13 +54,17 @@ def lengths(name, spans):
         yield (low, []) if low == high else (x, [minus(x, low), at_most(x, high)])
 
 
+def stripes_of(whole, least=1):
+    """Yields (stripes, facts) of a buffer of at most `whole` stripes: each number, or, if they aren't few, a variable."""
+    yield from ((g, []) for g in range(least, whole + 1) if whole <= FEW_STRIPES)
+    yield from [(variable("g"), [minus(variable("g"), least), at_most(variable("g"), whole)])] if whole > FEW_STRIPES else []
+
+
 def starts(whole, is_split, gs=None):
-    """Yields the nonempty states of a buffer of `whole` stripes: g stripes in it that end within the block, at its end, or
-    behind it."""
-    b, j, i, y, q = (variable(name) for name in "bjiyq")
+    """Yields the nonempty states of a buffer of `whole` stripes: g in it that end within the block, at its end, or behind it."""
+    b, j, q = (variable(name) for name in "bjq")
     for r, of_r in [(0, []), *lengths("r", SHORT_COPIES)]:
-        for g in gs or [variable("g")]:
-            of_g = [] if isinstance(g, int) else [minus(g, 1), at_most(g, whole)]
+        for g, of_g in [(g, []) for g in gs or ()] or stripes_of(whole):
             for k in (1, None) if is_split else (None,):
                 at, of_k = (minus(q, plus(g, 1)), []) if k else (j, [minus(minus(q, 1 + is_split), plus(j, g))])
                 yield Start((b, at), g, r, (b, plus(at, g)), [*of_r, *of_g, *of_k])
@@ -68,6 +73,9 @@ def starts(whole, is_split, gs=None):
 
 def ends_of_blocks(whole, g, r, facts):
     b, i, y, q = (variable(name) for name in "biyq")
+    if whole <= FEW_STRIPES:
+        yield from (Start((b, minus(q, g - k)), g, r, (plus(b, 1), k), facts) for k in range(g))
+        return
     if not isinstance(g, int):
         yield Start((b, minus(q, 1)), 1, r, (plus(b, 1), 0), facts[:-2])
         yield Start((b, minus(q, g)), g, r, (plus(b, 1), 0), [*facts, minus(g, 2)])
@@ -84,15 +92,14 @@ EMPTY = Start((0, 0), 0, 0, (0, 0), [])
 
 
 class Xxh3Updates(Cases):
-    at, mark = layouts.STATE, layouts.MARK
-    HAS_SEED = 0, 1               # whether a stream was created with a seed
-    KINDS = UPDATES, DIGESTS, STRIPES                 # the kinds of tasks of a source
+    at = layouts.CORE
+    HAS_SEED, has_seed = (0, 1), 0      # whether a stream was created with a seed
+    KINDS = UPDATES, STRIPES      # the kinds of tasks of a source
     HAS_COUNTERS = True           # that stay at 2 ^ 64 - 1
-    longest_secret, longest_piece = layouts.LONGEST_KEPT, LONGEST
+    longest_secret, longest_piece = LONGEST_SECRET, LONGEST
 
     def __init__(self, cpu):
-        self.cpu, self.room = cpu, self.at.room
-        self.whole = self.room // STRIPE
+        self.cpu, self.room, self.whole = cpu, self.at.room, self.at.room // STRIPE
         self.use(variable("q"))
 
     def use(self, q, u=None):
@@ -101,10 +108,6 @@ class Xxh3Updates(Cases):
         self.q, self.secret_length = q, plus(64, times(8, q), u)
         self.facts = [minus(7, u), minus(q, LEAST), at_most(self.secret_length, self.longest_secret)]
         self.read()
-
-    def facts_of_any(self):
-        """Returns the same facts for a secret that no state stores."""
-        return [*self.facts[:2], at_most(self.secret_length, LONGEST_SECRET)]
 
     def read(self):
         """Runs the definition's program on symbols, with a symbolic secret."""
@@ -115,19 +118,12 @@ class Xxh3Updates(Cases):
     def queries(self, what):
         """Returns all proofs of a task, by its title."""
         if what == UPDATES:
-            asked = (self.update, self.lost_totals) if self.HAS_COUNTERS else (self.update,)
-            return [functools.partial(ask, *case) for case in self.all_updates() for ask in asked]
+            return [functools.partial(self.any_update, *case) for case in self.all_updates()]
         if what == DIGESTS:
             return [*(functools.partial(self.reset, *case) for case in self.resets()),
                     *(functools.partial(self.digest, *case, has_seed, width) for case in self.digests()
                       for has_seed in self.HAS_SEED for width in WIDTHS)]
-        return [self.one_update, *(functools.partial(self.taken_of, *case) for case in self.all_taken())]
-
-    def one_update(self):
-        """Checks that an update has the same code for both widths."""
-        names = [f"XXH3_{width}bits_update" for width in WIDTHS]
-        if len({str(exports.code_of(self.cpu.program, name)) for name in names}) > 1:
-            raise NotShown("two updates")
+        return [functools.partial(self.taken_of, *case) for case in self.all_taken()]
 
     # ---- the definition
 
@@ -160,16 +156,11 @@ class Xxh3Updates(Cases):
     def numbers(self, place, f):
         """Returns the numbers in a state, except accumulators and buffer: (offset, value) of 8 bytes."""
         k, at = self.stripes(place), self.at
-        return [(at.current_stripe, place[1]), (at.count, k), (at.buffer_usage, f), (at.total_bytes, plus(times(64, k), f)),
-                *self.own()]
+        return [(at.current_stripe, place[1]), (at.count, k), (at.buffer_usage, f), (at.total_bytes, plus(times(64, k), f))]
 
     def own(self):
-        """Returns the fields that only a state of the C library has."""
-        return [(self.at.mark, self.mark), (self.at.secret_length, self.secret_length)]
-
-    def seeds(self):
-        """Returns the fields for the seed: whether there is one, and its value."""
-        return [(self.at.has_seed, self.has_seed), (self.at.seed, self.seed)]
+        """Returns the fields that only a state of the C library or a record of a module has, the seed last."""
+        return []
 
     def buffered(self, place, f):
         at = self.at.buffer
@@ -178,7 +169,7 @@ class Xxh3Updates(Cases):
 
     def secret_runs(self):
         """Returns the runs of the secret, if a state stores it."""
-        return [(self.at.secret, plus(self.at.secret, self.secret_length), self.secret_source, -self.at.secret)]
+        return []
 
     def words(self, values):
         """Returns the cells of accumulators: (offset, value)."""
@@ -190,17 +181,20 @@ class Xxh3Updates(Cases):
         return high - STRIPE, high, source, minus(end, high)
 
     def state(self, place, f, runs=(), has_seed=None, seed=None):
-        self.has_seed = self.cpu.fresh("has a seed") if has_seed is None else has_seed
+        self.has_seed = self.has_seed if has_seed is None else has_seed
         self.seed = self.cpu.fresh("seed") if seed is None else seed
-        cells = [*self.words(self.accumulators(place)), *self.numbers(place, f), *self.seeds()]
-        state = State("state", self.library.SIZES["3"], [(at, 8, x) for at, x in cells],
+        cells = [*self.words(self.accumulators(place)), *self.numbers(place, f), *self.own()]
+        state = State("state", self.size(), [(at, 8, x) for at, x in cells],
                       [*self.buffered(place, f), *runs, *self.secret_runs()], (self.at.buffer, self.at.buffer + self.room))
-        state.secret = self.secret_source
+        state.secret = None if self.secret_runs() else self.secret_source
         return state
+
+    def size(self):
+        return self.library.SIZES["3"]
 
     def expect_state(self, what, state, place, f, runs, counters):
         words = map(self.after(self.stripes(place)), range(8))
-        cells = [*self.words(words), *self.numbers(place, f), *self.seeds()]
+        cells = [*self.words(words), *self.numbers(place, f), *self.own()]
         for at, x in ((at, counters.get(at, x)) for at, x in cells):
             found = state.load(at, 8)
             if not (is_same(found, x) or is_same_number(found, x)):
@@ -209,22 +203,35 @@ class Xxh3Updates(Cases):
             if not state.has_run(run):
                 raise NotShown(f"{what}: the state isn't {run}, but has {state.runs()}")
 
+    @staticmethod
+    def expect_cells(what, state, expected):
+        """Checks that a state has these cells, and its runs."""
+        if state.cells.keys() != expected.keys() or any(state.cells[at] is not x and not (
+                at != RUNS and same(state.cells[at][1], x[1])) for at, x in expected.items()):
+            raise NotShown(f"{what} changes the state")
+
     # ---- updates
 
-    def lost_totals(self, start, end, length, facts, parts=(), *more):
+    def any_update(self, *case):
+        """Proves an update, also with counters that stay at 2 ^ 64 - 1."""
+        for ask in (self.update, self.lost_totals, self.lost_counts) if self.HAS_COUNTERS else (self.update,):
+            ask(*case)
+
+    def lost_totals(self, start, end, length, facts, *more):
         """Proves the same update with another total: the sum with the chunk's length is 2 ^ 64 or more, and the total
-        becomes 2 ^ 64 - 1. If stripes are taken, also with another number of stripes, which some part makes so. Without
-        buffered bytes the total is 0."""
-        total, taken = minus(LONGEST, variable("lost")), 0
-        if is_same_number(length, 0) or is_same_number(start[1], 0):
-            return
-        self.update(start, end, length, [*facts, at_most(variable("lost"), minus(length, 1))], parts, *more,
-                    lost={self.at.total_bytes: total})
-        for part in parts:
+        becomes 2 ^ 64 - 1. Without buffered bytes the total is 0."""
+        if not is_same_number(length, 0) and not is_same_number(start[1], 0):
+            self.update(start, end, length, [*facts, at_most(variable("lost"), minus(length, 1))], *more,
+                        lost={self.at.total_bytes: minus(LONGEST, variable("lost"))})
+
+    def lost_counts(self, start, end, length, facts, parts=(), *more):
+        """Proves the same with another number of stripes, which some part makes so."""
+        taken, lost = 0, variable("lost")
+        for part in parts if not is_same_number(start[1], 0) else ():
             if not is_same_number(part.turns, 0):
-                first, last = minus(variable("lost"), taken), minus(plus(taken, part.turns), plus(variable("lost"), 1))
+                first, last = minus(lost, taken), minus(plus(taken, part.turns), plus(lost, 1))
                 self.update(start, end, length, [*facts, first, last], parts, *more,
-                            lost={self.at.total_bytes: LONGEST, self.at.count: total})
+                            lost={self.at.total_bytes: LONGEST, self.at.count: minus(LONGEST, lost)})
                 taken = plus(taken, part.turns)
 
     def ways_to_end(self, end, facts):
@@ -259,10 +266,14 @@ class Xxh3Updates(Cases):
             piece = Piece(self.source, begun, length)
             if not is_same_number(plus(begun, length), ended):
                 raise NotShown("the case's piece has another length")
-            self.run([state], self.library.update, parts, self.cpu, "3-64", state, piece, summaries=summaries)
+            self.run([state], self.write, parts, self.cpu, "3-64", state, piece, summaries=summaries)
             self.expect_state("an update", state, *end, last, dict.fromkeys(lost, LONGEST))
             if parts and not is_natural(minus(ended, SHORT + 1)):
                 raise NotShown("stripes of a short message are taken")
+
+    def write(self, *arguments):
+        """Updates a state, as the case needs it."""
+        self.library.update(*arguments)
 
     def run(self, live, what, parts, *arguments, summaries=(), not_zero=(), **more):
         """Calls a function by its name, or `what`, with the proofs of loops over stripes, and with summaries of other
@@ -306,12 +317,8 @@ class Xxh3Updates(Cases):
         if to == "many":
             yield plus(minus(self.q, j), times(self.q, D), e), (plus(b, 1, D), e), [
                 minus(minus(self.q, 1), e), minus(plus(minus(self.q, j), times(self.q, D), e), MANY)]
-        if to == "many" and self.has_long_blocks():
+        if to == "many":
             yield self.within_block(place)
-
-    def has_long_blocks(self):
-        """True if a block may contain many stripes."""
-        return self.longest_secret >= 64 + 8 * (MANY + 1)
 
     def within_block(self, place):
         """Returns many stripes within a block: (stripes, place behind them, facts)."""
@@ -323,7 +330,7 @@ class Xxh3Updates(Cases):
         for start in begin:
             for left, of_left in lefts:
                 least = self.whole - 1        # of stripes taken if a chunk doesn't fit in the buffer
-                for n, place, of_n in self.end_of(start.behind, to, least - start.g if isinstance(start.g, int) else 1):
+                for n, place, of_n in self.end_of(start.behind, to, max(1, least - start.g) if isinstance(start.g, int) else 1):
                     f = minus(times(64, start.g), start.r)
                     length = plus(start.r, times(64, n), left)
                     facts = [*start.facts, *of_left, *of_n, minus(plus(f, length), self.room + 1),
@@ -346,59 +353,23 @@ class Xxh3Updates(Cases):
         """Yields the states before updates that take stripes."""
         return starts(self.whole, is_split, gs)
 
-    # ---- reset
-
-    def resets(self):
-        """Yields the resets of both widths, as arguments of `reset`."""
-        for width in WIDTHS:
-            name = f"proved_XXH3_{width}bits_reset"
-            yield from ((name, False, 0), (f"{name}_withSecret", True, None))
-            for seed in ("seed", 0):
-                yield from ((f"{name}_withSeed", False, seed), (f"{name}_withSecretandSeed", True, seed))
-
-    def reset(self, name, is_own, seed):
-        """Proves a reset of memory with any content: it becomes an empty state, with the given secret or one derived
-        from the seed. Before a derivation the sources test if the seed is 0."""
-        seed = nodes.symbol("seed64", 64) if seed == "seed" else seed
-        arguments = [address(self.secret_source), self.secret_length] if is_own else []
-        arguments += [seed] if "Seed" in name else []
-        self.begin(0)
-        size = self.library.SIZES["3"]
-        with given(*self.facts):
-            cells = [(at, 8, self.cpu.fresh("a state's word")) for at in range(0, size, 8)]
-            state = State("state", size, cells, [], (0, 0))
-            answer = self.run([state], name, [], address(state), *arguments,
-                              not_zero=[seed] if isinstance(seed, nodes.Node) and not is_own else [])
-            streams.expect_answer(answer, streams.OK)
-            length = self.secret_length if is_own else DERIVED
-            expected = self.words(map(self.after(0), range(8)))
-            expected += [(at, length if at == self.at.secret_length else x) for at, x in self.numbers((0, 0), 0)]
-            expected += [(self.at.has_seed, int(seed is not None))] + [(self.at.seed, seed)] * (seed is not None)
-            if not is_own:
-                secret = self.texts["derived_secret"](seed)
-                expected += [(self.at.secret + k, self.texts["word64"](secret, k)) for k in range(0, DERIVED, 8)]
-            elif not all(map(state.has_run, self.secret_runs())):
-                raise NotShown(f"{name}: the secret isn't there")
-            for at, x in expected:
-                if not same(state.load(at, 8), x):
-                    raise NotShown(f"{name}: the state at {at} is {state.load(at, 8)} and not {x}")
-
     # ---- digest
 
     def digests(self):
         """Yields arguments of `digest`, without `has_seed` and `width`."""
         for f in range(SHORT + 1):
             yield (0, 0), f, [], ()
-        g, h, b, j = (variable(name) for name in "ghbj")
-        few = [minus(g, 3), at_most(g, self.whole - 1), at_most(h, 63), minus(plus(times(64, g), h), SHORT)]
-        yield (0, 0), plus(times(64, g), h, 1), few, [Part((0, 0), g, (0, g))]
+        h, b, j = (variable(name) for name in "hbj")
+        for g, of_g in stripes_of(self.whole - 1, SHORT // STRIPE):
+            few = [*of_g, at_most(h, 63), minus(plus(times(64, g), h), SHORT)]
+            yield (0, 0), plus(times(64, g), h, 1), few, [Part((0, 0), g, (0, g))]
         for f in range(1, 65):
             yield (b, j), f, [minus(plus(times(64, self.stripes((b, j))), f), SHORT + 1), minus(minus(self.q, 1), j)], ()
-        for start in starts(self.whole, True):
+        for start in starts(self.whole - 1, True):
             if is_same_number(start.r, 0):
                 f = plus(times(64, start.g), h, 1)
                 more = [minus(plus(times(64, self.stripes(start.place)), f), SHORT + 1), minus(self.stripes(start.place), 1),
-                        at_most(start.g, self.whole - 1), at_most(h, 63)]
+                        at_most(h, 63)]
                 yield start.place, f, [*start.facts, *more], [Part(start.place, start.g, start.behind)]
 
     def digest(self, place, f, facts, parts, has_seed, width):
@@ -412,9 +383,7 @@ class Xxh3Updates(Cases):
             state = self.state(place, f, last, has_seed, seed)
             before = dict(state.cells)
             value = self.run([state], self.library.digest, parts, self.cpu, f"3-{width}", state)
-            if state.cells.keys() != before.keys() or any(state.cells[at] is not x and not (
-                    at != RUNS and same(state.cells[at][1], x[1])) for at, x in before.items()):
-                raise NotShown("a digest changes the state")
+            self.expect_cells("a digest", state, before)
             secret = self.texts["effective_secret"](self.secret, self.message) if has_seed else self.secret
             said = self.texts[f"xxh3_{width}"](seed if has_seed else 0, secret, self.message)
             if not is_same(value, said):
@@ -435,7 +404,7 @@ class Xxh3Updates(Cases):
         """Proves that a function has its summary's effect on the stripes of some consecutive parts."""
         place, turns, end = parts[0].start, plus(*(part.turns for part in parts)), parts[-1].end
         self.begin(plus(times(64, self.stripes(end)), variable("rest")))
-        with given(*self.facts_of_any(), *facts, at_most(self.source.length, LONGEST)):
+        with given(*self.facts, *facts, at_most(self.source.length, LONGEST)):
             words = self.accumulators(place)
             cells = [(8 * i, 8, x) for i, x in enumerate(words)]
             cells += [(layouts.TAKEN.current_stripe, 8, place[1])] if summary.has_place else []

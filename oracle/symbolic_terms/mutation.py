@@ -67,10 +67,16 @@ def differs(request, a, b):
     return first != second or differing_point(request, a, b) is not None
 
 
+def definition_at(request, entries, point):
+    """Returns the definition's value of a request at concrete values of the symbols."""
+    seed = request.seed() if isinstance(request.seed(), int) else point[request.seed().parts[0]]
+    return definition.value(entries, request.hash_name, request.kind, seed, memoryview(point["s"]), memoryview(point["m"]))
+
+
 def differing_point_of_numbers(request, entries, b, count=3):
     """Returns a point as `differing_point` does, if the definition has no term: evaluates it on numbers."""
     for point in request.points(count, random.Random(11)):
-        x, (y,) = request.definition_at(entries, point), values_at([b], point)
+        x, (y,) = definition_at(request, entries, point), values_at([b], point)
         if x != y:
             return point, x, y
     return None

@@ -45,12 +45,6 @@ class Request:
         return definition.value(entries, self.hash_name, self.kind, self.seed(), secret,
                                 Bytes(self.message, 0, self.length))
 
-    def definition_at(self, entries, point):
-        """Returns the definition's value at concrete values of the symbols."""
-        seed = self.seed() if isinstance(self.seed(), int) else point[self.seed().parts[0]]
-        return definition.value(entries, self.hash_name, self.kind, seed, memoryview(point["s"]),
-                                memoryview(point["m"]))
-
     def with_seed_0(self):
         """Returns the case with the seed 0 in a list, if of_reference leaves it out, else an empty list."""
         is_long = self.length > 240 or self.cuts is not None

@@ -16,7 +16,7 @@ from machine_code import (any_secret, any_updates, calls, cargo_exports, cargo_s
                           coverage, disabled_checks,
                           disassembly, every_length, exports, instructions, long_seeds, object_contents, on_processor, one_shots, planted,
                           planted_values, sources, streams,
-                          tasks, xxh3_updates)
+                          tasks, xxh3_states, xxh3_updates)
 from machine_code.cargo import CargoProcessor, CargoProgram
 from machine_code.grammar import expect_grammar
 from machine_code.instructions import V1, V2, V3, V4
@@ -177,18 +177,19 @@ def complete_cases(known):
 
 
 def complete_updates(known):
-    proof = xxh3_updates.Xxh3Updates(known.processor(V2))
-    expect_none(list(coverage.left_out(proof, 60)))
+    for kind in xxh3_states.KINDS:
+        expect_none(list(coverage.left_out(kind(known.processor(V2)), 60)))
+    proof = xxh3_states.Through(known.processor(V2))
     pieces = list(proof.all_updates())
     if not any(coverage.without_update(pieces[:67] + pieces[68:], proof, 300)):
         raise Wrong("an update that isn't missed")
-    chunks = cargo_streams.CargoUpdates(CargoProcessor(known.programs["cargo"]))
+    chunks = cargo_streams.CargoThrough(CargoProcessor(known.programs["cargo"]))
     expect_none(list(coverage.without_update(chunks.all_updates(), chunks, 200)))
     secrets = any_secret.AnySecret(known.processor(V2))
-    expect_none(list(coverage.without_one_shot(secrets.cases(), secrets.facts_of_any(), 100)))
+    expect_none(list(coverage.without_one_shot(secrets.cases(), secrets.facts, 100)))
 
 
-def xxh3_cases(known, name, what, count, kind=xxh3_updates.Xxh3Updates):
+def xxh3_cases(known, name, what, count, kind=xxh3_states.Through):
     proof = kind(known.processor(name))
     shown(tasks.count_shown(proof, tasks.sample(what, proof.queries(what), count)))
 
@@ -227,10 +228,12 @@ def right_checks(known):
     yield Check("a task of updates", RIGHT, lambda: shown(tasks.any_streams(lambda: known.processor(V2), "32", None, 3000, True)))
     yield one("updates of XXH32", of_updates, V2, hash_name="32")
     yield one("cargo: chunks of XXH32", of_updates, "cargo", hash_name="32", has_ends=False)
-    for what, count in ((xxh3_updates.UPDATES, 6), (xxh3_updates.DIGESTS, 6), (xxh3_updates.STRIPES, 2)):
-        yield one(f"XXH3: {what}", xxh3_cases, V2, what, count)
+    for kind in xxh3_states.KINDS:
+        for what in kind.KINDS:
+            yield one(f"{kind.TITLE}: {what}", xxh3_cases, V2, what, 2 if what == xxh3_updates.STRIPES else 6, kind=kind)
     yield one("XXH3 by x86-64-v4", xxh3_cases, V4, xxh3_updates.STRIPES, 2)
-    yield one("cargo: chunks of XXH3", xxh3_cases, "cargo", xxh3_updates.UPDATES, 4, kind=cargo_streams.CargoUpdates)
+    for kind in cargo_streams.KINDS:
+        yield one(f"cargo: {kind.TITLE}", xxh3_cases, "cargo", xxh3_updates.UPDATES, 4, kind=kind)
     for kind, cases in (("64", (0, 40)), ("32", (0, 77)), ("3-64:seed", (0, 1)), ("3-128:default", (3, 30))):
         yield one(f"every length of XXH{kind}", lengths_of, V2, kind, cases)
     yield one("every length with the seed 0", lengths_of, V3, "3-64:seed", (5,), seed=0)

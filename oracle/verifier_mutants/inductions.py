@@ -3,7 +3,7 @@ runs, which places the cases have, and which tasks there are. Each raises Wrong.
 import types
 import unittest.mock
 
-from machine_code import cargo_tasks, coverage, tasks, xxh3_updates
+from machine_code import cargo_tasks, coverage, tasks, xxh3_states, xxh3_updates
 from machine_code.induction import Head, Loops, Proof
 from machine_code.memory import ENTRY, Stack, Words
 from machine_code.stripes import TAKEN, Part, StripesProof, Summary
@@ -62,7 +62,7 @@ def records(_):
 
 def lost_runs(cpu):
     """Tests that a state without its buffered bytes, or without its secret, is refused."""
-    proof = xxh3_updates.Xxh3Updates(cpu)
+    proof = xxh3_states.OwnSecret(cpu)
     b, j, f = (variable(name) for name in "bjf")
     with given(*proof.facts, minus(minus(proof.q, 1), j), minus(f, 1), at_most(f, proof.room)):
         proof.begin(plus(times(64, proof.stripes((b, j))), f))
@@ -91,7 +91,7 @@ def places(_):
 def tasks_of_streams(_):
     """Tests the tasks of cargo's streams: all parts, without the functions that c/asm's tasks show, or a sample."""
     made = dict.fromkeys(("cargo's x86-64", "cargo's x86-64-v3"))
-    for is_all, count, of_v3 in ((True, 15, 0), (False, 5, 1)):
+    for is_all, count, of_v3 in ((True, 30, 0), (False, 10, 1)):
         titles = [task.title for task in cargo_tasks.xxh3_tasks(made, is_all)]
         expect(len(titles), count, "tasks of streams")
         expect(len({*titles}), count, "titles of tasks")
@@ -101,7 +101,7 @@ def tasks_of_streams(_):
 def last_stripes(cpu):
     """Tests for which states a case assumes that the buffer ends with the last stripe, and that cases with another
     length, or with stripes of a short message, are refused."""
-    proof, assumed = xxh3_updates.Xxh3Updates(cpu), []
+    proof, assumed = xxh3_states.Through(cpu), []
     proof.state = lambda place, f, runs=(), *_: assumed.append(len(runs)) or types.SimpleNamespace(cells={})
     proof.run, proof.expect_state = lambda *_, **__: None, lambda *_: None
     for is_short, count, length, parts, kept in ((True, 0, 10, (), 1), (False, 0, 10, (), 0),
@@ -132,7 +132,7 @@ def places_of_v4(cpu):
 
 def states(_):
     """Tests the states at which digests are tested: no stripes, or more than 240 bytes."""
-    proof = types.SimpleNamespace(has_long_blocks=lambda: False, longest_secret=256, longest_piece=1 << 40, room=512, whole=8)
+    proof = types.SimpleNamespace(q=None, longest_secret=1 << 60, longest_piece=1 << 40, room=512, whole=8)
     found = list(coverage.states(90, proof))
     expect(len(found) > 60, True, "the number of states")
     expect(all(not (b or j) or 64 * (q * b + j) + f > 240 for q, _, b, j, f in found), True, "the stripes of a state")

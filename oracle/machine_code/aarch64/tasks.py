@@ -55,7 +55,7 @@ def choose(given, found):
 
 def removed_functions(found, is_all):
     """Removes functions of the C library's source, which the tasks without --all must detect."""
-    known = removed.Known(exports.shown_by(), exports.twins(), lambda name: False, "")
+    known = removed.Known(exports.shown_by(found), exports.twins(found), lambda name: False, "")
     asked = choose(types.SimpleNamespace(all=False, only=""), found)
     return removed.unnoticed(cargo.NAME, found, asked, known, never, 1 if is_all else self_tests.SOME_EXPORTS)
 

@@ -20,7 +20,7 @@ from ..object_contents import CODE, CONSTANTS, FRAMES, FUNCTION, LOADED, MERGEAB
 from ..memory import ReturnTo, Words
 from ..objects import PC32, PLT32, Instruction, Program, Register, split
 from ..processor import Processor
-from ..scalar import binary, compare, divide, move, step, test, whole_product
+from ..scalar import binary, compare, divide, step, test, whole_product
 from ..values import address, low
 from ..stream_state import State
 from .library import ForRust
@@ -159,7 +159,7 @@ OWN = {(LOAD, "q"): load_address, (CALL, "q"): call_function, ("cpuid", ""): ask
        **{key: with_operands(function) for key, function in {
            ("add", "qm"): binary("add", "add"), ("sub", "qm"): binary("sub", "sub"), ("cmpb", "im"): compare,
            ("divl", "m"): divide, ("divq", "m"): divide, ("mulq", "m"): whole_product, ("dec", "b"): step,
-           ("mov", "ib"): move, ("testl", "im"): test, ("or", "ib"): binary("or", "logic")}.items()}}
+           ("testl", "im"): test, ("or", "ib"): binary("or", "logic")}.items()}}
 
 
 @functools.cache

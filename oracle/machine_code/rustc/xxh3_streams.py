@@ -1,29 +1,27 @@
-"""Proves the streams of a `RawHasher` over a secret of the caller by induction, like ../xxh3_updates.py for the C library, in
+"""Proves the streams of a `RawHasher` over a secret of the caller by induction, like ../xxh3_states.py for the C library, in
 the build with the assembly source. A chunk that doesn't fit in the buffer is one call of that source, with the unchanged
 stream, its secret and the chunk; ../cargo_streams.py proves this call. Digests are rustc's code."""
 import functools
 import types
 
-from symbolic_terms import (LONGEST, Input, NotShown, Piece, Request, at_most, given, is_same_number, minus, plus, same, times,
-                            variable)
+from symbolic_terms import LONGEST, Input, NotShown, Piece, Request, at_most, given, is_same_number, plus, same, times
 
 from .. import layouts
-from ..cargo_streams import FEW, CargoUpdates
+from ..cargo_streams import CargoUpdates
 from ..stream_state import State
 from ..stripes import is_at
-from ..xxh3_updates import DIGESTS, LONG_PIECE, UPDATES
+from ..xxh3_updates import DIGESTS, UPDATES
 from . import choice, uses
 from .library import ways
 
 PREFIX = "raw_given_{}_"          # of the exports of these streams
 FILLED = 200                      # bytes of the stream whose other fields a proof's state has
 LONGEST_SLICE = (1 << 63) - 1
-SPANS = (1, FEW), (FEW + 1, LONG_PIECE - 1), (LONG_PIECE, None)      # lengths of chunks that have a path
 WRITES = "_xxh3_write", "_xxh3_write_v3", "_xxh3_write_v4"         # ends of the assembly source's names
 
 
 class RawStreams(CargoUpdates):
-    KINDS, HAS_SEED = (UPDATES, DIGESTS), (1,)
+    KINDS, HAS_SEED, has_seed = (UPDATES, DIGESTS), (1,), 1
 
     def __init__(self, cpu, width="64"):
         self.hash_name = f"3-{width}"
@@ -86,23 +84,10 @@ class RawStreams(CargoUpdates):
 
     # ---- updates
 
-    def all_updates(self):
-        return self.small_pieces()
-
-    def long_pieces(self):
-        """Yields the chunks that don't fit in the buffer, as arguments of `long_update`."""
-        b, j, f, n = (variable(name) for name in "bjfn")
-        of_f = [minus(minus(self.q, 1), j), minus(f, 1), at_most(f, self.room)]
-        for place, buffered, facts in (((0, 0), 0, []), ((b, j), f, of_f)):
-            length = plus(minus(self.room + 1, buffered), n)
-            for least, most in SPANS:
-                if most is None or buffered is f or most > self.room:
-                    yield place, buffered, length, [*facts, minus(length, least), *([at_most(length, most)] if most else [])]
-
     def update(self, start, end, length, facts, *more, **lost):
         super().update(start, end, length, [*facts, at_most(length, LONGEST_SLICE)], *more, **lost)
 
-    def long_update(self, place, f, length, facts):
+    def long_update(self, place, f, length, facts, *_):
         """Proves that an update by a chunk that doesn't fit is one call, and changes nothing before or after it."""
         begun = plus(times(64, self.stripes(place)), f)
         self.begin(plus(begun, length))
@@ -132,5 +117,5 @@ class RawStreams(CargoUpdates):
     def queries(self, what):
         """Returns the updates, or the digests of one width."""
         if what == UPDATES:
-            return [self.start, *super().queries(what), *(functools.partial(self.long_update, *case) for case in self.long_pieces())]
+            return [self.start, *super().queries(what)]
         return [functools.partial(self.digest, *case, 1, self.hash_name[2:]) for case in self.digests()]

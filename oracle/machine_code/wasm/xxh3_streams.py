@@ -6,13 +6,13 @@ Each call takes the secret, of any length that fits in memory. Calls test if the
 record without stripes, whose accumulators are known, is a separate case."""
 import functools
 
-from symbolic_terms import (LONGEST as MOST_BYTES, Node, NotShown, Request, at_most, given, is_same_number, minus, plus,
-                            same, symbol, times, variable)
+from symbolic_terms import (LONGEST as MOST_BYTES, Node, NotShown, Request, at_most, given, is_natural, is_same_number, minus,
+                            plus, same, symbol, times, variable)
 
 from .. import layouts
-from ..cargo_streams import CargoUpdates
-from ..whole_blocks import BLOCKS, in_few, in_numbers, may_hold, names_in
-from ..xxh3_updates import STRIPES, Start
+from ..cargo_streams import FEW
+from ..whole_blocks import BLOCKS, in_few, in_numbers, may_hold, names_in, with_value
+from ..xxh3_updates import DIGESTS, STRIPES, UPDATES, Start, Xxh3Updates
 from . import calls, every_length
 from .induction import Loops
 from .stripes import Takers
@@ -30,21 +30,13 @@ def parted(case, at):
     yield (*case[:at], facts, *case[at + 1:])
 
 
-class ModuleUpdates(CargoUpdates):
-    at, HAS_SEED, HAS_COUNTERS = layouts.RECORD, (0, 1), False      # refusals.py tests the counters
+class ModuleUpdates(Xxh3Updates):
+    at, HAS_COUNTERS, KINDS = layouts.RECORD, False, (UPDATES, DIGESTS, STRIPES)     # refusals.py tests the counters
     library, longest_secret, longest_piece = calls.Page, LONGEST, LONGEST
 
     def __init__(self, vm):
         super().__init__(vm)
         self.takers = Takers(vm)
-
-    def facts_of_any(self):
-        return self.facts
-
-    def queries(self, what):
-        """Omits the comparison of two updates: both widths have one update."""
-        found = super().queries(what)
-        return found[1:] if what == STRIPES else found
 
     @staticmethod
     def is_widened():
@@ -52,7 +44,10 @@ class ModuleUpdates(CargoUpdates):
 
     # ---- records
 
-    def seeds(self):
+    def state(self, place, f, runs=(), has_seed=None, seed=None):
+        return super().state(place, f, runs, self.cpu.fresh("has a seed") if has_seed is None else has_seed, seed)
+
+    def own(self):
         return [(self.at.seeds, self.has_seed), (self.at.seed, self.seed)]
 
     def resets(self):
@@ -71,7 +66,7 @@ class ModuleUpdates(CargoUpdates):
                 raise NotShown(f"a start, {way}: whether the seed is 0 was asked")
             self.has_seed, self.seed = int(seed is not None), seed
             cells = [*self.words(map(self.after(0), range(8))), *self.numbers((0, 0), 0)]
-            self.expect_words(f"a start, {way}", stream.record, [*self.seeds()[:1 + self.has_seed], *cells])
+            self.expect_words(f"a start, {way}", stream.record, [*self.own()[:1 + self.has_seed], *cells])
             if way == "seed":
                 secret = self.texts["derived_secret"](seed)
                 self.expect_words("a derived secret", stream.derived, [
@@ -85,7 +80,33 @@ class ModuleUpdates(CargoUpdates):
     # ---- cases
 
     def all_updates(self):
-        yield from map(self.with_room, super().all_updates())
+        yield from map(self.with_room, self.by_paths())
+
+    def by_paths(self):
+        """Splits a case in two if the length of its chunk may be on both sides of a separate path."""
+        for (place, f), (to, left), length, facts, *rest in super().all_updates():
+            few, more = at_most(length, FEW), minus(length, FEW + 1)
+            with given(*self.facts, *facts):
+                is_known = is_natural(few) or is_natural(more)
+                name = "left" if is_natural(minus(left, minus(length, left))) else "r"
+            yield (place, f), (to, left), length, facts if is_known else [*facts, few], *rest
+            if not is_known:
+                # A chunk of 65 + w bytes: `left` or `r` becomes 65 + w minus the length's other parts.
+                value = minus(plus(FEW + 1, variable("w")), minus(length, variable(name)))
+                f, left, length, *facts = (with_value(x, name, value) for x in (f, left, length, *facts))
+                yield (place, f), (to, left), length, facts, *rest
+
+    @staticmethod
+    def ways_from_33(more):
+        yield from ([at_most(more, FEW - 33)], [minus(more, FEW - 32)])
+
+    def full_buffers(self):
+        """Makes a chunk of no bytes with a full buffer a separate case."""
+        for (place, f), end, length, facts in super().small_pieces():
+            if is_same_number(length, 0) and not is_same_number(f, 0):
+                yield (place, self.room), (place, self.room), length, facts
+                facts = [*facts, at_most(f, self.room - 1)]
+            yield (place, f), end, length, facts
 
     @staticmethod
     def with_room(case):
@@ -94,7 +115,7 @@ class ModuleUpdates(CargoUpdates):
         return start, end, length, [*facts, at_most(length, LONGEST)], *rest
 
     def small_pieces(self):
-        for case in super().small_pieces():
+        for case in self.full_buffers():
             (place, _), *_ = case
             yield from self.by_stripes(case, place)
 
