@@ -13,8 +13,7 @@ from .streams import ERROR, OK, contents, digest, expect_answer, expect_same, ne
 from .values import address, arithmetic, bits, low
 
 WIDTHS = {"XXH32": 32, "XXH64": 64, "XXH128": 128}
-AT = layouts.STATE                      # of XXH3
-SHORTEST = 136                          # bytes of a secret
+AT, SHORTEST = layouts.STATE, 136       # the layout of XXH3's states; bytes of a secret
 # A message and a secret in one memory object: the offset and length of each.
 ONE_PLACE = [(0, 136, 0, 136), (0, 300, 0, 192), (64, 240, 0, 136), (0, 1100, 8, 200), (1, 17, 0, 136), (130, 16, 0, 136),
              (100, 700, 36, 143), (0, 129, 128, 136)]

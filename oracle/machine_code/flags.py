@@ -73,8 +73,7 @@ def is_equal(cpu, a, b):
     if isinstance(a, Either) and is_same_number(b, 0):
         return a.is_zero()
     if isinstance(a, Address) or isinstance(b, Address):
-        is_apart = isinstance(a, Address) and is_number(b) and is_far(cpu, a, plus(b, 1))
-        return not is_apart and are_one_place(a, b)
+        return not (isinstance(a, Address) and is_number(b) and is_far(cpu, a, plus(b, 1))) and are_one_place(a, b)
     if is_number(a) and is_number(b):
         return TESTS["eq"](a, b)
     a, b = lifted(a), lifted(b)

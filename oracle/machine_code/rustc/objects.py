@@ -20,7 +20,7 @@ from ..object_contents import CODE, CONSTANTS, FRAMES, FUNCTION, LOADED, MERGEAB
 from ..memory import ReturnTo, Words
 from ..objects import PC32, PLT32, Instruction, Program, Register, split
 from ..processor import Processor
-from ..scalar import binary, compare, divide, move, step, test, whole_product
+from ..scalar import binary, compare, divide, step, test, whole_product
 from ..values import address, low
 from ..stream_state import State
 from .library import ForRust
