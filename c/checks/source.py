@@ -32,7 +32,7 @@ OF_TARGET = {'i386': {'sse2': ['-msse2'], 'avx2': ['-mavx2']}, 'armhf': {'neon':
 FAULTS = (('hash ^ hash >> 15', 'hash ^ hash >> 14', 'XXH32'), ('state->is_large = 1;', '', 'XXH32_digest'),
           ('hash ^ hash >> 29', 'hash ^ hash >> 28', 'XXH64'), ('secret + 119', 'secret + 118', 'XXH3_64bits'),
           ('secret_length - 75', 'secret_length - 74', 'XXH3_128bits'),
-          ('bytes + capacity - 64, bytes - 64, 64', 'bytes + capacity - 64, bytes - 63, 64', 'digest'),
+          ('capacity - 64, bytes - 64, 64)', 'capacity - 64, bytes - 63, 64)', 'digest'),
           ('i % custom_seed_length', '(i + 1) % custom_seed_length', 'XXH3_generateSecret'),
           ('a->low64 < b->low64 ? -1', 'a->low64 > b->low64 ? -1', 'XXH128_cmp'),
           ('bytes->digest + 8, hash.low64', 'bytes->digest + 8, hash.high64', 'XXH128_canonicalFromHash'),
