@@ -66,7 +66,7 @@ IN_X86 = [
     ("a function without frames", lambda text: re.sub(
         r"(\nXXH_versionNumber:\n)\t\.cfi_startproc\n((?:\t[^.].*\n)*)\t\.cfi_endproc\n", r"\1\2", text)),
     ("a byte of more bits", put(".byte 300")),
-    ("a byte of more bits among constants", put(".byte 300", place=r"(?<=\.L93_0:\n)")),
+    ("a byte of more bits among constants", put(".byte 300", place=r"(?<=\.L96_0:\n)")),
     ("constants that aren't there", lambda text: text.replace(
         "\t.section .note.GNU", '\t.section .rodata.more,"a",@progbits\n\t.p2align 4\n\t.section .note.GNU')),
     ("a function of another size", lambda text: text.replace(".size XXH32,.-XXH32", ".size XXH32,1")),
