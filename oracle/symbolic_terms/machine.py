@@ -21,7 +21,7 @@ def is_address(x):
 
 def pointed(x):
     """Returns an address, which must not be null."""
-    if not is_address(x):
+    if not isinstance(x, tuple):
         raise Unsupported("an access through null")
     return x
 
