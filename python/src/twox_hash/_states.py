@@ -153,9 +153,9 @@ class _Stream:
         first, rest = bytes(buffer[:self.room]), bytes(buffer[self.room:])
         room = first.ljust(self.room - len(end), b'\0') + end
         total = min(64 * stripes + len(first), WORD - 1)
-        _with_fields(hasher, self.taken, *accumulators, place, stripes, len(first), total, room)
-        hasher.update(rest)
-        return hasher
+        loaded = _with_fields(hasher, self.taken, *accumulators, place, stripes, len(first), total, room)
+        loaded.update(rest)
+        return loaded
 
     @staticmethod
     def _test_place(place: int, stripes: int, secret: bytes) -> None:
