@@ -265,7 +265,7 @@ The other program's time divided by that of `xxhsum` as cargo builds it. The fil
 The time of Debian's python3-xxhash divided by ours: the least and the greatest ratio of the four hashes.
 
 #PYTHON
-`many` takes 10.0 ns for a row of 16 bytes into a buffer and 34 ns into a list; the original in a loop takes 121 ns.
+`many` takes 12.4 ns for a row of 16 bytes into a buffer and 64 ns into a list; the original in a loop takes 235 ns.
 
 ## Browsers and Node
 
