@@ -17,6 +17,7 @@ CODE = {
     "c": ["c/asm/x86-64-*.s"],
     "xxh": [*LIBRARY[:-1], "crates/xxh/src/**/*.rt", "crates/xxh_io/src/**/*.rt", "crates/xxh_program/src/**/*.rt"],
     "dispatch": ["c/asm/x86-64-v4.s"],
+    "header": ["c/include/xxhash.h"],
     "xxhsum": [*LIBRARY[:-1], "crates/xxh_io/src/**/*.rt", "crates/xxh_program/src/**/*.rt", "crates/xxhsum/src/**/*.rt",
                *(f"crates/xxhsum_{it}/src/**/*.rt" for it in ("app", "audit", "fs", "line", "options", "output", "program"))],
     "cargo": CRATE,

@@ -48,6 +48,8 @@ SHARED = [
     ("streams in chunks of 100 to 255 bytes", ("stream",), 100, 255),
     ("streams in chunks of 256 bytes to 64 KiB", ("stream",), 256, 65536),
 ]
+HEADER = [("one-shots of constant length, 4 to 16 bytes", r"constant"), ("one-shots of 0 to 64 bytes", r"0 to 64"),
+          ("one-shots of 128 to 240 bytes", r", (128|2.0)$"), ("one-shots of 1 and 64 KiB", r"KiB"), ("streams", r"^stream")]
 DISPATCH = [("one-shots of", "oneshot", (16, 240, KIB, 4 * KIB, 16 * KIB, 64 * KIB, MIB)),
             ("streams in chunks of", "stream", (64, 1000, 4 * KIB, 64 * KIB))]
 
@@ -148,6 +150,14 @@ def dispatch(rows):
     return markdown(["what", "64 bits", "128 bits"], lines)
 
 
+def header():
+    """The cases of bench/header, of each compiler."""
+    rows = [it.split("\t") for it in data_of("header") if not it.startswith("#")]
+    lines = [[title, *(ranged([float(it[2]) for it in rows if it[0].startswith(compiler) and re.search(cases, it[1])])
+                       for compiler in ("gcc", "clang"))] for title, cases in HEADER]
+    return markdown(["what", "gcc 12", "clang 14"], lines)
+
+
 def programs(rows):
     by_name = {}
     for it in rows:
@@ -228,6 +238,11 @@ The time of Debian's `libxxhash.so.0` divided by that of ours, for which the loa
 Debian's functions `.._dispatch` use AVX-512. The same ratio, if both use it (ours only for chunks of 2 KiB and more):
 
 #DISPATCH
+## The C header
+
+The time of Debian's `xxhash.h` 0.8.1 divided by that of ours, both inlined into one program: at -O2 and -O3, for x86-64-v2 and x86-64-v3 (`bench/header`).
+
+#HEADER
 ## Through cargo
 
 A measurement is one call with one length. A cell has the median over measurements, and the range.
@@ -286,6 +301,7 @@ Instructions of the reference's header, by gcc 12 -O3, divided by ours for one c
     day = when("measured", said[0], "library")
     drawn = {"SUMMARY": summary(parts, best) + day, "TWOX_HASH": twox_hash(parts) + day, "LOWEST": lowest(parts) + day,
              "SHARED": shared(parts["c"]) + when("c"), "DISPATCH": dispatch(parts["dispatch"]) + when("c", code="dispatch"),
+             "HEADER": header() + when("header"),
              "CARGO": copied("cargo"), "CARGO_COUNTS": counted("cargo_counts") + when("cargo"),
              "CARGO_MAPS": counted("cargo_maps") + when("cargo"), "CARGO_PROGRAMS": copied("cargo_programs"),
              "PYTHON": copied("python"), "WEB": copied("web"), "PROGRAMS": programs(parts["program"]) + when("measured", said[0], "xxh"), "XXHSUM": xxhsum(),

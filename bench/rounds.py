@@ -1,7 +1,8 @@
-"""Writes measured.tsv or c.tsv from what the drivers and the programs measured in their rounds:
+"""Writes measured.tsv, c.tsv or header.tsv from what the drivers and the programs measured in their rounds:
 
     rounds.py ROOM DATA FILE_SIZE LOAD_BEFORE LOAD_AFTER
     rounds.py --shared ROOM FILE LOAD_BEFORE LOAD_AFTER
+    rounds.py --header LINES FILE LOAD_BEFORE LOAD_AFTER
 """
 import datetime
 import glob
@@ -93,5 +94,12 @@ def shared(room, file, before, after):
     measured.write([machine(), load(before, after)], rows, file)
 
 
+def header(lines, file, before, after):
+    """The cases of each build: build, case, their time over ours, our nanoseconds."""
+    with open(lines) as found, open(file, "w") as out:
+        out.writelines(f"# {it}\n" for it in (machine(), load(before, after)))
+        out.write(found.read())
+
+
 if __name__ == "__main__":
-    shared(*sys.argv[2:]) if sys.argv[1] == "--shared" else main(*sys.argv[1:])
+    {"--shared": shared, "--header": header}[sys.argv[1]](*sys.argv[2:]) if sys.argv[1].startswith("--") else main(*sys.argv[1:])

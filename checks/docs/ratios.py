@@ -45,6 +45,8 @@ def speeds():
     middle = lambda values: f'{statistics.median(values):.2f}'
     yield 'C library', "Debian's `libxxhash`", middle(ratios['c']), ratios['c'], 'c', 'c'
     yield 'C library, AVX-512', 'its `.._dispatch`', middle(ratios['dispatch']), ratios['dispatch'], 'c', 'dispatch'
+    values = numbers(row[2] for row in rows_of('header'))
+    yield 'C header', "Debian's `xxhash.h`", middle(values), values, 'header', 'header'
     for name in page.SETS:
         yield f'functions, {name}', 'fastest of four', middle(ratios[name]), ratios[name], 'measured', 'library'
     counts = {row[0]: row[1:] for row in rows_of('cargo_counts')}
@@ -85,6 +87,12 @@ def sentence_of_web():
         values = numbers(cell for row in rows_of('web')[1:] if row[0].endswith(engine) for cell in row[1:])
         parts.append(f'{statistics.median(values):.2f} ({min(values):.2f} to {max(values):.2f}) in {engine}')
     return ' and '.join(parts)
+
+
+def sentences_of_c():
+    """The ratios of the library and of the header, as parts of sentences."""
+    for _, peer, middle, values, *_ in (it for it in speeds() if it[0] in ('C library', 'C header')):
+        yield f'{middle} times as fast as {peer} in the median, {min(values):.2f} times at worst'
 
 
 def that_differ(text=None):

@@ -142,13 +142,14 @@ def listed_names_without_definition():
     yield from (f'docs/api.txt has {path}{name} twice' for (path, name), count in counts.items() if count > 1)
 
 
-def names_of_c_that_differ():
-    """docs/C.md has the numbers of names that `make check` prints: all, and those on 64-bit ARM."""
+def numbers_of_c_that_differ():
+    """docs/C.md has the numbers of names that `make check` prints, all and those on 64-bit ARM, and the ratios of the
+    library and of the header."""
     names = re.findall(r'^ *(XXH\w+);$', text_of('c/libxxhash.map'), re.M)
     own = [name for name in names if name == 'XXH_featureTest']
     shared = [name for name in names if not name.endswith('_dispatch') and name not in own]
     for sentence in (f'the {len(names) - len(own)} names of release 0.8.1 and `XXH_featureTest` of 0.8.3',
-                     f"the {len(shared)} names of Debian's"):
+                     f"the {len(shared)} names of Debian's", *ratios.sentences_of_c()):
         if sentence not in text_of('docs/C.md'):
             yield f'docs/C.md does not have {sentence}'
 
@@ -347,7 +348,7 @@ def main():
     parser.add_argument('--write', action='store_true', help='write the tables of speed into README.md first')
     if parser.parse_args().write:
         write(os.path.join(TOP, ratios.PAGE), ratios.with_tables(text_of(ratios.PAGE)))
-    checks = (quotes_that_differ, helps_that_explain_too_little, links_that_lead_nowhere, names_that_differ, listed_names_without_definition, names_of_c_that_differ,
+    checks = (quotes_that_differ, helps_that_explain_too_little, links_that_lead_nowhere, names_that_differ, listed_names_without_definition, numbers_of_c_that_differ,
               prefixes_that_need_root, numbers_of_web_that_differ, manifest_that_differs, versions_that_differ, releases_that_differ, figures_that_differ,
               runs_that_differ, dates_that_differ, planted_dates, tables_that_repeat, words_over_the_limit, pages_that_are_not_plain,
               plain.planted, ratios_that_differ, planted_tables, mutants_that_differ, mutants_of_verifier_that_differ)
