@@ -146,7 +146,8 @@ def insert_lane(cpu, x, k, source, *rest):
 def permute_parts(cpu, x, order, second, first, to):
     a, b = read(cpu, first, x, 4), read(cpu, second, x, 4)
     parts = [a[:2], a[2:], b[:2], b[2:]]
-    write(cpu, to, x, [lane for at in (0, 4) for lane in ([0, 0] if order.value >> at & 8 else parts[order.value >> at & 3])])
+    chosen = [[0, 0] if order.value >> at & 8 else parts[order.value >> at & 3] for at in (0, 4)]
+    write(cpu, to, x, [lane for part in chosen for lane in part])
 
 
 @form(V3, "vpsrlvd vpsllvd", "mxx xxx")

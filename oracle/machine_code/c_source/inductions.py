@@ -1,5 +1,5 @@
-"""The cases of the inductions over the objects of c/source/xxhash.c: one-shots of every length, and streams of XXH32 and
-XXH64 with any updates."""
+"""The cases of the inductions over the objects of c/source/xxhash.c: one-shots of every length, and streams of XXH32
+and XXH64 with any updates."""
 import collections
 import functools
 
@@ -12,7 +12,7 @@ from .objects import OF_STATE, at_each_residue
 
 LEAST = 2                         # turns of a case of XXH32 and XXH64: shorter lengths are compared one by one
 OWN_SECRET = "secret", "both"
-# Offsets in a state: of the total with its size, of the accumulators, of the buffer, and of the number of buffered bytes.
+# Offsets in a state: of the total with its size, of the accumulators, of the buffer, and of the buffered bytes' number.
 Layout = collections.namedtuple("Layout", "total size accumulators buffer buffered")
 LAYOUTS = {"32": Layout(0, 4, 8, 24, 40), "64": Layout(0, 8, 8, 40, 72)}
 IS_LARGE = 4                      # offset of a word of XXH32's states: 1 if there was a stripe

@@ -12,7 +12,7 @@ from ..objects import RELOCATED, Immediate, Instruction, Register, operands, spl
 from ..one_shots import NAMES, WAYS, is_plain, of_seed
 from ..processor import Processor
 from ..rustc.objects import RustProgram, known_where_reached
-from ..streams import ALIGNMENT, ForC, expect_answer, OK
+from ..streams import OK, ForC, expect_answer
 from ..values import address
 from . import forms
 
@@ -120,9 +120,10 @@ def release(cpu, _):
 
 
 def at_each_residue(cpu, ask, least=MODULUS):
-    """Returns the results of a call for each place of the stack and of a state that is a multiple of `least`. The residues
-    are those of the smallest moduli, up to 64, that decide the low bits of addresses."""
-    *fewer, last = sorted(itertools.product(multiples(OF_STACK), multiples(least)), key=lambda pair: pair[0] * pair[1])
+    """Returns the results of a call for each place of the stack and of a state that is a multiple of `least`. The
+    residues are those of the smallest moduli, up to 64, that decide the low bits of addresses."""
+    pairs = itertools.product(multiples(OF_STACK), multiples(least))
+    *fewer, last = sorted(pairs, key=lambda pair: pair[0] * pair[1])
     try:
         for pair in fewer:
             with contextlib.suppress(*REFUSALS):

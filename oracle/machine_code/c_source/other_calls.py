@@ -1,14 +1,15 @@
-"""Tests the functions of c/source/xxhash.c other than one-shots and streams. Each check runs a processor, returns its number
-of cases, and raises an exception on any mismatch."""
+"""Tests the functions of c/source/xxhash.c other than one-shots and streams. Each check runs a processor, returns its
+number of cases, and raises an exception on any mismatch."""
 import contextlib
 import functools
 import itertools
 
-from symbolic_terms import (LONGEST_SECRET, REFUSALS, Input, NotShown, Request, at_most, definition, given, is_same, plus,
-                            symbol, variable)
+from symbolic_terms import (LONGEST_SECRET, REFUSALS, Input, NotShown, Request, at_most, definition, given, is_same,
+                            plus, symbol, variable)
 
 from .. import calls
 from ..memory import Words
+from ..one_shots import is_plain
 from ..streams import ERROR, OK, contents, expect_answer, expect_same, new_state
 from ..values import Address, address, low
 from .objects import MODULUS, OF_STACK, OF_STATE, at_each_residue
@@ -27,8 +28,8 @@ def any_state(cpu, hash_name, name="state"):
 
 
 def equal_hashes(cpu):
-    """Tests equal hashes, and hashes that differ in the low word, in the high word, or in both: by any xor, which some code
-    computes, or one is greater."""
+    """Tests equal hashes, and hashes that differ in the low word, in the high word, or in both: by any xor, which some
+    code computes, or one is greater."""
     with contextlib.suppress(*REFUSALS):
         return calls.is_equal(cpu)
     for signs in itertools.product((0, 1, -1), repeat=2):
@@ -54,14 +55,15 @@ def copies(cpu, algorithm):
 
 
 def refused_resets(cpu):
-    """Tests resets of null, with null as a secret, and with a secret of each length that is too short: the state stays."""
+    """Tests that resets of null, and with null or a secret of each length that is too short, leave the state."""
     size, seed, count = variable("size"), symbol("seed64", 64), 0
     large, secret = plus(size, SHORTEST), address(Input("s", plus(size, SHORTEST)))
     for width, way in itertools.product(("64", "128"), ("", "_withSeed", "_withSecret", "_withSecretandSeed")):
         state, more = any_state(cpu, "3-64"), [seed] if "eed" in way else []
         before = contents(state)
-        asked = [(0, secret, large), (address(state), 0, large), (address(state), secret, size)] if "Secret" in way else [(0,)]
-        for arguments in asked:
+        place = address(state)
+        refused = (0, secret, large), (place, 0, large), (place, secret, size)
+        for arguments in refused if "Secret" in way else [(0,)]:
             with given(at_most(size, SHORTEST - 1), at_most(large, LONGEST_SECRET)):
                 expect_answer(cpu.call(f"XXH3_{width}bits_reset{way}", *arguments, *more), ERROR)
             expect_same("a refused reset", before, state)
@@ -73,8 +75,10 @@ def refused_secrets(cpu):
     """Tests generated secrets of each size that is too short, into null, and from null as more than 0 bytes."""
     size, length = variable("size"), variable("length")
     room, source = Words("secret", SHORTEST, [], alignment=1), address(Input("m", length))
-    cases = [(address(room), size, source, length, at_most(size, SHORTEST - 1)), (0, size, source, length, at_most(size, LIMIT)),
-             (address(room), SHORTEST, 0, plus(length, 1), at_most(length, LIMIT - 1))]
+    place, large = address(room), plus(size, SHORTEST)
+    cases = [(place, size, source, length, at_most(size, SHORTEST - 1)),
+             (0, size, source, length, at_most(size, LIMIT)),
+             (place, large, 0, plus(length, 1), at_most(plus(large, length), LIMIT - 1))]
     for *arguments, fact in cases:
         with given(fact, at_most(length, LIMIT)):
             expect_answer(cpu.call("XXH3_generateSecret", *arguments), ERROR)
@@ -85,14 +89,16 @@ def refused_secrets(cpu):
 
 def updates_of_nothing(cpu, hash_name):
     """Tests that a null chunk of length 0, before, between and after others, leaves the digest unchanged."""
-    entries, lengths, kind = definition.program().run(), (0, 5, 33, 300, 700), "seed" if hash_name in ("32", "64") else "default"
+    entries, lengths = definition.program().run(), (0, 5, 33, 300, 700)
+    kind = "seed" if is_plain(hash_name) else "default"
 
     def ask(request):
         cpu.not_zero, state = [], any_state(cpu, hash_name)
         cpu.library.reset(cpu, request, state)
         for piece in (None, request.message, None):
             cpu.library.update(cpu, hash_name, state, piece)
-        calls.expect(f"{request} beside null pieces", cpu.library.digest(cpu, hash_name, state), request.of_definition(entries))
+        ours, theirs = cpu.library.digest(cpu, hash_name, state), request.of_definition(entries)
+        calls.expect(f"{request} beside null pieces", ours, theirs)
     for n in lengths:
         at_each_residue(cpu, functools.partial(ask, Request(hash_name, kind, n)), OF_STATE[hash_name.split("-")[0]])
     return len(lengths)
@@ -124,8 +130,8 @@ def generated_secrets(cpu, asked):
 # ---- memory
 
 def created_states(cpu, algorithm):
-    """Tests a state in a block at each residue that malloc returns, and null if it does. The state has the content of one
-    that was reset, and is freed as the block; a release of null does nothing."""
+    """Tests a state in a block at each residue that malloc returns, and null if it does. The state has the content of
+    one that was reset, and is freed as the block; a release of null does nothing."""
     def ask():
         cpu.blocks, cpu.freed = [], []
         rax, _ = cpu.call(f"{algorithm}_createState")

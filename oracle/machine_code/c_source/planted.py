@@ -17,7 +17,8 @@ Fault = collections.namedtuple("Fault", "function old new ask")
 def value(hash_name, kind, length, secret=None, cuts=None):
     """Returns the comparison of a one-shot, or of a stream that is cut."""
     def ask(cpu):
-        side, request = OfText(one_shots if cuts is None else streams), Request(hash_name, kind, length, secret, cuts=cuts)
+        side = OfText(one_shots if cuts is None else streams)
+        request = Request(hash_name, kind, length, secret, cuts=cuts)
         return comparison.compare({"C": functools.partial(side.of_text, cpu)}, [request])[1]
     return ask
 
@@ -58,10 +59,12 @@ FAULTS = [
     # Streams.
     Fault("XXH32_update", "length < missing", "length <= missing", update("32", 5, 0, False)),
     Fault("XXH64_update", "bytes += missing;", "bytes += missing - 1;", update("64", 3, 7, True)),
-    Fault("XXH_errorcode xxh3_update", "length <= missing", "length < missing", value("3-64", "default", 256, cuts=[100])),
+    Fault("XXH_errorcode xxh3_update", "length <= missing", "length < missing",
+          value("3-64", "default", 256, cuts=[100])),
     Fault("xxh3_accumulate_blocks", "count < left", "count <= left", value("3-128", "default", 1088, cuts=[])),
     Fault("xxh3_accumulate_last", "secret_limit - 7", "secret_limit - 8", value("3-64", "default", 300, cuts=[])),
-    Fault("XXH3_128bits_digest", "if (state->uses_seed)", "if (!state->uses_seed)", value("3-128", "seed", 100, cuts=[])),
+    Fault("XXH3_128bits_digest", "if (state->uses_seed)", "if (!state->uses_seed)",
+          value("3-128", "seed", 100, cuts=[])),
     # Other calls.
     Fault("XXH_errorcode xxh3_reset_with_secret", "!secret || ", "", call(other_calls.refused_resets)),
     Fault("XXH3_generateSecret(", "secret_length - 16, hash", "secret_length - 17, hash",
@@ -76,7 +79,8 @@ def unnoticed(compiler, faults):
     """Returns how many faults are detected, and messages on the others."""
     bad = []
     for fault in faults:
-        program = compiler.program(lambda header, fault=fault: header_mutants.changed(header, fault.function, fault.old, fault.new))
+        where = fault.function, fault.old, fault.new
+        program = compiler.program(lambda header, where=where: header_mutants.changed(header, *where))
         if not is_noticed(fault, CProcessor(program)):
             bad.append(f"{fault.function} {fault.old}  ->  {fault.new}: it was not noticed")
     return len(faults) - len(bad), bad
