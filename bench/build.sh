@@ -1,4 +1,4 @@
-# What bench/run, bench/compare and bench/shared build: sourced by each, in the folder bench. $room is a folder of the run's own.
+# What bench/run and bench/compare build: sourced by each, in the folder bench. $room is a folder of the run's own.
 top=$(cd .. && pwd)
 room=$(mktemp -d)
 trap 'rm -rf "$room"' EXIT
@@ -6,7 +6,6 @@ sets=(x86-64-v2 x86-64-v3)
 libraries=
 # The speed of a short call depends on the code around it, so a run uses this many orders of the code.
 layouts=8
-debian_library=/usr/lib/x86_64-linux-gnu/libxxhash.so.0
 
 # Stops with a message.
 fail() {
@@ -75,16 +74,3 @@ one_round() {
     passes "$room/$1/driver_$((($2 - 1) % layouts + 1))" "${@:3}" > "$room/$1/round_$2" || fail "the driver stopped"
 }
 
-# build_shared: proves and builds the library for C, and the driver that compares it with Debian's.
-build_shared() {
-    "$top/c/build" > /dev/null || fail "the library for C was not built"
-    gcc -O3 -Wall -Wextra shared.c -o "$room/shared_driver" || fail "the driver was not built"
-    mkdir -p "$room/shared"
-}
-
-# shared_round ROUND WORDS..: measures it with these arguments; its lines go to $room/shared/round_ROUND. The loader
-# chooses our file, as for any program.
-shared_round() {
-    LD_LIBRARY_PATH=$top/c/out/lib passes "$room/shared_driver" libxxhash.so.0 "$debian_library" "${@:2}" \
-        > "$room/shared/round_$1" 2> "$room/shared_files" || fail "the driver of the shared libraries stopped: $(cat "$room/shared_files")"
-}

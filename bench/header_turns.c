@@ -1,11 +1,11 @@
 /* SPDX-License-Identifier: MIT */
-/* Runs the cases of two builds of header.c by turns, and prints for each: its name, the least time of theirs over the
- * least time of ours, and our nanoseconds. */
+/* Runs the cases of two builds of header.c by turns, and prints for each: its name, the time of theirs over that of ours,
+ * the median of all rounds, and our least nanoseconds. */
 #include <stdio.h>
 #include <stdlib.h>
 #include "header.h"
 
-enum { MOST_CASES = 100 };
+enum { MOST_CASES = 100, MOST_ROUNDS = 1000 };
 
 struct timed timed;
 unsigned char bytes[1 << 17], lengths[4096];
@@ -13,7 +13,7 @@ unsigned char bytes[1 << 17], lengths[4096];
 int run_ours(int number);
 int run_theirs(int number);
 
-static double least[2][MOST_CASES];
+static double least[MOST_CASES], ratios[MOST_CASES][MOST_ROUNDS];
 static const char *names[MOST_CASES];
 
 static unsigned random_number(void)
@@ -30,25 +30,35 @@ static void fill(void)
     for (i = 0; i < sizeof lengths; i++) lengths[i] = (unsigned char)(random_number() % 65);
 }
 
-static int run(int (*build)(int), double *of_build, int number)
+/* Times a case of a build, and returns 0 if there is none with this number. */
+static double run(int (*build)(int), int number)
 {
     if (!build(number)) return 0;
-    if (of_build[number] == 0 || timed.nanoseconds < of_build[number]) of_build[number] = timed.nanoseconds;
     names[number] = timed.name;
-    return 1;
+    return timed.nanoseconds;
+}
+
+static int by_size(const void *a, const void *b)
+{
+    double x = *(const double *)a, y = *(const double *)b;
+    return (x > y) - (x < y);
 }
 
 int main(int argc, char **argv)
 {
-    int rounds = argc > 1 ? atoi(argv[1]) : 200, count = 0, round, number;
+    int rounds = argc > 1 ? atoi(argv[1]) : 60, count = 0, round, number;
+    if (rounds < 1 || rounds > MOST_ROUNDS) return 2;
     fill();
-    while (count < MOST_CASES && run(run_ours, least[0], count)) count++;
+    while (count < MOST_CASES && (least[count] = run(run_ours, count)) > 0) count++;
     for (round = 0; round < rounds; round++)
         for (number = 0; number < count; number++) {
-            run(run_theirs, least[1], number);
-            run(run_ours, least[0], number);
+            double theirs = run(run_theirs, number), ours = run(run_ours, number);
+            ratios[number][round] = theirs / ours;
+            if (ours < least[number]) least[number] = ours;
         }
-    for (number = 0; number < count; number++)
-        printf("%s\t%.2f\t%.1f\n", names[number], least[1][number] / least[0][number], least[0][number]);
+    for (number = 0; number < count; number++) {
+        qsort(ratios[number], (size_t)rounds, sizeof ratios[0][0], by_size);
+        printf("%s\t%.2f\t%.1f\n", names[number], ratios[number][rounds / 2], least[number]);
+    }
     return 0;
 }

@@ -1,4 +1,4 @@
-"""The data of docs/SPEED.md: bench/data/measured.tsv. Its first lines, from `# `, have the date and the machine.
+"""The data of docs/SPEED.md: bench/data/measured.tsv and c.tsv. Their first lines, from `# `, have the date and the machine.
 Each other line is a row: the part, the form, the hash, the size in bytes, our GB/s, our spread in percent, and for
 each peer `name=ratio`, a peer's time over ours, then our spread of that ratio in percent and the ratio of the best
 times, as `c_gcc=1.03/12/0.98`. Figures that an older page lacked are left out: the best times of most rows, and some

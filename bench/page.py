@@ -45,8 +45,11 @@ SHARED = [
     ("one-shots of 256 bytes to 1 MiB", ("oneshot",), 256, MIB),
     ("one-shots of 4 to 64 MiB", ("oneshot",), 4 * MIB, 64 * MIB),
     ("streams in chunks of 1 to 64 bytes", ("stream",), 1, 64),
+    ("streams in chunks of 100 to 255 bytes", ("stream",), 100, 255),
     ("streams in chunks of 256 bytes to 64 KiB", ("stream",), 256, 65536),
 ]
+DISPATCH = [("one-shots of", "oneshot", (16, 240, KIB, 4 * KIB, 16 * KIB, 64 * KIB, MIB)),
+            ("streams in chunks of", "stream", (64, 1000, 4 * KIB, 64 * KIB))]
 
 
 def markdown(head, rows):
@@ -137,11 +140,12 @@ def shared(rows):
     return markdown(["what", "XXH32, XXH64", "XXH3"], lines)
 
 
-def dispatch():
+def dispatch(rows):
     """The calls `.._dispatch`, of both widths."""
-    rows = [it.split("\t") for it in data_of("dispatch") if not it.startswith("#")]
-    return ["Debian's functions `.._dispatch` use AVX-512. The same ratio, if both use it (ours only for chunks of 2 KiB and more):", "",
-            *markdown(["what", "64 bits", "128 bits"], rows), *when("dispatch")]
+    ratios = {(it.form, it.size, it.name): f"{it.peers['c_shared'].median:.2f}" for it in rows}
+    lines = [[f"{name} {figures.size(size).replace(' B', ' bytes')}", *(ratios[form, size, width] for width in ("XXH3-64", "XXH3-128"))]
+             for name, form, sizes in DISPATCH for size in sizes]
+    return markdown(["what", "64 bits", "128 bits"], lines)
 
 
 def programs(rows):
@@ -203,7 +207,7 @@ def picture(rows, names):
 def page(said, parts):
     text = f"""# Speed
 
-A ratio is a peer's time divided by ours: above 1, this library is faster. A cell has the median over hashes and sizes, and the range. Each measurement is compared with the **fastest peer**: the reference library's header by gcc (`c_gcc`) or by clang (`c_clang`), Debian's shared library (`c_shared`), or the Rust crate `xxhash-rust`. [bench/data/measured.tsv](../bench/data/measured.tsv) has all {sum(map(len, parts.values()))} measurements.
+A ratio is a peer's time divided by ours: above 1, this library is faster. A cell has the median over hashes and sizes, and the range. Each measurement is compared with the **fastest peer**: the reference library's header by gcc (`c_gcc`) or by clang (`c_clang`), Debian's shared library (`c_shared`), or the Rust crate `xxhash-rust`. [bench/data](../bench/data) has all {sum(map(len, parts.values()))} measurements of libraries.
 
 The line below each table has the date, the commit and the processor. It ends with "Older than this version" if the measured code, by its checksum in [bench/data/objects.tsv](../bench/data/objects.tsv), is not the code of this version.
 
@@ -221,6 +225,8 @@ Causes found for XXH3-64 one-shots at x86-64-v2: 64-bit immediates (32 and 64 by
 The time of Debian's `libxxhash.so.0` divided by that of ours, for which the loader selects x86-64-v4 here, both in one process.
 
 #SHARED
+Debian's functions `.._dispatch` use AVX-512. The same ratio, if both use it (ours only for chunks of 2 KiB and more):
+
 #DISPATCH
 ## Through cargo
 
@@ -233,11 +239,10 @@ The time of `get` in a `HashMap` of 1,024 keys, divided by that with SipHash, th
 #CARGO_MAPS
 Where the crate is slower:
 
-- One-shots of XXH3-128 of 129 to 240 bytes (0.90 to 0.94 beside `twox-hash`) are a call, so that shorter inputs save no registers.
-- XXH32 and XXH64 have the same loop as `twox-hash`, with more code before and after it (0.90 for XXH32 of 16 to 64 bytes, in one chunk).
-- Streams of XXH3 in chunks of 1 to 64 bytes check more per chunk than `xxhash-rust` (0.74 for chunks of 1 byte).
-- Compiled for this processor, `RawHasher` (0.71 to 0.89) and XXH32 (0.73 to 0.93) are slower in short chunks. The cause is unknown.
-- Without assembly source, one-shots of XXH3 of 16 KiB take 0.91 to 0.94, and chunks of 4,096 bytes 0.87.
+- XXH32 and XXH64 have the same loop as `twox-hash`, with more code before and after it (0.87 for XXH32 of 32 bytes, in one chunk).
+- Streams of XXH3 in chunks of 1 to 64 bytes check more per chunk than `xxhash-rust` (0.65 for chunks of 1 byte).
+- Compiled for this processor, `RawHasher` (0.70 to 0.93) and XXH32 (0.81 to 0.94) are slower in short chunks. The cause is unknown.
+- Without assembly source, one-shots of XXH3 of 16 KiB take 0.89 to 0.92, and chunks of 4,096 bytes 0.86.
 - A string is written in two parts. Above 8 bytes, the processor waits for the stores of both before the hash reads them.
 
 `xxhash-rust` does not detect the processor for more than 240 bytes.
@@ -260,7 +265,7 @@ The other program's time divided by that of `xxhsum` as cargo builds it. The fil
 The time of Debian's python3-xxhash divided by ours: the least and the greatest ratio of the four hashes.
 
 #PYTHON
-`many` takes 10.0 ns for a row of 16 bytes into a buffer and 34 ns into a list; the original in a loop takes 121 ns.
+`many` takes 12.4 ns for a row of 16 bytes into a buffer and 64 ns into a list; the original in a loop takes 235 ns.
 
 ## Browsers and Node
 
@@ -280,10 +285,10 @@ Instructions of the reference's header, by gcc 12 -O3, divided by ours for one c
 """
     day = when("measured", said[0], "library")
     drawn = {"SUMMARY": summary(parts, best) + day, "TWOX_HASH": twox_hash(parts) + day, "LOWEST": lowest(parts) + day,
-             "SHARED": shared(parts["c"]) + when("measured", said[0], "c"),
+             "SHARED": shared(parts["c"]) + when("c"), "DISPATCH": dispatch(parts["dispatch"]) + when("c", code="dispatch"),
              "CARGO": copied("cargo"), "CARGO_COUNTS": counted("cargo_counts") + when("cargo"),
              "CARGO_MAPS": counted("cargo_maps") + when("cargo"), "CARGO_PROGRAMS": copied("cargo_programs"),
-             "PYTHON": copied("python"), "WEB": copied("web"), "DISPATCH": dispatch(), "PROGRAMS": programs(parts["program"]) + when("measured", said[0], "xxh"), "XXHSUM": xxhsum(),
+             "PYTHON": copied("python"), "WEB": copied("web"), "PROGRAMS": programs(parts["program"]) + when("measured", said[0], "xxh"), "XXHSUM": xxhsum(),
              "ARM": arm(), "SAID": [f"- {it}" for it in said]}
     return "\n".join(line for it in text.rstrip("\n").split("\n") for line in drawn.get(it[1:], [it])) + "\n"
 
@@ -295,6 +300,7 @@ def main(words):
     is_check = words == ["--check"]
     folder = words[0] if words and not is_check else None
     said, rows = measured.read(f"{folder}/measured.tsv" if folder else measured.FILE)
+    rows += measured.read(f"{DATA}/c.tsv")[1]
     parts = {name: [it for it in rows if it.part == name] for name in dict.fromkeys(it.part for it in rows)}
     drawn = {"SPEED.md": page(said, parts), "speed.svg": picture(parts[SETS[0]], ["XXH32", "XXH64", "XXH3-64", "XXH3-128"])}
     for name, text in drawn.items():

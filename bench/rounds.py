@@ -1,5 +1,8 @@
-"""Writes measured.tsv from what the drivers and the programs measured in their rounds:
-rounds.py ROOM DATA FILE_SIZE LOAD_BEFORE LOAD_AFTER"""
+"""Writes measured.tsv or c.tsv from what the drivers and the programs measured in their rounds:
+
+    rounds.py ROOM DATA FILE_SIZE LOAD_BEFORE LOAD_AFTER
+    rounds.py --shared ROOM FILE LOAD_BEFORE LOAD_AFTER
+"""
 import datetime
 import glob
 import os
@@ -55,15 +58,24 @@ def processor():
         return next((it.split(":", 1)[1].strip() for it in lines if it.startswith("model name")), "an unknown processor")
 
 
-def origin(before, after, peers):
-    """The date, the machine and what built the peers."""
-    rust = os.path.basename(glob.glob("/usr/share/cargo/registry/xxhash-rust-*")[0])
+def machine():
+    """The date, the commit and the machine."""
     commit = command("git", "rev-parse", "--short=8", "HEAD")
-    return [f"Measured on {datetime.date.today().isoformat()}, at commit {commit}, on {processor()} with {os.cpu_count()} virtual cores "
-            f"({command('uname', '-sr')}).",
+    return (f"Measured on {datetime.date.today().isoformat()}, at commit {commit}, on {processor()} with {os.cpu_count()} virtual "
+            f"cores ({command('uname', '-sr')}).")
+
+
+def load(before, after):
+    return f"Load average {before} before the run and {after} after it, of which the run itself is 1."
+
+
+def origin(before, after, peers):
+    """The machine, and what built the peers."""
+    rust = os.path.basename(glob.glob("/usr/share/cargo/registry/xxhash-rust-*")[0])
+    return [machine(),
             f"Compilers: {command('gcc', '--version')}; {command('clang', '--version')}; {command('rustc', '--version')}.",
             f"Peers: {command('xxhsum', '--version')}; {rust}{'; twox-hash 2.1.5' if 'twox_hash' in peers else ''}.",
-            f"Load average {before} before the run and {after} after it, of which the run itself is 1.",
+            load(before, after),
             "Each function begins at a multiple of 64, ours and the peers' alike, at another position in each round, because "
             "the time of a few nanoseconds depends on the position. Debian's library is as Debian made it."]
 
@@ -72,9 +84,14 @@ def main(room, data, file_size, before, after):
     sets = sorted(os.path.basename(path) for path in glob.glob(os.path.join(room, "x86-64-v?")))
     rows = [it for name in sets for it in rows_of(room, name, name)]
     said = origin(before, after, rows[0].peers)
-    rows += rows_of(room, "shared", "c")
     measured.write(said, [*rows, *programs(room, int(file_size))], os.path.join(data, "measured.tsv"))
 
 
+def shared(room, file, before, after):
+    """The two shared libraries, of which only XXH3 has the names `.._dispatch`."""
+    rows = rows_of(room, "c", "c") + [it for it in rows_of(room, "dispatch", "dispatch") if it.name.startswith("XXH3-")]
+    measured.write([machine(), load(before, after)], rows, file)
+
+
 if __name__ == "__main__":
-    main(*sys.argv[1:])
+    shared(*sys.argv[2:]) if sys.argv[1] == "--shared" else main(*sys.argv[1:])

@@ -153,8 +153,8 @@ int main(int argc, char **argv)
     static const size_t lengths[] = { 1, 4, 8, 16, 32, 64, 128, 240, 256, 512, 1 << 10, 4 << 10, 16 << 10, 64 << 10,
         256 << 10, MIB, 4 * MIB, 16 * MIB, ROOM, 0 };
     static const size_t few_lengths[] = { 1, 4, 16, 64, 240, 256, 1 << 10, 16 << 10, MIB, 0 };
-    static const size_t pieces[] = { 1, 8, 16, 32, 64, 256, 1000, 4096, 65536, 0 };
-    static const size_t few_pieces[] = { 1, 16, 64, 256, 1000, 65536, 0 };
+    static const size_t pieces[] = { 1, 8, 16, 32, 40, 64, 100, 129, 160, 200, 255, 256, 1000, 4096, 65536, 0 };
+    static const size_t few_pieces[] = { 1, 16, 64, 200, 1000, 65536, 0 };
     const bool is_dispatched = argc > 3 && strcmp(argv[3], "--dispatch") == 0;
     if (argc < 3 || !read_words(argc, argv, 3 + is_dispatched))
         return fprintf(stderr, "usage: shared OURS THEIRS [--dispatch] [--quick] [--only WORD]..\n"), 2;

@@ -434,6 +434,16 @@ struct XXH3_state_s {
 #define XXH_LARGE_FUNCTION XXH_PUBLIC_API
 #endif
 
+/* Copies up to 256 bytes. If gcc knew this bound, it would use an instruction that takes long to start. */
+#if defined(__GNUC__) && !defined(__clang__) && __GNUC__ >= 8
+static __attribute__((noipa, unused)) void xxh_copy(void *to, const void *from, size_t length)
+#else
+XXH_FORCE_INLINE void xxh_copy(void *to, const void *from, size_t length)
+#endif
+{
+    XXH_COPY(to, from, length);
+}
+
 /* Before a loop with at most eight iterations. */
 #if defined(__GNUC__) && !defined(__clang__) && __GNUC__ >= 8
 #define XXH_UNROLLED _Pragma("GCC unroll 8")
@@ -650,19 +660,12 @@ XXH_FUNCTION XXH_errorcode XXH32_reset(XXH32_state_t *state, XXH32_hash_t seed)
     return XXH_OK;
 }
 
-XXH_LARGE_FUNCTION XXH_errorcode XXH32_update(XXH32_state_t *state, const void *input, size_t length)
+/* Completes the buffered stripe, if there is one, accumulates it and the other stripes in place, and buffers the rest. */
+XXH_INLINE void xxh32_update_stripes(XXH32_state_t *state, const uint8_t *bytes, size_t length)
 {
-    const uint8_t *bytes = (const uint8_t *)input;
-    size_t missing = 16 - state->buffered; /* bytes that complete the buffered stripe */
-    if (!bytes) return XXH_OK;
-    state->total += (uint32_t)length;
-    if (length < missing) {
-        XXH_COPY(state->buffer + state->buffered, bytes, length);
-        state->buffered += (uint32_t)length;
-        return XXH_OK;
-    }
     state->is_large = 1;
     if (state->buffered) {
+        const size_t missing = 16 - state->buffered;
         XXH_COPY(state->buffer + state->buffered, bytes, missing);
         xxh32_accumulate(state->accumulators, state->buffer, 1);
         bytes += missing;
@@ -671,6 +674,18 @@ XXH_LARGE_FUNCTION XXH_errorcode XXH32_update(XXH32_state_t *state, const void *
     xxh32_accumulate(state->accumulators, bytes, length / 16);
     state->buffered = (uint32_t)(length % 16);
     XXH_COPY(state->buffer, bytes + length / 16 * 16, length % 16);
+}
+
+XXH_FUNCTION XXH_errorcode XXH32_update(XXH32_state_t *state, const void *input, size_t length)
+{
+    if (!input) return XXH_OK;
+    state->total += (uint32_t)length;
+    if (length >= 16 - state->buffered) {
+        xxh32_update_stripes(state, (const uint8_t *)input, length);
+    } else {
+        XXH_COPY(state->buffer + state->buffered, input, length);
+        state->buffered += (uint32_t)length;
+    }
     return XXH_OK;
 }
 
@@ -788,18 +803,11 @@ XXH_FUNCTION XXH_errorcode XXH64_reset(XXH64_state_t *state, XXH64_hash_t seed)
     return XXH_OK;
 }
 
-XXH_LARGE_FUNCTION XXH_errorcode XXH64_update(XXH64_state_t *state, const void *input, size_t length)
+/* Completes the buffered stripe, if there is one, accumulates it and the other stripes in place, and buffers the rest. */
+XXH_INLINE void xxh64_update_stripes(XXH64_state_t *state, const uint8_t *bytes, size_t length)
 {
-    const uint8_t *bytes = (const uint8_t *)input;
-    size_t missing = 32 - state->buffered;
-    if (!bytes) return XXH_OK;
-    state->total += length;
-    if (length < missing) {
-        XXH_COPY(state->buffer + state->buffered, bytes, length);
-        state->buffered += (uint32_t)length;
-        return XXH_OK;
-    }
     if (state->buffered) {
+        const size_t missing = 32 - state->buffered;
         XXH_COPY(state->buffer + state->buffered, bytes, missing);
         xxh64_accumulate(state->accumulators, state->buffer, 1);
         bytes += missing;
@@ -808,6 +816,18 @@ XXH_LARGE_FUNCTION XXH_errorcode XXH64_update(XXH64_state_t *state, const void *
     xxh64_accumulate(state->accumulators, bytes, length / 32);
     state->buffered = (uint32_t)(length % 32);
     XXH_COPY(state->buffer, bytes + length / 32 * 32, length % 32);
+}
+
+XXH_FUNCTION XXH_errorcode XXH64_update(XXH64_state_t *state, const void *input, size_t length)
+{
+    if (!input) return XXH_OK;
+    state->total += length;
+    if (length >= 32 - state->buffered) {
+        xxh64_update_stripes(state, (const uint8_t *)input, length);
+    } else {
+        XXH_COPY(state->buffer + state->buffered, input, length);
+        state->buffered += (uint32_t)length;
+    }
     return XXH_OK;
 }
 
@@ -1448,33 +1468,39 @@ XXH_FORCE_INLINE void xxh3_accumulate_into(XXH3_state_t *state, const uint8_t *s
                                                   state->secret_limit);
 }
 
-/* Buffers bytes until more than the buffer's length are there. Then the buffer's four stripes are accumulated, and of
- * the input all stripes that are followed by a byte, in place. */
-XXH_NO_INLINE XXH_errorcode xxh3_update(XXH3_state_t *state, const uint8_t *bytes, size_t length)
+/* Fills the buffer and accumulates its four stripes, and of the rest, in place, all stripes that are followed by a byte. */
+XXH_NO_INLINE void xxh3_update_stripes(XXH3_state_t *state, const uint8_t *bytes, size_t length)
 {
-    const size_t capacity = sizeof state->buffer, missing = capacity - state->buffered;
-    if (!bytes) return XXH_OK;
-    state->total += length;
-    if (length <= missing) {
-        XXH_COPY(state->buffer + state->buffered, bytes, length);
-        state->buffered += (uint32_t)length;
-        return XXH_OK;
-    }
+    const size_t capacity = sizeof state->buffer;
     if (state->buffered) {
-        XXH_COPY(state->buffer + state->buffered, bytes, missing);
+        const size_t missing = capacity - state->buffered;
+        xxh_copy(state->buffer + state->buffered, bytes, missing);
         xxh3_accumulate_into(state, state->buffer, capacity / 64);
         bytes += missing;
         length -= missing;
     }
     if (length > capacity) {
-        size_t count = (length - 1) / 64;
+        const size_t count = (length - 1) / 64;
         xxh3_accumulate_into(state, bytes, count);
         bytes += 64 * count;
         length -= 64 * count;
         XXH_COPY(state->buffer + capacity - 64, bytes - 64, 64);
     }
-    XXH_COPY(state->buffer, bytes, length);
+    xxh_copy(state->buffer, bytes, length);
     state->buffered = (uint32_t)length;
+}
+
+/* Buffers bytes until more than the buffer's length are there. */
+XXH_FORCE_INLINE XXH_errorcode xxh3_update(XXH3_state_t *state, const void *input, size_t length)
+{
+    if (!input) return XXH_OK;
+    state->total += length;
+    if (length > sizeof state->buffer - state->buffered) {
+        xxh3_update_stripes(state, (const uint8_t *)input, length);
+    } else {
+        XXH_COPY(state->buffer + state->buffered, input, length);
+        state->buffered += (uint32_t)length;
+    }
     return XXH_OK;
 }
 
@@ -1549,7 +1575,7 @@ XXH_FORCE_INLINE XXH_errorcode xxh3_reset_with_secret(XXH3_state_t *state, const
     }                                                                                                              \
     XXH_FUNCTION XXH_errorcode XXH3_##width##bits_update(XXH3_state_t *state, const void *input, size_t length)    \
     {                                                                                                              \
-        return xxh3_update(state, (const uint8_t *)input, length);                                                 \
+        return xxh3_update(state, input, length);                                                                  \
     }
 
 XXH3_STREAMS(64)

@@ -26,9 +26,10 @@ def rows_of(name):
 
 
 def libraries():
-    """The measurements of each part of bench/data/measured.tsv."""
-    rows = [it for it in measured.read(measured.FILE)[1] if it.form in page.FORMS]
-    return {part: [it for it in rows if it.part == part] for part in ('c', *page.SETS)}
+    """The measurements of each part of bench/data/measured.tsv and c.tsv."""
+    files = [measured.FILE, f'{page.DATA}/c.tsv']
+    rows = [it for file in files for it in measured.read(file)[1] if it.form in page.FORMS]
+    return {part: [it for it in rows if it.part == part] for part in ('c', 'dispatch', *page.SETS)}
 
 
 def numbers(cells, pattern=RATIO):
@@ -39,11 +40,11 @@ def speeds():
     """For each line of the table of speed: the product, the peer, the median or another mean, the lowest ratio, the file
     of the data and the name of the measured code."""
     parts = libraries()
-    ratios = {'c': [it.peers['c_shared'].median for it in parts['c']], **{name: list(map(page.best, parts[name])) for name in page.SETS}}
+    ratios = {**{name: [it.peers['c_shared'].median for it in parts[name]] for name in ('c', 'dispatch')},
+              **{name: list(map(page.best, parts[name])) for name in page.SETS}}
     middle = lambda values: f'{statistics.median(values):.2f}'
-    yield 'C library', "Debian's `libxxhash`", middle(ratios['c']), ratios['c'], 'measured', 'c'
-    values = numbers(cell for row in rows_of('dispatch') for cell in row[1:])
-    yield 'C library, AVX-512', 'its `.._dispatch`', middle(values), values, 'dispatch', 'dispatch'
+    yield 'C library', "Debian's `libxxhash`", middle(ratios['c']), ratios['c'], 'c', 'c'
+    yield 'C library, AVX-512', 'its `.._dispatch`', middle(ratios['dispatch']), ratios['dispatch'], 'c', 'dispatch'
     for name in page.SETS:
         yield f'functions, {name}', 'fastest of four', middle(ratios[name]), ratios[name], 'measured', 'library'
     counts = {row[0]: row[1:] for row in rows_of('cargo_counts')}

@@ -57,9 +57,9 @@ FAULTS = [
     Fault("xxh3_accumulate_all", "block < blocks", "block + 1 < blocks", value("3-64", "secret", 1025, 192)),
     Fault("_long_seed(const", "if (!seed)", "if (seed)", value("3-64", "seed", 300)),
     # Streams.
-    Fault("XXH32_update", "length < missing", "length <= missing", update("32", 5, 0, False)),
-    Fault("XXH64_update", "bytes += missing;", "bytes += missing - 1;", update("64", 3, 7, True)),
-    Fault("XXH_errorcode xxh3_update", "length <= missing", "length < missing",
+    Fault("XXH_errorcode XXH32_update", "length >= 16", "length > 16", update("32", 5, 0, False)),
+    Fault("xxh64_update_stripes", "bytes += missing;", "bytes += missing - 1;", update("64", 3, 7, True)),
+    Fault("XXH_errorcode xxh3_update", "length > sizeof", "length >= sizeof",
           value("3-64", "default", 256, cuts=[100])),
     Fault("xxh3_accumulate_blocks", "count < left", "count <= left", value("3-128", "default", 1088, cuts=[])),
     Fault("xxh3_accumulate_last", "secret_limit - 7", "secret_limit - 8", value("3-64", "default", 300, cuts=[])),
