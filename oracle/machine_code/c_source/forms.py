@@ -51,6 +51,13 @@ def push(cpu, x, source):
     cpu.push(memory.load(at, 8))
 
 
+@form(V1, "pop", "q")
+def pop(cpu, x, to):
+    """Also pops what an earlier call left, to move the stack pointer: a place to return to has any value."""
+    value = cpu.pop()
+    cpu.put(to, WORD, cpu.fresh("a return address") if isinstance(value, ReturnTo) else value, x)
+
+
 @form(V1, "leave", "")
 def leave(cpu, x):
     cpu.move_stack(cpu.registers["rbp"])
