@@ -103,12 +103,15 @@ class Updates(any_updates.AnyUpdates):
         at_each_residue(self.cpu, ask, OF_STATE[self.hash_name])
 
     def show(self, one):
-        """Proves an update of a state with any number of stripes. XXH32's states count whether there was one."""
-        d, a = variable("d"), variable("a")
+        """Proves an update of a state with any number of stripes. XXH32's states keep whether there was one."""
+        a = variable("a")
         for begun in (a,) if self.width == 64 else (0, plus(a, 1)):
-            ended, facts = plus(begun, int(one.fills), d if one.more else 0), [minus(d, 1)] if one.more else []
-            self.at_each_residue(functools.partial(
-                self.update_between, begun, one.r, ended, one.s, facts, self.family(ended)))
+            self.at_each_residue(functools.partial(self.show_from, begun, one))
+
+    def show_from(self, begun, one):
+        d = variable("d")
+        ended, facts = plus(begun, int(one.fills), d if one.more else 0), [minus(d, 1)] if one.more else []
+        self.update_between(begun, one.r, ended, one.s, facts, self.family(ended) if facts else None)
 
     def ends(self):
         """Yields the proofs of the reset and of the digests."""
