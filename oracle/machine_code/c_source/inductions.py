@@ -7,7 +7,7 @@ from symbolic_terms import at_most, is_same_number, minus, plus, times, variable
 from symbolic_terms.polynomials import as_word, is_natural
 
 from .. import any_updates, every_length
-from ..every_length import DERIVED, MANY, TURNS, Case, xxh3_case
+from ..every_length import DERIVED, TURNS, Case, xxh3_case
 from .objects import OF_STATE, at_each_residue
 
 LEAST = 2                         # turns of a case of XXH32 and XXH64: shorter lengths are compared one by one
@@ -37,16 +37,6 @@ def xxh3_cases():
         yield xxh3_case(turns, J, minus(turns, LEAST))
 
 
-def by_width(case):
-    """Yields a case split by whether the number of stripes has 32 bits: compilers then divide in another way."""
-    if TURNS not in repr(case.stripes):
-        yield case
-        return
-    turns, bound = variable(TURNS), MANY // DERIVED
-    for fact in (at_most(turns, bound - 1), minus(turns, bound)):
-        yield case._replace(facts=[*case.facts, fact])
-
-
 def cases(kind):
     """Returns the cases of a kind. A secret has 192 to 199 bytes."""
     name, _, way = kind.partition(":")
@@ -55,7 +45,7 @@ def cases(kind):
     found = list(xxh3_cases())
     if way not in OWN_SECRET:
         return found
-    return [every_length.with_rest(one, rest) for case in found for one in by_width(case) for rest in (False, True)]
+    return [every_length.with_rest(case, rest) for case in found for rest in (False, True)]
 
 
 def shortest(kind):
