@@ -11,8 +11,10 @@ OF_SHORT, OF_PLAIN = ("scalar", "halves", "bytes"), ("scalar", "bytes")
 STREAMS = {"outside": "avx2", "inside": "scalar"}
 # Sizes of secrets generated from custom seeds of every length; and of 0 to 240 bytes: the first and the last size, the
 # first length, and the step between lengths.
-LONG_SEEDS, SHORT_SEEDS = ("136",), ("136 137 0 29", "143 143 5 67")
-ALL_LONG_SEEDS, ALL_SHORT_SEEDS = ("136", "143", "144 192", "241"), ("136 136 0 1", "137 160 0 11", "161 300 7 60")
+LONG_SEEDS, SHORT_SEEDS = ("136", "143", "144 192", "241"), ("136 136 0 1", "137 160 0 11", "161 300 7 60")
+SOME_SHORT_SEEDS = "136 137 0 29", "143 143 5 67"            # in CI, which leaves out the others
+# Functions of which CI compares only the plain form with every length: the others share all code but the kernel's.
+OF_PLAIN_FORM = "3-64:both", "3-128:secret"
 
 
 # ---- short inputs
@@ -58,11 +60,11 @@ def of_calls():
 
 def of_secrets(is_all):
     yield "refused secrets", calls.refused_secrets, "", "scalar"
-    for kind in ALL_LONG_SEEDS if is_all else LONG_SEEDS:
+    for kind in LONG_SEEDS if is_all else ():
         yield f"secrets of {kind} bytes from seeds of every length above 240", calls.generated_from_long, kind, "scalar"
     for form in OF_SHORT:
         yield "derived secrets", calls.derived_secret, "", form
-        for kind in ALL_SHORT_SEEDS if is_all else SHORT_SEEDS:
+        for kind in SHORT_SEEDS if is_all else SOME_SHORT_SEEDS:
             first, last, *_ = kind.split()
             yield f"secrets of {first} to {last} bytes from seeds of 0 to 240", calls.generated_secrets, kind, form
 
@@ -73,7 +75,8 @@ def of_hashes(is_all):
             if form in (OF_SHORT if name.startswith("3-") else OF_PLAIN):
                 yield f"XXH{name}, {way}: each length below {SHORT[name]}", short, f"{name}:{way}", form
         for kind in every_length.KINDS:
-            if kind.startswith("3-") or form in OF_PLAIN:
+            is_in_ci = form == "scalar" or kind not in OF_PLAIN_FORM
+            if (is_all or is_in_ci) and (kind.startswith("3-") or form in OF_PLAIN):
                 title = f"XXH{kind.replace(':', ', ')}: every length from {every_length.shortest(kind)} to 2^64 - 1"
                 yield title, every_length.show, kind, form
         for kind in ("32", "64") if form in OF_PLAIN else ():
