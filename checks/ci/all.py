@@ -25,7 +25,8 @@ from .parts import Part
 
 # Checks over symbols, which need no proof: they use the processors that the proofs leave idle.
 FOR_ALL_BYTES = [("the definitions beside the reference's code", 32, "oracle/symbolic"),
-                 ("the C header beside the definitions", 85, "oracle/symbolic --headers c/include"),
+                 ("the C header beside the definitions", 120, "oracle/symbolic --headers c/include"),
+                 ("the C source as gcc and clang compile it, beside the definitions", 72, "oracle/c-object"),
                  ("the assembly text beside the definitions", 140, "oracle/machine-text"),
                  ("the crate's calls, as rustc compiles them, beside the definitions", 95, "oracle/rust-object"),
                  ("the modules for browsers beside the definitions", 53, "oracle/modules")]

@@ -31,7 +31,7 @@ LOADED = [name for name in WIDE if name != "rsp"]
 REGISTERS, VECTORS, COMPARED, ROOM, AFTER, VECTORS_AFTER, FLAGS_AFTER, SIZE = 0, 128, 2176, 2240, 2368, 2496, 4544, 4608
 WHOLE = 8 * LANES                 # bytes of a vector
 FLAGS = "b", "e", "a"
-SOME_FLAGS = {**dict.fromkeys(("imul", "mul", "div", "shld", "shrd", "rol"), ()),      # the flags that are set
+SOME_FLAGS = {**dict.fromkeys(("imul", "mul", "div", "shld", "shrd", "rol", "ror"), ()),      # the flags that are set
               **dict.fromkeys(("shl", "shr", "vptest"), "e")}
 BASES = "rdi", "rsi", "r9", "r10"
 SAMPLE = {"b": ["cl", "al", "dl"], "h": ["ah"], "w": ["ax", "cx", "dx"], "l": ["eax", "ecx", "ebx"],
@@ -155,7 +155,7 @@ class Snippets(Program):
         pass
 
 
-def assembled(snippets, room):
+def assembled(snippets, room, reader=Snippets):
     """Returns the functions as a shared library to run, and as a program to read."""
     with open(f"{room}/snippets.s", "w", encoding="utf-8") as file:
         print('.section .note.GNU-stack,"",@progbits', ".text", sep="\n", file=file)
@@ -163,7 +163,7 @@ def assembled(snippets, room):
             print(*function(number, lines), sep="\n", file=file)
     for words in (["-c", "-o", f"{room}/snippets.o"], ["-shared", "-o", f"{room}/snippets.so"]):
         subprocess.run(["gcc", *words, f"{room}/snippets.s"], check=True)
-    return ctypes.CDLL(f"{room}/snippets.so"), Snippets(f"{room}/snippets.o")
+    return ctypes.CDLL(f"{room}/snippets.so"), reader(f"{room}/snippets.o")
 
 
 # ---- both runs
@@ -238,16 +238,16 @@ def own_bytes(programs):
             if x.operands and not any(isinstance(y, Place) or y == Register("rsp") for y in x.operands)}
 
 
-def compare(texts, room, own=None):
-    """Tests instructions, each with its form, and SNIPPETS. Returns their number and the differences. `own` maps
+def compare(texts, room, own=None, snippets=SNIPPETS, reader=Snippets):
+    """Tests instructions, each with its form, and snippets. Returns their number and the differences. `own` maps
     instructions to the bytes that they must have."""
-    snippets = [*([text] for text in texts), *SNIPPETS]
-    library, program = assembled(snippets, room)
+    forms, snippets = [*texts.values(), *[None] * len(snippets)], [*([text] for text in texts), *snippets]
+    library, program = assembled(snippets, room, reader)
     cpu, draw, wrong = Processor(program, processor_here()), random.Random(1), []
     whole = ctypes.create_string_buffer(SIZE + 64)
     first = -ctypes.addressof(whole) % 64
     state = (ctypes.c_ubyte * SIZE).from_buffer(whole, first)
-    for number, (lines, form) in enumerate(zip(snippets, [*texts.values(), *[None] * len(SNIPPETS)])):
+    for number, (lines, form) in enumerate(zip(snippets, forms)):
         section, at = program.labels[f"b{number}"]
         raw = program.object.body(program.heads[section])[at:program.labels[f"e{number}"][1]]
         if len(lines) == 1 and raw != (own or {}).get(lines[0], raw):

@@ -15,7 +15,7 @@ class Memory:
     """A memory object, with a run of bytes."""
 
     def __init__(self, name):
-        self.name, self.alignment = name, 8
+        self.name, self.alignment, self.residue = name, 8, 0
 
     def runs(self):
         return ["a run"]

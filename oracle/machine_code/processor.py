@@ -74,7 +74,7 @@ class Runner(Names):
 class Processor(Runner):
     """An x86-64 processor with an instruction set's name."""
 
-    ARGUMENTS, STACK_POINTER = ARGUMENTS, "rsp"
+    ARGUMENTS, STACK_POINTER, new_stack = ARGUMENTS, "rsp", Stack
     TAKES_STRIPES = ARGUMENTS     # argument registers of a function that takes stripes
 
     known = staticmethod(known)       # returns an instruction's function
@@ -99,7 +99,7 @@ class Processor(Runner):
         self.registers = {name: self.fresh(name) for name in WIDE}
         self.forget_vectors()
         self.flags = self.carry = None
-        self.stack, self.count = Stack(), 0
+        self.stack, self.count = self.new_stack(), 0
         self.registers["rsp"] = address(self.stack, ENTRY)
         self.push(ReturnTo(OUT, 0))
         for where, x in zip(into, arguments):
@@ -202,8 +202,8 @@ class Processor(Runner):
         memory, at = place_of(self.effective(operand, instruction))
         if memory is self.stack and not (isinstance(at, int) and at >= self.registers["rsp"].place()[1] - RED):
             raise Unsupported("a place below the stack")
-        is_aligned = alignment == 1 or not memory.alignment % alignment and isinstance(at, int) and not at % alignment
-        if not is_aligned:
+        is_aligned = not memory.alignment % alignment and isinstance(at, int) and not (at + memory.residue) % alignment
+        if alignment > 1 and not is_aligned:
             raise Unsupported(f"a place in {memory.name} that may not be a multiple of {alignment}")
         return memory, at
 

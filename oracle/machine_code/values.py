@@ -115,7 +115,7 @@ def low_bits(a, mask):
     memory, at = a.place()
     if mask & mask + 1 or memory.alignment % (mask + 1):
         raise Undecided(f"the bits {mask:#x} of a place in {memory.name}")
-    return arithmetic("and", WORD, at % WHOLE if isinstance(at, int) else at, mask)
+    return arithmetic("and", WORD, (at + memory.residue) % WHOLE if isinstance(at, int) else at + memory.residue, mask)
 
 
 # ---- words

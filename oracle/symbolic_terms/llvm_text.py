@@ -36,6 +36,10 @@ class Array:
 
     def size(self): return self.count * self.element.size()
     def alignment(self): return self.element.alignment()
+    def offset(self, index): return index * self.element.size()
+
+    @property
+    def parts(self): return (self.element,) * self.count
 
 
 @dataclass(frozen=True)

@@ -1,7 +1,8 @@
 """Runs functions of LLVM code symbolically. Addresses, lengths and branches are numbers, or polynomials that the facts
 decide; bytes of an input are terms. A vector is one number, with its first lane in the lowest bits."""
 from . import halves, operations
-from .llvm_text import (NOTHING, FunctionName, Pointer, Reader, Register, Struct, alignment_said, instruction, place_of)
+from .llvm_text import (NOTHING, Array, FunctionName, Pointer, Reader, Register, Struct, Vector, alignment_said,
+                        instruction, place_of)
 from .memory import Input, Memory, taken
 from .nodes import Node, symbol
 from .operations import bits, side_by_side
@@ -12,6 +13,7 @@ from .words import BINARY, compare_numbers, rotated, signed
 
 WORD = 64
 HALF = 1 << WORD - 1
+DIVISIONS = "udiv", "urem", "sdiv"
 NOTED = "add", "mul", "and", "or", "shl", "lshr"      # operations of a product by halves
 
 
@@ -32,12 +34,15 @@ def binary(module, value, word, t, a, b):
         if a[0] is not b[0]:
             raise Unsupported("the difference of two objects")
         a, b = a[1], b[1]
-    if word == "and" and is_address(a):                     # a test of alignment
-        if not isinstance(b, int) or b & b + 1 or a[0].alignment % (b + 1):
+    if word in ("and", "urem") and is_address(a):           # a test of alignment
+        size = b + 1 if word == "and" else b
+        if not isinstance(size, int) or size < 1 or size & size - 1 or a[0].alignment % size:
             raise Unsupported("the bits of an address")
         a = a[1]
     if is_address(a) or is_address(b):
         raise Unsupported(f"{word} of an address")
+    if word in DIVISIONS and isinstance(b, int) and not b:
+        raise Unsupported("a division by 0")
     result = BINARY[word](t.bits, a, b)
     return halves.noted(word, a, b, result) if module.multiplies_by_halves and t.bits == WORD and word in NOTED else result
 
@@ -65,8 +70,8 @@ def insert_lane(module, value, t, a, operands):
 
 
 def shuffle(module, value, t, a, operands):
-    _, (to, order) = operands
-    out = lanes_of(value(a), t)
+    (_, b), (to, order) = operands
+    out = lanes_of(value(a), t) + lanes_of(value(b), t)
     return vector([out[k] for k in lanes_of(value(order), to)], t.bits)
 
 
@@ -120,7 +125,7 @@ def compare_terms(module, test, a, b):
 def load(module, value, t, operands):
     (_, address), = operands
     memory, at = pointed(value(address))
-    if isinstance(t, Struct):
+    if isinstance(t, (Array, Struct)):
         return tuple(memory.load(at + t.offset(k), part.size()) for k, part in enumerate(t.parts))
     return memory.load(at, t.size())
 
@@ -128,7 +133,7 @@ def load(module, value, t, operands):
 def store(module, value, t, a, operands):
     (_, address), = operands
     (memory, at), a = pointed(value(address)), value(a)
-    if isinstance(t, Struct):
+    if isinstance(t, (Array, Struct)):
         for k, part in enumerate(t.parts):
             memory.store(at + t.offset(k), part.size(), a[k])
     else:
@@ -175,6 +180,9 @@ def intrinsic(name, arguments):
         word, count = "lshr" if "psrl" in name else "shl", 4 if "avx2" in name else 2
         lanes = [bits(arguments[0], WORD * k, WORD) for k in range(count)]
         return vector([BINARY[word](WORD, x, arguments[1]) for x in lanes], WORD)
+    if name == "@llvm.aarch64.neon.umull.v2i64":
+        pairs = [[bits(x, 32 * k, 32) for x in arguments] for k in (0, 1)]
+        return vector([BINARY["mul"](WORD, *pair) for pair in pairs], WORD)
     if name.startswith("@llvm.prefetch"):
         return None
     if name == "@llvm.assume":
@@ -203,8 +211,10 @@ def copy(to, source, n):
 
 # ---- all operations
 
-def truncate(module, value, _, a, to):
+def truncate(module, value, t, a, to):
     a = value(a)
+    if isinstance(t, Vector):
+        return vector([bits(lane, 0, to.bits) for lane in lanes_of(a, t)], to.bits)
     return a % (1 << to.bits) if isinstance(a, Poly) else bits(a, 0, to.bits)
 
 
@@ -319,10 +329,11 @@ class Module:
     live                 the live memories
     instead              function's name -> Python function called instead
     loops                called at each block; may prove a loop by induction (loops.py)
+    called               names of the functions called so far
     """
 
     def __init__(self, text):
-        self.types, self.functions, self.globals, self.made = {}, {}, {}, 0
+        self.types, self.functions, self.globals, self.made, self.called = {}, {}, {}, 0, set()
         self.lines, self.multiplies_by_halves = text.split("\n"), " i128 " not in text
         self.reset()
         for line in self.lines:
@@ -363,4 +374,5 @@ class Module:
     def call(self, name, arguments):
         if name == NOTHING or name.startswith("@llvm."):
             return intrinsic(name, arguments)
+        self.called.add(name)
         return self.instead[name](arguments) if name in self.instead else self.functions[name].run(arguments)

@@ -33,7 +33,7 @@ class Input:
     """The bytes of a message or a secret. Bytes at x + c, c a number, belong to one symbol for each x: such windows may
     overlap, but nothing here uses that."""
 
-    alignment = 1
+    alignment, residue = 1, 0
 
     def __init__(self, name, length):
         self.name, self.length = name, length
@@ -78,12 +78,12 @@ class Piece(Input):
 
 
 class Memory:
-    """A writable object. `cells` maps offsets to (size, value). Under RUNS it has copies of symbolic length or to a
-    symbolic offset: (low, high, input, place) means that byte c of the object is byte place + c of the input, low <= c
-    < high. No byte is in two of them. Copies to `run_area` are kept as runs."""
+    """A writable object, `residue` bytes above a multiple of `alignment`. `cells` maps offsets to (size, value). Under
+    RUNS it has copies of symbolic length or to a symbolic offset: (low, high, input, place) means that byte c of the
+    object is byte place + c of the input, low <= c < high. No byte is in two of them. Copies to `run_area` are runs."""
 
     def __init__(self, name, length, cells=(), runs=(), run_area=None, alignment=1):
-        self.name, self.length, self.run_area, self.alignment = name, length, run_area, alignment
+        self.name, self.length, self.run_area, self.alignment, self.residue = name, length, run_area, alignment, 0
         self.cells = {at: (n, value) for at, n, value in cells}
         if runs:
             self.cells[RUNS] = tuple(runs)

@@ -21,11 +21,13 @@ import proved_cases
 from reasons import CRASH, UNNOTICED, WRONG_RULE
 
 from . import definition, every_length, nodes, reference
+from .header_names import OURS, names_of
 from .refusals import REFUSALS, Undecided
 from .requests import Request, differing_point
 from .machine import Function
 from .nodes import Node, WrongRule, values_at
 
+BY_LENGTH = 0, 1, 2, 3, 4, 8, 9, 16, 17, 32, 33, 65, 97, 128, 129, 160, 240, 241
 SECONDS = 4              # time limit, after which a change counts as not ending
 EQUAL_LINES = os.path.join(os.path.dirname(os.path.abspath(__file__)), "equivalent_lines.txt")
 RECURSION, MEMORY = 8000, 6 << 30
@@ -93,6 +95,13 @@ def asked():
         out += [Request(name, "secret", n, 143) for n in (577, 640, 641)]
         out += [Request(name, "both", n, 137) for n in (240, 241, 641)]
     return sorted([r for request in out for r in [request, *request.with_seed_0()]], key=lambda request: request.length)
+
+
+def asked_of(module):
+    """Returns the requests for a header. In ours each function of XXH3 chooses by the length: further ones ask for it."""
+    more = [Request(name, way, n, 136) for name in ("3-64", "3-128") for way in ("secret", "both") for n in BY_LENGTH]
+    more += [Request(name, "default", n) for name in ("3-64", "3-128") for n in BY_LENGTH]
+    return sorted([*asked(), *(more if names_of(module) is OURS else [])], key=lambda request: request.length)
 
 
 # ---- changes of the definition
@@ -222,7 +231,7 @@ def reaching(module, requests):
 def of_reference(module, sample, part, parts):
     """Returns (outcome, text) for a sample of the changes of the LLVM code."""
     nodes.forget()
-    requests, entries = asked(), definition.program().run()
+    requests, entries = asked_of(module), definition.program().run()
     answers = {id(request): request.of_definition(entries) for request in requests}
     by_function, known, out = reaching(module, requests), nodes.mark(), []
     reached = [change for change in all_lines(module) if change[0] in by_function]

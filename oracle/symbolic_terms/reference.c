@@ -1,6 +1,9 @@
 /* The reference library's one-shots and streams as functions of one form, for clang to turn into LLVM's text. A stream
-   takes chunks that end at `cuts`, and the rest. */
+   takes chunks that end at `cuts`, and the rest. With XXH_IMPLEMENTATION, as in c/source/xxhash.c, clang also writes
+   the public functions that no function here calls. */
+#ifndef XXH_IMPLEMENTATION
 #define XXH_INLINE_ALL
+#endif
 #define XXH_STATIC_LINKING_ONLY
 #include <xxhash.h>
 

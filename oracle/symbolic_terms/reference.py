@@ -17,10 +17,14 @@ from .nodes import Node
 
 HEADERS = "/usr/include"          # folder of Debian's libxxhash-dev
 VECTORS = {"scalar": ["-DXXH_VECTOR=0"], "sse2": ["-DXXH_VECTOR=1"], "avx2": ["-DXXH_VECTOR=2", "-mavx2"]}
-# Forms of c/include/xxhash.h: also without products of 128 bits, and with words that are read byte by byte, as on
-# processors that store the highest byte first.
+# Forms of c/include/xxhash.h: also without products of 128 bits, with words that are read byte by byte, as on
+# processors that store the highest byte first, and for 64-bit ARM, without the headers of its C library.
 FORMS = {**VECTORS, "halves": ["-DXXH_VECTOR=0", "-U__SIZEOF_INT128__"],
-         "bytes": ["-DXXH_VECTOR=0", "-DXXH_CPU_LITTLE_ENDIAN=0", "-U__SIZEOF_INT128__"]}
+         "bytes": ["-DXXH_VECTOR=0", "-DXXH_CPU_LITTLE_ENDIAN=0", "-U__SIZEOF_INT128__"],
+         "neon": ["-DXXH_VECTOR=4", "--target=aarch64-linux-gnu", "-ffreestanding", "-DXXH_NO_STDLIB"]}
+MARK = "XXHASH_H_TWOX_HASH"       # a name that only c/include/xxhash.h has
+PREFIX = "XXH_INLINE_"            # of the names of public functions in LLVM code
+ALL_PUBLIC = ["-DXXH_IMPLEMENTATION", f"-DXXH_NAMESPACE={PREFIX}"]
 CLANG = "clang-14"
 DEBIAN_PYTHON = "/usr/lib/python3/dist-packages"
 BESIDE = 512                      # bytes around a chunk within which streams compare addresses
@@ -34,14 +38,21 @@ def install(headers, with_solver):
     tools.install([package for package, there in is_there.items() if not there])
 
 
+def is_ours(headers):
+    with open(f"{headers}/xxhash.h", encoding="utf-8") as file:
+        return MARK in file.read()
+
+
 def llvm_text(headers=HEADERS, vector="scalar"):
-    """Returns the LLVM code of the header in a folder, written by clang's front end without optimiser. The header is
-    copied to a separate folder: clang ignores `-I /usr/include`, and could use a header of another folder."""
+    """Returns the LLVM code of the header in a folder, written by clang's front end without optimiser: of ours, all
+    public functions. The header is copied to a separate folder: clang ignores `-I /usr/include`, and could use a header
+    of another folder."""
+    flags = FORMS[vector] + (ALL_PUBLIC if is_ours(headers) else [])
     with tempfile.TemporaryDirectory(prefix="symbolic-") as room:
         out = f"{room}/reference.ll"
         shutil.copy(f"{headers}/xxhash.h", room)
-        subprocess.run([CLANG, "-O0", "-w", "-fno-discard-value-names", "-S", "-emit-llvm", *FORMS[vector], "-I",
-                        room, f"{FOLDER}/reference.c", "-o", out], check=True)
+        subprocess.run([CLANG, "-O0", "-w", "-fno-discard-value-names", "-S", "-emit-llvm", *flags, "-I", room,
+                        f"{FOLDER}/reference.c", "-o", out], check=True)
         with open(out, encoding="utf-8") as file:
             return file.read()
 

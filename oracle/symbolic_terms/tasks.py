@@ -8,11 +8,11 @@ import unittest.mock
 import mutants
 from reasons import Reasons, is_fault
 
-from . import (c_header, comparison, cuts, every_length, header_mutants, mutation, plain_streams, processes, self_tests,
-               xxh3_streams)
+from . import (c_header, comparison, cuts, every_length, header_coverage, header_faults, header_mutants, mutation,
+               plain_streams, processes, self_tests, xxh3_streams)
 from .comparison import SECRETS, title_of
 from .machine import Module
-from .reference import FORMS, HEADERS, VECTORS, llvm_text, of_reference
+from .reference import FORMS, HEADERS, VECTORS, is_ours, llvm_text, of_reference
 
 PARTS = 4                    # tasks into which the changes are split
 SAMPLE = 96                  # in CI, step between tested changes of the definition
@@ -29,7 +29,7 @@ class Task(processes.Task):
 
 
 def choose(given):
-    tasks = of_c_header(given) if c_header.is_ours(given.headers) else of_the_reference(given)
+    tasks = of_c_header(given) if is_ours(given.headers) else of_the_reference(given)
     return [task for task in tasks if given.only in task.title]
 
 
@@ -44,9 +44,11 @@ def of_the_reference(given):
 
 def of_c_header(given):
     """Returns the tasks of c/include/xxhash.h: all its forms."""
-    tasks = [Task(title, functools.partial(c_header.proved, show, kind), form)
-             for title, show, kind, form in c_header.proofs(given.all)]
-    tasks += [Task(title, ask) for title, ask in c_header.planted(given.all, given.headers)]
+    proofs = c_header.proofs(given.all)
+    tasks = [Task("each public function has a task", functools.partial(header_coverage.all_compared, proofs)),
+             Task("a public function without a task is missed", functools.partial(header_coverage.planted, proofs))]
+    tasks += [Task(title, functools.partial(header_coverage.proved, show, kind), form) for title, show, kind, form in proofs]
+    tasks += [Task(title, ask) for title, ask in header_faults.planted(given.all, given.headers)]
     title, ask = "changes of LLVM's text", functools.partial(line_changes, sample=LINES if given.all else FEW_LINES)
     tasks += [Task(f"{title}, part {part + 1} of {PARTS}", functools.partial(ask, part=part, parts=PARTS), is_deep=False)
               for part in range(PARTS if given.all else 1)]

@@ -121,6 +121,7 @@ class Xxh3Streams(Proof):
         called = [parts[0].value.name for _, operation, parts in lines if operation == "call"]
         if both[0].blocks != both[1].blocks and called != [both[0].name]:
             raise NotShown("two updates")
+        self.module.called.add(both[0].name)
 
     def update(self, start, end, runs, expected, facts, blocks=None):
         """Proves an update by one chunk from a state (b, j, f) to another. `blocks` describes the loop over blocks."""
