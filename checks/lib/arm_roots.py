@@ -1,4 +1,4 @@
-"""Debian's packages for 64-bit ARM below a folder of their own, and a compiler over them."""
+"""Debian's packages for 64-bit ARM, or another processor, below a folder of their own, and a compiler over them."""
 import os
 
 from tools import QUIET, must, text_of, write
@@ -6,14 +6,14 @@ from tools import QUIET, must, text_of, write
 TOOLS = 'aarch64-linux-gnu-'
 
 
-def debian_root(folder, *packages):
-    """Debian's packages for arm64 and everything that they need, unpacked below a folder. apt works on lists and a
+def debian_root(folder, *packages, architecture='arm64'):
+    """Debian's packages and everything that they need, unpacked below a folder. apt works on lists and a
     cache of its own there, so that the machine's own packages stay unchanged."""
     for part in ('state/lists/partial', 'cache/archives/partial', 'root'):
         os.makedirs(os.path.join(folder, part))
     status = os.path.join(folder, 'status')
     open(status, 'w').close()
-    settings = {'APT::Architecture': 'arm64', 'APT::Architectures::': 'arm64', 'APT::Sandbox::User': 'root',
+    settings = {'APT::Architecture': architecture, 'APT::Architectures::': architecture, 'APT::Sandbox::User': 'root',
                 'Debug::NoLocking': '1', 'Dir::State': os.path.join(folder, 'state'), 'Dir::State::status': status,
                 'Dir::Cache': os.path.join(folder, 'cache')}
     apt = ['apt-get', '-qq', *(word for name, value in settings.items() for word in ('-o', f'{name}={value}'))]

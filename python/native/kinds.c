@@ -4,6 +4,7 @@
 #include <string.h>
 
 #include "proved.h"
+#include "states.h"
 
 /* A value of 64 bits or fewer as the common type. */
 static inline hash_value narrow(uint64_t low)
@@ -12,22 +13,6 @@ static inline hash_value narrow(uint64_t low)
 }
 
 /* ---- XXH32 and XXH64 ---- */
-
-/* The states as they are in memory: crates/twox_c declares them like this, and proves their sizes. */
-struct xxh32_state {
-    uint32_t v1, seed, v2, marked_waiting, v3, total_low, total_high, v4;
-    unsigned char buffer[16];
-};
-
-struct xxh64_state {
-    uint64_t v1, seed, v2, total_length, v3;
-    uint32_t marked_waiting;
-    uint64_t v4;
-    unsigned char buffer[32];
-};
-
-_Static_assert(sizeof(struct xxh32_state) == XXH32_STATE_BYTES, "the state of XXH32 has another layout");
-_Static_assert(sizeof(struct xxh64_state) == XXH64_STATE_BYTES, "the state of XXH64 has another layout");
 
 #define PLAIN_KIND(bits, block) \
     static hash_value hash_##bits(const void *input, size_t length, const struct key *key) \
@@ -60,21 +45,6 @@ PLAIN_KIND(32, 16)
 PLAIN_KIND(64, 32)
 
 /* ---- XXH3 ---- */
-
-struct xxh3_state {
-    uint64_t accumulators[8], place;
-    uint64_t stripes, waiting, total_length;
-    unsigned char buffer[256];
-    unsigned char secret[XXH3_SECRET_DEFAULT_SIZE];
-    uint64_t mark, seed, secret_length, address;
-};
-
-_Static_assert(sizeof(struct xxh3_state) == XXH3_STATE_BYTES, "the state of XXH3 has another layout");
-
-/* The marks of a state that copied a secret and has no seed, and of those that have the address of a secret. */
-#define MARK_COPY 0xc5a16e0f93d24b87
-#define MARK_ADDRESS 0x9b4ed3712ac8f516
-#define MARK_ADDRESS_AND_SEED 0x68d7b5aec13f0e9b
 
 /* The state of an object, and its secret if the state has no copy of it. The calls get this secret as an argument, so
  * the address in the state is 0. */

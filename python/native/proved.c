@@ -1,5 +1,5 @@
-/* The instruction set of the proved calls in use. backend.py puts a prefix before each name of an instruction set's
-   source: v2_, v3_, v4_ or arm_. */
+/* The calls in use, by instruction set. backend.py puts a prefix before each name of an instruction set's source: v2_,
+   v3_, v4_ or arm_. With TWOX_HASH_SOURCE they are those of source.c, which are not proved. */
 #include "proved.h"
 
 #include <pthread.h>
@@ -15,7 +15,22 @@ struct set {
     struct proved calls;
 };
 
-#if defined(__x86_64__) && defined(__linux__)
+#if defined(TWOX_HASH_SOURCE) || defined(__aarch64__)
+static int is_always(void)
+{
+    return 1;
+}
+#endif
+
+#ifdef TWOX_HASH_SOURCE
+
+#include "source.h"
+
+#define IN_SOURCE(answer, name, parameters) .name = source_##name,
+
+static const struct set sets[] = {{is_always, {EACH_PROVED_CALL(IN_SOURCE).instructions = "source"}}};
+
+#elif defined(__x86_64__) && defined(__linux__)
 
 #include <cpuid.h>
 
@@ -75,15 +90,10 @@ static const struct set sets[] = {
 #define IN_ARM(answer, name, parameters) .name = arm_##name,
 EACH_PROVED_CALL(DECLARED)
 
-static int is_always(void)
-{
-    return 1;
-}
-
 static const struct set sets[] = {{is_always, {EACH_PROVED_CALL(IN_ARM).instructions = "aarch64"}}};
 
 #else
-#error "twox_hash has proved code for Linux on x86-64 and on 64-bit ARM, and for no other machine"
+#error "there is proved code for Linux on x86-64 and on 64-bit ARM: elsewhere, define TWOX_HASH_SOURCE"
 #endif
 
 static const char *choose(const char *wanted)

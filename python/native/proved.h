@@ -1,5 +1,5 @@
-/* The proved calls that the package makes, by the processor's instruction set. Their results are documented in
- * xxhash.h, the header of the library for C, and in crates/twox_c. */
+/* The proved calls that the package makes, by the processor's instruction set, or those of source.c in their place.
+ * Their results are documented in xxhash.h, the header of the library for C, and in crates/twox_c. */
 #ifndef TWOX_HASH_PROVED_H
 #define TWOX_HASH_PROVED_H
 
@@ -36,7 +36,7 @@ struct proved {
 #define MEMBER(answer, name, parameters) answer(*name) parameters;
     EACH_PROVED_CALL(MEMBER)
 #undef MEMBER
-    /* The instruction set: "x86-64-v2", "x86-64-v3", "x86-64-v4" or "aarch64". */
+    /* The instruction set: "x86-64-v2", "x86-64-v3", "x86-64-v4" or "aarch64", or "source". */
     const char *instructions;
 };
 
