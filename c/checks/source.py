@@ -5,15 +5,18 @@ import os
 import re
 import tempfile
 
+from debian_source import Sources
 from library import C
-from report import want
-from tools import TOP, bytes_of, install_packages, must, ran, replace_once, text_of, write
+from report import tail, want
+from tools import TOP, bytes_of, four_hashes, install_packages, must, ran, replace_once, text_of, write
 
 HEADER, SOURCE = os.path.join(C, 'include', 'xxhash.h'), os.path.join(C, 'source', 'xxhash.c')
 THEIRS, VECTORS = '/usr/include/xxhash.h', os.path.join(TOP, 'oracle', 'vectors.c')
-VALUES = os.path.join(C, 'checks', 'source_values.c')
-PACKAGES = {'gcc': 'gcc', 'g++': 'g++', 'clang': 'clang', 'tcc': 'tcc', 'nm': 'binutils', THEIRS: 'libxxhash-dev',
-            '/usr/include/stdio.h': 'libc6-dev', 'x86_64-w64-mingw32-gcc': 'gcc-mingw-w64-x86-64'}
+VALUES, EXAMPLE = os.path.join(C, 'checks', 'source_values.c'), os.path.join(TOP, 'examples', 'c', 'hash-file.c')
+LICENSE = os.path.join(TOP, 'LICENSE')
+PACKAGES = {'gcc': 'gcc', '/usr/include/stdio.h': 'libc6-dev', 'make': 'make', 'cmake': 'cmake', 'pkg-config': 'pkg-config',
+            'xxhsum': 'xxhash', 'dpkg-source': 'dpkg-dev', THEIRS: 'libxxhash-dev'}
+PACKAGES_HERE = {**PACKAGES, 'g++': 'g++', 'clang': 'clang', 'tcc': 'tcc', 'nm': 'binutils'}
 WARNINGS = ('-Wall', '-Wextra', '-Wpedantic', '-Wconversion', '-Wshadow', '-Wcast-align', '-Wundef', '-Werror')
 # Compilers with the flags of a form of the code.
 FORMS = {'scalar': ['-DXXH_VECTOR=XXH_SCALAR'], 'halves': ['-DXXH_VECTOR=XXH_SCALAR', '-U__SIZEOF_INT128__'],
@@ -26,8 +29,12 @@ TARGETS = {'i386': ('i686-linux-gnu-', ('gcc-i686-linux-gnu', 'libc6-dev-i386-cr
            'armhf': ('arm-linux-gnueabihf-', ('gcc-arm-linux-gnueabihf', 'libc6-dev-armhf-cross'), 'qemu-arm'),
            'ppc64el': ('powerpc64le-linux-gnu-', ('gcc-powerpc64le-linux-gnu', 'libc6-dev-ppc64el-cross'), 'qemu-ppc64le'),
            'riscv64': ('riscv64-linux-gnu-', ('gcc-riscv64-linux-gnu', 'libc6-dev-riscv64-cross'), 'qemu-riscv64'),
-           's390x': ('s390x-linux-gnu-', ('gcc-s390x-linux-gnu', 'libc6-dev-s390x-cross'), 'qemu-s390x')}
-OF_TARGET = {'i386': {'sse2': ['-msse2'], 'avx2': ['-mavx2']}, 'armhf': {'neon': ['-mfpu=neon']}}
+           's390x': ('s390x-linux-gnu-', ('gcc-s390x-linux-gnu', 'libc6-dev-s390x-cross'), 'qemu-s390x'),
+           'windows': ('x86_64-w64-mingw32-', ('gcc-mingw-w64-x86-64', 'mingw-w64-x86-64-dev'), '/usr/lib/wine/wine64')}
+OF_TARGET = {'i386': {'sse2': ['-msse2'], 'avx2': ['-mavx2']}, 'armhf': {'neon': ['-mfpu=neon']},
+             'windows': {'sse2': FORMS['sse2'], 'avx2': FORMS['avx2']}}
+# A function inside xxhash.h that is in each program which contains its code.
+MARK = 'xxh3_accumulate_blocks'
 # A call of the header that a fault makes wrong: old text, new text, and a function that the values name.
 FAULTS = (('hash ^ hash >> 15', 'hash ^ hash >> 14', 'XXH32'), ('state->is_large = 1;', '', 'XXH32_digest'),
           ('hash ^ hash >> 29', 'hash ^ hash >> 28', 'XXH64'), ('secret + 119', 'secret + 118', 'XXH3_64bits'),
@@ -44,6 +51,7 @@ class Source:
 
     def __init__(self, room, prefix='', run=()):
         self.room, self.prefix, self.run = room, prefix, run
+        self.system = 'Windows' if 'mingw' in prefix else 'Linux'
         self.include = os.path.join(room, 'include')
         write(os.path.join(self.include, 'xxhash.h'), text_of(HEADER))
         self.made = 0
@@ -51,6 +59,10 @@ class Source:
     def path(self, end):
         self.made += 1
         return os.path.join(self.room, f'{self.made}{end}')
+
+    def forms(self):
+        """The forms of the library that make builds: outside Linux only the static one."""
+        return ['shared', 'static'] if self.system == 'Linux' else ['static']
 
     def compiler(self, name):
         return [self.prefix + name] if self.prefix else [name]
@@ -174,18 +186,62 @@ def make(source, *words):
 
 def library_is_built(source, *words):
     """make compiles a library, tests and installs it; a program of the installed files allocates its own states."""
-    run = ' '.join(source.run)
+    run, prefix = ' '.join(source.run), f'{source.room}/prefix'
     said = make(source, f'CC={source.prefix}gcc', f'run={run}', *words, 'check')
-    want('compiled from source/xxhash.c, which is not proved' in said and 'all 49 names work in 2 libraries' in said, said[-300:])
-    make(source, f'CC={source.prefix}gcc', *words, 'install', f'PREFIX={source.room}/prefix')
-    text = text_of(os.path.join(source.room, 'prefix/lib/pkgconfig/libxxhash.pc'))
+    libraries = len(source.forms())
+    want('compiled from source/xxhash.c, which is not proved' in said, said[-300:])
+    want(f'all 49 names work in {libraries} libraries' in said, said[-300:])
+    make(source, f'CC={source.prefix}gcc', *words, 'install', f'PREFIX={prefix}')
+    text = text_of(f'{prefix}/lib/pkgconfig/libxxhash.pc')
     want('proved' not in text, 'its pkg-config file says that it is proved')
-    path, prefix = source.path('.out'), f'{source.room}/prefix'
+    path = source.path('.out')
     must([source.prefix + 'gcc', '-w', '-DXXH_STATIC_LINKING_ONLY', VECTORS, '-I', f'{prefix}/include', f'{prefix}/lib/libxxhash.a', '-o', path])
     want(ran([*source.run, path]).stdout.encode() == bytes_of('oracle/vectors.txt'), 'the table is another')
+    serves_programs(source, prefix)
     make(source, f'CC={source.prefix}gcc', *words, 'uninstall', f'PREFIX={prefix}')
     want(not os.path.exists(prefix), f'uninstall leaves {os.listdir(prefix) if os.path.exists(prefix) else ""}')
     return said.splitlines()[0]
+
+
+def serves_programs(source, prefix):
+    """Programs by pkg-config and by CMake, with the shared and the static library, hash a file as xxhsum does."""
+    programs = [*by_pkg_config(source, prefix), *by_cmake(source, prefix)]
+    for form, path in zip(source.forms() * 2, programs, strict=True):
+        done = ran([*source.run, path, LICENSE])
+        want(done.returncode == 0 and done.stdout == four_hashes(LICENSE), f'{path}: {tail(done.stdout)}')
+        if form == 'shared':
+            loaded = ran([*source.run, path, LICENSE], env={**os.environ, 'LD_DEBUG': 'libs'}).stdout
+            want(f'calling init: {prefix}/lib/libxxhash.so.0' in loaded, f'{path} loads another library')
+        else:
+            want(MARK in must([source.prefix + 'nm', path]), f"{path} has another library's code")
+    replace_once(f'{prefix}/lib/cmake/xxHash/xxHashConfig.cmake', 'lib/libxxhash.a"\n    INTERFACE', 'lib/none.a"\n    INTERFACE')
+    want(built_by_cmake(source, prefix).returncode != 0, 'CMake finds a library that does not exist')
+
+
+def by_pkg_config(source, prefix):
+    for form in source.forms():
+        words = ['pkg-config', '--cflags', '--libs', *(['--static'] if form == 'static' else []), 'libxxhash']
+        flags = must(words, env={**os.environ, 'PKG_CONFIG_PATH': f'{prefix}/lib/pkgconfig'}).split()
+        path = source.path('.exe')
+        link = ['-static'] if form == 'static' else [f'-Wl,-rpath,{prefix}/lib']
+        must([source.prefix + 'gcc', EXAMPLE, *flags, *link, '-o', path])
+        yield path
+
+
+def built_by_cmake(source, prefix):
+    """Configures and builds examples/cmake with find_package(xxHash)."""
+    folder = f'{source.room}/by-cmake'
+    cross = [f'-DCMAKE_C_COMPILER={source.prefix}gcc', f'-DCMAKE_SYSTEM_NAME={source.system}'] if source.prefix else []
+    done = ran(['cmake', '-S', os.path.join(TOP, 'examples', 'cmake'), '-B', folder, f'-DCMAKE_PREFIX_PATH={prefix}', *cross])
+    return done if done.returncode else ran(['cmake', '--build', folder])
+
+
+def by_cmake(source, prefix):
+    done = built_by_cmake(source, prefix)
+    want(done.returncode == 0, tail(done.stdout))
+    names = {'shared': 'hash-file', 'static': 'hash-file-static'}
+    end = '.exe' if source.system == 'Windows' else ''
+    return [f'{source.room}/by-cmake/{names[form]}{end}' for form in source.forms()]
 
 
 # ---- warnings ----
@@ -274,8 +330,33 @@ def check_symbols(report, source):
         report.attempt(f'-ffreestanding by {compiler}', is_freestanding, source, compiler)
 
 
+# ---- the tests of xxHash ----
+
+def their_tests_pass(source, change=('', '')):
+    """xxHash's own `make check`, with sanity_test, from Debian's source of 0.8.3, over this header."""
+    folder = os.path.join(source.room, 'upstream')
+    if not os.path.exists(folder):
+        os.rename(Sources(os.path.join(source.room, 'sources')).unpacked('xxhash'), folder)
+    write(os.path.join(folder, 'xxhash.h'), text_of(HEADER).replace(*change))
+    # What the tests take from xxHash's own header: a macro and <string.h>.
+    compiler = f'{source.prefix}gcc -include string.h -DXXH3_MIDSIZE_MAX=240'
+    return ran(['make', '-s', '-C', folder, f'CC={compiler}', f'RUN_ENV={" ".join(source.run)}', 'DISPATCH=0',
+                *(['EXT=.exe'] if source.system == 'Windows' else []), 'clean', 'check'])
+
+
+def passes_their_tests(source):
+    done = their_tests_pass(source)
+    want(done.returncode == 0 and 'checks completed successfully' in done.stdout, tail(done.stdout))
+    return re.search(r'passes \d+ tests', done.stdout)[0]
+
+
+def their_tests_notice(source):
+    done = their_tests_pass(source, ('hash ^ hash >> 29', 'hash ^ hash >> 28'))
+    want(done.returncode != 0 and 'sanity' in done.stdout.lower(), tail(done.stdout))
+
+
 def check_here(report, rounds):
-    install_packages(PACKAGES)
+    install_packages(PACKAGES_HERE)
     with tempfile.TemporaryDirectory() as room:
         source = Source(room)
         theirs = source.theirs()
@@ -293,17 +374,29 @@ def check_here(report, rounds):
         for fault in FAULTS:
             report.attempt(f'a fault is detected: {fault[1] or "without " + fault[0]}', fault_is_detected, source, theirs, *fault)
         report.attempt('the library with SOURCE=1', library_is_built, source, 'SOURCE=1')
-        windows = Source(os.path.join(room, 'windows'), 'x86_64-w64-mingw32-')
-        report.attempt('names of an object by MinGW, not run', object_has_names, windows, 'gcc')
+        check_their_tests(report, source)
+
+
+def check_their_tests(report, source):
+    report.attempt("xxHash's own tests", passes_their_tests, source)
+    report.attempt("xxHash's own tests detect a fault", their_tests_notice, source)
+
+
+def emulated(target, room):
+    """The compiler's prefix and the command that runs programs of another processor or system."""
+    prefix, _, emulator = TARGETS[target]
+    if target == 'windows':
+        return prefix, ['env', 'WINEDEBUG=-all', f'WINEPREFIX={room}/wine', emulator]
+    return prefix, [emulator, '-L', f'/usr/{prefix[:-1]}']
 
 
 def check_target(report, target, rounds):
-    """The code for another processor, under an emulator."""
+    """The code for another processor, under an emulator, or for Windows, under wine."""
     prefix, packages, emulator = TARGETS[target]
-    install_packages({f'{prefix}gcc': packages[0], f'/usr/{prefix[:-1]}/include/stdio.h': packages[1],
-                      emulator: 'qemu-user', THEIRS: 'libxxhash-dev'})
+    install_packages({**PACKAGES, f'{prefix}gcc': packages[0], f'/usr/{prefix[:-1]}/include/stdio.h': packages[1],
+                      emulator: 'wine64' if target == 'windows' else 'qemu-user'})
     with tempfile.TemporaryDirectory() as room:
-        source = Source(room, prefix, [emulator, '-L', f'/usr/{prefix[:-1]}'])
+        source = Source(room, *emulated(target, room))
         theirs = source.theirs()
         forms = {'its own': [], 'scalar': FORMS['scalar'], **OF_TARGET.get(target, {})}
         report.attempt('names of an object', object_has_names, source, 'gcc')
@@ -314,6 +407,7 @@ def check_target(report, target, rounds):
         report.attempt('the library', library_is_built, source, *(['SOURCE=1'] if target == 'arm64' else []))
         for fault in FAULTS:
             report.attempt(f'a fault is detected: {fault[1] or "without " + fault[0]}', fault_is_detected, source, theirs, *fault)
+        check_their_tests(report, source)
 
 
 def check_all(report, target, rounds):
