@@ -7,7 +7,7 @@ import os
 import tempfile
 from typing import NamedTuple
 
-from debian_source import Sources
+from debian_apt import sources
 from report import tail, want
 from tools import install_packages, must, ran, text_of, write
 
@@ -55,7 +55,7 @@ PROGRAMS = {
                            packages={'autoconf': 'autoconf', 'automake': 'automake', 'pkg-config': 'pkg-config',
                                      '/usr/include/blkid/blkid.h': 'libblkid-dev', '/usr/include/zlib.h': 'zlib1g-dev',
                                      '/usr/include/uuid/uuid.h': 'uuid-dev'}),
-    'libcrypt-xxhash-perl': Program('ext/xxHash', './Build', './Build test', ['blib/arch/auto/Crypt/xxHash/xxHash.so'],
+    'libcrypt-xxhash-perl': Program('ext/xxHash', 'rm -f lib/Crypt/xxHash.[co] && ./Build', './Build test', ['blib/arch/auto/Crypt/xxHash/xxHash.so'],
                                     'rm ext/xxHash/xxh_x86dispatch.* && perl Build.PL',
                                     packages={'/usr/share/perl5/Module/Build.pm': 'libmodule-build-perl',
                                               '/usr/share/perl5/File/Which.pm': 'libfile-which-perl',
@@ -107,7 +107,9 @@ def symbols_are_its_own(copy):
 
 def stopping_is_detected(copy):
     copy.stop()
-    done = copy.run(f'{copy.program.build} && {copy.program.test}')
+    done = copy.run(copy.program.build)
+    want(done.returncode == 0, f'it is not built: {tail(done.stdout)}')
+    done = copy.run(copy.program.test)
     want(done.returncode != 0, 'its tests pass with hashes that stop')
     return tail(done.stdout)
 
@@ -115,9 +117,9 @@ def stopping_is_detected(copy):
 def check_all(report):
     install_packages({**PACKAGES, **{name: package for program in PROGRAMS.values() for name, package in program.packages.items()}})
     with tempfile.TemporaryDirectory() as room:
-        sources = Sources(os.path.join(room, 'sources'))
+        debian = sources(os.path.join(room, 'sources'))
         for name, program in PROGRAMS.items():
-            copy = Copy(program, sources.unpacked(name))
+            copy = Copy(program, debian.source(name))
             report.attempt(f'{os.path.basename(copy.folder)}: its own tests', passes, copy)
             report.attempt(f'{os.path.basename(copy.folder)}: its symbols', symbols_are_its_own, copy)
             report.attempt(f'{os.path.basename(copy.folder)}: hashes that stop are detected', stopping_is_detected, copy)

@@ -1,14 +1,18 @@
 """Checks the code of c/include/xxhash.h, compiled in all its forms by several compilers, here or for another processor.
 `c/check --source` runs this."""
+import glob
 import itertools
 import os
 import re
 import tempfile
 
-from debian_source import Sources
+from arm_roots import debian_root
+from debian_apt import sources
 from library import C
-from report import tail, want
-from tools import TOP, bytes_of, four_hashes, install_packages, must, ran, replace_once, text_of, write
+from report import Fault, tail, want
+from tools import (TOP, bytes_of, clean_copy, four_hashes, install_packages, must, ran, replace_once, text_of,
+                   write)
+from values import names_are_theirs
 
 HEADER, SOURCE = os.path.join(C, 'include', 'xxhash.h'), os.path.join(C, 'source', 'xxhash.c')
 THEIRS, VECTORS = '/usr/include/xxhash.h', os.path.join(TOP, 'oracle', 'vectors.c')
@@ -63,6 +67,10 @@ class Source:
     def forms(self):
         """The forms of the library that make builds: outside Linux only the static one."""
         return ['shared', 'static'] if self.system == 'Linux' else ['static']
+
+    def is_x86_linux(self):
+        """True where the C library has functions that choose the instruction set at run time."""
+        return self.prefix in ('', 'i686-linux-gnu-')
 
     def compiler(self, name):
         return [self.prefix + name] if self.prefix else [name]
@@ -188,9 +196,9 @@ def library_is_built(source, *words):
     """make compiles a library, tests and installs it; a program of the installed files allocates its own states."""
     run, prefix = ' '.join(source.run), f'{source.room}/prefix'
     said = make(source, f'CC={source.prefix}gcc', f'run={run}', *words, 'check')
-    libraries = len(source.forms())
+    libraries, names = len(source.forms()), 58 if source.is_x86_linux() else 49
     want('compiled from source/xxhash.c, which is not proved' in said, said[-300:])
-    want(f'all 49 names work in {libraries} libraries' in said, said[-300:])
+    want(f'all {names} names work in {libraries} libraries' in said, said[-300:])
     make(source, f'CC={source.prefix}gcc', *words, 'install', f'PREFIX={prefix}')
     text = text_of(f'{prefix}/lib/pkgconfig/libxxhash.pc')
     want('proved' not in text, 'its pkg-config file says that it is proved')
@@ -242,6 +250,55 @@ def by_cmake(source, prefix):
     names = {'shared': 'hash-file', 'static': 'hash-file-static'}
     end = '.exe' if source.system == 'Windows' else ''
     return [f'{source.room}/by-cmake/{names[form]}{end}' for form in source.forms()]
+
+
+# ---- the Debian package ----
+
+# The names of Debian's architectures that c/package calls otherwise.
+OF_PACKAGE = {'arm64': ['--target', 'aarch64'], 'amd64': []}
+
+
+def debian_package(source, architecture, *change):
+    """c/package --library in a copy with a change: the package's control file and its unpacked files."""
+    copy, root = source.path('-copy'), source.path('-root')
+    clean_copy(copy)
+    if change:
+        replace_once(os.path.join(copy, change[0]), *change[1:])
+    words = OF_PACKAGE.get(architecture, ['--target', architecture])
+    must([os.path.join(copy, 'c', 'package'), *words, '--library', copy],
+         env={**os.environ, 'SOURCE_DATE_EPOCH': '0', 'DEBEMAIL': 'nobody@localhost', 'DEBFULLNAME': 'nobody'})
+    file, = glob.glob(os.path.join(copy, '*.deb'))
+    must(['dpkg-deb', '-x', file, root])
+    return must(['dpkg-deb', '-f', file]), os.path.join(root, 'usr/lib/twox-hash')
+
+
+def is_packaged(source, architecture):
+    """The package for an architecture has each name of Debian's libxxhash0, and states where its code comes from."""
+    control, folder = debian_package(source, architecture)
+    want(f'Architecture: {architecture}\n' in control, control[:300])
+    want(('compiled from C' in control) == (architecture not in OF_PACKAGE), control[-600:])
+    want(('proved' in control) == (architecture in OF_PACKAGE), control[-600:])
+    debian = debian_root(os.path.join(source.room, 'debian'), 'libxxhash0', architecture=architecture)
+    theirs, = glob.glob(f'{debian}/usr/lib/*/libxxhash.so.0')
+    return names_are_theirs(f'{folder}/lib/libxxhash.so.0', theirs), theirs
+
+
+def package_lacks_a_name(source, architecture, theirs):
+    """Without a name of the version script the package is refused."""
+    _, folder = debian_package(source, architecture, 'c/libxxhash.map', '        XXH64;\n', '')
+    try:
+        names_are_theirs(f'{folder}/lib/libxxhash.so.0', theirs)
+    except Fault as fault:
+        want(str(fault) == 'without XXH64', fault)
+        return
+    raise Fault('it is not noticed')
+
+
+def check_package(report, source, architecture):
+    found = []
+    report.attempt('the Debian package', lambda: found.extend(is_packaged(source, architecture)) or found[0])
+    if found:
+        report.attempt('a name that the package lacks is detected', package_lacks_a_name, source, architecture, found[1])
 
 
 # ---- warnings ----
@@ -336,7 +393,7 @@ def their_tests_pass(source, change=('', '')):
     """xxHash's own `make check`, with sanity_test, from Debian's source of 0.8.3, over this header."""
     folder = os.path.join(source.room, 'upstream')
     if not os.path.exists(folder):
-        os.rename(Sources(os.path.join(source.room, 'sources')).unpacked('xxhash'), folder)
+        os.rename(sources(os.path.join(source.room, 'sources')).source('xxhash'), folder)
     write(os.path.join(folder, 'xxhash.h'), text_of(HEADER).replace(*change))
     # What the tests take from xxHash's own header: a macro and <string.h>.
     compiler = f'{source.prefix}gcc -include string.h -DXXH3_MIDSIZE_MAX=240'
@@ -374,6 +431,7 @@ def check_here(report, rounds):
         for fault in FAULTS:
             report.attempt(f'a fault is detected: {fault[1] or "without " + fault[0]}', fault_is_detected, source, theirs, *fault)
         report.attempt('the library with SOURCE=1', library_is_built, source, 'SOURCE=1')
+        check_package(report, source, 'amd64')
         check_their_tests(report, source)
 
 
@@ -407,6 +465,8 @@ def check_target(report, target, rounds):
         report.attempt('the library', library_is_built, source, *(['SOURCE=1'] if target == 'arm64' else []))
         for fault in FAULTS:
             report.attempt(f'a fault is detected: {fault[1] or "without " + fault[0]}', fault_is_detected, source, theirs, *fault)
+        if target != 'windows':
+            check_package(report, source, target)
         check_their_tests(report, source)
 
 
