@@ -8,8 +8,8 @@ import tempfile
 from typing import NamedTuple
 
 from debian_apt import sources
-from report import tail, want
-from tools import install_packages, must, ran, text_of, write
+from report import Fault, tail, want
+from tools import TOP, install_packages, must, ran, text_of, write
 
 HEADER, CODE = text_of('c/include/xxhash.h'), text_of('c/source/xxhash.c')
 PACKAGES = {'gcc': 'gcc', 'g++': 'g++', '/usr/include/stdio.h': 'libc6-dev', 'make': 'make', 'nm': 'binutils',
@@ -94,15 +94,33 @@ def passes(copy):
         want(done.returncode == 0, f'{command}: {tail(done.stdout)}')
 
 
+def has_prefix(path, prefix):
+    """Each symbol of the hashes begins with a prefix, and there are some."""
+    names = {line.split()[-1] for line in must(['nm', path]).splitlines() if line.strip() and ':' not in line}
+    plain = sorted(name for name in names if name.startswith('XXH'))
+    want(not plain, f'{os.path.basename(path)} has {", ".join(plain[:3])}')
+    want(any(name.startswith(f'{prefix}XXH') for name in names), f'{os.path.basename(path)} has no name {prefix}XXH..')
+
+
 def symbols_are_its_own(copy):
-    """No plain name of the library is left, and none is needed."""
-    prefix = copy.program.prefix
+    """No plain name is left if there is a prefix, and no library of the hashes is needed."""
     for file in copy.program.files:
         path = os.path.join(copy.folder, file)
-        names = {line.split()[-1] for line in must(['nm', path]).splitlines() if line.strip() and ':' not in line}
-        plain = [name for name in names if name.startswith('XXH')]
-        want(not prefix or not plain and any(name.startswith(f'{prefix}XXH') for name in names), f'{file}: {plain[:5]}')
         want('libxxhash' not in must(['objdump', '-p', path]), f'{file} needs libxxhash')
+        if copy.program.prefix:
+            has_prefix(path, copy.program.prefix)
+
+
+def plain_symbols_are_detected(room):
+    """An object that is compiled without XXH_NAMESPACE, and one with another one."""
+    for name, flags, fault in (('plain', [], 'plain.o has XXH128, '), ('other', ['-DXXH_NAMESPACE=MY_'], 'no name LZ4_XXH')):
+        path = os.path.join(room, f'{name}.o')
+        must(['gcc', *flags, '-I', 'c/include', '-c', 'c/source/xxhash.c', '-o', path], cwd=TOP)
+        try:
+            has_prefix(path, 'LZ4_')
+            raise Fault(f'{name}: it is not noticed')
+        except Fault as found:
+            want(fault in str(found), found)
 
 
 def stopping_is_detected(copy):
@@ -117,6 +135,7 @@ def stopping_is_detected(copy):
 def check_all(report):
     install_packages({**PACKAGES, **{name: package for program in PROGRAMS.values() for name, package in program.packages.items()}})
     with tempfile.TemporaryDirectory() as room:
+        report.attempt('symbols without the prefix are detected', plain_symbols_are_detected, room)
         debian = sources(os.path.join(room, 'sources'))
         for name, program in PROGRAMS.items():
             copy = Copy(program, debian.source(name))
