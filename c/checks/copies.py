@@ -95,8 +95,8 @@ def passes(copy):
 
 
 def has_prefix(path, prefix):
-    """Each symbol of the hashes begins with a prefix, and there are some."""
-    names = {line.split()[-1] for line in must(['nm', path]).splitlines() if line.strip() and ':' not in line}
+    """Each external symbol of the hashes begins with a prefix, and there are some."""
+    names = {line.split()[-1] for line in must(['nm', '-g', path]).splitlines() if line.strip() and ':' not in line}
     plain = sorted(name for name in names if name.startswith('XXH'))
     want(not plain, f'{os.path.basename(path)} has {", ".join(plain[:3])}')
     want(any(name.startswith(f'{prefix}XXH') for name in names), f'{os.path.basename(path)} has no name {prefix}XXH..')
