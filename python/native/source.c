@@ -1,4 +1,4 @@
-/* The calls of proved.h by the code of xxhash.h, which is written by hand and not proved, for machines without assembly
+/* The calls of calls.h by the code of xxhash.h, which is written by hand and not proved, for machines without assembly
  * source. A state has the form of states.h. Each call opens it as one of xxhash.h, and refuses what no reset wrote. */
 #ifdef TWOX_HASH_SOURCE
 

@@ -2,9 +2,9 @@
 #ifndef TWOX_HASH_SOURCE_H
 #define TWOX_HASH_SOURCE_H
 
-#include "proved.h"
+#include "calls.h"
 
 #define IS_IN_SOURCE(answer, name, parameters) answer source_##name parameters;
-EACH_PROVED_CALL(IS_IN_SOURCE)
+EACH_CALL(IS_IN_SOURCE)
 
 #endif
