@@ -4,6 +4,7 @@ xxhash.h, or of the installed one. `c/check --programs` runs this.
 Each program's own tests must pass, and fail on a header whose hashes stop the program. What is built needs no libxxhash,
 and where a program sets XXH_NAMESPACE, no symbol begins with XXH."""
 import os
+import subprocess
 import tempfile
 from typing import NamedTuple
 
@@ -74,7 +75,7 @@ class Copy:
         write(self.code, CODE)
 
     def run(self, command):
-        return ran(['bash', '-euc', command], cwd=self.folder, timeout=1800)
+        return ran(['bash', '-euc', command], cwd=self.folder, timeout=1800, stdin=subprocess.DEVNULL)
 
     def stop(self):
         """Makes the hashes stop the program. Only what is compiled from the code is built again."""
