@@ -85,8 +85,8 @@ class Source:
         return path
 
     def global_names(self, path):
-        """The symbols that an object defines for others, and those that it needs."""
-        lines = [line.split() for line in must([self.prefix + 'nm', path]).splitlines()]
+        """The symbols that an object defines for others, and those that it needs. gcc adds hidden ones on i386."""
+        lines = [line.split() for line in must([self.prefix + 'nm', path]).splitlines() if '.get_pc_thunk.' not in line]
         return ({line[-1] for line in lines if line[-2] in 'TDBRC'}, {line[-1] for line in lines if line[-2] == 'U'})
 
     def theirs(self):
@@ -444,7 +444,9 @@ def emulated(target, room):
     """The compiler's prefix and the command that runs programs of another processor or system."""
     prefix, _, emulator = TARGETS[target]
     if target == 'windows':
-        return prefix, ['env', 'WINEDEBUG=-all', f'WINEPREFIX={room}/wine', emulator]
+        wine = ['env', 'WINEDEBUG=-all', f'WINEPREFIX={room}/wine', emulator]
+        ran([*wine, 'wineboot'])  # its first run prints messages
+        return prefix, wine
     return prefix, [emulator, '-L', f'/usr/{prefix[:-1]}']
 
 
