@@ -9,9 +9,12 @@ TOOLS = 'aarch64-linux-gnu-'
 
 
 def debian_root(folder, *packages, architecture='arm64'):
-    """The packages of this machine's release of Debian, and everything that they need, unpacked below a folder."""
-    apt, root = Apt(folder, 'deb', platform.freedesktop_os_release()['VERSION_CODENAME'], architecture), os.path.join(folder, 'root')
-    for file in apt.download(*packages):
+    """Debian's packages and everything that they need, unpacked below a folder. For arm64 the versions are those of the
+    machine's own lists, to which its compilers belong; for another processor those of the release, since a further
+    list may lack it."""
+    release = '' if architecture == 'arm64' else platform.freedesktop_os_release()['VERSION_CODENAME']
+    root = os.path.join(folder, 'root')
+    for file in Apt(folder, architecture, 'deb', release).download(*packages):
         must(['dpkg-deb', '-x', file, root])
     return root
 

@@ -8,17 +8,18 @@ LINE = '[signed-by=/usr/share/keyrings/debian-archive-keyring.gpg] http://deb.de
 
 
 class Apt:
-    """A release of Debian for one architecture. `kind` is deb for packages, and deb-src for sources."""
+    """Debian for one architecture: the machine's own lists, or those of a release with the `kind` deb or deb-src."""
 
-    def __init__(self, folder, kind, release, architecture):
+    def __init__(self, folder, architecture, kind='', release=''):
         self.folder, self.archives = folder, os.path.join(folder, 'cache', 'archives')
         for part in ('state/lists/partial', 'cache/archives/partial', 'none'):
             os.makedirs(os.path.join(folder, part))
         settings = {'APT::Architecture': architecture, 'APT::Architectures::': architecture, 'APT::Sandbox::User': 'root',
                     'Debug::NoLocking': '1', 'Dir::State': os.path.join(folder, 'state'),
-                    'Dir::State::status': write(os.path.join(folder, 'status'), ''), 'Dir::Cache': os.path.join(folder, 'cache'),
-                    'Dir::Etc::sourcelist': write(os.path.join(folder, 'list'), f'{kind} {LINE} {release} main\n'),
-                    'Dir::Etc::sourceparts': os.path.join(folder, 'none')}
+                    'Dir::State::status': write(os.path.join(folder, 'status'), ''), 'Dir::Cache': os.path.join(folder, 'cache')}
+        if release:
+            settings |= {'Dir::Etc::sourcelist': write(os.path.join(folder, 'list'), f'{kind} {LINE} {release} main\n'),
+                         'Dir::Etc::sourceparts': os.path.join(folder, 'none')}
         self.command = ['apt-get', '-qq', *(word for name, value in settings.items() for word in ('-o', f'{name}={value}'))]
         self.run('update')
 
@@ -43,4 +44,4 @@ class Apt:
 
 def sources(folder):
     """The sources of Debian 13, which has the release of xxHash whose tests run here."""
-    return Apt(folder, 'deb-src', 'trixie', 'amd64')
+    return Apt(folder, 'amd64', 'deb-src', 'trixie')
