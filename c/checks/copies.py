@@ -47,8 +47,10 @@ PROGRAMS = {
     'rsync': Program('twox', 'gcc -O2 -c twox/xxhash.c -o twox/xxhash.o && rm -f twox/libxxhash.a rsync && '
                      'ar rcs twox/libxxhash.a twox/xxhash.o && make -s', 'make -s check', ['rsync'],
                      './configure --quiet --disable-md2man --disable-openssl --disable-zstd --disable-lz4 '
+                     '--without-included-zlib --without-included-popt '
                      'CPPFLAGS=-I$PWD/twox LDFLAGS=-L$PWD/twox LIBS=-lxxhash',
                      packages={'/usr/include/acl/libacl.h': 'libacl1-dev', '/usr/include/attr/libattr.h': 'libattr1-dev',
+                               '/usr/include/popt.h': 'libpopt-dev', '/usr/include/zlib.h': 'zlib1g-dev',
                                'python3': 'python3'}),
     'btrfs-progs': Program('crypto', 'make -s hash-vectest hash-speedtest btrfs', 'make -s test-hash', ['btrfs'],
                            './autogen.sh && ./configure --quiet --disable-documentation --disable-convert --disable-zstd '

@@ -85,8 +85,9 @@ class Source:
         return path
 
     def global_names(self, path):
-        """The symbols that an object defines for others, and those that it needs. gcc adds hidden ones on i386."""
-        lines = [line.split() for line in must([self.prefix + 'nm', path]).splitlines() if '.get_pc_thunk.' not in line]
+        """The symbols that an object defines for others, and those that it needs. gcc adds its own on i386 and
+        ppc64el."""
+        lines = [line.split() for line in must([self.prefix + 'nm', path]).splitlines() if not re.search(r'\.get_pc_thunk\.|\.TOC\.$', line)]
         return ({line[-1] for line in lines if line[-2] in 'TDBRC'}, {line[-1] for line in lines if line[-2] == 'U'})
 
     def theirs(self):
