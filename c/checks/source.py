@@ -37,6 +37,8 @@ TARGETS = {'i386': ('i686-linux-gnu-', ('gcc-i686-linux-gnu', 'libc6-dev-i386-cr
            'windows': ('x86_64-w64-mingw32-', ('gcc-mingw-w64-x86-64', 'mingw-w64-x86-64-dev'), '/usr/lib/wine/wine64')}
 OF_TARGET = {'i386': {'sse2': ['-msse2'], 'avx2': ['-mavx2']}, 'armhf': {'neon': ['-mfpu=neon']},
              'windows': {'sse2': FORMS['sse2'], 'avx2': FORMS['avx2']}}
+# Symbols that gcc adds on i386, ppc64el and armhf.
+OF_COMPILER = r'\.get_pc_thunk\.|\.TOC\.$|__aeabi_'
 # A function inside xxhash.h that is in each program which contains its code.
 MARK = 'xxh3_accumulate_blocks'
 # A call of the header that a fault makes wrong: old text, new text, and a function that the values name.
@@ -85,9 +87,8 @@ class Source:
         return path
 
     def global_names(self, path):
-        """The symbols that an object defines for others, and those that it needs. gcc adds its own on i386 and
-        ppc64el."""
-        lines = [line.split() for line in must([self.prefix + 'nm', path]).splitlines() if not re.search(r'\.get_pc_thunk\.|\.TOC\.$', line)]
+        """The symbols that an object defines for others, and those that it needs. the compiler's own not among them."""
+        lines = [line.split() for line in must([self.prefix + 'nm', path]).splitlines() if not re.search(OF_COMPILER, line)]
         return ({line[-1] for line in lines if line[-2] in 'TDBRC'}, {line[-1] for line in lines if line[-2] == 'U'})
 
     def theirs(self):

@@ -20,10 +20,9 @@ FAULTS = {'s390x': [('bytes are swapped on each processor', 'python/native/value
                      'values'),
                     ('a saved state in one byte order', 'python/src/twox_hash/_states.py', "'=5QI4xQ32s'", "'<5QI4xQ32s'",
                      'objects')],
-          'i386': [('a length of 32 bits', 'python/native/source.c', '.total = saved->total_length',
-                    '.total = (size_t)saved->total_length', 'objects')]}
+          'i386': [('a mark of 32 bits', 'python/native/source.c', '.mark = mark,', '.mark = (size_t)mark,', 'objects')]}
 # Fewer objects are made, since each step takes ten times as long.
-FEWER = {'TWOX_HASH_OBJECTS': '10000'}
+FEWER = {'TWOX_HASH_OBJECTS': '10000', 'timeout': 7200}
 
 
 def packages(target):
