@@ -46,7 +46,8 @@ PROGRAMS = {
                        ['lib/libzstd.a', 'programs/zstd'], prefix='ZSTD_', before=OF_ZSTD),
     'rsync': Program('twox', 'gcc -O2 -c twox/xxhash.c -o twox/xxhash.o && rm -f twox/libxxhash.a rsync && '
                      'ar rcs twox/libxxhash.a twox/xxhash.o && make -s', 'make -s check', ['rsync'],
-                     'mkdir -p zlib popt && touch zlib/dummy.in popt/dummy.in && ./configure --quiet --disable-md2man --disable-openssl --disable-zstd --disable-lz4 '
+                     'mkdir -p zlib popt && touch zlib/dummy.in popt/dummy.in && ./configure --quiet '
+                     '--disable-md2man --disable-openssl --disable-zstd --disable-lz4 '
                      '--without-included-zlib --without-included-popt '
                      'CPPFLAGS=-I$PWD/twox LDFLAGS=-L$PWD/twox LIBS=-lxxhash',
                      packages={'/usr/include/acl/libacl.h': 'libacl1-dev', '/usr/include/attr/libattr.h': 'libattr1-dev',

@@ -87,7 +87,7 @@ class Source:
         return path
 
     def global_names(self, path):
-        """The symbols that an object defines for others, and those that it needs. the compiler's own not among them."""
+        """The symbols that an object defines for others, and those that it needs, without the compiler's own."""
         lines = [line.split() for line in must([self.prefix + 'nm', path]).splitlines() if not re.search(OF_COMPILER, line)]
         return ({line[-1] for line in lines if line[-2] in 'TDBRC'}, {line[-1] for line in lines if line[-2] == 'U'})
 
