@@ -6,5 +6,6 @@
 int XXH_featureTest(void)
 {
     struct features here = features_here();
-    return has_avx512(here) ? XXH_AVX512 : has_avx2(here) ? XXH_AVX2 : XXH_SSE2;
+    return has_avx512(here) ? XXH_AVX512 : has_avx2(here) ? XXH_AVX2
+        : has_all(here.leaf_1_edx, LEAF_1_SSE2) ? XXH_SSE2 : XXH_SCALAR;
 }

@@ -1,5 +1,5 @@
 /* SPDX-License-Identifier: MIT */
-/* The x86-64 features of the processor for which the system saves the registers. No compiler builtin is used: clang
+/* The x86 features of the processor for which the system saves the registers. No compiler builtin is used: clang
  * has no x86-64-v3 before release 16, and libgcc would be one more library for a static program. */
 #ifndef TWOX_HASH_PROCESSOR_H
 #define TWOX_HASH_PROCESSOR_H
@@ -10,6 +10,7 @@
 enum {
     LEAF_1_V3 = 1 << 12 | 1 << 22 | 1 << 28 | 1 << 29, /* FMA, MOVBE, AVX, F16C */
     LEAF_1_XSAVE = 1 << 26 | 1 << 27,
+    LEAF_1_SSE2 = 1 << 26, /* of the word edx */
     LEAF_7_AVX2 = 1 << 5,
     LEAF_7_BMI = 1 << 3 | 1 << 8, /* BMI1, BMI2 */
     LEAF_7_AVX512F = 1 << 16,
@@ -19,7 +20,7 @@ enum {
 };
 
 struct features {
-    unsigned leaf_1, leaf_7, extended, kept;
+    unsigned leaf_1, leaf_1_edx, leaf_7, extended, kept;
 };
 
 static __inline__ int has_all(unsigned word, unsigned bits)
@@ -29,9 +30,12 @@ static __inline__ int has_all(unsigned word, unsigned bits)
 
 static __inline__ struct features features_here(void)
 {
-    struct features found = { 0, 0, 0, 0 };
+    struct features found = { 0, 0, 0, 0, 0 };
     unsigned a, b, c, d;
-    if (__get_cpuid(1, &a, &b, &c, &d)) found.leaf_1 = c;
+    if (__get_cpuid(1, &a, &b, &c, &d)) {
+        found.leaf_1 = c;
+        found.leaf_1_edx = d;
+    }
     if (__get_cpuid_count(7, 0, &a, &b, &c, &d)) found.leaf_7 = b;
     if (__get_cpuid(0x80000001, &a, &b, &c, &d)) found.extended = c;
     if (has_all(found.leaf_1, LEAF_1_XSAVE)) __asm__("xgetbv" : "=a"(found.kept), "=d"(d) : "c"(0));

@@ -2,7 +2,8 @@
 `pip install .` works without a network.
 
 The proved code is assembly source. In the repository that is c/asm; a source package has copies in its folder
-proved/. CC, CFLAGS and LDFLAGS of the environment are used. The wheel is for the machine that CC compiles for."""
+proved/. Where there is none for the machine, or with TWOX_HASH_SOURCE=1, the code of xxhash.h is compiled, which isn't
+proved. CC, CFLAGS and LDFLAGS of the environment are used. The wheel is for the machine that CC compiles for."""
 import ast
 import base64
 import csv
@@ -22,6 +23,8 @@ HERE = os.path.dirname(os.path.abspath(__file__))
 C = os.path.join(os.path.dirname(HERE), 'c')
 # The instruction sets of each machine, and the prefix of an instruction set's names.
 SETS = {'x86_64': {f'x86-64-v{k}': f'v{k}_' for k in (2, 3, 4)}, 'aarch64': {'aarch64': 'arm_'}}
+# The other machines whose names differ: by GNU's name, in a wheel's tag and in the names of Debian's folders.
+TAGS, FOLDERS = {'arm': 'armv7l', 'powerpc64le': 'ppc64le'}, {'i686': 'i386'}
 PROVED = [*(f'asm/{name}.s' for sets in SETS.values() for name in sets), 'asm/state_sizes.h', 'include/xxhash.h']
 FLAGS = ['-std=c11', '-O2', '-g0', '-fPIC', '-fvisibility=hidden', '-Wall', '-Wextra', '-Wno-cast-function-type',
          '-Wno-missing-field-initializers']
@@ -33,7 +36,6 @@ LIMITED, LIMITED_FLAG = 'abi3', '-DPy_LIMITED_API=0x030B0000'
 ASSERTIONS = [] if sysconfig.get_config_var('Py_DEBUG') else ['-DNDEBUG']
 # No name or number of the build is in the file, so that one source gives one file.
 LINKS = ['-s', '-Wl,--build-id=none', '-Wl,-z,noexecstack']
-
 
 
 def project():
@@ -76,17 +78,21 @@ def compiler():
 
 
 def machine():
-    """The machine that the compiler compiles for, by Linux's name."""
+    """The machine that the compiler compiles for, by GNU's name, and why the code of xxhash.h is compiled for it, or
+    an empty reason."""
     try:
         done = subprocess.run([*compiler(), '-dumpmachine'], stdout=subprocess.PIPE, text=True, check=True)
     except (OSError, subprocess.CalledProcessError) as fault:
         raise SystemExit(f'twox-hash: a C compiler is needed, for example Debian\'s package gcc: {fault}')
     name, system = done.stdout.strip().partition('-')[::2]
-    # Android reserves the register x18, and gnux32 has pointers of 32 bits.
-    if name not in SETS or 'linux' not in system or 'android' in system or 'gnux32' in system:
-        raise SystemExit(f'twox-hash: there is no proved code for {done.stdout.strip()}, only for Linux on '
-                         f'{" and ".join(SETS)}')
-    return name
+    if 'linux' not in system:
+        raise SystemExit(f'twox-hash: the package is for Linux, and this compiler is for {done.stdout.strip()}')
+    if os.environ.get('TWOX_HASH_SOURCE') == '1':
+        return name, 'TWOX_HASH_SOURCE=1'
+    # Android reserves the register x18, and the other two have pointers of 32 bits.
+    if name not in SETS or any(word in system for word in ('android', 'gnux32', 'ilp32')):
+        return name, f'no assembly source for {done.stdout.strip()}, only for Linux on {" and ".join(SETS)}'
+    return name, ''
 
 
 def texts(room, name):
@@ -103,30 +109,34 @@ def library(name, abi=ABI):
     """The extension's place in a package for a machine: Python finds the file by the end of its name."""
     if abi == LIMITED:
         return f'twox_hash/_native.{LIMITED}.so'
-    return 'twox_hash/_native' + sysconfig.get_config_var('EXT_SUFFIX').replace(os.uname().machine, name)
+    folder = FOLDERS.get(name, name)
+    return 'twox_hash/_native' + sysconfig.get_config_var('EXT_SUFFIX').replace(os.uname().machine, folder)
 
 
-def compile_extension(path, abi=ABI):
-    """Compiles the extension to a file, and returns the machine that it is for."""
-    name = machine()
+def compile_extension(path, name, reason, abi=ABI):
+    """Compiles the extension for a machine to a file, with the code of xxhash.h if there is a reason."""
     native = os.path.join(HERE, 'native')
     sources = sorted(os.path.join(native, file) for file in os.listdir(native) if file.endswith('.c'))
     includes = [sysconfig.get_path('include'), *dict.fromkeys(os.path.dirname(proved(file)) for file in PROVED)]
     flags = [*FLAGS, *ASSERTIONS, *[LIMITED_FLAG] * (abi == LIMITED), *shlex.split(os.environ.get('CFLAGS', ''))]
+    if reason:
+        print(f'twox-hash: compiled from xxhash.h, which is not proved: {reason}', flush=True)
     with tempfile.TemporaryDirectory() as room:
+        calls = ['-DTWOX_HASH_SOURCE'] if reason else texts(room, name)
         done = subprocess.run([*compiler(), '-shared', *flags, *(f'-I{folder}' for folder in includes), *sources,
-                               *texts(room, name), *LINKS,
+                               *calls, *LINKS,
                                *shlex.split(os.environ.get('LDFLAGS', '')), '-o', path])
     if done.returncode:
         raise SystemExit('twox-hash: cannot compile the extension')
-    return name
 
 
 # ---- packages ----
 
-def metadata():
+def metadata(reason=''):
+    """The package's description. A wheel of the code of xxhash.h claims no proof."""
+    summary = PROJECT['description'].replace('that is proved equal to the xxHash definition', 'compiled from C')
     lines = ['Metadata-Version: 2.1', f'Name: {PROJECT["name"]}', f'Version: {PROJECT["version"]}',
-             f'Summary: {PROJECT["description"]}', f'License: {PROJECT["license"]["text"]}',
+             f'Summary: {summary if reason else PROJECT["description"]}', f'License: {PROJECT["license"]["text"]}',
              f'Keywords: {",".join(PROJECT["keywords"])}', *(f'Classifier: {line}' for line in PROJECT['classifiers']),
              f'Requires-Python: {PROJECT["requires-python"]}', 'Description-Content-Type: text/markdown', '']
     return '\n'.join(lines).encode() + b'\n' + read(HERE, PROJECT['readme'])
@@ -147,12 +157,12 @@ def documents():
     return {'LICENSE': read(licence), **({'PROVENANCE': read(provenance)} if os.path.exists(provenance) else {})}
 
 
-def write_wheel(folder, name, files, abi=ABI):
+def write_wheel(folder, name, reason, files, abi=ABI):
     """Writes a wheel of the files by name, whose bytes depend only on theirs. Returns its name."""
     about = f'{STEM}.dist-info'
-    tag = f'{"cp311" if abi == LIMITED else ABI.rstrip("dt")}-{abi}-linux_{name}'
+    tag = f'{"cp311" if abi == LIMITED else ABI.rstrip("dt")}-{abi}-linux_{TAGS.get(name, name)}'
     wheel = f'Wheel-Version: 1.0\nGenerator: twox-hash\nRoot-Is-Purelib: false\nTag: {tag}\n'
-    files |= {f'{about}/METADATA': metadata(), f'{about}/WHEEL': wheel.encode()}
+    files |= {f'{about}/METADATA': metadata(reason), f'{about}/WHEEL': wheel.encode()}
     files |= {f'{about}/{file}': text for file, text in documents().items()}
     record = io.StringIO()
     rows = csv.writer(record, lineterminator='\n')
@@ -174,17 +184,18 @@ def build_wheel(wheel_directory, config_settings=None, metadata_directory=None):
     abi = (config_settings or {}).get('abi', ABI)
     if abi not in (ABI, LIMITED):
         raise SystemExit(f'twox-hash: the abi must be {ABI} or {LIMITED}, not {abi}')
+    name, reason = machine()
     with tempfile.TemporaryDirectory() as room:
         path = os.path.join(room, 'library.so')
-        name = compile_extension(path, abi)
+        compile_extension(path, name, reason, abi)
         files = sources('src/twox_hash', 'twox_hash') | {library(name, abi): read(path)}
-        return write_wheel(wheel_directory, name, files, abi)
+        return write_wheel(wheel_directory, name, reason, files, abi)
 
 
 def build_editable(wheel_directory, config_settings=None, metadata_directory=None):
-    name = machine()
-    compile_extension(os.path.join(HERE, 'src', library(name)))
-    return write_wheel(wheel_directory, name, {'twox_hash.pth': f'{HERE}/src\n'.encode()})
+    name, reason = machine()
+    compile_extension(os.path.join(HERE, 'src', library(name)), name, reason)
+    return write_wheel(wheel_directory, name, reason, {'twox_hash.pth': f'{HERE}/src\n'.encode()})
 
 
 def build_sdist(sdist_directory, config_settings=None):

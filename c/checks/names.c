@@ -7,7 +7,7 @@
 #include <stdlib.h>
 #include <string.h>
 #include "xxhash.h"
-#if defined(__x86_64__) && !defined(TWOX_HASH_SOURCE)
+#if (defined(__x86_64__) || defined(__i386__)) && defined(__linux__)
 #include "xxh_x86dispatch.h"
 #endif
 
@@ -31,7 +31,7 @@
     X(XXH64_hashFromCanonical) X(XXH64_reset) X(XXH64_update) \
     X_86(XXH_featureTest) X(XXH_versionNumber)
 #define NONE(name)
-#if defined(__x86_64__) && !defined(TWOX_HASH_SOURCE)
+#if (defined(__x86_64__) || defined(__i386__)) && defined(__linux__)
 #define ALL_NAMES(X) EACH_NAME(X, X)
 #else
 #define ALL_NAMES(X) EACH_NAME(X, NONE)
@@ -119,7 +119,7 @@ PLAIN(64)
     }
 #define DIFFER(one, other) (one) != (other)
 #define DIFFER_128(one, other) !same(one, other)
-#if defined(__x86_64__) && !defined(TWOX_HASH_SOURCE)
+#if (defined(__x86_64__) || defined(__i386__)) && defined(__linux__)
 WIDTH(64, DIFFER, XXH3_64bits_update_dispatch)
 WIDTH(128, DIFFER_128, XXH3_128bits_update_dispatch)
 

@@ -1,19 +1,26 @@
 """Checks the code of c/include/xxhash.h, compiled in all its forms by several compilers, here or for another processor.
 `c/check --source` runs this."""
+import glob
 import itertools
 import os
 import re
 import tempfile
 
+from arm_roots import debian_root
+from debian_apt import sources
 from library import C
-from report import want
-from tools import TOP, bytes_of, install_packages, must, ran, replace_once, text_of, write
+from report import Fault, tail, want
+from tools import (TOP, bytes_of, clean_copy, four_hashes, install_packages, must, ran, replace_once, text_of,
+                   write)
+from values import names_are_theirs
 
 HEADER, SOURCE = os.path.join(C, 'include', 'xxhash.h'), os.path.join(C, 'source', 'xxhash.c')
 THEIRS, VECTORS = '/usr/include/xxhash.h', os.path.join(TOP, 'oracle', 'vectors.c')
-VALUES = os.path.join(C, 'checks', 'source_values.c')
-PACKAGES = {'gcc': 'gcc', 'g++': 'g++', 'clang': 'clang', 'tcc': 'tcc', 'nm': 'binutils', THEIRS: 'libxxhash-dev',
-            '/usr/include/stdio.h': 'libc6-dev', 'x86_64-w64-mingw32-gcc': 'gcc-mingw-w64-x86-64'}
+VALUES, EXAMPLE = os.path.join(C, 'checks', 'source_values.c'), os.path.join(TOP, 'examples', 'c', 'hash-file.c')
+LICENSE = os.path.join(TOP, 'LICENSE')
+PACKAGES = {'gcc': 'gcc', '/usr/include/stdio.h': 'libc6-dev', 'make': 'make', 'cmake': 'cmake', 'pkg-config': 'pkg-config',
+            'xxhsum': 'xxhash', 'dpkg-source': 'dpkg-dev', THEIRS: 'libxxhash-dev'}
+PACKAGES_HERE = {**PACKAGES, 'g++': 'g++', 'clang': 'clang', 'tcc': 'tcc', 'nm': 'binutils'}
 WARNINGS = ('-Wall', '-Wextra', '-Wpedantic', '-Wconversion', '-Wshadow', '-Wcast-align', '-Wundef', '-Werror')
 # Compilers with the flags of a form of the code.
 FORMS = {'scalar': ['-DXXH_VECTOR=XXH_SCALAR'], 'halves': ['-DXXH_VECTOR=XXH_SCALAR', '-U__SIZEOF_INT128__'],
@@ -26,8 +33,14 @@ TARGETS = {'i386': ('i686-linux-gnu-', ('gcc-i686-linux-gnu', 'libc6-dev-i386-cr
            'armhf': ('arm-linux-gnueabihf-', ('gcc-arm-linux-gnueabihf', 'libc6-dev-armhf-cross'), 'qemu-arm'),
            'ppc64el': ('powerpc64le-linux-gnu-', ('gcc-powerpc64le-linux-gnu', 'libc6-dev-ppc64el-cross'), 'qemu-ppc64le'),
            'riscv64': ('riscv64-linux-gnu-', ('gcc-riscv64-linux-gnu', 'libc6-dev-riscv64-cross'), 'qemu-riscv64'),
-           's390x': ('s390x-linux-gnu-', ('gcc-s390x-linux-gnu', 'libc6-dev-s390x-cross'), 'qemu-s390x')}
-OF_TARGET = {'i386': {'sse2': ['-msse2'], 'avx2': ['-mavx2']}, 'armhf': {'neon': ['-mfpu=neon']}}
+           's390x': ('s390x-linux-gnu-', ('gcc-s390x-linux-gnu', 'libc6-dev-s390x-cross'), 'qemu-s390x'),
+           'windows': ('x86_64-w64-mingw32-', ('gcc-mingw-w64-x86-64', 'mingw-w64-x86-64-dev'), '/usr/lib/wine/wine64')}
+OF_TARGET = {'i386': {'sse2': ['-msse2'], 'avx2': ['-mavx2']}, 'armhf': {'neon': ['-mfpu=neon']},
+             'windows': {'sse2': FORMS['sse2'], 'avx2': FORMS['avx2']}}
+# Symbols that gcc adds on i386, ppc64el and armhf.
+OF_COMPILER = r'\.get_pc_thunk\.|\.TOC\.$|__aeabi_'
+# A function inside xxhash.h that is in each program which contains its code.
+MARK = 'xxh3_accumulate_blocks'
 # A call of the header that a fault makes wrong: old text, new text, and a function that the values name.
 FAULTS = (('hash ^ hash >> 15', 'hash ^ hash >> 14', 'XXH32'), ('state->is_large = 1;', '', 'XXH32_digest'),
           ('hash ^ hash >> 29', 'hash ^ hash >> 28', 'XXH64'), ('secret + 119', 'secret + 118', 'XXH3_64bits'),
@@ -44,6 +57,7 @@ class Source:
 
     def __init__(self, room, prefix='', run=()):
         self.room, self.prefix, self.run = room, prefix, run
+        self.system = 'Windows' if 'mingw' in prefix else 'Linux'
         self.include = os.path.join(room, 'include')
         write(os.path.join(self.include, 'xxhash.h'), text_of(HEADER))
         self.made = 0
@@ -51,6 +65,14 @@ class Source:
     def path(self, end):
         self.made += 1
         return os.path.join(self.room, f'{self.made}{end}')
+
+    def forms(self):
+        """The forms of the library that make builds: outside Linux only the static one."""
+        return ['shared', 'static'] if self.system == 'Linux' else ['static']
+
+    def is_x86_linux(self):
+        """True where the C library has functions that choose the instruction set at run time."""
+        return self.prefix in ('', 'i686-linux-gnu-')
 
     def compiler(self, name):
         return [self.prefix + name] if self.prefix else [name]
@@ -65,8 +87,8 @@ class Source:
         return path
 
     def global_names(self, path):
-        """The symbols that an object defines for others, and those that it needs."""
-        lines = [line.split() for line in must([self.prefix + 'nm', path]).splitlines()]
+        """The symbols that an object defines for others, and those that it needs, without the compiler's own."""
+        lines = [line.split() for line in must([self.prefix + 'nm', path]).splitlines() if not re.search(OF_COMPILER, line)]
         return ({line[-1] for line in lines if line[-2] in 'TDBRC'}, {line[-1] for line in lines if line[-2] == 'U'})
 
     def theirs(self):
@@ -174,18 +196,111 @@ def make(source, *words):
 
 def library_is_built(source, *words):
     """make compiles a library, tests and installs it; a program of the installed files allocates its own states."""
-    run = ' '.join(source.run)
+    run, prefix = ' '.join(source.run), f'{source.room}/prefix'
     said = make(source, f'CC={source.prefix}gcc', f'run={run}', *words, 'check')
-    want('compiled from source/xxhash.c, which is not proved' in said and 'all 49 names work in 2 libraries' in said, said[-300:])
-    make(source, f'CC={source.prefix}gcc', *words, 'install', f'PREFIX={source.room}/prefix')
-    text = text_of(os.path.join(source.room, 'prefix/lib/pkgconfig/libxxhash.pc'))
+    libraries, names = len(source.forms()), 58 if source.is_x86_linux() else 49
+    want('compiled from source/xxhash.c, which is not proved' in said, said[-300:])
+    want(f'all {names} names work in {libraries} libraries' in said, said[-300:])
+    make(source, f'CC={source.prefix}gcc', *words, 'install', f'PREFIX={prefix}')
+    text = text_of(f'{prefix}/lib/pkgconfig/libxxhash.pc')
     want('proved' not in text, 'its pkg-config file says that it is proved')
-    path, prefix = source.path('.out'), f'{source.room}/prefix'
+    path = source.path('.out')
     must([source.prefix + 'gcc', '-w', '-DXXH_STATIC_LINKING_ONLY', VECTORS, '-I', f'{prefix}/include', f'{prefix}/lib/libxxhash.a', '-o', path])
     want(ran([*source.run, path]).stdout.encode() == bytes_of('oracle/vectors.txt'), 'the table is another')
+    serves_programs(source, prefix)
     make(source, f'CC={source.prefix}gcc', *words, 'uninstall', f'PREFIX={prefix}')
     want(not os.path.exists(prefix), f'uninstall leaves {os.listdir(prefix) if os.path.exists(prefix) else ""}')
     return said.splitlines()[0]
+
+
+def serves_programs(source, prefix):
+    """Programs by pkg-config and by CMake, with the shared and the static library, hash a file as xxhsum does."""
+    programs = [*by_pkg_config(source, prefix), *by_cmake(source, prefix)]
+    for form, path in zip(source.forms() * 2, programs, strict=True):
+        done = ran([*source.run, path, LICENSE])
+        want(done.returncode == 0 and done.stdout == four_hashes(LICENSE), f'{path}: {tail(done.stdout)}')
+        if form == 'shared':
+            loaded = ran([*source.run, path, LICENSE], env={**os.environ, 'LD_DEBUG': 'libs'}).stdout
+            want(f'calling init: {prefix}/lib/libxxhash.so.0' in loaded, f'{path} loads another library')
+        else:
+            want(MARK in must([source.prefix + 'nm', path]), f"{path} has another library's code")
+    replace_once(f'{prefix}/lib/cmake/xxHash/xxHashConfig.cmake', 'lib/libxxhash.a"\n    INTERFACE', 'lib/none.a"\n    INTERFACE')
+    want(built_by_cmake(source, prefix).returncode != 0, 'CMake finds a library that does not exist')
+
+
+def by_pkg_config(source, prefix):
+    for form in source.forms():
+        words = ['pkg-config', '--cflags', '--libs', *(['--static'] if form == 'static' else []), 'libxxhash']
+        flags = must(words, env={**os.environ, 'PKG_CONFIG_PATH': f'{prefix}/lib/pkgconfig'}).split()
+        path = source.path('.exe')
+        link = ['-static'] if form == 'static' else [f'-Wl,-rpath,{prefix}/lib']
+        must([source.prefix + 'gcc', EXAMPLE, *flags, *link, '-o', path])
+        yield path
+
+
+def built_by_cmake(source, prefix):
+    """Configures and builds examples/cmake with find_package(xxHash)."""
+    folder = f'{source.room}/by-cmake'
+    cross = [f'-DCMAKE_C_COMPILER={source.prefix}gcc', f'-DCMAKE_SYSTEM_NAME={source.system}'] if source.prefix else []
+    done = ran(['cmake', '-S', os.path.join(TOP, 'examples', 'cmake'), '-B', folder, f'-DCMAKE_PREFIX_PATH={prefix}', *cross])
+    return done if done.returncode else ran(['cmake', '--build', folder])
+
+
+def by_cmake(source, prefix):
+    done = built_by_cmake(source, prefix)
+    want(done.returncode == 0, tail(done.stdout))
+    names = {'shared': 'hash-file', 'static': 'hash-file-static'}
+    end = '.exe' if source.system == 'Windows' else ''
+    return [f'{source.room}/by-cmake/{names[form]}{end}' for form in source.forms()]
+
+
+# ---- the Debian package ----
+
+# The names of Debian's architectures that c/package calls otherwise.
+OF_PACKAGE = {'arm64': ['--target', 'aarch64'], 'amd64': []}
+
+
+def debian_package(source, architecture, *change):
+    """c/package --library in a copy with a change: the package's control file and its unpacked files."""
+    copy, root = source.path('-copy'), source.path('-root')
+    clean_copy(copy)
+    if change:
+        replace_once(os.path.join(copy, change[0]), *change[1:])
+    words = OF_PACKAGE.get(architecture, ['--target', architecture])
+    must([os.path.join(copy, 'c', 'package'), *words, '--library', copy],
+         env={**os.environ, 'SOURCE_DATE_EPOCH': '0', 'DEBEMAIL': 'nobody@localhost', 'DEBFULLNAME': 'nobody'})
+    file, = glob.glob(os.path.join(copy, '*.deb'))
+    must(['dpkg-deb', '-x', file, root])
+    return must(['dpkg-deb', '-f', file]), os.path.join(root, 'usr/lib/twox-hash')
+
+
+def is_packaged(source, architecture):
+    """The package for an architecture has each name of Debian's libxxhash0, and states where its code comes from."""
+    control, folder = debian_package(source, architecture)
+    want(f'Architecture: {architecture}\n' in control, control[:300])
+    want(('compiled from C' in control) == (architecture not in OF_PACKAGE), control[-600:])
+    want(('proved' in control) == (architecture in OF_PACKAGE), control[-600:])
+    debian = debian_root(os.path.join(source.room, 'debian'), 'libxxhash0', architecture=architecture)
+    theirs, = glob.glob(f'{debian}/usr/lib/*/libxxhash.so.0')
+    return names_are_theirs(f'{folder}/lib/libxxhash.so.0', theirs), theirs
+
+
+def package_lacks_a_name(source, architecture, theirs):
+    """Without a name of the version script the package is refused."""
+    _, folder = debian_package(source, architecture, 'c/libxxhash.map', '        XXH64;\n', '')
+    try:
+        names_are_theirs(f'{folder}/lib/libxxhash.so.0', theirs)
+    except Fault as fault:
+        want(str(fault) == 'without XXH64', fault)
+        return
+    raise Fault('it is not noticed')
+
+
+def check_package(report, source, architecture):
+    found = []
+    report.attempt('the Debian package', lambda: found.extend(is_packaged(source, architecture)) or found[0])
+    if found:
+        report.attempt('a name that the package lacks is detected', package_lacks_a_name, source, architecture, found[1])
 
 
 # ---- warnings ----
@@ -274,8 +389,33 @@ def check_symbols(report, source):
         report.attempt(f'-ffreestanding by {compiler}', is_freestanding, source, compiler)
 
 
+# ---- the tests of xxHash ----
+
+def their_tests_pass(source, change=('', '')):
+    """xxHash's own `make check`, with sanity_test, from Debian's source of 0.8.3, over this header."""
+    folder = os.path.join(source.room, 'upstream')
+    if not os.path.exists(folder):
+        os.rename(sources(os.path.join(source.room, 'sources')).source('xxhash'), folder)
+    write(os.path.join(folder, 'xxhash.h'), text_of(HEADER).replace(*change))
+    # What the tests take from xxHash's own header: a macro and <string.h>.
+    compiler = f'{source.prefix}gcc -include string.h -DXXH3_MIDSIZE_MAX=240'
+    return ran(['make', '-s', '-C', folder, f'CC={compiler}', f'RUN_ENV={" ".join(source.run)}', 'DISPATCH=0',
+                *(['EXT=.exe'] if source.system == 'Windows' else []), 'clean', 'check'])
+
+
+def passes_their_tests(source):
+    done = their_tests_pass(source)
+    want(done.returncode == 0 and 'checks completed successfully' in done.stdout, tail(done.stdout))
+    return re.search(r'passes \d+ tests', done.stdout)[0]
+
+
+def their_tests_notice(source):
+    done = their_tests_pass(source, ('hash ^ hash >> 29', 'hash ^ hash >> 28'))
+    want(done.returncode != 0 and 'sanity' in done.stdout.lower(), tail(done.stdout))
+
+
 def check_here(report, rounds):
-    install_packages(PACKAGES)
+    install_packages(PACKAGES_HERE)
     with tempfile.TemporaryDirectory() as room:
         source = Source(room)
         theirs = source.theirs()
@@ -293,17 +433,32 @@ def check_here(report, rounds):
         for fault in FAULTS:
             report.attempt(f'a fault is detected: {fault[1] or "without " + fault[0]}', fault_is_detected, source, theirs, *fault)
         report.attempt('the library with SOURCE=1', library_is_built, source, 'SOURCE=1')
-        windows = Source(os.path.join(room, 'windows'), 'x86_64-w64-mingw32-')
-        report.attempt('names of an object by MinGW, not run', object_has_names, windows, 'gcc')
+        check_package(report, source, 'amd64')
+        check_their_tests(report, source)
+
+
+def check_their_tests(report, source):
+    report.attempt("xxHash's own tests", passes_their_tests, source)
+    report.attempt("xxHash's own tests detect a fault", their_tests_notice, source)
+
+
+def emulated(target, room):
+    """The compiler's prefix and the command that runs programs of another processor or system."""
+    prefix, _, emulator = TARGETS[target]
+    if target == 'windows':
+        wine = ['env', 'WINEDEBUG=-all', f'WINEPREFIX={room}/wine', emulator]
+        ran([*wine, 'wineboot'])  # its first run prints messages
+        return prefix, wine
+    return prefix, [emulator, '-L', f'/usr/{prefix[:-1]}']
 
 
 def check_target(report, target, rounds):
-    """The code for another processor, under an emulator."""
+    """The code for another processor, under an emulator, or for Windows, under wine."""
     prefix, packages, emulator = TARGETS[target]
-    install_packages({f'{prefix}gcc': packages[0], f'/usr/{prefix[:-1]}/include/stdio.h': packages[1],
-                      emulator: 'qemu-user', THEIRS: 'libxxhash-dev'})
+    install_packages({**PACKAGES, f'{prefix}gcc': packages[0], f'/usr/{prefix[:-1]}/include/stdio.h': packages[1],
+                      emulator: 'wine64' if target == 'windows' else 'qemu-user'})
     with tempfile.TemporaryDirectory() as room:
-        source = Source(room, prefix, [emulator, '-L', f'/usr/{prefix[:-1]}'])
+        source = Source(room, *emulated(target, room))
         theirs = source.theirs()
         forms = {'its own': [], 'scalar': FORMS['scalar'], **OF_TARGET.get(target, {})}
         report.attempt('names of an object', object_has_names, source, 'gcc')
@@ -314,6 +469,9 @@ def check_target(report, target, rounds):
         report.attempt('the library', library_is_built, source, *(['SOURCE=1'] if target == 'arm64' else []))
         for fault in FAULTS:
             report.attempt(f'a fault is detected: {fault[1] or "without " + fault[0]}', fault_is_detected, source, theirs, *fault)
+        if target != 'windows':
+            check_package(report, source, target)
+        check_their_tests(report, source)
 
 
 def check_all(report, target, rounds):

@@ -1,11 +1,11 @@
 /* SPDX-License-Identifier: MIT */
 /* Other names of the calls of XXH3, which choose the instruction set at run time in the C library. Here the dynamic
- * loader chooses, and each of these is the call without _dispatch. Only on x86-64. */
+ * loader chooses, and each of these is the call without _dispatch. Only on x86. */
 #ifndef XXH_X86DISPATCH_H_TWOX_HASH
 #define XXH_X86DISPATCH_H_TWOX_HASH
 
-#ifndef __x86_64__
-#error "xxh_x86dispatch.h is only for x86-64: include xxhash.h, and call without _dispatch"
+#if !defined(__x86_64__) && !defined(__i386__)
+#error "xxh_x86dispatch.h is only for x86: include xxhash.h, and call without _dispatch"
 #endif
 
 #if defined(XXH_INLINE_ALL) || defined(XXH_PRIVATE_API) || defined(XXH_NAMESPACE)

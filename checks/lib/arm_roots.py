@@ -1,28 +1,21 @@
-"""Debian's packages for 64-bit ARM below a folder of their own, and a compiler over them."""
+"""Debian's packages for 64-bit ARM, or another processor, below a folder of their own, and a compiler over them."""
 import os
+import platform
 
-from tools import QUIET, must, text_of, write
+from debian_apt import Apt
+from tools import must, text_of, write
 
 TOOLS = 'aarch64-linux-gnu-'
 
 
-def debian_root(folder, *packages):
-    """Debian's packages for arm64 and everything that they need, unpacked below a folder. apt works on lists and a
-    cache of its own there, so that the machine's own packages stay unchanged."""
-    for part in ('state/lists/partial', 'cache/archives/partial', 'root'):
-        os.makedirs(os.path.join(folder, part))
-    status = os.path.join(folder, 'status')
-    open(status, 'w').close()
-    settings = {'APT::Architecture': 'arm64', 'APT::Architectures::': 'arm64', 'APT::Sandbox::User': 'root',
-                'Debug::NoLocking': '1', 'Dir::State': os.path.join(folder, 'state'), 'Dir::State::status': status,
-                'Dir::Cache': os.path.join(folder, 'cache')}
-    apt = ['apt-get', '-qq', *(word for name, value in settings.items() for word in ('-o', f'{name}={value}'))]
-    must([*apt, 'update'], env=QUIET)
-    must([*apt, 'install', '-y', '--no-install-recommends', '--download-only', *packages], env=QUIET)
-    archives, root = os.path.join(folder, 'cache', 'archives'), os.path.join(folder, 'root')
-    for name in os.listdir(archives):
-        if name.endswith('.deb'):
-            must(['dpkg-deb', '-x', os.path.join(archives, name), root])
+def debian_root(folder, *packages, architecture='arm64'):
+    """Debian's packages and everything that they need, unpacked below a folder. For arm64 the versions are those of the
+    machine's own lists, to which its compilers belong; for another processor those of the release, since a further
+    list may lack it."""
+    release = '' if architecture == 'arm64' else platform.freedesktop_os_release()['VERSION_CODENAME']
+    root = os.path.join(folder, 'root')
+    for file in Apt(folder, architecture, 'deb', release).download(*packages):
+        must(['dpkg-deb', '-x', file, root])
     return root
 
 

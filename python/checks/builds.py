@@ -96,9 +96,9 @@ def wheel_installs(built):
 def refusals(built):
     """A build that can't be made prints the reason in one line."""
     clone = copied(os.path.join(built.room, 'refusals'))
-    compiler = write(os.path.join(built.room, 'foreign-cc'), '#!/bin/sh\necho riscv64-linux-gnu\n', 0o755)
+    compiler = write(os.path.join(built.room, 'foreign-cc'), '#!/bin/sh\necho arm64-apple-darwin\n', 0o755)
     for cc, words in (('/none/cc', 'a C compiler is needed'),
-                      (compiler, 'there is no proved code for riscv64-linux-gnu')):
+                      (compiler, 'the package is for Linux, and this compiler is for arm64-apple-darwin')):
         done = run([os.path.join(clone, 'build'), PYTHON], CC=cc)
         want(done.returncode and words in done.stdout, f'{cc}: {done.stdout[-200:]}')
         want('Traceback' not in done.stdout, f'{cc}: a traceback')

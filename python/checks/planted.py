@@ -40,6 +40,10 @@ PLANTED = [
      'rows->width, rows->width & ~(size_t)1, key)', 'many'),
     ('a wrong row leaves digests behind', 'python/native/many.c', 'room->has_view && !may_fail', 'room->has_view', 'many'),
     ('sizes that wrap', 'python/native/many.c', 'digests > PY_SSIZE_T_MAX / kind->digest_bytes', '0', 'many'),
+    ('a stripe too few is counted', 'python/native/source.c', '(saved->waiting + length - state->buffered) / 64', '0',
+     'objects'),
+    ('a secret of a stream that is never looked at', 'python/native/source.c', 'state->secret = secret;',
+     'state->secret = saved->secret;', 'objects'),
     ('a reader that lies is believed', 'python/src/twox_hash/_files.py', 'not 0 < length <= PIECE_BYTES', 'False', 'files'),
 ]
 
@@ -55,7 +59,8 @@ def notices(room, number, path, text, other, name):
     clone = os.path.join(room, f'planted-{number}')
     folder = copied(clone)
     replace_once(os.path.join(clone, path), text, other)
-    wheel = packed(folder, CFLAGS='-Wno-unused-variable -Wno-unused-parameter')[1]
+    source = {'TWOX_HASH_SOURCE': '1'} if path.endswith('source.c') else {}
+    wheel = packed(folder, CFLAGS='-Wno-unused-variable -Wno-unused-parameter', **source)[1]
     return noticed(tests(site(room, f'planted-{number}', wheel), name, TWOX_HASH_OBJECTS='200000'))
 
 

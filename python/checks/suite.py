@@ -1,10 +1,11 @@
 """The package's own tests, run by one Python or another over one build or another."""
+import glob
 import os
 import re
 import shutil
 
 from report import Fault, tail, want
-from tools import write
+from tools import text_of, write
 from room import DEBUG, PYTHON, PYTHON_FOLDER, copied, must, packed, run, site
 
 VALGRIND = ('/usr/bin/valgrind', '-q', '--error-exitcode=9', PYTHON)
@@ -66,6 +67,19 @@ def of_clang(built):
     """The tests of values pass when compiled by clang."""
     wheel = packed(copied(os.path.join(built.room, 'clang')), CC='clang')[1]
     return pass_all(site(built.room, 'clang', wheel), 'values', 'objects')
+
+
+def of_source(built):
+    """The tests pass over the code of xxhash.h. The build states once that it isn't proved, and the wheel claims no proof."""
+    folder = copied(os.path.join(built.room, 'source'))
+    said = must([os.path.join(folder, 'build'), PYTHON], TWOX_HASH_SOURCE='1')
+    want(said.count('compiled from xxhash.h, which is not proved: TWOX_HASH_SOURCE=1\n') == 1, tail(said))
+    path = site(built.room, 'source', glob.glob(os.path.join(folder, 'out', '*.whl'))[0])
+    found = must([PYTHON, '-c', 'import twox_hash; print(twox_hash.instruction_set)'], PYTHONPATH=path)
+    want(found == 'source\n', f'{found.strip()} runs')
+    about, = glob.glob(os.path.join(path, '*.dist-info', 'METADATA'))
+    want('proved' not in text_of(about).partition('\n\n')[0], 'the summary claims a proof')
+    return pass_all(path)
 
 
 def in_another_python(built, path, python):

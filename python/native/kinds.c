@@ -3,7 +3,8 @@
 
 #include <string.h>
 
-#include "proved.h"
+#include "calls.h"
+#include "states.h"
 
 /* A value of 64 bits or fewer as the common type. */
 static inline hash_value narrow(uint64_t low)
@@ -13,38 +14,22 @@ static inline hash_value narrow(uint64_t low)
 
 /* ---- XXH32 and XXH64 ---- */
 
-/* The states as they are in memory: crates/twox_c declares them like this, and proves their sizes. */
-struct xxh32_state {
-    uint32_t v1, seed, v2, marked_waiting, v3, total_low, total_high, v4;
-    unsigned char buffer[16];
-};
-
-struct xxh64_state {
-    uint64_t v1, seed, v2, total_length, v3;
-    uint32_t marked_waiting;
-    uint64_t v4;
-    unsigned char buffer[32];
-};
-
-_Static_assert(sizeof(struct xxh32_state) == XXH32_STATE_BYTES, "the state of XXH32 has another layout");
-_Static_assert(sizeof(struct xxh64_state) == XXH64_STATE_BYTES, "the state of XXH64 has another layout");
-
 #define PLAIN_KIND(bits, block) \
     static hash_value hash_##bits(const void *input, size_t length, const struct key *key) \
     { \
-        return narrow(proved.XXH##bits(input, length, (XXH##bits##_hash_t)key->seed)); \
+        return narrow(calls.XXH##bits(input, length, (XXH##bits##_hash_t)key->seed)); \
     } \
     static void start_##bits(void *state, const struct key *key) \
     { \
-        proved.XXH##bits##_reset(state, (XXH##bits##_hash_t)key->seed); \
+        calls.XXH##bits##_reset(state, (XXH##bits##_hash_t)key->seed); \
     } \
     static void take_##bits(void *state, const void *input, size_t length) \
     { \
-        proved.XXH##bits##_update(state, input, length); \
+        calls.XXH##bits##_update(state, input, length); \
     } \
     static hash_value finish_##bits(const void *state) \
     { \
-        return narrow(proved.XXH##bits##_digest(state)); \
+        return narrow(calls.XXH##bits##_digest(state)); \
     } \
     static struct key key_of_##bits(const void *state) \
     { \
@@ -60,21 +45,6 @@ PLAIN_KIND(32, 16)
 PLAIN_KIND(64, 32)
 
 /* ---- XXH3 ---- */
-
-struct xxh3_state {
-    uint64_t accumulators[8], place;
-    uint64_t stripes, waiting, total_length;
-    unsigned char buffer[256];
-    unsigned char secret[XXH3_SECRET_DEFAULT_SIZE];
-    uint64_t mark, seed, secret_length, address;
-};
-
-_Static_assert(sizeof(struct xxh3_state) == XXH3_STATE_BYTES, "the state of XXH3 has another layout");
-
-/* The marks of a state that copied a secret and has no seed, and of those that have the address of a secret. */
-#define MARK_COPY 0xc5a16e0f93d24b87
-#define MARK_ADDRESS 0x9b4ed3712ac8f516
-#define MARK_ADDRESS_AND_SEED 0x68d7b5aec13f0e9b
 
 /* The state of an object, and its secret if the state has no copy of it. The calls get this secret as an argument, so
  * the address in the state is 0. */
@@ -106,9 +76,9 @@ static void start_with_secret(void *memory, const struct key *key)
     struct keyed_state *keyed = memory;
     memcpy(keyed->secret, key->secret, key->secret_length);
     if (key->has_seed)
-        proved.twox_c_reset_xxh3_secret_and_seed(memory, key->secret, key->secret_length, 0, key->seed);
+        calls.twox_c_reset_xxh3_secret_and_seed(memory, key->secret, key->secret_length, 0, key->seed);
     else
-        proved.twox_c_reset_xxh3_secret(memory, key->secret, key->secret_length, 0);
+        calls.twox_c_reset_xxh3_secret(memory, key->secret, key->secret_length, 0);
 }
 
 static hash_value as_64(XXH64_hash_t hash)
@@ -124,10 +94,10 @@ static hash_value as_128(XXH128_hash_t hash)
 #define XXH3_KIND(bits, block) \
     static hash_value hash_3_##bits(const void *input, size_t length, const struct key *key) \
     { \
-        if (!key->secret) return as_##bits(proved.XXH3_##bits##bits_withSeed(input, length, key->seed)); \
+        if (!key->secret) return as_##bits(calls.XXH3_##bits##bits_withSeed(input, length, key->seed)); \
         if (!key->has_seed) \
-            return as_##bits(proved.XXH3_##bits##bits_withSecret(input, length, key->secret, key->secret_length)); \
-        return as_##bits(proved.XXH3_##bits##bits_withSecretandSeed(input, length, key->secret, key->secret_length, \
+            return as_##bits(calls.XXH3_##bits##bits_withSecret(input, length, key->secret, key->secret_length)); \
+        return as_##bits(calls.XXH3_##bits##bits_withSecretandSeed(input, length, key->secret, key->secret_length, \
                                                                     key->seed)); \
     } \
     static void start_3_##bits(void *state, const struct key *key) \
@@ -135,22 +105,22 @@ static hash_value as_128(XXH128_hash_t hash)
         if (key->secret) \
             start_with_secret(state, key); \
         else \
-            proved.XXH3_##bits##bits_reset_withSeed(state, key->seed); \
+            calls.XXH3_##bits##bits_reset_withSeed(state, key->seed); \
     } \
     static void take_3_##bits(void *state, const void *input, size_t length) \
     { \
         const struct keyed_state *keyed = state; \
         if (borrows(keyed)) \
-            proved.twox_c_update_xxh3(state, input, length, keyed->secret, keyed->state.secret_length); \
+            calls.twox_c_update_xxh3(state, input, length, keyed->secret, keyed->state.secret_length); \
         else \
-            proved.XXH3_##bits##bits_update(state, input, length); \
+            calls.XXH3_##bits##bits_update(state, input, length); \
     } \
     static hash_value finish_3_##bits(const void *state) \
     { \
         const struct keyed_state *keyed = state; \
         if (borrows(keyed)) \
-            return as_##bits(proved.twox_c_digest_##bits(state, keyed->secret, keyed->state.secret_length)); \
-        return as_##bits(proved.XXH3_##bits##bits_digest(state)); \
+            return as_##bits(calls.twox_c_digest_##bits(state, keyed->secret, keyed->state.secret_length)); \
+        return as_##bits(calls.XXH3_##bits##bits_digest(state)); \
     } \
     const struct kind xxh3_##bits##_kind = { \
         .name = "XXH3_" #bits, .digest_bytes = bits / 8, .block_bytes = block, \

@@ -1,16 +1,16 @@
 /* The module twox_hash._native: the functions and the types that twox_hash/__init__.py re-exports. */
 #include "functions.h"
 #include "hasher.h"
-#include "proved.h"
+#include "calls.h"
 #include "python.h"
 
 #include <stdlib.h>
 
-/* Chooses the instruction set of the proved calls. TWOX_HASH_INSTRUCTIONS may select one, for benchmarks and tests. */
+/* Chooses the instruction set of the calls. TWOX_HASH_INSTRUCTIONS may select one, for benchmarks and tests. */
 static int choose(void)
 {
     const char *wanted = getenv("TWOX_HASH_INSTRUCTIONS");
-    const char *fault = choose_proved(wanted && *wanted ? wanted : NULL);
+    const char *fault = choose_calls(wanted && *wanted ? wanted : NULL);
     if (!fault) return 1;
     PyErr_Format(PyExc_ImportError, "twox_hash: %s%s%s", wanted ? wanted : "", wanted ? ": " : "", fault);
     return 0;
@@ -20,7 +20,7 @@ static int fill(PyObject *module)
 {
     const int is_filled = choose() && add_types(module)
         && !PyModule_AddStringConstant(module, "XXHASH_VERSION", "0.8.1")
-        && !PyModule_AddStringConstant(module, "instruction_set", proved.instructions);
+        && !PyModule_AddStringConstant(module, "instruction_set", calls.instructions);
     return is_filled ? 0 : -1;
 }
 

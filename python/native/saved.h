@@ -8,7 +8,7 @@ PyObject *hasher_state(struct hasher *hasher, PyObject *none);
 PyObject *hasher_from_state(PyObject *type, PyObject *state);
 PyObject *hasher_reduce(struct hasher *hasher, PyObject *none);
 
-/* The state in memory. A forged one does no harm: the proved calls test at each call what they need, and the length
+/* The state in memory. A forged one does no harm: each call tests what it needs, and the length
  * of the secret is tested here. */
 PyObject *hasher_memory(struct hasher *hasher, PyObject *none);
 PyObject *hasher_set_memory(struct hasher *hasher, PyObject *memory);

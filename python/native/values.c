@@ -2,17 +2,19 @@
 
 #include <string.h>
 
+#define IS_LITTLE_ENDIAN (__BYTE_ORDER__ == __ORDER_LITTLE_ENDIAN__)
+
 /* Bytes of a number, the highest first. Each is stored in place: copying bytes that were stored with another width
  * would wait for these stores. */
 static inline void write_word(void *bytes, uint64_t word)
 {
-    word = __builtin_bswap64(word);
+    if (IS_LITTLE_ENDIAN) word = __builtin_bswap64(word);
     memcpy(bytes, &word, sizeof word);
 }
 
 static inline void write_half_word(void *bytes, uint32_t half)
 {
-    half = __builtin_bswap32(half);
+    if (IS_LITTLE_ENDIAN) half = __builtin_bswap32(half);
     memcpy(bytes, &half, sizeof half);
 }
 
@@ -88,11 +90,12 @@ PyObject *as_intdigest(const struct kind *kind, hash_value value)
     write_hexdigest(digits, kind, value);
     return PyLong_FromString(digits, NULL, 16);
 #else
-    const uint64_t halves[2] = {value.low64, value.high64};
+    unsigned char digest[16];
+    write_digest(digest, kind, value);
 #if PY_VERSION_HEX >= 0x030D0000
-    return PyLong_FromUnsignedNativeBytes(halves, sizeof halves, Py_ASNATIVEBYTES_LITTLE_ENDIAN);
+    return PyLong_FromUnsignedNativeBytes(digest, sizeof digest, Py_ASNATIVEBYTES_BIG_ENDIAN);
 #else
-    return _PyLong_FromByteArray((const unsigned char *)halves, sizeof halves, 1, 0);
+    return _PyLong_FromByteArray(digest, sizeof digest, 0, 0);
 #endif
 #endif
 }

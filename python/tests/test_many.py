@@ -44,7 +44,7 @@ class Many(unittest.TestCase):
 
     def test_items_of_several_bytes_are_rows(self):
         words = array.array('Q', [1, 2, 1 << 60])
-        want = [ours.xxh3_64_digest(word.to_bytes(8, 'little')) for word in words]
+        want = [ours.xxh3_64_digest(word.to_bytes(8, sys.byteorder)) for word in words]
         self.assertEqual(ours.many(words), want)
         self.assertEqual(ours.many((ctypes.c_uint64 * 3)(*words)), want)
 
@@ -132,9 +132,10 @@ class Many(unittest.TestCase):
 
     def test_more_digests_than_memory_has(self):
         """Rows of no bytes are as many as their shape has. A process of its own makes the call, since it may crash."""
-        for count, name, into in ((2**61, 'xxh64', bytearray(0)), (2**62, 'xxh32', bytearray(0)),
-                                  (2**60, 'xxh128', bytearray(0)), (2**61 + 1, 'xxh64', bytearray(8)),
-                                  (2**63 - 1, 'xxh64', None)):
+        sizes = sys.maxsize + 1
+        for count, name, into in ((sizes // 4, 'xxh64', bytearray(0)), (sizes // 2, 'xxh32', bytearray(0)),
+                                  (sizes // 8, 'xxh128', bytearray(0)), (sizes // 4 + 1, 'xxh64', bytearray(8)),
+                                  (sizes - 1, 'xxh64', None)):
             child = os.fork()
             if not child:
                 try:
@@ -165,7 +166,8 @@ class Many(unittest.TestCase):
     def test_integers_of_a_digests_size_get_the_numbers(self):
         rows = [b'one', b'two', b'three']
         together = b'a' * 4 + b'b' * 4 + b'c' * 4
-        for code, name in (('Q', 'xxh64'), ('L', 'xxh3_64'), ('I', 'xxh32'), ('q', 'xxh64')):
+        long = 'L' if array.array('L').itemsize == 8 else 'Q'
+        for code, name in (('Q', 'xxh64'), (long, 'xxh3_64'), ('I', 'xxh32'), ('q', 'xxh64')):
             digits = getattr(ours, name + '_intdigest')
             into = array.array(code, [0] * 3)
             self.assertIs(ours.many(rows, name, into=into), into)
@@ -178,9 +180,10 @@ class Many(unittest.TestCase):
         self.assertEqual(list(into), [ours.xxh3_64_intdigest(row) for row in rows])
 
     def test_other_items_of_into(self):
-        """Bytes and big-endian integers get the digests. Integers that would be reversed are refused."""
+        """Bytes and integers in the other byte order get the digests. Native ones of another size are refused."""
+        other = ctypes.c_uint64.__ctype_be__ if sys.byteorder == 'little' else ctypes.c_uint64.__ctype_le__
         rows, digests = [b'one', b'two'], b''.join(ours.xxh3_128_digest(row) for row in (b'one', b'two'))
-        for into in ((ctypes.c_char * 32)(), (ctypes.c_ubyte * 16 * 2)(), (ctypes.c_uint64.__ctype_be__ * 4)(),
+        for into in ((ctypes.c_char * 32)(), (ctypes.c_ubyte * 16 * 2)(), (other * 4)(),
                      (ctypes.c_double * 4)()):
             self.assertEqual(bytes(ours.many(rows, 'xxh128', into=into)), digests)
         for name, into in (('xxh128', array.array('Q', [1] * 4)), ('xxh64', array.array('I', [1] * 4)),

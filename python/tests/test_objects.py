@@ -130,9 +130,13 @@ class Saved(unittest.TestCase):
         record = json.loads(hasher.state())
         self.assertEqual((record['last_stripe'], record['buffer']), (list(data[192:256]), list(data[256:264])))
         self.assertEqual(ours.xxh3_64.from_state(json.dumps(record)).digest(), theirs.xxh3_64_digest(data[:264]))
-        record = json.loads(ours.xxh3_64(data[:520]).state())
-        self.assertEqual(record['buffer'], list(data[448:520]))
-        for last in (data[384:448], bytes(64)):
+        hasher = ours.xxh3_64(data[:448])
+        hasher.update(data[448:520])
+        record = json.loads(hasher.state())
+        taken = 64 * record['stripes']
+        self.assertTrue(0 < taken <= 520 - 64)
+        self.assertEqual(record['buffer'], list(data[taken:520]))
+        for last in (data[taken - 64:taken], bytes(64)):
             loaded = ours.xxh3_64.from_state(json.dumps(record | {'last_stripe': list(last)}))
             self.assertEqual(loaded.digest(), theirs.xxh3_64_digest(data[:520]))
             loaded.update(data[520:])

@@ -3,8 +3,8 @@
     import twox_hash as xxhash
 
 runs programs that were written for the package `xxhash`. This package has more: secrets (`secret=`), objects that
-can be saved, loaded and pickled (`state`, `from_state`), `file_digest`, and `many`. None of these hashes is safe
-against an attacker who chooses the input."""
+can be saved, loaded and pickled (`state`, `from_state`), `file_digest`, and `many`. If `instruction_set` is "source",
+the code is not proved, but compiled from C. None of these hashes is safe against an attacker who chooses the input."""
 from ._files import file_digest
 from ._many import many
 from ._native import (XXHASH_VERSION, instruction_set, xxh3_64, xxh3_64_digest, xxh3_64_hexdigest, xxh3_64_intdigest,

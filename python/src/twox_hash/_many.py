@@ -1,5 +1,6 @@
 """Digests of many inputs in one call."""
 import re
+import sys
 from collections.abc import Iterable, Sized
 from typing import Any, Optional, TypeVar, Union, overload
 
@@ -11,8 +12,8 @@ Into = TypeVar('Into', bound=Sized)
 FIELD = re.compile(':[^:]*:')
 # Addresses of bytes, text, anything, a function and a type. Before the letter of a float, Z is a complex number.
 POINTER = re.compile('[zPX&]|Z(?![efdgFDG])')
-# Integers in the machine's byte order, which is little-endian on every supported machine.
-NATIVE_INTEGER = re.compile('[@=<]?[hHiIlLqQnN]')
+# Integers in the machine's byte order.
+NATIVE_INTEGER = re.compile(f'[@={"<" if sys.byteorder == "little" else ">"}]?[hHiIlLqQnN]')
 
 
 @overload
@@ -63,7 +64,7 @@ def _takes_numbers(into: Any, digest_bytes: int) -> bool:
         if room.itemsize == digest_bytes:
             return True
         raise ValueError(f'into has integers of {room.itemsize} bytes, and a digest has {digest_bytes}: they would hold '
-                         'parts of it in reversed order')
+                         'parts of it')
 
 
 def _view_of(rows: Any) -> Optional[memoryview]:

@@ -1,6 +1,7 @@
 """Saved objects: their JSON, which for XXH32 and XXH64 is that of the program `xxh`, and what is refused."""
 import json
 import struct
+import sys
 from typing import Any, Union
 
 from ._native import xxh3_64, xxh3_128, xxh32, xxh64
@@ -70,7 +71,7 @@ def _numbers(value: Any, least: int, most: int, limit: int = 256) -> list[int]:
     return [_number(number, limit) for number in value]
 
 
-# ---- the state in memory, and when bytes lead to it ----
+# ---- the state in memory, in the machine's byte order, and when bytes lead to it ----
 
 def _with_fields(hasher: Hasher, layout: struct.Struct, *fields: Any) -> Hasher:
     """Returns the object, which is new, with these fields at the start of its state."""
@@ -113,9 +114,9 @@ class _Plain:
 class _Stream:
     """XXH3 of both widths: a state is accepted if its parts fit each other and the secret. Whether some bytes lead
     to its accumulators is known only for those of no stripe. `seed` is null in one that was made with only a secret."""
-    taken = struct.Struct('<8QQQQQ256s')
+    taken = struct.Struct('=8QQQQQ256s')
     # The seed, the length, the end of the buffer and the secrets aren't written if they have no meaning.
-    whole = struct.Struct('<8QQQQQ256s192sQ8s8s8x256s')
+    whole = struct.Struct('=8QQQQQ256s192sQ8s8s8x256s')
     # The end of a state's buffer, and that of earlier versions.
     room, greatest, stripe = 256, 512, 64
     # The marks of a state whose secret is behind it: without a seed and with one. Of one that has its secret, without.
@@ -123,11 +124,11 @@ class _Stream:
 
     def record_of(self, memory: bytes) -> dict[str, Any]:
         *accumulators, place, stripes, usage, total, buffer, own, mark, seed, length, other = self.whole.unpack(memory)
-        secret = other[:int.from_bytes(length, 'little')] if mark in (self.behind, self.behind_with_seed) else own
+        secret = other[:int.from_bytes(length, sys.byteorder)] if mark in (self.behind, self.behind_with_seed) else own
         has_seed = mark not in (self.behind, self.copied)
         return {'accumulators': accumulators, 'buffer': list(buffer[:usage]),
                 'last_stripe': self._last_stripe(stripes, buffer, usage), 'place': place,
-                'secret': list(secret), 'seed': int.from_bytes(seed, 'little') if has_seed else None,
+                'secret': list(secret), 'seed': int.from_bytes(seed, sys.byteorder) if has_seed else None,
                 'stripes': stripes, 'total_len': total}
 
     def _last_stripe(self, stripes: int, buffer: bytes, usage: int) -> list[int]:
@@ -167,7 +168,7 @@ class _Stream:
 
 
 _FORMS: dict[HasherType, Union[_Plain, _Stream]] = {
-    xxh32: _Plain(32, 16, b'XX32', '<5IQI16s', 'v1 seed v2 marked_usage v3 total_len v4 buffer'),
-    xxh64: _Plain(64, 32, b'XX64', '<5QI4xQ32s', 'v1 seed v2 total_len v3 marked_usage v4 buffer'),
+    xxh32: _Plain(32, 16, b'XX32', '=5IQI16s', 'v1 seed v2 marked_usage v3 total_len v4 buffer'),
+    xxh64: _Plain(64, 32, b'XX64', '=5QI4xQ32s', 'v1 seed v2 total_len v3 marked_usage v4 buffer'),
     xxh3_64: _Stream(), xxh3_128: _Stream(),
 }

@@ -1,13 +1,13 @@
-/* The proved calls that the package makes, by the processor's instruction set. Their results are documented in
- * xxhash.h, the header of the library for C, and in crates/twox_c. */
-#ifndef TWOX_HASH_PROVED_H
-#define TWOX_HASH_PROVED_H
+/* The proved calls that the package makes, by the processor's instruction set, or those of source.c in their place.
+ * Their results are documented in xxhash.h, the header of the library for C, and in crates/twox_c. */
+#ifndef TWOX_HASH_CALLS_H
+#define TWOX_HASH_CALLS_H
 
 #include "state_sizes.h"
 #include "xxhash.h"
 
 /* EACH(result, name, parameters): once for each call. */
-#define EACH_PROVED_CALL(EACH) \
+#define EACH_CALL(EACH) \
     EACH(XXH32_hash_t, XXH32, (const void *, size_t, XXH32_hash_t)) \
     EACH(XXH_errorcode, XXH32_reset, (XXH32_state_t *, XXH32_hash_t)) \
     EACH(XXH_errorcode, XXH32_update, (XXH32_state_t *, const void *, size_t)) \
@@ -32,19 +32,19 @@
     EACH(hash, XXH3_##bits##bits_digest, (const XXH3_state_t *)) \
     EACH(hash, twox_c_digest_##bits, (const XXH3_state_t *, const void *, size_t))
 
-struct proved {
+struct calls {
 #define MEMBER(answer, name, parameters) answer(*name) parameters;
-    EACH_PROVED_CALL(MEMBER)
+    EACH_CALL(MEMBER)
 #undef MEMBER
-    /* The instruction set: "x86-64-v2", "x86-64-v3", "x86-64-v4" or "aarch64". */
+    /* The instruction set: "x86-64-v2", "x86-64-v3", "x86-64-v4" or "aarch64", or "source". */
     const char *instructions;
 };
 
-/* The calls in use. choose_proved fills it before any call. */
-extern struct proved proved;
+/* The calls in use. choose_calls fills it before any call. */
+extern struct calls calls;
 
 /* Selects the processor's best instruction set, or `wanted` if that isn't null: once in a process. Returns null, or
  * the error: the processor lacks the instruction set, its name is unknown, or another one was selected before. */
-const char *choose_proved(const char *wanted);
+const char *choose_calls(const char *wanted);
 
 #endif

@@ -1,21 +1,36 @@
-/* The instruction set of the proved calls in use. backend.py puts a prefix before each name of an instruction set's
-   source: v2_, v3_, v4_ or arm_. */
-#include "proved.h"
+/* The calls in use, by instruction set. backend.py puts a prefix before each name of an instruction set's source: v2_,
+   v3_, v4_ or arm_. With TWOX_HASH_SOURCE they are those of source.c, which are not proved. */
+#include "calls.h"
 
 #include <pthread.h>
 #include <string.h>
 
-struct proved proved;
+struct calls calls;
 /* Interpreters with a GIL of their own may import the module concurrently. */
 static pthread_mutex_t choice = PTHREAD_MUTEX_INITIALIZER;
 
 /* An instruction set: whether the processor has it, and its calls. */
 struct set {
     int (*is_there)(void);
-    struct proved calls;
+    struct calls calls;
 };
 
-#if defined(__x86_64__) && defined(__linux__)
+#if defined(TWOX_HASH_SOURCE) || defined(__aarch64__)
+static int is_always(void)
+{
+    return 1;
+}
+#endif
+
+#ifdef TWOX_HASH_SOURCE
+
+#include "source.h"
+
+#define IN_SOURCE(answer, name, parameters) .name = source_##name,
+
+static const struct set sets[] = {{is_always, {EACH_CALL(IN_SOURCE).instructions = "source"}}};
+
+#elif defined(__x86_64__) && defined(__linux__)
 
 #include <cpuid.h>
 
@@ -26,7 +41,7 @@ struct set {
 #define IN_V2(answer, name, parameters) .name = v2_##name,
 #define IN_V3(answer, name, parameters) .name = v3_##name,
 #define IN_V4(answer, name, parameters) .name = v4_##name,
-EACH_PROVED_CALL(DECLARED)
+EACH_CALL(DECLARED)
 
 static int has_v2(void)
 {
@@ -64,26 +79,21 @@ static int has_v4(void)
 
 /* The best one first. */
 static const struct set sets[] = {
-    {has_v4, {EACH_PROVED_CALL(IN_V4).instructions = "x86-64-v4"}},
-    {has_v3, {EACH_PROVED_CALL(IN_V3).instructions = "x86-64-v3"}},
-    {has_v2, {EACH_PROVED_CALL(IN_V2).instructions = "x86-64-v2"}},
+    {has_v4, {EACH_CALL(IN_V4).instructions = "x86-64-v4"}},
+    {has_v3, {EACH_CALL(IN_V3).instructions = "x86-64-v3"}},
+    {has_v2, {EACH_CALL(IN_V2).instructions = "x86-64-v2"}},
 };
 
 #elif defined(__aarch64__) && defined(__linux__)
 
 #define DECLARED(answer, name, parameters) answer arm_##name parameters;
 #define IN_ARM(answer, name, parameters) .name = arm_##name,
-EACH_PROVED_CALL(DECLARED)
+EACH_CALL(DECLARED)
 
-static int is_always(void)
-{
-    return 1;
-}
-
-static const struct set sets[] = {{is_always, {EACH_PROVED_CALL(IN_ARM).instructions = "aarch64"}}};
+static const struct set sets[] = {{is_always, {EACH_CALL(IN_ARM).instructions = "aarch64"}}};
 
 #else
-#error "twox_hash has proved code for Linux on x86-64 and on 64-bit ARM, and for no other machine"
+#error "there is proved code for Linux on x86-64 and on 64-bit ARM: elsewhere, define TWOX_HASH_SOURCE"
 #endif
 
 static const char *choose(const char *wanted)
@@ -92,7 +102,7 @@ static const char *choose(const char *wanted)
     for (size_t i = 0; i < sizeof(sets) / sizeof(*sets); i++) {
         if (wanted && strcmp(wanted, sets[i].calls.instructions)) continue;
         if (sets[i].is_there()) {
-            proved = sets[i].calls;
+            calls = sets[i].calls;
             return NULL;
         }
         if (wanted) fault = "this processor lacks it";
@@ -100,11 +110,11 @@ static const char *choose(const char *wanted)
     return fault;
 }
 
-const char *choose_proved(const char *wanted)
+const char *choose_calls(const char *wanted)
 {
     pthread_mutex_lock(&choice);
-    const char *fault = !proved.instructions ? choose(wanted)
-                        : wanted && strcmp(wanted, proved.instructions) ? "this process uses another one" : NULL;
+    const char *fault = !calls.instructions ? choose(wanted)
+                        : wanted && strcmp(wanted, calls.instructions) ? "this process uses another one" : NULL;
     pthread_mutex_unlock(&choice);
     return fault;
 }
