@@ -24,7 +24,8 @@ repository, in mutants/refused.txt, those of a run with --write; each run tries 
 --anew tries all.
 
 --hard tries those again that are refused only because a proof answer no longer fits, without the proof answers of their
-function. A mutant that is then proved was never refused by the contract. It takes hours, and is no part of CI.
+function. A mutant that is then proved was never refused by the contract; one that isn't is refused only if the unchanged
+body is proved without its answers. It takes hours, and is no part of CI.
 
 Each edit that isn't refused has a line, and each crate; the last line is "N passed, M failed". The status is 0 only
 if all were refused."""

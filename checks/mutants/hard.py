@@ -1,5 +1,6 @@
 """Mutants that are refused only because a proof answer no longer fits, tried again without the proof answers of
-their function: a mutant that the automatic search then proves was never refused by the contract."""
+their function. A mutant that the automatic search then proves was never refused by the contract. One that it doesn't
+prove is refused only if it proves the unchanged body: otherwise nothing is known."""
 import glob
 import os
 import re
@@ -11,6 +12,7 @@ from .trial import BY_ANSWERS
 
 NO_ANSWERS = "-- none\n"
 SURVIVES, OPEN, NOTHING = "proved without its answers", "not proved without them", "no verdict"
+UNKNOWN = "unknown: the unchanged body is not proved without its answers either"
 
 
 def main(given, files):
@@ -23,10 +25,10 @@ def main(given, files):
         chosen = [edits.Edit(path, crate, names) for path in paths if f"{crate.name}/{edit_name(path)}" in weak]
         if chosen:
             found.update(tried(crate, chosen))
-    counts = {said: list(found.values()).count(said) for said in (SURVIVES, OPEN, NOTHING)}
+    counts = {said: list(found.values()).count(said) for said in (SURVIVES, OPEN, UNKNOWN, NOTHING)}
     print("; ".join(f"{count} {said}" for said, count in counts.items()))
-    print(f"{counts[OPEN]} passed, {counts[SURVIVES] + counts[NOTHING]} failed")
-    return 1 if counts[SURVIVES] + counts[NOTHING] or not found else 0
+    print(f"{counts[OPEN]} passed, {len(found) - counts[OPEN]} failed")
+    return 0 if found and counts[OPEN] == len(found) else 1
 
 
 def edit_name(path):
@@ -45,11 +47,15 @@ def tried(crate, chosen):
     with tempfile.TemporaryDirectory(prefix="wrong-bodies-hard-") as room:
         kept = f"{room}/kept"
         os.makedirs(kept)
-        kit.check(crate, {}, kept, list(dict.fromkeys(it.function for it in waiting)))
+        functions = list(dict.fromkeys(it.function for it in waiting))
+        kit.check(crate, {}, kept, functions)
+        proved = proved_without_answers(crate, functions, {}, kept)
         while waiting:
             batch = list({it.function: it for it in reversed(waiting)}.values())
             waiting = [it for it in waiting if it not in batch]
-            found.update({f"{crate.name}/{it.name}": said for it, said in said_of(crate, batch, kept).items()})
+            said = said_of(crate, batch, kept)
+            found.update({f"{crate.name}/{it.name}": UNKNOWN if said[it] == OPEN and not proved.get(it.function) else said[it]
+                          for it in batch})
     for name, said in sorted(found.items()):
         if said != OPEN:
             print(f"{name}: {said}")
@@ -58,16 +64,25 @@ def tried(crate, chosen):
 
 
 def said_of(crate, batch, kept):
-    """A check's results for these edits, one of a function; without a verdict, those of a check of each separately."""
-    texts = {**edits.texts_with(crate, batch), **{path: NO_ANSWERS for it in batch for path in answers_of(crate, it.function)}}
+    """The results of these edits, one of a function."""
+    proved = proved_without_answers(crate, [it.function for it in batch], {it.function: it for it in batch}, kept)
+    said = {True: SURVIVES, False: OPEN, None: NOTHING}
+    return {it: said[proved[it.function]] for it in batch}
+
+
+def proved_without_answers(crate, functions, changed, kept):
+    """True for each function that is proved without its answers, with its edit if it has one, False for others, None
+    without a verdict: by one check, and if that has no verdict of all, by one of each."""
+    texts = {**edits.texts_with(crate, [changed[it] for it in functions if it in changed]),
+             **{path: NO_ANSWERS for it in functions for path in answers_of(crate, it)}}
     with kit.no_file_written(), kit.copy_of(kept) as copy:
-        status, lines = kit.check(crate, texts, copy, [it.function for it in batch])
+        status, lines = kit.check(crate, texts, copy, functions)
     says = {it[2]: it[3] for it in map(kit.LINE.fullmatch, lines) if it}
-    if status not in (0, 1) or any(it.function not in says for it in batch):
-        if len(batch) == 1:
-            return {batch[0]: NOTHING}
-        return {it: said for one in batch for it, said in said_of(crate, [one], kept).items()}
-    return {it: SURVIVES if says[it.function].startswith("proved") else OPEN for it in batch}
+    if status in (0, 1) and all(it in says for it in functions):
+        return {it: says[it].startswith("proved") for it in functions}
+    if len(functions) == 1:
+        return {functions[0]: None}
+    return {it: said for one in functions for it, said in proved_without_answers(crate, [one], changed, kept).items()}
 
 
 def answers_of(crate, function):
