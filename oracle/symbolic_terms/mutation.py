@@ -20,7 +20,7 @@ import mutants
 import proved_cases
 from reasons import CRASH, UNNOTICED, WRONG_RULE
 
-from . import definition, every_length, nodes, reference
+from . import definition, every_length, header_calls, nodes, reference
 from .header_names import OURS, names_of
 from .refusals import REFUSALS, Undecided
 from .requests import Request, differing_point
@@ -255,6 +255,8 @@ def changed_outcome(module, change, requests, answers):
                     what = NOTICED if differs(request, value, answers[id(request)]) else REFUSED
             if what == NOTICED:
                 break
+        if what == UNNOTICED and names_of(module) is OURS and "withSecret" in change[0]:      # no request is refused
+            header_calls.refused_one_shots(module, "128" if "128bits" in change[0] else "64")
     except REFUSALS as error:
         return f"no value: {type(error).__name__}"
     except Slow:
