@@ -35,6 +35,8 @@ class Program(NamedTuple):
 OF_ZSTD = '#ifndef XXH_NO_XXH3\n#define XXH_NO_XXH3\n#endif\n#ifndef XXH_NAMESPACE\n#define XXH_NAMESPACE ZSTD_\n#endif\n'
 # xxHash's own program without its dispatch, and with what its tests take from its header: a macro and <string.h>.
 OF_XXHASH = 'DISPATCH=0 CC="gcc -include string.h -DXXH3_MIDSIZE_MAX=240"'
+RSYNCS_LIBRARY = ('gcc -O2 -c twox/xxhash.c -o twox/xxhash.o && rm -f twox/libxxhash.a && '
+                  'ar rcs twox/libxxhash.a twox/xxhash.o')
 PROGRAMS = {
     'xxhash': Program('.', f'make -s {OF_XXHASH} xxhsum libxxhash.a', f'make -s {OF_XXHASH} check test-xxhsum-c '
                       f'namespaceTest noxxh3test nostreamtest nostdlibtest && make -s {OF_XXHASH} -C tests test_multiInclude',
@@ -44,9 +46,8 @@ PROGRAMS = {
                    ['lib/liblz4.a', 'programs/lz4'], prefix='LZ4_'),
     'libzstd': Program('lib/common', 'make -s -C lib libzstd.a && make -s -C programs zstd', 'make -s -C tests check',
                        ['lib/libzstd.a', 'programs/zstd'], prefix='ZSTD_', before=OF_ZSTD),
-    'rsync': Program('twox', 'gcc -O2 -c twox/xxhash.c -o twox/xxhash.o && rm -f twox/libxxhash.a rsync && '
-                     'ar rcs twox/libxxhash.a twox/xxhash.o && make -s', 'make -s check', ['rsync'],
-                     'mkdir -p zlib popt && touch zlib/dummy.in popt/dummy.in && ./configure --quiet '
+    'rsync': Program('twox', f'{RSYNCS_LIBRARY} && rm -f rsync && make -s', 'make -s check', ['rsync'],
+                     f'{RSYNCS_LIBRARY} && mkdir -p zlib popt && touch zlib/dummy.in popt/dummy.in && ./configure --quiet '
                      '--disable-md2man --disable-openssl --disable-zstd --disable-lz4 '
                      '--without-included-zlib --without-included-popt '
                      'CPPFLAGS=-I$PWD/twox LDFLAGS=-L$PWD/twox LIBS=-lxxhash',
