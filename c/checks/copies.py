@@ -1,8 +1,8 @@
 """Programs built from the original sources of Debian's packages, with c/include/xxhash.h in the place of their copy of
 xxhash.h, or of the installed one. `c/check --programs` runs this.
 
-Each program's own tests must pass, and fail on a header whose hashes stop the program. What is built needs no libxxhash,
-and where a program sets XXH_NAMESPACE, no symbol begins with XXH."""
+Each program's own tests must pass, and fail on a header whose hashes stop the program. What is built needs no
+libxxhash, and where a program sets XXH_NAMESPACE, no symbol begins with XXH."""
 import os
 import subprocess
 import tempfile
@@ -32,21 +32,24 @@ class Program(NamedTuple):
     packages: dict = {}
 
 
-OF_ZSTD = '#ifndef XXH_NO_XXH3\n#define XXH_NO_XXH3\n#endif\n#ifndef XXH_NAMESPACE\n#define XXH_NAMESPACE ZSTD_\n#endif\n'
+OF_ZSTD = ('#ifndef XXH_NO_XXH3\n#define XXH_NO_XXH3\n#endif\n'
+           '#ifndef XXH_NAMESPACE\n#define XXH_NAMESPACE ZSTD_\n#endif\n')
 # xxHash's own program without its dispatch, and with what its tests take from its header: a macro and <string.h>.
 OF_XXHASH = 'DISPATCH=0 CC="gcc -include string.h -DXXH3_MIDSIZE_MAX=240"'
+RSYNCS_LIBRARY = ('gcc -O2 -c twox/xxhash.c -o twox/xxhash.o && rm -f twox/libxxhash.a && '
+                  'ar rcs twox/libxxhash.a twox/xxhash.o')
 PROGRAMS = {
     'xxhash': Program('.', f'make -s {OF_XXHASH} xxhsum libxxhash.a', f'make -s {OF_XXHASH} check test-xxhsum-c '
-                      f'namespaceTest noxxh3test nostreamtest nostdlibtest && make -s {OF_XXHASH} -C tests test_multiInclude',
+                      'namespaceTest noxxh3test nostreamtest nostdlibtest && '
+                      f'make -s {OF_XXHASH} -C tests test_multiInclude',
                       ['xxhsum']),
     'lz4': Program('lib', 'make -s -C lib liblz4.a && make -s -C programs lz4',
                    'make -s -C tests check && make -s -C tests test-frametest FUZZER_TIME=-T5s',
                    ['lib/liblz4.a', 'programs/lz4'], prefix='LZ4_'),
     'libzstd': Program('lib/common', 'make -s -C lib libzstd.a && make -s -C programs zstd', 'make -s -C tests check',
                        ['lib/libzstd.a', 'programs/zstd'], prefix='ZSTD_', before=OF_ZSTD),
-    'rsync': Program('twox', 'gcc -O2 -c twox/xxhash.c -o twox/xxhash.o && rm -f twox/libxxhash.a rsync && '
-                     'ar rcs twox/libxxhash.a twox/xxhash.o && make -s', 'make -s check', ['rsync'],
-                     'mkdir -p zlib popt && touch zlib/dummy.in popt/dummy.in && ./configure --quiet '
+    'rsync': Program('twox', f'{RSYNCS_LIBRARY} && rm -f rsync && make -s', 'make -s check', ['rsync'],
+                     f'{RSYNCS_LIBRARY} && mkdir -p zlib popt && touch zlib/dummy.in popt/dummy.in && ./configure --quiet '
                      '--disable-md2man --disable-openssl --disable-zstd --disable-lz4 '
                      '--without-included-zlib --without-included-popt '
                      'CPPFLAGS=-I$PWD/twox LDFLAGS=-L$PWD/twox LIBS=-lxxhash',

@@ -38,7 +38,7 @@ TARGETS = {'i386': ('i686-linux-gnu-', ('gcc-i686-linux-gnu', 'libc6-dev-i386-cr
 OF_TARGET = {'i386': {'sse2': ['-msse2'], 'avx2': ['-mavx2']}, 'armhf': {'neon': ['-mfpu=neon']},
              'windows': {'sse2': FORMS['sse2'], 'avx2': FORMS['avx2']}}
 # Symbols that gcc adds on i386, ppc64el and armhf.
-OF_COMPILER = r'\.get_pc_thunk\.|\.TOC\.$|__aeabi_'
+OF_COMPILER = r'\.get_pc_thunk\.|_GLOBAL_OFFSET_TABLE_|\.TOC\.$|__aeabi_'
 # A function inside xxhash.h that is in each program which contains its code.
 MARK = 'xxh3_accumulate_blocks'
 # A call of the header that a fault makes wrong: old text, new text, and a function that the values name.
