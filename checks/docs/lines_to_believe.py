@@ -156,5 +156,5 @@ def main():
     command.parser(__doc__).parse_args()
     lines, words = counted()
     print(f'{lines} lines of this repository and {words} definitions of the toolchain\'s library')
-    print(f'{counted_of_program(PROGRAM_HEADLINE, r"pub fn ")} lines for `xxhsum`')
+    print(f'{counted_of_program(PROGRAM_HEADLINE, r"pub fn "):,} lines for `xxhsum`')
     print(f'{counted_of_program(*PROGRAM):,} lines for the contract of `run`')

@@ -3,8 +3,10 @@
     checks/xxhsum ORIGINAL OURS          runs both, and prints which cases differ, and how
     checks/xxhsum --stored PROGRAM..     compares each program with the stored results, runs it on terminals
                                          (terminals.py) and into pipes (pipes.py), plants wrong programs, and
-                                         compares the pages' options with the help's (options.py)
+                                         compares the options of the pages (options.py) and of the completions
+                                         (completions.py) with the help's
     checks/xxhsum --store OLDER NEWER    writes the stored results, by the originals of both releases
+    checks/xxhsum --completions PROGRAM  writes docs/completions from the program's help
 
     --only WORD                          runs the cases whose name contains the word
 
@@ -25,6 +27,7 @@ from report import Report
 from tools import TOP, install_packages, text_of, write
 
 from .cases import CASES, FILES, NEWER_DIFFERS, OLDER_DIFFERS, one_line
+from .completions import over_completions, write_files
 from .options import over_pages
 from .pipes import PLANTED_ON_PIPES, rows_on_pipes
 from .runs import SETTINGS, plant
@@ -249,6 +252,7 @@ def over_stored(programs, cases, report):
         notices = next(faults_of(planted(programs[0], script), cases, answers), None)
         report.row(f'planted, {title}', not notices and 'nothing notices it', notices and notices[0].name)
     over_pages(programs[0], report)
+    over_completions(programs[0], report)
     over_streams(programs, report, 'terminals', rows_on_terminals, PLANTED_ON_TERMINALS)
     over_streams(programs, report, 'pipes', rows_on_pipes, PLANTED_ON_PIPES)
 
@@ -259,11 +263,14 @@ def main():
     way = parser.add_mutually_exclusive_group()
     way.add_argument('--stored', action='store_true', help='compare with the stored answers')
     way.add_argument('--store', action='store_true', help='write the stored answers')
+    way.add_argument('--completions', action='store_true', help='write the completions')
     given = parser.parse_args()
     cases, report = [case for case in CASES if given.only in case.name], Report()
     if given.stored:
-        install_packages({'gcc': 'gcc', '/usr/include/dlfcn.h': 'libc6-dev'})
+        install_packages({'gcc': 'gcc', '/usr/include/dlfcn.h': 'libc6-dev', 'zsh': 'zsh', 'fish': 'fish'})
         over_stored(given.programs, cases, report)
+    elif given.completions:
+        report.attempt('docs/completions', write_files, given.programs[0])
     elif len(given.programs) != 2:
         parser.error('two programs are compared')
     elif given.store:

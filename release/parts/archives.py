@@ -108,7 +108,9 @@ def programs(commit, made):
     files = {**documents(commit, made), 'README.md': words_of(commit, 'The programs')}
     for part in ('bin', 'libexec', 'share'):
         files |= tree_of(os.path.join(folder, part), part)
-    files |= {'share/man/man1/xxh.1': commit.path('docs', 'xxh.1'), **static_programs(commit)}
+    share = os.path.join(commit.room, 'completions')
+    by_cargo.put_completions(commit, share)
+    files |= {'share/man/man1/xxh.1': commit.path('docs', 'xxh.1'), **tree_of(share, 'share'), **static_programs(commit)}
     return write_archive(commit, made, 'programs-x86_64', files)
 
 

@@ -13,6 +13,10 @@ COMPILERS = {'x86_64': 'gcc', 'aarch64': 'aarch64-linux-gnu-gcc'}
 FLAGS = ('-Ctarget-feature=+crt-static', '-Cstrip=symbols')
 # The other names of xxhsum, under which it uses another algorithm.
 NAMES = ('xxh32sum', 'xxh64sum', 'xxh128sum', 'xxh3sum')
+# The completions of docs/completions, and their names in share, where each shell looks for them. bash and fish look
+# for a file of each command's name.
+COMPLETIONS = {'xxhsum.bash': 'bash-completion/completions/{}', '_xxhsum': 'zsh/site-functions/_xxhsum',
+               'xxhsum.fish': 'fish/vendor_completions.d/{}.fish'}
 
 
 def sysroot_flags(commit, machine):
@@ -41,6 +45,17 @@ def installed(commit, machine):
     return laid_out(commit, os.path.join(made, target, 'release'), os.path.join(commit.room, f'cargo-{machine}'))
 
 
+def put_completions(commit, share):
+    for file, pattern in COMPLETIONS.items():
+        path = os.path.join(share, pattern.format('xxhsum'))
+        os.makedirs(os.path.dirname(path))
+        shutil.copy(commit.path('docs', 'completions', file), path)
+        for name in NAMES:
+            link = os.path.join(share, pattern.format(name))
+            if link != path:
+                os.symlink(os.path.basename(path), link)
+
+
 def laid_out(commit, built, folder):
     manual = os.path.join(folder, 'share', 'man', 'man1')
     for path in (os.path.join(folder, 'bin'), manual):
@@ -51,6 +66,7 @@ def laid_out(commit, built, folder):
     for name in NAMES:
         os.symlink('xxhsum', os.path.join(folder, 'bin', name))
         os.symlink('xxhsum.1', os.path.join(manual, f'{name}.1'))
+    put_completions(commit, os.path.join(folder, 'share'))
     return folder
 
 

@@ -19,6 +19,9 @@ await load();
 console.log(toHex(xxh64(new TextEncoder().encode("some bytes"), 1234n), "xxh64"));
 '''
 SOME_BYTES = 'eab55659a496d78b'
+# Prints the completions of `xxhsum --rec` by bash, from the archive's folder `share`.
+COMPLETED = ('. {}/bash-completion/completions/xxh32sum; COMP_WORDS=(xxhsum --rec); COMP_CWORD=1; _xxhsum; '
+             'printf %s "${{COMPREPLY[@]}}"')
 SERVED = '''import sys, urllib.request
 for name in sys.argv[1:]:
     answer = urllib.request.urlopen('http://localhost:8642/' + name)
@@ -103,6 +106,8 @@ def cargo_programs(root):
     path = f'PATH={TAKEN}/{root.stem}-cargo-programs-x86_64/bin:$PATH'
     for name in ('xxhsum', 'xxh32sum', 'xxh64sum', 'xxh128sum', 'xxh3sum'):
         root.must(f'{path} {name} /etc/passwd > list; {path} {name} -c list')
+    found = must(['bash', '-c', COMPLETED.format(root.at(f'{TAKEN}/{root.stem}-cargo-programs-x86_64/share'))])
+    want(found == '--recursive', f'bash completes --rec to {found}')
     said = must([f'{folder}/xxhsum', '--version']).strip()
     want('compiled by rustc from proved source' in said, said)
     return said

@@ -1,2 +1,3 @@
 mod HeadlineFacts
 mod TreeFacts
+mod LineFacts

@@ -14,13 +14,19 @@ ghost use Rattle.xxhsum_audit.specs.Audit.{IsAudit};
 ghost use Rattle.xxhsum_audit.specs.Item.{HasSameDigest, IsAmong, Item};
 ghost use Rattle.xxhsum_audit.specs.Laws.{IsKept, IsRight};
 ghost use Rattle.xxhsum_audit.specs.Found.{Copied, Found, Missing, New, Same, line_in, name_in};
+ghost use Rattle.xxhsum_audit.specs.Text.{text_of};
+ghost use Rattle.xxhsum_app.specs.Audits.{duplicate_text};
+ghost use Rattle.xxhsum_app.specs.Names.{ListNone};
+ghost use Rattle.xxhsum_app.specs.ReadList.{ListSaysNothing};
+ghost use Rattle.xxhsum_app.specs.Report.{report_text};
 ghost use Rattle.xxhsum_app.specs.Run.{WalksFolders};
 ghost use Rattle.xxhsum_app.specs.Walk.{tree_of};
 ghost use Rattle.xxhsum_theorems.specs.Headline.{AreFilesBelow, IsLineAtMost, IsLineOrMessage, PrintsBeginning};
+ghost use Rattle.xxhsum_theorems.specs.LineLaws.{AreLines, IsListLine, WritesLines};
 ghost use Rattle.xxhsum_line.specs.Entry.{Says};
 ghost use Rattle.xxhsum_line.specs.Escapes.{one_line};
 ghost use Rattle.xxhsum_line.specs.Laws.{IsOneLine};
-ghost use Rattle.xxhsum_program.specs.CheckList.{EndsAs, SaysList};
+ghost use Rattle.xxhsum_program.specs.CheckList.{EndsAs, ListOutcome, SaysList, outcome_events};
 ghost use Rattle.xxhsum_program.specs.Findings.{Finding, IsFinding};
 ghost use Rattle.xxhsum_program.specs.GoodList.{IsWell};
 ghost use Rattle.xxhsum_program.specs.HashNames.{SaysNames, name_events};
@@ -103,15 +109,26 @@ pub fn each_stream<W: Sink, E: Sink>()
 
 /// Whatever bytes names have, each message and each printed result is one line, so no name can forge one, for example
 /// one that reports another file as `OK`. The outcome of a name is one line and no message, or one message and no line.
-/// A line of a list has the same, or neither. Each message (`Reported`, `Finds`, `OnlyReports`, `Reports`), each line
-/// of an audit, and the line that no file was verified are `one_line` of a text.
-#[tactic(auto, using(crate::proofs::HeadlineFacts::line_or_message, crate::proofs::HeadlineFacts::findings_are_lines))]
-pub fn one_line_a_name()
+/// A line of a list has the same, or neither. The check of a list writes whole lines. The message about a list without
+/// entries or names has one of the four forms of [`IsListMessage`]. Each result of an audit is one line, and its report
+/// is whole lines.
+pub fn one_line_a_name<S: Store, R: Source>()
     ensures names { (kind : Kind) (shape : Shape) (name : List ℕ) (outcome : Outcome)
         → IsLineOrMessage (name_events kind (plain_style shape) name outcome) }
     ensures findings { (options : Options) (list : List ℕ) (number : ℕ) (finding : Finding)
         → IsLineAtMost (finding_events options list number finding) }
     ensures lines { (text : List ℕ) → IsOneLine (one_line text) }
+    ensures checks { (options : Options) (list : List ℕ) (outcome : ListOutcome)
+        → AllByRecursion WritesLines (outcome_events options list outcome) }
+    ensures lists { (store : S) (source : R) (is_little : Bool) (lists : List (List ℕ))
+        → (list message : List ℕ)
+        → (ListSaysNothing (files_of S.Store S.File.Source store) is_little list message
+        → IsListLine list message)
+        × (ListNone (files_of S.Store S.File.Source store) (input_of R.Source source) lists message
+        → (name : List ℕ) × IsListLine name message) }
+    ensures twice { (among name : List ℕ) → IsOneLine (one_line (duplicate_text among name)) }
+    ensures audits { (found : Found) → IsOneLine (one_line (text_of found)) }
+    ensures reports { (options : Options) (found : List Found) → AreLines (report_text options found) }
 {
     laws_of_lines();
 }

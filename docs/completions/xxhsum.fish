@@ -1,0 +1,23 @@
+# Completions of xxhsum for fish. Written from the help by checks/xxhsum --completions.
+for program in xxhsum xxh32sum xxh64sum xxh128sum xxh3sum
+    complete -c $program -o H0 -d 'XXH32'
+    complete -c $program -o H1 -d 'XXH64'
+    complete -c $program -o H2 -d 'XXH3 of 128 bits'
+    complete -c $program -o H3 -d 'XXH3 of 64 bits'
+    complete -c $program -s c -l check -d 'read checksums from the FILEs and check them'
+    complete -c $program -l audit -d 'compare the FILEs with the first one, a checksum list'
+    complete -c $program -s r -l recursive -d 'read the files below each directory, sorted by name; not with -c or lists of names'
+    complete -c $program -l files-from -l filelist -d 'read the names of files from the FILEs, one name per line'
+    complete -c $program -l files0-from -d 'the same, with a NUL after each name'
+    complete -c $program -l tag -d 'print BSD-style checksum lines'
+    complete -c $program -l little-endian -d 'print digests with the least significant byte first'
+    complete -c $program -s z -l zero -d 'end each line with NUL, and disable escaping; not with -c or --audit'
+    complete -c $program -l binary -d 'ignored: files are read as they are'
+    complete -c $program -s q -l quiet -d 'no progress; with -c: don\'t print OK for each successfully verified file'
+    complete -c $program -l status -d 'no progress; with -c: don\'t print anything, the exit status shows success'
+    complete -c $program -l ignore-missing -d 'with -c: don\'t fail or report status for missing files'
+    complete -c $program -l strict -d 'with -c: exit non-zero for improperly formatted checksum lines'
+    complete -c $program -s w -l warn -d 'with -c: warn about improperly formatted checksum lines'
+    complete -c $program -s h -l help -d 'print this help'
+    complete -c $program -s V -l version -d 'print the version'
+end
