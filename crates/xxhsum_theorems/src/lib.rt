@@ -128,7 +128,8 @@ pub fn one_line_a_name<S: Store, R: Source>()
         → (name : List ℕ) × IsListLine name message) }
     ensures twice { (among name : List ℕ) → IsOneLine (one_line (duplicate_text among name)) }
     ensures audits { (found : Found) → IsOneLine (one_line (text_of found)) }
-    ensures reports { (options : Options) (found : List Found) → AreLines (report_text options found) }
+    ensures reports { (options : Options) (found : List Found)
+        → AreLines (report_text options found) }
 {
     laws_of_lines();
 }
