@@ -135,9 +135,10 @@ def compile_extension(path, name, reason, abi=ABI):
 def metadata(reason=''):
     """The package's description. A wheel of the code of xxhash.h claims no proof."""
     summary = PROJECT['description'].replace('that is proved equal to the xxHash definition', 'compiled from C')
+    keywords = [word for word in PROJECT['keywords'] if not reason or word != 'verified']
     lines = ['Metadata-Version: 2.1', f'Name: {PROJECT["name"]}', f'Version: {PROJECT["version"]}',
              f'Summary: {summary if reason else PROJECT["description"]}', f'License: {PROJECT["license"]["text"]}',
-             f'Keywords: {",".join(PROJECT["keywords"])}', *(f'Classifier: {line}' for line in PROJECT['classifiers']),
+             f'Keywords: {",".join(keywords)}', *(f'Classifier: {line}' for line in PROJECT['classifiers']),
              f'Requires-Python: {PROJECT["requires-python"]}', 'Description-Content-Type: text/markdown', '']
     return '\n'.join(lines).encode() + b'\n' + read(HERE, PROJECT['readme'])
 
