@@ -1,9 +1,10 @@
 -- Proves that if an audit is good, the lines and the files match each other.
-use Rattle.std.proofs.Common.{◌≡◌, ℕ, true, List, [], ◌∷◌, Option, Some, None, refl, sym, ap, subst, ◌∙◌, inl, inr, Ok}
-use Rattle.xxhsum_app.proofs.Prelude.{AuditMeansEqual, Both, Effect, IsFileOf, IsPermutation-sym, Line, Name, Side, among_permutation, are_same, both-true, by_path, by_turns, compare_to_name, effect_of, same_means_equal}
+use Rattle.std.proofs.Common.{◌≡◌, ℕ, Bool, true, false, List, [], ◌∷◌, ◌++◌, arith, length, Option, Some, None, refl, sym, ap, subst, ◌∙◌, inl, inr, Ok}
+use Rattle.xxhsum_app.proofs.Prelude.{AuditMeansEqual, Both, Effect, IsFileOf, IsPermutation-sym, Line, Name, Side, among_permutation, are_same, both-true, by_path, by_turns, compare_to_name, effect_of, has_none, nat_tests, same_means_equal}
 use Rattle.xxhsum_app.specs.Prelude.{Digested, Files, IsDirectory, Kind, Options, Outcome, SourceRules, StoreRules, StreamRules, Streams, Unread, files_of}
+use Rattle.xxhsum_app.proofs.VisitFacts.{none-of}
 use Rattle.xxhsum_app.specs.Audits.{AuditsItems, AuditsSides, OnlyReportsDuplicate}
-use Rattle.xxhsum_app.specs.Rows.{Added, AreRows, Met, Removed, Row, are_read, kept_in, seen_in}
+use Rattle.xxhsum_app.specs.Rows.{Added, AreRows, Met, Removed, Row, is_hidden, kept_in, seen_in, unless_digested, unread_in}
 use Rattle.xxhsum_audit.specs.Found.{Changed, Copied, Found, Missing, Moved, New, Same}
 use Rattle.xxhsum_audit.specs.Item.{IsAmong, Item, Says, kind_of, name_of, path_of, value_of}
 use Rattle.xxhsum_program.specs.Outcomes.{Comes, IsValueOf, is_digested}
@@ -18,7 +19,17 @@ all-same (Copied o n ∷ f) e one h = let no : ⊥ = cc in absurd no
 all-same (New n ∷ f) e one h = let no : ⊥ = cc in absurd no
 all-same (Missing l ∷ f) e one h = let no : ⊥ = cc in absurd no
 
-module _ {S F : Type 0} (files : Files S F) (kind : Kind) where
+-- Lemma: a name that is not unreadable has a digest.
+digested : (name : List ℕ) (outcome : Outcome) → unless_digested name outcome ≡ [] → is_digested outcome ≡ true
+digested name (Digested value) e = refl
+digested name IsDirectory e = let no : ⊥ = cc in absurd no
+digested name (Unread reason) e = let no : ⊥ = cc in absurd no
+
+nothing : (xs : List (List ℕ)) → has_none xs ≡ true → xs ≡ []
+nothing [] e = refl
+nothing (x ∷ xs) e = let long : length (x ∷ xs) ≡ 0 = grind (arith, nat_tests, e) in absurd (omega (arith, long))
+
+module _ {S F : Type 0} (files : Files S F) (kind : Kind) (lost : List (List ℕ)) where
   -- An item with the correct value of its file.
   abbrev IsTrue : Item → Type 0
   IsTrue item = IsValueOf files (kind_of item) (name_of item) (value_of item)
@@ -30,7 +41,7 @@ module _ {S F : Type 0} (files : Files S F) (kind : Kind) where
       × ((n : List ℕ) → IsAmong ns n → (s : Item) × IsAmong (seen_in kind rows) s × (name_of s ≡ n))
       × ((s : Item) → IsAmong (seen_in kind rows) s → IsAmong ns (name_of s) × IsTrue s)
 
-  there-line : (l : Item) (ls : List Item) (ns : List (List ℕ)) (rows : List Row) → AllThere ls ns rows → AllThere (l ∷ ls) ns (Removed l ∷ rows)
+  there-line : (l : Item) (ls : List Item) (ns : List (List ℕ)) (rows : List Row) → AllThere ls ns rows → AllThere (l ∷ ls) ns (Removed l false ∷ rows)
   there-line l ls ns rows ih = (
     λ k h. elim h [ inl e ↦ inl e | inr b ↦ inr (ih.0 k b) ],
     λ k h. elim h [ inl e ↦ inl e | inr b ↦ inr (ih.1 k b) ],
@@ -69,26 +80,31 @@ module _ {S F : Type 0} (files : Files S F) (kind : Kind) where
   there-both l n ls ns rows (Unread reason) is comes ih = let no : ⊥ = cc in absurd no
 
   abbrev AllRead : List Item → List (List ℕ) → List (Side Item (List ℕ)) → Type 0
-  AllRead ls ns sides = (rows : List Row) → AreRows files kind sides rows → are_read rows ≡ true → AllThere ls ns rows
+  AllRead ls ns sides = (rows : List Row) → AreRows files kind lost sides rows → unread_in rows ≡ [] → AllThere ls ns rows
+
+  read-line-by : (hidden : Bool) (l : Item) (ls : List Item) (ns : List (List ℕ)) (s : List (Side Item (List ℕ))) → AllRead ls ns s → (rows rest : List Row)
+      → Removed l hidden ∷ rest ≡ rows → AreRows files kind lost s rest → unread_in rows ≡ [] → AllThere (l ∷ ls) ns rows
+  read-line-by true l ls ns s ih rows rest whole are read =
+      let no : name_of l ∷ unread_in rest ≡ [] = subst (λ r. unread_in r ≡ []) (sym whole) read in let none : ⊥ = cc in absurd none
+  read-line-by false l ls ns s ih rows rest whole are read =
+      subst (λ r. AllThere (l ∷ ls) ns r) whole (there-line l ls ns rest (ih rest are (subst (λ r. unread_in r ≡ []) (sym whole) read)))
 
   read-line : (l : Item) (ls : List Item) (ns : List (List ℕ)) (s : List (Side Item (List ℕ))) → AllRead ls ns s → AllRead (l ∷ ls) ns (Line l ∷ s)
   read-line l ls ns s ih rows are read =
-      let whole : Removed l ∷ are.1 ≡ rows = ap (λ r. r ∷ are.1) (sym are.3) ∙ sym are.2 in
-      let rest : are_read are.1 ≡ true = subst (λ r. are_read r ≡ true) (sym whole) read in
-      subst (λ r. AllThere (l ∷ ls) ns r) whole (there-line l ls ns are.1 (ih are.1 are.4 rest))
+      read-line-by (is_hidden lost (name_of l)) l ls ns s ih rows are.1 (ap (λ r. r ∷ are.1) (sym are.3) ∙ sym are.2) are.4 read
 
   read-name : (n : List ℕ) (ls : List Item) (ns : List (List ℕ)) (s : List (Side Item (List ℕ))) → AllRead ls ns s → AllRead ls (n ∷ ns) (Name n ∷ s)
   read-name n ls ns s ih rows are read =
       let whole : Added n are.3.0 ∷ are.1 ≡ rows = ap (λ r. r ∷ are.1) (sym are.3.1) ∙ sym are.2 in
-      let both = both-true (is_digested are.3.0) (are_read are.1) (subst (λ r. are_read r ≡ true) (sym whole) read) in
-      subst (λ r. AllThere ls (n ∷ ns) r) whole (there-name n ls ns are.1 are.3.0 both.0 are.3.2 (ih are.1 are.4 both.1))
+      let both = none-of (unless_digested n are.3.0) (unread_in are.1) (subst (λ r. unread_in r ≡ []) (sym whole) read) in
+      subst (λ r. AllThere ls (n ∷ ns) r) whole (there-name n ls ns are.1 are.3.0 (digested n are.3.0 both.0) are.3.2 (ih are.1 are.4 both.1))
 
   read-both : (l : Item) (n : List ℕ) (ls : List Item) (ns : List (List ℕ)) (s : List (Side Item (List ℕ))) → AllRead ls ns s
       → AllRead (l ∷ ls) (n ∷ ns) (Both l n ∷ s)
   read-both l n ls ns s ih rows are read =
       let whole : Met l n are.3.0 ∷ are.1 ≡ rows = ap (λ r. r ∷ are.1) (sym are.3.1) ∙ sym are.2 in
-      let both = both-true (is_digested are.3.0) (are_read are.1) (subst (λ r. are_read r ≡ true) (sym whole) read) in
-      subst (λ r. AllThere (l ∷ ls) (n ∷ ns) r) whole (there-both l n ls ns are.1 are.3.0 both.0 are.3.2 (ih are.1 are.4 both.1))
+      let both = none-of (unless_digested n are.3.0) (unread_in are.1) (subst (λ r. unread_in r ≡ []) (sym whole) read) in
+      subst (λ r. AllThere (l ∷ ls) (n ∷ ns) r) whole (there-both l n ls ns are.1 are.3.0 (digested n are.3.0 both.0) are.3.2 (ih are.1 are.4 both.1))
 
   pub all-there : (ls : List Item) (ns : List (List ℕ)) → AllRead ls ns (by_path ls ns)
   all-there = by_turns compare_to_name AllRead (λ rows are read. subst (λ r. AllThere [] [] r) (sym are) (λ l h. h, λ l h. h, λ n h. absurd h, λ s h. absurd h))
@@ -100,7 +116,7 @@ module _ {S F : Type 0} (files : Files S F) (kind : Kind) where
 
 -- ---- the meaning of a good audit
 
-module _ {S F W E : Type 0} (files : Files S F) (rules : StreamRules W E) (options : Options) (list : List ℕ) (old new : Streams W E) where
+module _ {S F W E : Type 0} (files : Files S F) (rules : StreamRules W E) (options : Options) (lost : List (List ℕ)) (list : List ℕ) (old new : Streams W E) where
   abbrev good : Effect W E
   good = effect_of rules old new (Ok true)
 
@@ -117,12 +133,12 @@ module _ {S F W E : Type 0} (files : Files S F) (rules : StreamRules W E) (optio
         (subst (λ v. IsValueOf files (kind_of s) (name_of s) v) (sym value) is),
   )
 
-  sides-agree : (lines : List Item) (requested : List (List ℕ)) → AuditsSides files good options lines requested
+  sides-agree : (lines : List Item) (requested : List (List ℕ)) → AuditsSides files good options lost lines requested
       → Agree lines requested
   sides-agree lines requested (inr fails) = let no = fails.3 in let none : ⊥ = cc in absurd none
   sides-agree lines requested (inl (rows, found, are, message, audit, prints, answers)) =
-      let both = both-true (are_same found) (are_read rows) (sym answers) in
-      let there = all-there files _ lines requested rows are both.1 in
+      let both = both-true (are_same found) (has_none (lost ++ unread_in rows)) (sym answers) in
+      let there = all-there files _ lost lines requested rows are (none-of lost (unread_in rows) (nothing _ both.1)).1 in
       let equal = same_means_equal (kept_in rows) _ found audit (all-same found both.0) in (
         λ line h.
             let beside = equal.0 line (there.0 line h) in
@@ -139,12 +155,12 @@ module _ {S F W E : Type 0} (files : Files S F) (rules : StreamRules W E) (optio
       )
 
   unless-agree : (lines : List Item) (requested : List (List ℕ)) (first second : Option (List ℕ))
-      → OnlyReportsDuplicate good list first second (AuditsSides files good options lines requested) → Agree lines requested
+      → OnlyReportsDuplicate good list first second (AuditsSides files good options lost lines requested) → Agree lines requested
   unless-agree lines requested None None audits = sides-agree lines requested audits
   unless-agree lines requested None (Some name) reports = let no = reports.0 in let none : ⊥ = cc in absurd none
   unless-agree lines requested (Some name) second reports = let no = reports.0 in let none : ⊥ = cc in absurd none
 
-  items-agree : (entries : List Item) (names : List (List ℕ)) → AuditsItems files good options list entries names
+  items-agree : (entries : List Item) (names : List (List ℕ)) → AuditsItems files good options lost list entries names
       → Agree entries names
   items-agree entries names (inr fails) = let no = fails.0 in let none : ⊥ = cc in absurd none
   items-agree entries names (inl (lines, requested, order, order', audits)) =
@@ -159,10 +175,10 @@ module _ {S F W E : Type 0} (files : Files S F) (rules : StreamRules W E) (optio
 
 pub audit-means-equal : {S F W E : Type 0} (opening : StoreRules S F) (reading : SourceRules F) (rules : StreamRules W E)
     → AuditMeansEqual opening reading rules
-audit-means-equal opening reading rules store options list names old new (start, begun, inl (entries, says, audits)) =
-    let agree = items-agree (files_of opening reading store) rules options list start new entries names audits in
+audit-means-equal opening reading rules store options list lost names old new (start, begun, inl (entries, says, audits)) =
+    let agree = items-agree (files_of opening reading store) rules options lost list start new entries names audits in
     (entries, says, agree.0, agree.1)
-audit-means-equal opening reading rules store options list names old new (start, begun, inr (inl (text, why, reports))) =
+audit-means-equal opening reading rules store options list lost names old new (start, begun, inr (inl (text, why, reports))) =
     let no = reports.0 in let none : ⊥ = cc in absurd none
-audit-means-equal opening reading rules store options list names old new (start, begun, inr (inr fails)) =
+audit-means-equal opening reading rules store options list lost names old new (start, begun, inr (inr fails)) =
     let no = fails.0 in let none : ⊥ = cc in absurd none

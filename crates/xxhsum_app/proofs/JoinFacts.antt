@@ -1,8 +1,8 @@
 -- Proves that rows of rising lines and names have the results of merging the lines and the digests.
-use Rattle.std.proofs.Common.{◌≡◌, ℕ, List, [], ◌∷◌, map, refl, sym, ap, subst, ◌∙◌, inl, inr, Less, Equal, Greater}
+use Rattle.std.proofs.Common.{◌≡◌, ℕ, Bool, true, false, List, [], ◌∷◌, map, refl, sym, ap, subst, ◌∙◌, inl, inr, Less, Equal, Greater}
 use Rattle.xxhsum_app.proofs.Prelude.{Both, Found, IsAmong, IsPermutation-refl, Item, Line, Missing, Name, New, Rises, Says, Side, ahead, back, by_turns, compare_lines, compare_paths, kind_of, met, name_of, paths_total}
 use Rattle.xxhsum_app.specs.Prelude.{Digested, Files, IsDirectory, Kind, Outcome, Unread}
-use Rattle.xxhsum_app.specs.Rows.{Added, AreRows, Met, Removed, Row, first_in, kept_in, seen_in}
+use Rattle.xxhsum_app.specs.Rows.{Added, AreRows, Met, Removed, Row, first_in, is_hidden, kept_in, seen_in}
 use Rattle.xxhsum_audit.specs.Audit.{HasMoves, IsAudit, as_found, compared, matched_in, missing_in, new_in}
 use Rattle.xxhsum_audit.specs.Side.{against, beside, by_path, compare_to_name, in_turn}
 
@@ -40,17 +40,6 @@ joined-none : (kind : Kind) → Joined kind [] [] []
 unfolding beside
 joined-none kind = record { kept = λ k h. h; seen = λ s h. absurd h; kept_rise = tt; seen_rise = tt; is = refl }
 
--- Lemma: a line that is less than all names adds a `Removed` row.
-joined-removed : (kind : Kind) (l : Item) (ls : List Item) (ns : List (List ℕ)) (rows : List Row) → Rises compare_lines (l ∷ ls)
-    → ((n : List ℕ) → IsAmong ns n → compare_to_name l n ≡ Less) → Joined kind ls ns rows → Joined kind (l ∷ ls) ns (Removed l ∷ rows)
-joined-removed kind l ls ns rows up less ih = record {
-  kept = λ k h. elim h [ inl e ↦ inl e | inr there ↦ inr (ih.kept k there) ];
-  seen = ih.seen;
-  kept_rise = (λ k h. up.0 k (ih.kept k h), ih.kept_rise);
-  seen_rise = ih.seen_rise;
-  is = line-first l (kept_in rows) (seen_in kind rows) (λ s h. less (name_of s) (ih.seen s h)) ∙ ap (λ f. Missing l ∷ f) ih.is;
-}
-
 -- Lemma: rows of some of the lines and names satisfy `Joined` for all of them.
 wider : (kind : Kind) (ls ls' : List Item) (ns ns' : List (List ℕ)) (rows : List Row) → ((k : Item) → IsAmong ls k → IsAmong ls' k)
     → ((n : List ℕ) → IsAmong ns n → IsAmong ns' n) → Joined kind ls ns rows → Joined kind ls' ns' rows
@@ -61,6 +50,20 @@ wider kind ls ls' ns ns' rows lines names ih = record {
   seen_rise = ih.seen_rise;
   is = ih.is;
 }
+
+-- Lemma: a line that is less than all names adds a `Removed` row.
+joined-removed : (kind : Kind) (l : Item) (hidden : Bool) (ls : List Item) (ns : List (List ℕ)) (rows : List Row) → Rises compare_lines (l ∷ ls)
+    → ((n : List ℕ) → IsAmong ns n → compare_to_name l n ≡ Less) → Joined kind ls ns rows → Joined kind (l ∷ ls) ns (Removed l hidden ∷ rows)
+joined-removed kind l false ls ns rows up less ih = record {
+  kept = λ k h. elim h [ inl e ↦ inl e | inr there ↦ inr (ih.kept k there) ];
+  seen = ih.seen;
+  kept_rise = (λ k h. up.0 k (ih.kept k h), ih.kept_rise);
+  seen_rise = ih.seen_rise;
+  is = line-first l (kept_in rows) (seen_in kind rows) (λ s h. less (name_of s) (ih.seen s h)) ∙ ap (λ f. Missing l ∷ f) ih.is;
+}
+joined-removed kind l true ls ns rows up less ih =
+    let wide = wider kind ls (l ∷ ls) ns ns rows (λ k h. inr h) (λ n h. h) ih in
+    record { kept = wide.kept; seen = wide.seen; kept_rise = wide.kept_rise; seen_rise = wide.seen_rise; is = wide.is }
 
 -- Lemma: a name that is less than all lines adds a `Added` row.
 joined-added : (kind : Kind) (n : List ℕ) (ls : List Item) (ns : List (List ℕ)) (rows : List Row) (outcome : Outcome)
@@ -116,18 +119,18 @@ after-lines l n ls greater up k (inr h) =
     ahead compare_paths paths_total n (name_of k)
     (paths_total.trans n (name_of l) (name_of k) (back compare_paths paths_total (name_of l) n greater) (up.0 k h))
 
-module _ {S F : Type 0} (files : Files S F) (kind : Kind) where
+module _ {S F : Type 0} (files : Files S F) (kind : Kind) (lost : List (List ℕ)) where
   abbrev Joins : List Item → List (List ℕ) → List (Side Item (List ℕ)) → Type 0
   Joins ls ns sides =
-      (rows : List Row) → AreRows files kind sides rows → Rises compare_lines ls → Rises compare_paths ns
+      (rows : List Row) → AreRows files kind lost sides rows → Rises compare_lines ls → Rises compare_paths ns
       → Joined kind ls ns rows
 
   removed : (l : Item) (ls : List Item) (ns : List (List ℕ)) (s : List (Side Item (List ℕ)))
       → (Rises compare_paths ns → (n : List ℕ) → IsAmong ns n → compare_to_name l n ≡ Less) → Joins ls ns s → Joins (l ∷ ls) ns (Line l ∷ s)
   removed l ls ns s less ih rows are up up' =
-      let row : are.0 ≡ Removed l = are.3 in
+      let row : are.0 ≡ Removed l (is_hidden lost (name_of l)) = are.3 in
       subst (λ r. Joined kind (l ∷ ls) ns r) (ap (λ r. r ∷ are.1) (sym row) ∙ sym are.2)
-      (joined-removed kind l ls ns are.1 up (less up') (ih are.1 are.4 up.1 up'))
+      (joined-removed kind l (is_hidden lost (name_of l)) ls ns are.1 up (less up') (ih are.1 are.4 up.1 up'))
 
   added : (n : List ℕ) (ls : List Item) (ns : List (List ℕ)) (s : List (Side Item (List ℕ)))
       → (Rises compare_lines ls → (k : Item) → IsAmong ls k → compare_to_name k n ≡ Greater) → Joins ls ns s → Joins ls (n ∷ ns) (Name n ∷ s)
@@ -150,7 +153,7 @@ module _ {S F : Type 0} (files : Files S F) (kind : Kind) where
       (λ l n ls ns s greater ih. added n (l ∷ ls) ns s (λ up k h. after-lines l n ls greater up k h) ih)
 
   pub is-audit : (lines : List Item) (names : List (List ℕ)) (rows : List Row) (found : List Found) → Rises compare_lines lines
-      → Rises compare_paths names → AreRows files kind (by_path lines names) rows
+      → Rises compare_paths names → AreRows files kind lost (by_path lines names) rows
       → HasMoves (matched_in (first_in kind rows)) (missing_in (first_in kind rows)) (new_in (first_in kind rows)) found
       → IsAudit (kept_in rows) (seen_in kind rows) found
   is-audit lines names rows found up up' are moves =

@@ -18,10 +18,10 @@ pub use Rattle.xxhsum_app.specs.Finds.{Finds}
 pub use Rattle.xxhsum_app.specs.Names.{AreNamesIn, ListNames, ListNone, end_of}
 pub use Rattle.xxhsum_app.specs.Prelude.{Kind, Options, OutOfMemory, SinkRules, SourceRules, Stop, files_of, input_of}
 pub use Rattle.xxhsum_app.specs.ReadList.{HaveItems, ListSays, ListSaysNothing}
-pub use Rattle.xxhsum_app.specs.Report.{PrintsReport, are_same, counts_text, report_text, shown_lines, shown_text}
-pub use Rattle.xxhsum_app.specs.Rows.{Added, AreRows, IsRow, Met, Removed, Row, messages_in}
+pub use Rattle.xxhsum_app.specs.Report.{PrintsFirst, PrintsRemarks, PrintsReport, are_same, counts_text, remarks_of, report_text, shown_text, shown_texts}
+pub use Rattle.xxhsum_app.specs.Rows.{Added, AreRows, IsRow, Met, Removed, Row, is_hidden, messages_in, unread_in, unread_of}
 pub use Rattle.xxhsum_app.specs.Texts.{Breaks, GivesText, HasNoText, HasText, unopened_text, unread_text}
-pub use Rattle.xxhsum_app.specs.Walk.{Closed, IsIn, IsSeen, Leaf, Lost, Opened, Passed, Seen, Tree, Visits, WalksAll, are_open, below, closed_in, closed_text, files_in, given, place_of, tree_of, waiting_in, with_slash}
+pub use Rattle.xxhsum_app.specs.Walk.{Closed, IsIn, IsSeen, Leaf, Lost, Opened, Passed, Seen, Tree, Visits, WalksAll, below, closed_in, closed_text, files_in, given, lost_in, lost_of, place_of, tree_of, waiting_in, with_slash}
 pub use Rattle.xxhsum_app.specs.WalkLaws.{FindsOnce, HoldsNames, IsOnce}
 pub use Rattle.xxhsum_app.specs.declared.walk.Walked.{Walked}
 pub use Rattle.xxhsum_audit.proofs.AmongFacts.{among_either, among_permutation}
@@ -37,6 +37,8 @@ pub use Rattle.xxhsum_audit.specs.List.{GiveAll, SayAll, SaysOne, TakesLine, ent
 pub use Rattle.xxhsum_audit.specs.Order.{IsOrder, Rises, compare_lines, compare_paths, find_duplicate, rank_lines, rank_names}
 pub use Rattle.xxhsum_audit.specs.Parts.{ArePartsOf}
 pub use Rattle.xxhsum_audit.specs.Read.{BreaksOff}
+pub use Rattle.xxhsum_audit.specs.Text.{Classed, Remark, Unreadable}
+pub use Rattle.xxhsum_program.specs.Command.{has_none}
 pub use Rattle.xxhsum_audit.specs.Side.{by_path, compare_to_name, path_side}
 pub use Rattle.xxhsum_audit.specs.declared.digest.FileDigest.{FileDigest}
 pub use Rattle.xxhsum_audit.specs.declared.moves.Compared.{Compared}

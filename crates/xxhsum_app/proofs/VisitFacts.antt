@@ -1,8 +1,8 @@
 -- Lemmas on walks after one more name, and on the files that walks find.
 use Rattle.std.proofs.Common.{◌≡◌, ◌⊎◌, ℕ, ◌+◌, ◌<◌, Bool, true, false, List, [], ◌∷◌, ◌++◌, map, get_or, length, refl, sym, ap, subst, inl, inr, Ok, Err, arith, ◌∙◌, IsSorted, is_lt, nat_cmp, reverse, Result}
-use Rattle.xxhsum_app.specs.Messages.{Messages}
-use Rattle.xxhsum_app.proofs.Prelude.{File, Folder, IsAmong, IsPermutation-sym, IsPermutation-trans, Other, PathKind, Stop, Unknown, both-true, get_or-map, length-map, reverse-append, slice_cmp}
-use Rattle.xxhsum_app.specs.Walk.{Closed, HasKind, IsIn, IsSeen, Leaf, Lost, Opened, Passed, Place, Seen, SeesOne, Tree, Visits, WalkState, are_open, below, below_of, file_of, files_in, given, is_open, with_slash}
+use Rattle.xxhsum_app.specs.Messages.{Messages, Reports}
+use Rattle.xxhsum_app.proofs.Prelude.{File, Folder, IsAmong, IsPermutation-sym, IsPermutation-trans, MatchResult, Other, OutOfMemory, PathKind, Stop, Unknown, get_or-map, length-map, reverse-append, slice_cmp}
+use Rattle.xxhsum_app.specs.Walk.{Closed, HasKind, IsIn, IsSeen, Leaf, Lost, Opened, Passed, Place, Seen, SeesOne, Tree, Visits, WalkState, below, below_of, closed_of, file_of, files_in, given, lost_in, lost_of, with_slash}
 use Rattle.xxhsum_app.specs.WalkLaws.{FindsEachFile, FindsNoOther, IsSteady, LeadsTo}
 use Rattle.xxhsum_audit.proofs.AmongFacts.{among_either, among_left, among_permutation, among_right}
 
@@ -23,6 +23,11 @@ from-places at (n ∷ names) place (inl e) = (n, inl refl, e)
 from-places at (n ∷ names) place (inr h) =
     let there = from-places at names place h in
     (there.0, inr there.1, there.2)
+
+-- Lemma: an empty list has only empty parts.
+pub none-of : {X : Type 0} (xs ys : List X) → xs ++ ys ≡ [] → (xs ≡ []) × (ys ≡ [])
+none-of [] ys e = (refl, e)
+none-of (x ∷ xs) ys e = let no : ⊥ = cc in absurd no
 
 either-way : {A B C : Type 0} → A ⊎ B → (A → C) → (B → C) → C
 either-way (inl a) left right = left a
@@ -66,7 +71,7 @@ module _ (tree : Tree) where
   finds-file steady place (Closed name why) file sees kind is = let same = kind-once steady place.0 place.1 Folder File sees.0 kind in let no : ⊥ = cc in absurd no
   finds-file steady place (Lost name why) file sees kind is = let same = kind-once steady place.0 place.1 (Unknown why) File sees.1 kind in let no : ⊥ = cc in absurd no
 
-  opens-folder : IsSteady tree → (place : Place) (seen : Seen) (name : List ℕ) (names : List (List ℕ)) → IsSeen tree place seen → is_open seen ≡ true → HasKind tree place.0 place.1 Folder
+  opens-folder : IsSteady tree → (place : Place) (seen : Seen) (name : List ℕ) (names : List (List ℕ)) → IsSeen tree place seen → lost_of seen ≡ [] → HasKind tree place.0 place.1 Folder
       → tree.holds (with_slash place.0) names → IsAmong names name → IsAmong (below_of seen) (below (with_slash place.0) false name)
   opens-folder steady place (Leaf file) name names sees clear kind holds h = let same = kind-once steady place.0 place.1 File Folder sees.1 kind in let no : ⊥ = cc in absurd no
   opens-folder steady place (Passed other) name names sees clear kind holds h = let same = kind-once steady place.0 place.1 Other Folder sees.1 kind in let no : ⊥ = cc in absurd no
@@ -79,19 +84,19 @@ module _ (tree : Tree) where
       (among-places (below (with_slash place.0) false) ordered name (among_permutation names ordered name moved h))
 
   pub finds-each : IsSteady tree → (trace : List Seen) (places : List Place) (place : Place) (behind : List (List ℕ)) (file : List ℕ)
-      → Visits tree places trace [] → are_open trace ≡ true → IsAmong places place → LeadsTo tree place behind file → IsAmong (files_in trace) file
+      → Visits tree places trace [] → lost_in trace ≡ [] → IsAmong places place → LeadsTo tree place behind file → IsAmong (files_in trace) file
   finds-each steady [] places place behind file visits clear h leads =
       absurd (subst (λ ps. IsAmong ps place) (sym visits) h)
   finds-each steady (seen ∷ trace) [] place behind file visits clear h leads = absurd h
   finds-each steady (seen ∷ trace) (p ∷ places) place behind file visits clear (inr h) leads =
       among_right (file_of seen) (files_in trace) file
-      (finds-each steady trace (below_of seen ++ places) place behind file visits.1 (both-true (is_open seen) (are_open trace) clear).1 (among_right (below_of seen) places place h) leads)
+      (finds-each steady trace (below_of seen ++ places) place behind file visits.1 (none-of (lost_of seen) (lost_in trace) clear).1 (among_right (below_of seen) places place h) leads)
   finds-each steady (seen ∷ trace) (p ∷ places) place [] file visits clear (inl e) leads =
       among_left (file_of seen) (files_in trace) file
       (finds-file steady place seen file (subst (λ q. IsSeen tree q seen) e visits.0) leads.1 leads.0)
   finds-each steady (seen ∷ trace) (p ∷ places) place (name ∷ behind) file visits clear (inl e) leads =
       let sees = subst (λ q. IsSeen tree q seen) e visits.0 in
-      let opens = both-true (is_open seen) (are_open trace) clear in
+      let opens = none-of (lost_of seen) (lost_in trace) clear in
       let next = below (with_slash place.0) false name in
       among_right (file_of seen) (files_in trace) file
       (finds-each steady trace (below_of seen ++ places) next behind file visits.1 opens.1
@@ -165,3 +170,11 @@ pub sees-as : {E : Type 0} (is_seen other : Seen → Type 0) (messages : Message
     → (result : Result (Unit {0}) Stop) → SeesOne is_seen messages old new result → SeesOne other messages old new result
 sees-as is_seen other messages old new more (Ok x) sees = (sees.0, more sees.0 sees.1, sees.2, sees.3, sees.4, sees.5)
 sees-as is_seen other messages old new more (Err stop) sees = sees
+
+-- Lemma: a directory or a name that can't be read was added and reported, or memory ran out.
+pub sees-lost : {E : Type 0} (is_seen : Seen → Type 0) (messages : Messages E) (old new : WalkState) (seen : Seen) → is_seen seen → new.waiting ≡ below_of seen ++ old.waiting
+    → map (λ file. file.items) new.walked.files.items ≡ map (λ file. file.items) old.walked.files.items ++ file_of seen → (result : Result (Unit {0}) Stop)
+    → MatchResult result (λ _. (map (λ name. name.items) new.walked.unread.items ≡ map (λ name. name.items) old.walked.unread.items ++ lost_of seen) × Reports messages (closed_of seen))
+    (λ stop. (stop ≡ OutOfMemory) × (messages.new ≡ messages.old)) → SeesOne is_seen messages old new result
+sees-lost is_seen messages old new seen is waits files (Ok x) match = (seen, is, waits, files, match.0, match.1)
+sees-lost is_seen messages old new seen is waits files (Err stop) match = match

@@ -14,9 +14,9 @@ IsFileOf files line name =
 -- Each line of the list has a file among the names, and each name is that of such a line.
 abbrev pub AuditMeansEqual : {S F W E : Type 0} → StoreRules S F → SourceRules F → StreamRules W E → Type 0
 AuditMeansEqual {S} {F} {W} {E} opening reading rules =
-    (store : S) (options : Options) (list : List ℕ) (names : List (List ℕ)) (old new : Streams W E)
+    (store : S) (options : Options) (list : List ℕ) (lost names : List (List ℕ)) (old new : Streams W E)
     → let files = files_of opening reading store in
-    Audits files (effect_of rules old new (Ok true)) options list names
+    Audits files (effect_of rules old new (Ok true)) options lost list names
     → (lines : List Item) × ListSays files options.is_little_endian list lines
     × ((line : Item) → IsAmong lines line → (name : List ℕ) × IsAmong names name × IsFileOf files line name)
     × ((name : List ℕ) → IsAmong names name → (line : Item) × IsAmong lines line × IsFileOf files line name)

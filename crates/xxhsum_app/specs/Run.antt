@@ -1,5 +1,5 @@
 -- A run of the program by its arguments, which may request a tree.
-use Rattle.std.specs.Prelude.{◌≡◌, ℕ, Bool, true, false, ◌&&◌, ◌⊎◌, List, [], ◌∷◌, Option, Some, None, codes, drop, MatchBool, Result, Ok, Err}
+use Rattle.std.specs.Prelude.{◌≡◌, ℕ, Bool, ◌&&◌, ◌⊎◌, List, [], ◌∷◌, Option, Some, None, codes, drop, MatchBool, Result, Ok, Err}
 use Rattle.xxhsum_app.specs.Prelude.{Effect, Files, Input, Options, Stop}
 use Rattle.xxhsum_program.specs.declared.process.Interactive.{Interactive}
 use Rattle.xxhsum_program.specs.HashNames.{SaysNames}
@@ -10,7 +10,7 @@ use Rattle.xxhsum_app.specs.Messages.{effect_messages, messages_of}
 use Rattle.xxhsum_app.specs.Names.{ListNames, ListNone, end_of}
 use Rattle.xxhsum_app.specs.Walk.{Tree, WalksAll, WalksSome}
 use Rattle.xxhsum_options.specs.Options.{are_listed}
-use Rattle.xxhsum_program.specs.Command.{IsProgram, command_of}
+use Rattle.xxhsum_program.specs.Command.{IsProgram, command_of, has_none}
 use Rattle.xxhsum_program.specs.Run.{DoesCommand, PerformsAs, PerformsOn, style_of}
 
 -- Without an audit, the names in lists are hashed, or checked as lists.
@@ -27,24 +27,22 @@ all_well is_complete (Err stop) = Err stop
 -- Below folders, the files are hashed after all folders were read; or memory ran out before.
 abbrev pub WalksFolders : {S F W E : Type 0} → Tree → Files S F → Effect W E → Options → List (List ℕ) → Type 0
 WalksFolders {E = E} tree files effect options names =
-    ((found : List (List ℕ)) × (is_complete : Bool) × (message : E) × (done : Result Bool Stop)
-    × WalksAll tree (messages_of effect.rules.reporting (err_of effect.old) message) names found is_complete
+    ((found lost : List (List ℕ)) × (message : E) × (done : Result Bool Stop)
+    × WalksAll tree (messages_of effect.rules.reporting (err_of effect.old) message) names found lost
     × SaysNames files (record effect { old = streams_of effect.old.out message; result = done }) options.kind
     (style_of options) found
-    × (effect.result ≡ all_well is_complete done))
+    × (effect.result ≡ all_well (has_none lost) done))
     ⊎ ((stop : Stop) × WalksSome tree (effect_messages effect) names stop × (effect.new.out ≡ effect.old.out)
     × (effect.result ≡ Err stop))
 
--- An audit of the files below folders. If the names in a folder can't be read, there is no audit.
+-- An audit of the files below folders, and of the names that could not be read.
 abbrev pub AuditsBelow : {S F W E : Type 0} → Tree → Files S F → Effect W E → Options → List ℕ → List (List ℕ) → Type 0
 AuditsBelow {E = E} tree files effect options list names =
-    ((found : List (List ℕ)) × (message : E)
-    × WalksAll tree (messages_of effect.rules.reporting (err_of effect.old) message) names found true
-    × Audits files (record effect { old = streams_of effect.old.out message }) options list found)
-    ⊎ (((found : List (List ℕ)) × WalksAll tree (effect_messages effect) names found false
-    × (effect.new.out ≡ effect.old.out) × (effect.result ≡ Ok false))
+    ((found lost : List (List ℕ)) × (message : E)
+    × WalksAll tree (messages_of effect.rules.reporting (err_of effect.old) message) names found lost
+    × Audits files (record effect { old = streams_of effect.old.out message }) options lost list found)
     ⊎ ((stop : Stop) × WalksSome tree (effect_messages effect) names stop × (effect.new.out ≡ effect.old.out)
-    × (effect.result ≡ Err stop)))
+    × (effect.result ≡ Err stop))
 
 -- An audit: the first word is the list, and the words after it are the names, or lists of names.
 abbrev pub AuditsWords : {S F R W E : Type 0} → Tree → Files S F → Input R → Effect W E → Options → List (List ℕ) → Type 0
@@ -53,8 +51,8 @@ AuditsWords tree files input effect options (list ∷ names) =
     MatchBool options.walks (AuditsBelow tree files effect options list names)
     (MatchBool (are_listed options.names_from)
     (AndThen effect (ListNames files input (end_of options.names_from) names) (ListNone files input names)
-    (λ listed. Audits files effect options list listed))
-    (Audits files effect options list names))
+    (λ listed. Audits files effect options [] list listed))
+    (Audits files effect options [] list names))
 
 -- A run with its options and words: over a tree, or with the words as its names.
 unfoldable pub PerformsWords : {S F R W E : Type 0} → Tree → Files S F → Input R → Effect W E → Options → List (List ℕ) → Type 0

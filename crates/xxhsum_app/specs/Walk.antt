@@ -1,7 +1,7 @@
 -- The files below directories. A walk visits the names in a directory before the names that are waiting.
-use Rattle.std.specs.Prelude.{◌≡◌, ℕ, Bool, true, false, ◌&&◌, List, [], ◌∷◌, ◌++◌, map, codes, nat_eq, reverse, if◌then◌else◌, IsPermutation, IsSorted, Result, Ok, Err}
+use Rattle.std.specs.Prelude.{◌≡◌, ℕ, Bool, true, false, List, [], ◌∷◌, ◌++◌, map, codes, nat_eq, reverse, if◌then◌else◌, IsPermutation, IsSorted, Result, Ok, Err}
 use Rattle.std.specs.Cmp.Lexicographic.{slice_cmp}
-use Rattle.std.specs.List.{ends_with, flat_map, list_all}
+use Rattle.std.specs.List.{ends_with, flat_map}
 use Rattle.std.specs.Ordering.{nat_cmp}
 use Rattle.xxhsum_app.specs.Prelude.{FolderRules, OutOfMemory, Refusal, Stop, StoreRules, Unread}
 use Rattle.xxhsum_app.specs.Messages.{Messages, Reports}
@@ -124,23 +124,23 @@ closed_of (Lost name why) = closed_text name why
 abbrev pub closed_in : List Seen → List (List ℕ)
 closed_in trace = flat_map closed_of trace
 
--- True unless a directory could not be read, or a name could not be looked up.
-abbrev pub is_open : Seen → Bool
-is_open (Leaf name) = true
-is_open (Passed name) = true
-is_open (Opened name names) = true
-is_open (Closed name why) = false
-is_open (Lost name why) = false
+-- The directory that can't be read, or the name that can't be looked up.
+abbrev pub lost_of : Seen → List (List ℕ)
+lost_of (Leaf name) = []
+lost_of (Passed name) = []
+lost_of (Opened name names) = []
+lost_of (Closed name why) = name ∷ []
+lost_of (Lost name why) = name ∷ []
 
-abbrev pub are_open : List Seen → Bool
-are_open trace = list_all is_open trace
+abbrev pub lost_in : List Seen → List (List ℕ)
+lost_in trace = flat_map lost_of trace
 
--- The walk from these names ended with these files, and each directory or name that can't be read was reported. `all`
--- is true if there was none.
-abbrev pub WalksAll : {E : Type 0} → Tree → Messages E → List (List ℕ) → List (List ℕ) → Bool → Type 0
-WalksAll tree messages names files all =
+-- The walk from these names ended with these files. Each directory or name that can't be read is in `lost` and was
+-- reported.
+abbrev pub WalksAll : {E : Type 0} → Tree → Messages E → List (List ℕ) → List (List ℕ) → List (List ℕ) → Type 0
+WalksAll tree messages names files lost =
     (trace : List Seen) × Visits tree (map given names) trace [] × (files ≡ files_in trace)
-    × (all ≡ are_open trace) × Reports messages (closed_in trace)
+    × (lost ≡ lost_in trace) × Reports messages (closed_in trace)
 
 -- The walk ran out of memory. The messages of its visits were reported.
 abbrev pub WalksSome : {E : Type 0} → Tree → Messages E → List (List ℕ) → Stop → Type 0
@@ -170,7 +170,8 @@ abbrev pub SeesOne : {E : Type 0} → (Seen → Type 0) → Messages E → WalkS
 SeesOne is_seen messages old new (Ok _) =
     (seen : Seen) × is_seen seen × (new.waiting ≡ below_of seen ++ old.waiting)
     × (map (λ file. file.items) new.walked.files.items ≡ map (λ file. file.items) old.walked.files.items ++ file_of seen)
-    × (new.walked.is_complete ≡ (old.walked.is_complete && is_open seen)) × Reports messages (closed_of seen)
+    × (map (λ name. name.items) new.walked.unread.items ≡ map (λ name. name.items) old.walked.unread.items ++ lost_of seen)
+    × Reports messages (closed_of seen)
 SeesOne is_seen messages old new (Err stop) = (stop ≡ OutOfMemory) × (messages.new ≡ messages.old)
 
 abbrev pub SeesFolder : {E : Type 0} → Tree → List ℕ → Messages E → WalkState → WalkState → Result (Unit {0}) Stop → Type 0

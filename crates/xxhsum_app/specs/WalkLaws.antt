@@ -1,6 +1,6 @@
 -- Laws of walks: the files of a walk are the files that names in directories lead to.
-use Rattle.std.specs.Prelude.{◌≡◌, ◌<◌, ℕ, Bool, true, false, List, [], ◌∷◌, length, map, IsPermutation}
-use Rattle.xxhsum_app.specs.Walk.{HasKind, Place, Seen, Tree, Visits, are_open, below, files_in, given, with_slash}
+use Rattle.std.specs.Prelude.{◌≡◌, ◌<◌, ℕ, Bool, false, List, [], ◌∷◌, length, map, IsPermutation}
+use Rattle.xxhsum_app.specs.Walk.{HasKind, Place, Seen, Tree, Visits, below, files_in, given, lost_in, with_slash}
 use Rattle.xxhsum_audit.specs.Item.{IsAmong}
 use Rattle.xxhsum_fs.specs.declared.folders.PathKind.{PathKind}
 use Rattle.xxhsum_fs.specs.declared.folders.PathKind.TheVariants.{File, Folder}
@@ -27,7 +27,7 @@ LeadsTo tree place (name ∷ names) file =
 abbrev pub FindsEachFile : Tree → Type 0
 FindsEachFile tree =
     (names : List (List ℕ)) (trace : List Seen) (name : List ℕ) (behind : List (List ℕ)) (file : List ℕ)
-    → IsSteady tree → Visits tree (map given names) trace [] → are_open trace ≡ true
+    → IsSteady tree → Visits tree (map given names) trace [] → lost_in trace ≡ []
     → IsAmong names name → LeadsTo tree (given name) behind file → IsAmong (files_in trace) file
 
 -- A walk finds no other file.

@@ -13,12 +13,12 @@ ghost use Rattle.xxhsum_program.specs.Order.{effect_of, rules_of};
 
 use crate::digests::digests_of;
 use crate::read_list::read_list;
-use crate::report::{are_same, print_report};
+use crate::report::{is_good, print_report};
 use std::alloc::{AllocError, Global};
 use xxh_io::kind::Kind;
 use xxh_io::streams::Sink;
 use xxhsum_audit::digest::FileDigest;
-use xxhsum_audit::moves::verdicts;
+use xxhsum_audit::moves::{Compared, verdicts};
 use xxhsum_audit::order::{find_duplicate, names_of, put_lines_in_order, put_names_in_order};
 use xxhsum_fs::store::Store;
 use xxhsum_line::entry::Entry;
@@ -33,7 +33,8 @@ use xxhsum_program::terminal::TimedSink;
 /// the same.
 ///
 /// A list that can't be read, a malformed line, and a duplicate line or name are reported, and then nothing is printed.
-/// A name without a digest is reported, and its line is left out.
+/// A name without a digest is reported, and printed as unreadable; so are the names that are `lost`, which a walk could
+/// not read, and the lines of names below them.
 ///
 /// The caller shows that no write to the output has failed before.
 ///
@@ -42,6 +43,7 @@ use xxhsum_program::terminal::TimedSink;
 /// [`Stop::WriteFailed`] if a write to standard output fails, and [`Stop::OutOfMemory`] if memory runs out.
 pub fn audit_names<S: Store, T: TimedSink, W: Output, E: Sink>(
     context: &Context<'_, S, T>,
+    lost: &[Vec<u8>],
     list: &[u8],
     names: &[Vec<u8>],
     streams: &mut Streams<W, E>,
@@ -49,15 +51,17 @@ pub fn audit_names<S: Store, T: TimedSink, W: Output, E: Sink>(
     requires { W.has_failed streams.old.out ≡ false }
     ensures { Audits (files_of S.Store S.File.Source context.now.store.now)
         (effect_of (rules_of W.Sink W.held W.has_lost E.Sink) streams.old streams.new result)
-        context.now.options list.now (map (λ name. name.items) names.now) }
+        context.now.options (map (λ name. name.items) lost.now) list.now
+        (map (λ name. name.items) names.now) }
 {
     streams.release();
-    audit_list(context, list, names, streams)
+    audit_list(context, lost, list, names, streams)
 }
 
 // Compares the names with the lines of the list of this name. The caller shows that all output is written.
 fn audit_list<S: Store, T: TimedSink, W: Output, E: Sink>(
     context: &Context<'_, S, T>,
+    lost: &[Vec<u8>],
     list: &[u8],
     names: &[Vec<u8>],
     streams: &mut Streams<W, E>,
@@ -66,17 +70,19 @@ fn audit_list<S: Store, T: TimedSink, W: Output, E: Sink>(
     requires written { IsWritten W.held W.has_lost streams.old.out }
     ensures { AuditsList (files_of S.Store S.File.Source context.now.store.now)
         (effect_of (rules_of W.Sink W.held W.has_lost E.Sink) streams.old streams.new result)
-        context.now.options list.now (map (λ name. name.items) names.now) }
+        context.now.options (map (λ name. name.items) lost.now) list.now
+        (map (λ name. name.items) names.now) }
 {
     let Some(entries) = read_list(context, list, streams.messages())? else {
         return Ok(false);
     };
-    audit_lines(context, list, &entries, names, streams)
+    audit_lines(context, lost, list, &entries, names, streams)
 }
 
 // Compares the names with the entries of a list.
 fn audit_lines<S: Store, T: TimedSink, W: Output, E: Sink>(
     context: &Context<'_, S, T>,
+    lost: &[Vec<u8>],
     list: &[u8],
     entries: &[Entry],
     names: &[Vec<u8>],
@@ -86,11 +92,13 @@ fn audit_lines<S: Store, T: TimedSink, W: Output, E: Sink>(
     requires written { IsWritten W.held W.has_lost streams.old.out }
     ensures { AuditsItems (files_of S.Store S.File.Source context.now.store.now)
         (effect_of (rules_of W.Sink W.held W.has_lost E.Sink) streams.old streams.new result)
-        context.now.options list.now (map entry_item entries.now) (map (λ name. name.items) names.now) }
+        context.now.options (map (λ name. name.items) lost.now) list.now (map entry_item entries.now)
+        (map (λ name. name.items) names.now) }
 {
     let lines = lines_in_order(context.alloc, entries)?;
     let requested = names_in_order(context.alloc, names)?;
     let listed = names_of(context.alloc, &lines)?;
+    let lost = borrowed_names(context.alloc, lost)?;
     let err = streams.messages();
     if eprint_duplicate(list, &listed, err) {
         return Ok(false);
@@ -98,7 +106,7 @@ fn audit_lines<S: Store, T: TimedSink, W: Output, E: Sink>(
     if eprint_duplicate(b"Error", &requested, err) {
         return Ok(false);
     }
-    audit_sides(context, &lines, &requested, streams)
+    audit_sides(context, &lost, &lines, &requested, streams)
 }
 
 // Returns the entries, ordered by name.
@@ -164,6 +172,7 @@ fn eprint_duplicate<E: Sink>(among: &[u8], names: &[&[u8]], err: &mut E) -> bool
 // Hashes the names, merged with the lines, both in order, and prints the verdicts.
 fn audit_sides<S: Store, T: TimedSink, W: Output, E: Sink>(
     context: &Context<'_, S, T>,
+    lost: &[&[u8]],
     lines: &[FileDigest<'_>],
     requested: &[&[u8]],
     streams: &mut Streams<W, E>,
@@ -174,17 +183,25 @@ fn audit_sides<S: Store, T: TimedSink, W: Output, E: Sink>(
     requires names { Rises compare_paths (texts_of requested.now) }
     ensures { AuditsSides (files_of S.Store S.File.Source context.now.store.now)
         (effect_of (rules_of W.Sink W.held W.has_lost E.Sink) streams.old streams.new result)
-        context.now.options (items_of lines.now) (texts_of requested.now) }
+        context.now.options (texts_of lost.now) (items_of lines.now) (texts_of requested.now) }
 {
     let kind = kind_of_new(lines, context.options.kind);
-    let compared = digests_of(context, kind, lines, requested, streams.messages())?;
-    let is_complete = compared.is_complete;
-    let found = verdicts(context.alloc, compared)?;
-    print_report(context.alloc, context.options, &found, &mut streams.out)?;
-    if !are_same(&found) {
-        return Ok(false);
-    }
-    Ok(is_complete)
+    let compared = digests_of(context, kind, lost, lines, requested, streams.messages())?;
+    let Compared {
+        matched,
+        removed,
+        added,
+        unread,
+    } = compared;
+    let found = verdicts(context.alloc, matched, removed, added)?;
+    print_report(
+        context.alloc,
+        context.options,
+        &found,
+        &unread,
+        &mut streams.out,
+    )?;
+    Ok(is_good(&found, &unread))
 }
 
 // Returns the algorithm for names without a line: that of the first line in the order of names.

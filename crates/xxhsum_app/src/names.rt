@@ -80,7 +80,11 @@ fn add_names(
     Ok(())
 }
 
-fn add_name(alloc: Global, name: &[u8], names: &mut Vec<Vec<u8>>) -> Result<(), AllocError>
+pub(crate) fn add_name(
+    alloc: Global,
+    name: &[u8],
+    names: &mut Vec<Vec<u8>>,
+) -> Result<(), AllocError>
     ensures { IfOk result (λ _. map (λ name. name.items) names.new.items
         ≡ map (λ name. name.items) names.old.items ++ name.now ∷ []) }
 {

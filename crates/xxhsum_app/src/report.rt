@@ -1,61 +1,123 @@
 //! Prints the report of an audit.
 
-ghost use Rattle.std.specs.Prelude.{◌≡◌, ◌++◌, false, IfOk};
-ghost use Rattle.xxhsum_app.specs.Report.{PrintsReport, are_same, class_text, counts_text, shown_text};
+ghost use Rattle.std.specs.Prelude.{◌≡◌, ◌++◌, ◌&&◌, false, decimal, IfOk, map};
+ghost use Rattle.xxhsum_app.specs.Report.{PrintsRemarks, PrintsReport, are_same, class_text, counts_text, shown_text};
 ghost use Rattle.xxhsum_audit.specs.Found.{found_of, founds_of};
+ghost use Rattle.xxhsum_audit.specs.Item.{texts_of};
+ghost use Rattle.xxhsum_audit.specs.Text.{Classed, Unreadable};
+ghost use Rattle.xxhsum_program.specs.Command.{has_none};
 ghost use Rattle.xxhsum_program.specs.Lines.{PrintsLine};
 
 use itoa::Buffer;
 use std::alloc::{AllocError, Global};
 use xxh_io::streams::Sink;
-use xxhsum_audit::text::verdict_line;
+use xxhsum_audit::text::{unreadable_text, verdict_text};
 use xxhsum_audit::verdict::{Class, Verdict, count_of};
 use xxhsum_options::options::Options;
 use xxhsum_program::stdout::print;
 use xxhsum_program::stop::Stop;
 
-// Prints the verdicts, and the count of each class.
+// Prints the verdicts, the names that can't be read, and the count of each class.
 pub(crate) fn print_report<W: Sink>(
+    alloc: Global,
+    options: Options,
+    found: &[Verdict<'_>],
+    unread: &[&[u8]],
+    out: &mut W,
+) -> Result<(), Stop>
+    requires { W.has_failed out.old ≡ false }
+    ensures { PrintsReport W.Sink options (founds_of found.now) (texts_of unread.now)
+        out.old out.new result }
+{
+    if options.is_status_only {
+        return Ok(());
+    }
+    print_verdicts(alloc, options, found, out)?;
+    print_unread(alloc, options, unread, out)?;
+    let counts = counts_line(alloc, options, found, unread)?;
+    print(&counts, out)
+}
+
+// Prints the texts of the verdicts.
+fn print_verdicts<W: Sink>(
     alloc: Global,
     options: Options,
     found: &[Verdict<'_>],
     out: &mut W,
 ) -> Result<(), Stop>
     requires { W.has_failed out.old ≡ false }
-    ensures { PrintsReport W.Sink options (founds_of found.now) out.old out.new result }
+    ensures prints { PrintsRemarks W.Sink options (map Classed (founds_of found.now))
+        out.old out.new result }
+    ensures works { IfOk result (λ _. W.has_failed out.new ≡ false) }
 {
-    if options.is_status_only {
-        return Ok(());
-    }
     for verdict in found {
-        print_one(alloc, options.is_quiet, *verdict, out)?;
+        print_one(alloc, options, *verdict, out)?;
     }
-    let counts = counts_line(alloc, found)?;
-    print(&counts, out)
+    Ok(())
 }
 
-// Prints the line of a verdict. If it is quiet, files that are the same have none.
+// Prints the texts of the names that can't be read.
+fn print_unread<W: Sink>(
+    alloc: Global,
+    options: Options,
+    unread: &[&[u8]],
+    out: &mut W,
+) -> Result<(), Stop>
+    requires { W.has_failed out.old ≡ false }
+    ensures prints { PrintsRemarks W.Sink options (map Unreadable (texts_of unread.now))
+        out.old out.new result }
+    ensures works { IfOk result (λ _. W.has_failed out.new ≡ false) }
+{
+    for name in unread {
+        print_name(alloc, options, name, out)?;
+    }
+    Ok(())
+}
+
+// Prints the text of a verdict. With `-q`, files that are the same have none.
 fn print_one<W: Sink>(
     alloc: Global,
-    is_quiet: bool,
+    options: Options,
     verdict: Verdict<'_>,
     out: &mut W,
 ) -> Result<(), Stop>
     requires { W.has_failed out.old ≡ false }
-    ensures prints { PrintsLine W.Sink (shown_text is_quiet (found_of verdict.entry))
+    ensures prints { PrintsLine W.Sink (shown_text options (Classed (found_of verdict.entry)))
         out.old out.new result }
     ensures works { IfOk result (λ _. W.has_failed out.new ≡ false) }
 {
-    if is_quiet && verdict.class() == Class::Same {
+    if options.is_quiet && verdict.class() == Class::Same {
         return Ok(());
     }
-    let line = verdict_line(alloc, verdict)?;
-    print(&line, out)
+    let text = verdict_text(alloc, verdict, options.ends_in_nul)?;
+    print(&text, out)
 }
 
-// Returns the line with the count of each class.
-fn counts_line(alloc: Global, found: &[Verdict<'_>]) -> Result<Vec<u8>, AllocError>
-    ensures { IfOk result (λ line. line.items ≡ counts_text (founds_of found.now)) }
+// Prints the text of a name that can't be read.
+fn print_name<W: Sink>(
+    alloc: Global,
+    options: Options,
+    name: &[u8],
+    out: &mut W,
+) -> Result<(), Stop>
+    requires { W.has_failed out.old ≡ false }
+    ensures prints { PrintsLine W.Sink (shown_text options (Unreadable name.now))
+        out.old out.new result }
+    ensures works { IfOk result (λ _. W.has_failed out.new ≡ false) }
+{
+    let text = unreadable_text(alloc, name, options.ends_in_nul)?;
+    print(&text, out)
+}
+
+// Returns the text with the count of each class.
+fn counts_line(
+    alloc: Global,
+    options: Options,
+    found: &[Verdict<'_>],
+    unread: &[&[u8]],
+) -> Result<Vec<u8>, AllocError>
+    ensures { IfOk result
+        (λ line. line.items ≡ counts_text options (founds_of found.now) (texts_of unread.now)) }
 {
     let mut line = Vec::new(alloc);
     put_count(&mut line, Class::Same, found, b" same, ")?;
@@ -63,7 +125,10 @@ fn counts_line(alloc: Global, found: &[Verdict<'_>]) -> Result<Vec<u8>, AllocErr
     put_count(&mut line, Class::Moved, found, b" moved, ")?;
     put_count(&mut line, Class::Copied, found, b" copied, ")?;
     put_count(&mut line, Class::New, found, b" new, ")?;
-    put_count(&mut line, Class::Missing, found, b" missing\n")?;
+    put_count(&mut line, Class::Missing, found, b" missing, ")?;
+    put_number(&mut line, unread.len())?;
+    line.extend_from_slice(b" unreadable")?;
+    line.push(if options.ends_in_nul { 0 } else { b'\n' })?;
     Ok(line)
 }
 
@@ -76,13 +141,26 @@ fn put_count(
     ensures { IfOk result (λ _. line.new.items
         ≡ line.old.items ++ class_text class (founds_of found.now) word.now) }
 {
-    let mut digits = Buffer::new();
-    line.extend_from_slice(digits.format(count_of(class, found)).as_bytes())?;
+    put_number(line, count_of(class, found))?;
     line.extend_from_slice(word)
 }
 
+fn put_number(line: &mut Vec<u8>, number: usize) -> Result<(), AllocError>
+    ensures { IfOk result (λ _. line.new.items ≡ line.old.items ++ decimal number) }
+{
+    let mut digits = Buffer::new();
+    line.extend_from_slice(digits.format(number).as_bytes())
+}
+
+// True if all are the same, and no name is unreadable.
+pub(crate) fn is_good(found: &[Verdict<'_>], unread: &[&[u8]]) -> bool
+    ensures { result ≡ (are_same (founds_of found.now) && has_none (texts_of unread.now)) }
+{
+    are_same(found) && unread.is_empty()
+}
+
 // True if all are the same.
-pub(crate) fn are_same(found: &[Verdict<'_>]) -> bool
+fn are_same(found: &[Verdict<'_>]) -> bool
     ensures { result ≡ are_same (founds_of found.now) }
 {
     for verdict in found {

@@ -1,11 +1,13 @@
 //! Finds the files below folders.
 
 ghost use Rattle.std.specs.Prelude.{◌≡◌, ◌++◌, ◌∷◌, [], false, IfOk, MatchResult, map};
+ghost use Rattle.xxhsum_program.specs.Command.{has_none};
 ghost use Rattle.xxhsum_program.specs.Eprints.{EprintsLines};
 ghost use Rattle.xxhsum_app.specs.Messages.{messages_of};
 ghost use Rattle.xxhsum_app.specs.WalkLaws.{FindsEachFile, FindsNoOther, FindsOnce};
 ghost use Rattle.xxhsum_app.specs.Walk.{HasKind, IsInOrder, IsSeen, SeesFolder, SeesOne, WalksAll, WalksSome, below, closed_text, place_of, state_of, tree_of, waiting_in, with_slash};
 
+use crate::names::add_name;
 use std::alloc::{AllocError, Global};
 use xxh_io::refusal::Refusal;
 use xxh_io::streams::Sink;
@@ -20,8 +22,8 @@ use xxhsum_program::stop::Stop;
 pub struct Walked {
     /// The names of the files, in order.
     pub files: Vec<Vec<u8>>,
-    /// True if the names in each folder could be read and looked up.
-    pub is_complete: bool,
+    /// The folders that could not be read, and the names in folders that could not be looked up.
+    pub unread: Vec<Vec<u8>>,
 }
 
 // A name to visit: a given name, or a name in a folder.
@@ -49,12 +51,12 @@ pub fn files_below<S: Store + Folders, E: Sink>(
     ensures { let given = map (λ name. name.items) names.now in MatchResult result
         (λ walked. WalksAll (tree_of S.Store S.Folders store.now)
         (messages_of E.Sink err.old err.new) given (map (λ file. file.items) walked.files.items)
-        walked.is_complete)
+        (map (λ name. name.items) walked.unread.items))
         (WalksSome (tree_of S.Store S.Folders store.now) (messages_of E.Sink err.old err.new) given) }
 {
     let mut walked = Walked {
         files: Vec::new(alloc),
-        is_complete: true,
+        unread: Vec::new(alloc),
     };
     let mut waiting = Vec::new(alloc);
     put_names(alloc, b"", true, names, &mut waiting)?;
@@ -132,10 +134,7 @@ fn visit<S: Store + Folders, E: Sink>(
         }
         PathKind::Folder => open_folder(alloc, store, &name, waiting, walked, err),
         PathKind::Other => Ok(()),
-        PathKind::Unknown(refusal) => {
-            mark_incomplete(&name, refusal, &mut walked.is_complete, err);
-            Ok(())
-        }
+        PathKind::Unknown(refusal) => add_unread(alloc, &name, refusal, &mut walked.unread, err),
     }
 }
 
@@ -183,8 +182,7 @@ fn open_folder<S: Store + Folders, E: Sink>(
         }
         Err(FolderError::OutOfMemory) => Err(Stop::OutOfMemory),
         Err(FolderError::Refused(refusal)) => {
-            mark_incomplete(name, refusal, &mut walked.is_complete, err);
-            Ok(())
+            add_unread(alloc, name, refusal, &mut walked.unread, err)
         }
     }
 }
@@ -211,16 +209,33 @@ fn in_order(names: Vec<Vec<u8>>) -> Vec<Vec<u8>>
     names
 }
 
-// Reports a folder that can't be read, or a name that can't be looked up. The walk is then incomplete.
-fn mark_incomplete<E: Sink>(name: &[u8], refusal: Refusal, is_complete: &mut bool, err: &mut E)
-    ensures reports { EprintsLines E.Sink (closed_text name.now refusal) err.old err.new }
-    ensures lost { is_complete.new ≡ false }
+// Adds and reports a folder that can't be read, or a name that can't be looked up. If out of memory, reports nothing.
+fn add_unread<E: Sink>(
+    alloc: Global,
+    name: &[u8],
+    refusal: Refusal,
+    unread: &mut Vec<Vec<u8>>,
+    err: &mut E,
+) -> Result<(), Stop>
+    ensures { MatchResult result
+        (λ _. (map (λ name. name.items) unread.new.items
+        ≡ map (λ name. name.items) unread.old.items ++ name.now ∷ [])
+        × EprintsLines E.Sink (closed_text name.now refusal) err.old err.new)
+        (λ stop. (stop ≡ Stop.OutOfMemory) × (err.new ≡ err.old)) }
 {
+    add_name(alloc, name, unread)?;
     let outcome = Outcome::Unread {
         reason: Reason::Unopened { refusal },
     };
     eprint_outcome(name, &outcome, err);
-    *is_complete = false;
+    Ok(())
+}
+
+/// True if there is no name.
+pub fn has_none(names: &[Vec<u8>]) -> bool
+    ensures { result ≡ has_none (map (λ name. name.items) names.now) }
+{
+    names.is_empty()
 }
 
 /// Lemma: a walk finds exactly the files that the given names lead to through names in folders, if each folder could be

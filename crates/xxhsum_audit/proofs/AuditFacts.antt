@@ -4,14 +4,14 @@ use Rattle.xxhsum_audit.proofs.Prelude.{IsPermutation-append_left, IsPermutation
 use Rattle.xxhsum_audit.proofs.Prelude.{moved, new_in, new_one, original, same_in, same_one, matched_in, matched_one, with_copy, Changed, Copied, Found, Missing, Moved, New, Same, line_in, lines_in, met, name_in, names_in, HasSameDigest}
 use Rattle.xxhsum_audit.proofs.Prelude.{IsAmong, Item, LacksPath, path_of, CopiesTheFirst, HasNoDuplicate, IsOneReport, IsRight, LeavesNoCopy, LeavesNoMove, StaysSame, TellsEachLineOnce, TellsEachNameOnce, TellsRight, compare_digests}
 use Rattle.xxhsum_audit.proofs.Prelude.{compare_lines, rank_lines}
-use Rattle.xxhsum_audit.proofs.AmongFacts.{among_either, among_flat_map, among_permutation, among_same}
+use Rattle.xxhsum_audit.proofs.AmongFacts.{among_either, among_flat_map, among_permutation, among_same, moved_items}
 use Rattle.xxhsum_audit.proofs.CopyFacts.{Ignores, IsOriginal, all_ignore, from_copies, lines_ignore, missing_ignore, names_ignore, new_ignore, original_is}
 use Rattle.xxhsum_audit.proofs.DigestFacts.{FitsDigest, FitsName, all_apart, all_fit_digest, all_fit_name, climbs}
 use Rattle.xxhsum_audit.proofs.DuplicateFacts.{not_twice}
 use Rattle.xxhsum_audit.proofs.FoundFacts.{Covers, covers, met_pair, moved_pair}
 use Rattle.xxhsum_audit.proofs.OrderFacts.{digests_tied}
 use Rattle.xxhsum_audit.proofs.SideFacts.{IsSide, by_names, side_of_lines, side_of_names}
-use Rattle.xxhsum_audit.proofs.UniqueFacts.{one_order, one_rise}
+use Rattle.xxhsum_audit.proofs.UniqueFacts.{one_order, one_order_of_results, one_rise}
 
 covers_names : (ls ns : List Item) → Covers ls ns (compared ls ns)
 covers_names = covers met met_pair compare_lines
@@ -50,15 +50,19 @@ MovesOf first found = HasMoves (matched_in first) (missing_in first) (new_in fir
 keeps : (of alone : Found → List Item) → IsSide of alone → Ignores of → (first found : List Found) (moves : MovesOf first found)
     (items : List Item) → IsPermutation (flat_map alone first) items → flat_map of (moved moves.removed_ordered moves.added_ordered) ≡ items
     → IsPermutation (flat_map of first) (flat_map of found)
-keeps of alone side same first found moves items moved_items is =
+keeps of alone side same first found moves items permuted is =
     let matched = flat_map of (matched_in first) in
-    let rest = moved moves.removed_ordered moves.added_ordered in
-    let whole : flat_map of found ≡ matched ++ items =
-    ap (flat_map of) moves.is ∙ flat_map-append of (matched_in first) (map (with_copy moves.kept) rest)
-    ∙ ap (λ x. matched ++ x) (all_ignore of same moves.kept rest ∙ is) in
+    let merged = moved moves.removed_ordered moves.added_ordered in
+    let copies = map (with_copy moves.kept) merged in
+    let whole : flat_map of found ≡ matched ++ flat_map of moves.rest =
+    ap (flat_map of) moves.is ∙ flat_map-append of (matched_in first) moves.rest in
+    let behind : IsPermutation items (flat_map of moves.rest) =
+    subst (λ x. IsPermutation x (flat_map of moves.rest)) (all_ignore of same moves.kept merged ∙ is)
+    (moved_items of copies moves.rest moves.rest_in_order.0) in
     subst (λ x. IsPermutation (flat_map of first) x) (sym whole)
-    (IsPermutation-trans (flat_map of first) (matched ++ flat_map alone first) (matched ++ items) (split of alone side first)
-    (IsPermutation-append_right matched (flat_map alone first) items moved_items))
+    (IsPermutation-trans (flat_map of first) (matched ++ flat_map alone first) (matched ++ flat_map of moves.rest) (split of alone side first)
+    (IsPermutation-append_right matched (flat_map alone first) (flat_map of moves.rest)
+    (IsPermutation-trans (flat_map alone first) items (flat_map of moves.rest) permuted behind)))
 
 pub tells_each_line_once : TellsEachLineOnce
 tells_each_line_once lines names found audit =
@@ -214,11 +218,13 @@ module _ (lines names : List Item) (found : List Found) (audit : IsAudit lines n
   each : (P : Found → Type 0) → ((one : Found) → IsMatched one → IsAmong (matched_in first) one → P one)
       → ((one : Found) → IsAmong rest one → FitsDigest one → P (with_copy moves.kept one)) → (one : Found) → IsAmong found one → P one
   each P by_name by_digest one h =
-      elim (among_either (matched_in first) (map (with_copy moves.kept) rest) one
-      (among_same found (matched_in first ++ map (with_copy moves.kept) rest) one moves.is h)) [
+      elim (among_either (matched_in first) moves.rest one
+      (among_same found (matched_in first ++ moves.rest) one moves.is h)) [
         | inl a ↦ by_name one (matched_is first one a).0 a
         | inr b ↦
-            let from = from_copies moves.kept rest one b in
+            let from = from_copies moves.kept rest one
+            (among_permutation moves.rest (map (with_copy moves.kept) rest) one
+            (IsPermutation-sym (map (with_copy moves.kept) rest) moves.rest moves.rest_in_order.0) b) in
             subst P from.2 (by_digest from.0 from.1 (all_fit_digest moves.removed_ordered moves.added_ordered from.0 from.1))
       ]
 
@@ -312,19 +318,25 @@ module _ (lines names : List Item) (found : List Found) (audit : IsAudit lines n
   none_alone of alone side (x ∷ f) =
       flat_map-append alone (matched_one x) (matched_in f) ∙ ap (λ y. y ++ flat_map alone (matched_in f)) (side x).1 ∙ none_alone of alone side f
 
-  -- Lemma: the unmatched items are those of the second merge.
-  rest_alone : (of alone : Found → List Item) → IsSide of alone → Ignores alone → flat_map alone found ≡ flat_map alone rest
-  rest_alone of alone side same =
+  -- Lemma: the unmatched items are among those of the second merge.
+  rest_alone : (of alone : Found → List Item) → IsSide of alone → Ignores alone → (item : Item) → IsAmong (flat_map alone found) item
+      → IsAmong (flat_map alone rest) item
+  rest_alone of alone side same item h =
       let copies = map (with_copy moves.kept) rest in
-      ap (flat_map alone) moves.is ∙ flat_map-append alone (matched_in first) copies
-      ∙ ap (λ x. x ++ flat_map alone copies) (none_alone of alone side first) ∙ all_ignore alone same moves.kept rest
+      let whole : flat_map alone found ≡ flat_map alone moves.rest =
+      ap (flat_map alone) moves.is ∙ flat_map-append alone (matched_in first) moves.rest
+      ∙ ap (λ x. x ++ flat_map alone moves.rest) (none_alone of alone side first) in
+      among_same (flat_map alone copies) (flat_map alone rest) item (all_ignore alone same moves.kept rest)
+      (among_permutation (flat_map alone moves.rest) (flat_map alone copies) item
+      (IsPermutation-sym (flat_map alone copies) (flat_map alone moves.rest) (moved_items alone copies moves.rest moves.rest_in_order.0))
+      (among_same (flat_map alone found) (flat_map alone moves.rest) item whole h))
 
   no_move : (line name : Item) → IsAmong (missing_in found) line → IsAmong (new_in found) name → HasSameDigest line name → ⊥
   no_move line name h k same =
       all_apart moves.removed_ordered moves.added_ordered (climbs moves.removed_ordered moves.removed_in_order.1)
       (climbs moves.added_ordered moves.added_in_order.1) line name
-      (among_same (missing_in found) (missing_in rest) line (rest_alone line_in missing_one side_of_lines missing_ignore) h)
-      (among_same (new_in found) (new_in rest) name (rest_alone name_in new_one side_of_names new_ignore) k) same
+      (rest_alone line_in missing_one side_of_lines missing_ignore line h)
+      (rest_alone name_in new_one side_of_names new_ignore name k) same
 
 pub tells_right : TellsRight
 tells_right lines names found audit one h = right lines names found audit one h
@@ -358,6 +370,9 @@ same_moves matched matched' removed removed' added added' found found' moves mov
     (same_order _ _ two) moves.removed_in_order moves'.removed_in_order in
     let came : moves.added_ordered ≡ moves'.added_ordered = one_order added added' moves.added_ordered moves'.added_ordered
     (same_order _ _ three) moves.added_in_order moves'.added_in_order in
+    let copies : map (with_copy moves.kept) (moved moves.removed_ordered moves.added_ordered)
+    ≡ map (with_copy moves'.kept) (moved moves'.removed_ordered moves'.added_ordered) = cc in
+    let rest : moves.rest ≡ moves'.rest = one_order_of_results _ _ moves.rest moves'.rest copies moves.rest_in_order moves'.rest_in_order in
     let is = moves.is in
     let is' = moves'.is in
     cc

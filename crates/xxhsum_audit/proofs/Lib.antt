@@ -15,3 +15,4 @@ pub mod AuditFacts
 pub mod EqualFacts
 pub mod CountFacts
 pub mod PartFacts
+pub mod TextFacts

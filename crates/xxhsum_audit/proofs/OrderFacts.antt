@@ -1,7 +1,7 @@
 -- Proves that the orders are total and that they distinguish the items that they compare.
 use Rattle.xxhsum_audit.proofs.Prelude.{◌≡◌, ℕ, true, false, List, nat_eq, refl, sym, ap, subst, ◌∙◌, if◌then◌else◌, Ordering, Less, Equal, Greater, nat_cmp_total, nat_list_cmp_total, on_total, then_total, tied_itself, alike_right}
 use Rattle.xxhsum_audit.proofs.Prelude.{exact_bytes, exact_unsigned, IsTotalOrder, slice_cmp, is_eq, is_lt, nat_cmp, ordering_reverse, ordering_then, HasSameDigest, Item, Says, normalize_path, kind_of, name_of, path_of, value_of, compare_digests}
-use Rattle.xxhsum_audit.proofs.Prelude.{compare_lines, compare_paths, rank_digests, rank_lines, rank_names, rank_of}
+use Rattle.xxhsum_audit.proofs.Prelude.{Changed, Copied, Found, Missing, Moved, New, Same, class_of, compare_lines, compare_paths, rank_digests, rank_founds, rank_lines, rank_names, rank_of, rank_of_class, source_in, told}
 use Rattle.xxh_io.specs.declared.kind.Kind.{Kind}
 use Rattle.xxh_io.specs.declared.kind.Kind.TheVariants.{X32, X64, X3_64, X3_128}
 
@@ -75,6 +75,47 @@ digests_tied (Says n k v) (Says n' k' v') d =
     subst (λ x. ordering_then (nat_cmp (rank_of k) (rank_of x)) (nat_cmp v v') ≡ Equal) d.0
     (subst (λ x. ordering_then (nat_cmp (rank_of k) (rank_of k)) (nat_cmp v x) ≡ Equal) d.1
     (tied_itself digests_total (Says n k v)))
+
+-- ---- results
+
+pub founds_total : IsTotalOrder rank_founds
+founds_total =
+    then_total (on_total told ranks_total)
+    (then_total (on_total (λ (found : Found). rank_of_class (class_of found)) nat_cmp_total)
+    (then_total (on_total told all_total) (on_total source_in all_total)))
+
+-- The result with this position of its class and these items.
+found_at : ℕ → Item → Item → Found
+found_at n told source =
+    if nat_eq n 0 then Same source told
+    else if nat_eq n 1 then Changed source told
+    else if nat_eq n 2 then Moved source told
+    else if nat_eq n 3 then Copied source told
+    else if nat_eq n 4 then New told
+    else Missing told
+
+at_class : (found : Found) → found_at (rank_of_class (class_of found)) (told found) (source_in found) ≡ found
+unfolding found_at
+at_class (Same l n) = refl
+at_class (Changed l n) = refl
+at_class (Moved l n) = refl
+at_class (Copied o n) = refl
+at_class (New n) = refl
+at_class (Missing l) = refl
+
+pub founds_exact : (a b : Found) → rank_founds a b ≡ Equal → a ≡ b
+founds_exact a b e =
+    let first = then_equal (rank_lines (told a) (told b)) _ e in
+    let second = then_equal (nat_cmp (rank_of_class (class_of a)) (rank_of_class (class_of b))) _ first.1 in
+    let third = then_equal (rank_digests (told a) (told b)) (rank_digests (source_in a) (source_in b)) second.1 in
+    let classes = exact_unsigned (rank_of_class (class_of a)) (rank_of_class (class_of b)) second.0 in
+    let names = all_exact (told a) (told b) third.0 in
+    let sources = all_exact (source_in a) (source_in b) third.1 in
+    sym (at_class a)
+    ∙ ap (λ n. found_at n (told a) (source_in a)) classes
+    ∙ ap (λ t. found_at (rank_of_class (class_of b)) t (source_in a)) names
+    ∙ ap (λ s. found_at (rank_of_class (class_of b)) (told b) s) sources
+    ∙ at_class b
 
 -- ---- steps of a total order
 

@@ -3,7 +3,7 @@ use Rattle.std.specs.Prelude.{ℕ, ◌≡◌, List, [], ◌∷◌, ◌++◌, Opt
 use Rattle.std.specs.Ordering.{is_eq}
 use Rattle.xxhsum_audit.specs.declared.side.Side.{Side}
 use Rattle.xxhsum_audit.specs.declared.side.Side.TheVariants.{Line, Name, Both}
-use Rattle.xxhsum_audit.specs.Found.{Copied, Found, Missing, Moved, New, Same, met}
+use Rattle.xxhsum_audit.specs.Found.{Copied, Found, Missing, Moved, New, Same, met, rank_founds}
 use Rattle.xxhsum_audit.specs.Item.{Item, path_of}
 use Rattle.xxhsum_audit.specs.Order.{IsOrder, Rises, compare_digests, compare_lines, rank_digests}
 use Rattle.xxhsum_audit.specs.Side.{beside}
@@ -78,7 +78,7 @@ with_copy kept found = found
 -- ---- an audit
 
 -- The results `found` are the matched ones, followed by the results of the other lines and names, sorted by digest and
--- merged. A name that is still new becomes a copy if an unchanged file has its digest.
+-- merged. A name that is still new becomes a copy if an unchanged file has its digest. These results are sorted by name.
 pub record HasMoves (matched : List Found) (removed added : List Item) (found : List Found) : Type 0 where
   pub kept : List Item
   pub removed_ordered : List Item
@@ -86,7 +86,9 @@ pub record HasMoves (matched : List Found) (removed added : List Item) (found : 
   pub kept_in_order : IsOrder rank_digests (same_in matched) kept
   pub removed_in_order : IsOrder rank_digests removed removed_ordered
   pub added_in_order : IsOrder rank_digests added added_ordered
-  pub is : found ≡ matched ++ map (with_copy kept) (moved removed_ordered added_ordered)
+  pub rest : List Found
+  pub rest_in_order : IsOrder rank_founds (map (with_copy kept) (moved removed_ordered added_ordered)) rest
+  pub is : found ≡ matched ++ rest
 
 -- The lines and the names are sorted by path and merged. No two lines share a path, and no two names do.
 pub record IsAudit (lines names : List Item) (found : List Found) : Type 0 where

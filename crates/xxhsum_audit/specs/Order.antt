@@ -1,5 +1,6 @@
 -- The orders of names and of items, and sorted lists.
-use Rattle.std.specs.Prelude.{ℕ, ◌≡◌, Bool, false, List, [], ◌∷◌, Option, Some, None, if◌then◌else◌, IsPermutation}
+use Rattle.std.specs.Prelude.{ℕ, ◌≡◌, ◌==◌, ◌&&◌, ◌||◌, Bool, true, false, List, [], ◌∷◌, Option, Some, None, bytes_eq, codes, drop, length, nat_eq, if◌then◌else◌, IsPermutation}
+use Rattle.std.specs.List.{ends_with, starts_with}
 use Rattle.std.specs.Cmp.Lexicographic.{slice_cmp}
 use Rattle.std.specs.declared.cmp.Ordering.{Ordering}
 use Rattle.std.specs.declared.cmp.Ordering.TheVariants.{Less}
@@ -35,6 +36,22 @@ compare_digests a b =
 
 abbrev pub rank_digests : Item → Item → Ordering
 rank_digests a b = ordering_then (compare_digests a b) (rank_lines a b)
+
+-- ---- names below a directory
+
+abbrev pub is_tail : List ℕ → Bool
+is_tail [] = true
+is_tail (c ∷ cs) = c == 47
+
+abbrev pub holds_path : List ℕ → List ℕ → Bool
+holds_path base path =
+    starts_with nat_eq path base
+    && (length base == 0 || (ends_with nat_eq base (codes "/") || is_tail (drop (length base) path)))
+
+-- True if the path of the name is that of the directory, or below it. All paths are below `.`.
+abbrev pub hides : List ℕ → List ℕ → Bool
+hides folder name =
+    bytes_eq (normalize_path folder) (codes ".") || holds_path (normalize_path folder) (normalize_path name)
 
 -- ---- sorted lists
 

@@ -1,6 +1,7 @@
 //! The laws of audits.
 
 ghost use Rattle.xxhsum_audit.specs.Laws.{CopiesTheFirst, CountsAddUp, HasNoDuplicate, IsOneReport, LeavesNoCopy, LeavesNoMove, SameMeansEqual, TellsEachLineOnce, TellsEachNameOnce, TellsRight};
+ghost use Rattle.xxhsum_audit.specs.Text.{LinesDiffer, RecordsDiffer, RemarkIsOneLine};
 
 /// Lemma (no code), the laws of audits. An audit reports each line of the list once and each name once. No two lines
 /// have one path, and no two names do. Its classes are correct: same and changed are of a line and a name with one
@@ -21,4 +22,13 @@ pub fn laws_of_audits()
     ensures equal { SameMeansEqual }
     ensures counts { CountsAddUp }
     ensures one_report { IsOneReport }
+{}
+
+/// Lemma (no code), the laws of an audit's text. Each result is one line, whatever names it has. Two results with one
+/// line have the same name, class and other name; so have two with one record that ends with a NUL, if no name has a
+/// NUL.
+pub fn laws_of_texts()
+    ensures one_line { RemarkIsOneLine }
+    ensures lines { LinesDiffer }
+    ensures records { RecordsDiffer }
 {}

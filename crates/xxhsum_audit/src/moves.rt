@@ -10,7 +10,7 @@ ghost use Rattle.xxhsum_audit.specs.Side.{digest_side};
 use crate::digest::FileDigest;
 use crate::order::{compare_digests, put_digests_in_order};
 use crate::side::{Side, first_by_digest};
-use crate::verdict::Verdict;
+use crate::verdict::{Verdict, put_verdicts_in_order};
 use std::alloc::{AllocError, Global};
 use std::cmp::Ordering;
 
@@ -23,31 +23,30 @@ pub struct Compared<'n> {
     pub removed: Vec<FileDigest<'n>>,
     /// The names that no line has, with their digests.
     pub added: Vec<FileDigest<'n>>,
-    /// True if each given name has a digest.
-    pub is_complete: bool,
+    /// The names whose files or directories can't be read.
+    pub unread: Vec<&'n [u8]>,
 }
 
-/// Returns the results of all lines and names: first the names in both lists, then the others, sorted by digest.
-/// Returns `AllocError` if out of memory.
-pub fn verdicts<'n>(alloc: Global, compared: Compared<'n>) -> Result<Vec<Verdict<'n>>, AllocError>
-    ensures { IfOk result (λ found. HasMoves (founds_of compared.entry.matched.items)
-        (items_of compared.entry.removed.items) (items_of compared.entry.added.items)
-        (founds_of found.items)) }
+/// Returns the results of all lines and names: first the names in both lists, then the others, sorted by name. Returns
+/// `AllocError` if out of memory.
+pub fn verdicts<'n>(
+    alloc: Global,
+    matched: Vec<Verdict<'n>>,
+    mut removed: Vec<FileDigest<'n>>,
+    mut added: Vec<FileDigest<'n>>,
+) -> Result<Vec<Verdict<'n>>, AllocError>
+    ensures { IfOk result (λ found. HasMoves (founds_of matched.entry.items)
+        (items_of removed.entry.items) (items_of added.entry.items) (founds_of found.items)) }
 {
-    let Compared {
-        matched,
-        removed,
-        added,
-        is_complete: _,
-    } = compared;
     let mut kept = same_in(alloc, &matched)?;
-    let mut removed = removed;
-    let mut added = added;
-    let mut found = matched;
+    let mut rest = Vec::new(alloc);
     put_digests_in_order(&mut kept);
     put_digests_in_order(&mut removed);
     put_digests_in_order(&mut added);
-    add_moves(&removed, &added, &kept, &mut found)?;
+    add_moves(&removed, &added, &kept, &mut rest)?;
+    put_verdicts_in_order(&mut rest);
+    let mut found = matched;
+    found.extend_from_slice(&rest)?;
     Ok(found)
 }
 

@@ -2,7 +2,7 @@
 
 ghost use Rattle.std.specs.Prelude.{◌≡◌, IfOk, MatchOption, None, Some};
 ghost use Rattle.xxhsum_audit.specs.Item.{item_of, items_of, names_of, normalize_path, texts_of};
-ghost use Rattle.xxhsum_audit.specs.Order.{IsOrder, compare_digests, compare_paths, find_duplicate, rank_digests, rank_lines, rank_names, rank_of, shares_path};
+ghost use Rattle.xxhsum_audit.specs.Order.{IsOrder, compare_digests, compare_paths, find_duplicate, hides, holds_path, is_tail, rank_digests, rank_lines, rank_names, rank_of, shares_path};
 
 use crate::digest::FileDigest;
 use std::alloc::{AllocError, Global};
@@ -40,8 +40,34 @@ pub fn compare_paths(a: &[u8], b: &[u8]) -> Ordering
     normalize_path(a).cmp(normalize_path(b))
 }
 
+/// True if the path of the name is that of the folder, or below it. All paths are below `.`.
+pub fn hides(folder: &[u8], name: &[u8]) -> bool
+    ensures { result ≡ hides folder.now name.now }
+{
+    let base = normalize_path(folder);
+    base == b".".as_slice() || holds_path(base, normalize_path(name))
+}
+
+fn holds_path(base: &[u8], path: &[u8]) -> bool
+    ensures { result ≡ holds_path base.now path.now }
+{
+    match path.strip_prefix(base) {
+        Some(rest) => base.is_empty() || base.ends_with(b"/") || is_tail(rest),
+        None => false,
+    }
+}
+
+fn is_tail(rest: &[u8]) -> bool
+    ensures { result ≡ is_tail rest.now }
+{
+    match rest.first() {
+        Some(byte) => *byte == b'/',
+        None => true,
+    }
+}
+
 // Compares two names for sorting: those with one path by all their bytes.
-fn rank_names(a: &[u8], b: &[u8]) -> Ordering
+pub(crate) fn rank_names(a: &[u8], b: &[u8]) -> Ordering
     ensures { result ≡ rank_names a.now b.now }
 {
     match compare_paths(a, b) {
@@ -63,7 +89,7 @@ pub fn compare_digests(a: FileDigest<'_>, b: FileDigest<'_>) -> Ordering
 }
 
 // Compares two digests for sorting: those of one algorithm and value by their names.
-fn rank_digests(a: FileDigest<'_>, b: FileDigest<'_>) -> Ordering
+pub(crate) fn rank_digests(a: FileDigest<'_>, b: FileDigest<'_>) -> Ordering
     ensures { result ≡ rank_digests (item_of a.entry) (item_of b.entry) }
 {
     match compare_digests(a, b) {

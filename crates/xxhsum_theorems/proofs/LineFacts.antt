@@ -1,13 +1,13 @@
 -- Proves that lists, duplicate names and audits are written as whole lines.
-use Rattle.std.proofs.Common.{◌≡◌, ◌≢◌, ℕ, zero, suc, ◌+◌, ◌/◌, ◌%◌, ◌==◌, Bool, true, false, List, [], ◌∷◌, ◌++◌, Option, Some, None, inl, inr, refl, sym, ap, ◌∙◌, subst, append-nil, append_assoc, arith, codes, count_by, decimal, length, nat_eq, nat_lt, if◌then◌else◌}
+use Rattle.std.proofs.Common.{◌≡◌, ◌≢◌, ℕ, zero, suc, ◌+◌, ◌/◌, ◌%◌, ◌==◌, Bool, true, false, List, [], ◌∷◌, ◌++◌, Option, Some, None, inl, inr, refl, sym, ap, ◌∙◌, subst, append-nil, append_assoc, arith, codes, decimal, length, nat_eq, nat_lt, if◌then◌else◌}
 use Rattle.std.specs.Fmt.{digit_glyph, digits, digits_onto}
 use Rattle.std.proofs.lemmas.List.Folds.{concat-append}
 use Rattle.xxhsum_app.specs.Names.{ListNone}
 use Rattle.xxhsum_app.specs.ReadList.{IsFault, ListSaysNothing, SourceSaysNothing}
-use Rattle.xxhsum_app.specs.Report.{class_text, counts_text, report_text, shown_lines, shown_text}
+use Rattle.xxhsum_app.specs.Report.{class_text, counts_text, is_same, remarks_of, report_text, shown_text, shown_texts}
 use Rattle.xxhsum_app.specs.Texts.{Breaks, HasNoText, LackText}
-use Rattle.xxhsum_audit.specs.Found.{Found, is_of_class}
-use Rattle.xxhsum_audit.specs.Text.{text_of}
+use Rattle.xxhsum_audit.specs.Found.{Found}
+use Rattle.xxhsum_audit.specs.Text.{Remark, RemarkIsOneLine, remark_text}
 use Rattle.xxhsum_audit.specs.declared.verdict.Class.{Class}
 use Rattle.xxhsum_audit.specs.declared.verdict.Class.TheVariants as Of
 use Rattle.xxhsum_line.proofs.LackFacts.{lacks_both}
@@ -18,7 +18,7 @@ use Rattle.xxhsum_program.specs.Findings.{Finding}
 use Rattle.xxhsum_program.specs.ListEnd.{Endless, FailedRead, ListEnd, TooMany, Whole, report_at}
 use Rattle.xxhsum_program.specs.ListMessages.{break_events, count_text, end_events, finding_events, line_message, lines_events, no_line_text, numbered, printed_summary, refusal_message, stop_events, summary_text, too_long_text, unverified_text}
 use Rattle.xxhsum_program.specs.Order.{Event, Printed, Reported}
-use Rattle.xxhsum_program.specs.Prelude.{AllByRecursion, Files, Input, Options, SourceRules, concat, one_line}
+use Rattle.xxhsum_program.specs.Prelude.{AllByRecursion, Files, Input, Options, SourceRules, concat}
 use Rattle.xxhsum_program.specs.declared.check.Report.{Report}
 use Rattle.xxhsum_program.specs.Report.{has_no_line, is_unverified}
 use Rattle.xxhsum_program.specs.Run.{input_name}
@@ -219,32 +219,44 @@ front_counts found =
     ++ class_text Of.Moved found (codes " moved, ") ++ class_text Of.Copied found (codes " copied, ")
     ++ class_text Of.New found (codes " new, ")
 
-counts-line : (found : List Found) → IsOneLine (counts_text found)
-counts-line found =
-    let count = decimal (count_by (is_of_class Of.Missing) found) in (
-      front_counts found ++ (count ++ codes " missing"),
-      ap (λ (last : List ℕ). front_counts found ++ last) (sym (append_assoc count (codes " missing") (10 ∷ [])))
-          ∙ sym (append_assoc (front_counts found) (count ++ codes " missing") (10 ∷ [])),
-      lacks_both 10 (front_counts found) (count ++ codes " missing")
-          (lacks_both 10 _ _
-          (lacks_both 10 _ _
-          (lacks_both 10 _ _
-          (lacks_both 10 _ _ (class-lacks Of.Same found (codes " same, ") (without 10 (codes " same, ") refl))
-          (class-lacks Of.Changed found (codes " changed, ") (without 10 (codes " changed, ") refl)))
-          (class-lacks Of.Moved found (codes " moved, ") (without 10 (codes " moved, ") refl)))
-          (class-lacks Of.Copied found (codes " copied, ") (without 10 (codes " copied, ") refl)))
-          (class-lacks Of.New found (codes " new, ") (without 10 (codes " new, ") refl)))
-          (class-lacks Of.Missing found (codes " missing") (without 10 (codes " missing") refl)),
-    )
+-- The counts, up to their last byte.
+abbrev counts_before : List Found → List (List ℕ) → List ℕ
+counts_before found unread =
+    front_counts found ++ class_text Of.Missing found (codes " missing, ") ++ decimal (length unread) ++ codes " unreadable"
 
-shown-lines : MessageIsOneLine → (options : Options) (found : List Found) → AreLines (shown_lines options.is_quiet found)
-shown-lines message options [] = no-line
-shown-lines message options (one ∷ found) =
-    lines-both (shown_text options.is_quiet one) (shown_lines options.is_quiet found)
-    (lines-if (options.is_quiet && is_of_class Of.Same one) [] (one_line (text_of one)) no-line (a-line _ (message (text_of one))))
-    (shown-lines message options found)
+counts-lack : (found : List Found) (unread : List (List ℕ)) → Lacks 10 (counts_before found unread)
+counts-lack found unread =
+    lacks_both 10 _ _
+    (lacks_both 10 _ _
+    (lacks_both 10 (front_counts found) _
+    (lacks_both 10 _ _
+    (lacks_both 10 _ _
+    (lacks_both 10 _ _
+    (lacks_both 10 _ _ (class-lacks Of.Same found (codes " same, ") (without 10 (codes " same, ") refl))
+    (class-lacks Of.Changed found (codes " changed, ") (without 10 (codes " changed, ") refl)))
+    (class-lacks Of.Moved found (codes " moved, ") (without 10 (codes " moved, ") refl)))
+    (class-lacks Of.Copied found (codes " copied, ") (without 10 (codes " copied, ") refl)))
+    (class-lacks Of.New found (codes " new, ") (without 10 (codes " new, ") refl)))
+    (class-lacks Of.Missing found (codes " missing, ") (without 10 (codes " missing, ") refl)))
+    (decimal-lacks (length unread)))
+    (without 10 (codes " unreadable") refl)
 
-pub report_is_lines : MessageIsOneLine → (options : Options) (found : List Found) → AreLines (report_text options found)
-report_is_lines message options found =
+counts-line : (options : Options) (found : List Found) (unread : List (List ℕ)) → options.ends_in_nul ≡ false → IsOneLine (counts_text options found unread)
+counts-line options found unread speaks = (
+  counts_before found unread,
+  ap (λ (nul : Bool). counts_before found unread ++ (if nul then 0 else 10) ∷ []) speaks,
+  counts-lack found unread,
+)
+
+shown-lines : RemarkIsOneLine → (options : Options) (remarks : List Remark) → options.ends_in_nul ≡ false → AreLines (shown_texts options remarks)
+shown-lines line options [] speaks = no-line
+shown-lines line options (one ∷ remarks) speaks =
+    lines-both (shown_text options one) (shown_texts options remarks)
+    (lines-if (options.is_quiet && is_same one) [] (remark_text options.ends_in_nul one) no-line
+    (a-line _ (subst (λ nul. IsOneLine (remark_text nul one)) (sym speaks) (line one))))
+    (shown-lines line options remarks speaks)
+
+pub report_is_lines : RemarkIsOneLine → (options : Options) (found : List Found) (unread : List (List ℕ)) → options.ends_in_nul ≡ false → AreLines (report_text options found unread)
+report_is_lines line options found unread speaks =
     lines-if options.is_status_only [] _ no-line
-    (lines-both (shown_lines options.is_quiet found) (counts_text found) (shown-lines message options found) (a-line _ (counts-line found)))
+    (lines-both (shown_texts options (remarks_of found unread)) (counts_text options found unread) (shown-lines line options (remarks_of found unread) speaks) (a-line _ (counts-line options found unread speaks)))

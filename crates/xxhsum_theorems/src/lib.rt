@@ -3,7 +3,7 @@
 //! proved from the public contracts of the crates `xxhsum_*`.
 #![tactic(auto)]
 
-ghost use Rattle.std.specs.Prelude.{◌≡◌, ◌↔◌, ◌++◌, Bool, List, ℕ, Option, Result, true, codes, IsPermutation};
+ghost use Rattle.std.specs.Prelude.{◌≡◌, ◌↔◌, ◌++◌, Bool, List, ℕ, Option, Result, true, false, codes, IsPermutation};
 ghost use Rattle.std.specs.List.{AllByRecursion, flat_map};
 ghost use Rattle.xxhsum_program.specs.Prelude.{EachHas, Eprints, Kind, Options, Refused, Shape, Style, Took};
 ghost use Rattle.xxhsum_program.specs.declared.streams.Streams.{Streams};
@@ -14,7 +14,7 @@ ghost use Rattle.xxhsum_audit.specs.Audit.{IsAudit};
 ghost use Rattle.xxhsum_audit.specs.Item.{HasSameDigest, IsAmong, Item};
 ghost use Rattle.xxhsum_audit.specs.Laws.{IsKept, IsRight};
 ghost use Rattle.xxhsum_audit.specs.Found.{Copied, Found, Missing, New, Same, line_in, name_in};
-ghost use Rattle.xxhsum_audit.specs.Text.{text_of};
+ghost use Rattle.xxhsum_audit.specs.Text.{HasNoNul, IsSameRemark, Remark, remark_text};
 ghost use Rattle.xxhsum_app.specs.Audits.{duplicate_text};
 ghost use Rattle.xxhsum_app.specs.Names.{ListNone};
 ghost use Rattle.xxhsum_app.specs.ReadList.{ListSaysNothing};
@@ -42,7 +42,7 @@ ghost use Rattle.xxhsum_program.specs.Run.{status_of, style_of};
 
 use xxh_io::streams::{Sink, Source};
 use xxhsum_app::walk::laws_of_walks;
-use xxhsum_audit::laws::laws_of_audits;
+use xxhsum_audit::laws::{laws_of_audits, laws_of_texts};
 use xxhsum_fs::folders::Folders;
 use xxhsum_fs::store::Store;
 use xxhsum_line::laws::laws_of_lines;
@@ -111,7 +111,7 @@ pub fn each_stream<W: Sink, E: Sink>()
 /// one that reports another file as `OK`. The outcome of a name is one line and no message, or one message and no line.
 /// A line of a list has the same, or neither. The check of a list writes whole lines. The message about a list without
 /// entries or names has one of the four forms of [`IsListMessage`]. Each result of an audit is one line, and its report
-/// is whole lines.
+/// is whole lines, unless they end with a NUL (`-z`).
 pub fn one_line_a_name<S: Store, R: Source>()
     ensures names { (kind : Kind) (shape : Shape) (name : List ℕ) (outcome : Outcome)
         → IsLineOrMessage (name_events kind (plain_style shape) name outcome) }
@@ -127,11 +127,12 @@ pub fn one_line_a_name<S: Store, R: Source>()
         × (ListNone (files_of S.Store S.File.Source store) (input_of R.Source source) lists message
         → (name : List ℕ) × IsListLine name message) }
     ensures twice { (among name : List ℕ) → IsOneLine (one_line (duplicate_text among name)) }
-    ensures audits { (found : Found) → IsOneLine (one_line (text_of found)) }
-    ensures reports { (options : Options) (found : List Found)
-        → AreLines (report_text options found) }
+    ensures audits { (remark : Remark) → IsOneLine (remark_text false remark) }
+    ensures reports { (options : Options) (found : List Found) (unread : List (List ℕ))
+        → options.ends_in_nul ≡ false → AreLines (report_text options found unread) }
 {
     laws_of_lines();
+    laws_of_texts();
 }
 
 /// A run that stops has printed a beginning of the lines of the names that it reached, or of the results of a list.
@@ -201,6 +202,19 @@ pub fn audit_classes()
         → (IsAmong found (New name) → ⊥) × (IsAmong found (Copied first name) → ⊥)) }
 {
     laws_of_audits();
+}
+
+/// No two results of an audit have one text. Two results with one line have the same name, class and other name. So
+/// have two with one record that ends with a NUL (`-z`), whatever follows it, if no name has a NUL.
+pub fn audit_texts_differ()
+    ensures lines { (a b : Remark) (behind behind' : List ℕ)
+        → remark_text false a ++ behind ≡ remark_text false b ++ behind'
+        → IsSameRemark a b × (behind ≡ behind') }
+    ensures records { (a b : Remark) (behind behind' : List ℕ) → HasNoNul a → HasNoNul b
+        → remark_text true a ++ behind ≡ remark_text true b ++ behind'
+        → IsSameRemark a b × (behind ≡ behind') }
+{
+    laws_of_texts();
 }
 
 /// If all are the same (status 0 of an audit), each line has a file at its path, with the line's value, and each name

@@ -1,5 +1,4 @@
 use Rattle.xxhsum_app.specs.Audits.{duplicate_text}
-use Rattle.xxhsum_audit.specs.Text.{text_of}
 use Rattle.xxhsum_program.specs.Files.{files_of, input_of}
 use Rattle.xxhsum_theorems.proofs.HeadlineFacts.{findings_are_lines, line_or_message}
 use Rattle.xxhsum_theorems.proofs.LineFacts.{list_message, lists_are_lines, names_message, report_is_lines}
@@ -19,6 +18,6 @@ returns g c =
         (λ none. names_message (files_of g.S.Store g.S.File.Source store) (input_of g.R.Source source) lists text message none),
       );
       twice = λ among name. message (duplicate_text among name);
-      audits = λ found. message (text_of found);
-      reports = λ options found. report_is_lines message options found;
+      audits = c.laws_of_texts.ensures.one_line;
+      reports = λ options found unread speaks. report_is_lines c.laws_of_texts.ensures.one_line options found unread speaks;
     }

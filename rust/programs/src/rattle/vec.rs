@@ -64,6 +64,13 @@ impl<T: Copy> Vec<T> {
         Ok(items)
     }
 
+    /// "`Ok` of these items, or `Err` if an allocation failed."
+    pub fn from_slice(alloc: Global, items: &[T]) -> Result<Self, AllocError> {
+        let mut copy = Vec::new(alloc);
+        copy.extend_from_slice(items)?;
+        Ok(copy)
+    }
+
     /// "`Ok`, and the items are the old ones and these; or `Err` if an allocation failed."
     pub fn extend_from_slice(&mut self, items: &[T]) -> Result<(), AllocError> {
         self.reserve(items.len())?;

@@ -26,14 +26,14 @@ audit_sides-requires-clause-lines g c =
     let lines = items_of c.in_ok-lines.lines.items in
     let message = subst (λ names. ReportsDuplicate g.E.Sink c.args.list.now (find_duplicate names) c.messages-err.result.now c.eprint_duplicate.new.err c.eprint_duplicate.result) (ap texts_of c.deref-2.ensures.value ∙ c.in_ok-listed.ensures ∙ ap (λ l. names_of (items_of l)) c.deref.ensures.value) c.eprint_duplicate.ensures in
     let none = none-twice g.E.Sink c.args.list.now (find_duplicate (names_of lines)) c.messages-err.result.now c.eprint_duplicate.new.err c.eprint_duplicate.result message c.if-eprint_duplicate.false in
-    subst (λ all. Rises compare_lines (items_of all)) (sym c.deref-4.ensures.value) (lines-rise _ lines c.in_ok-lines.ensures none.0)
+    subst (λ all. Rises compare_lines (items_of all)) (sym c.deref-5.ensures.value) (lines-rise _ lines c.in_ok-lines.ensures none.0)
 
 pub audit_sides-requires-clause-names : goal.audit_sides-requires-clause-names
 audit_sides-requires-clause-names g c =
     let requested = texts_of c.in_ok-requested.requested.items in
     let more = subst (λ names. ReportsDuplicate g.E.Sink (codes "Error") (find_duplicate (texts_of names)) c.eprint_duplicate.new.err c.eprint_duplicate-2.new.err c.eprint_duplicate-2.result) c.deref-3.ensures.value c.eprint_duplicate-2.ensures in
     let none = none-twice g.E.Sink (codes "Error") (find_duplicate requested) c.eprint_duplicate.new.err c.eprint_duplicate-2.new.err c.eprint_duplicate-2.result more c.if-eprint_duplicate-2.false in
-    subst (λ all. Rises compare_paths (texts_of all)) (sym c.deref-5.ensures.value) (names-rise _ requested c.in_ok-requested.ensures none.0)
+    subst (λ all. Rises compare_paths (texts_of all)) (sym c.deref-6.ensures.value) (names-rise _ requested c.in_ok-requested.ensures none.0)
 
 pub returns-then-eprint_duplicate : goal.returns-then-eprint_duplicate
 returns-then-eprint_duplicate g c =
@@ -61,5 +61,5 @@ returns g c =
     let none = none-twice g.E.Sink c.args.list.now (find_duplicate (names_of lines)) c.messages-err.result.now c.eprint_duplicate.new.err c.eprint_duplicate.result message c.if-eprint_duplicate.false in
     let more = subst (λ names. ReportsDuplicate g.E.Sink (codes "Error") (find_duplicate (texts_of names)) c.eprint_duplicate.new.err c.eprint_duplicate-2.new.err c.eprint_duplicate-2.result) c.deref-3.ensures.value c.eprint_duplicate-2.ensures in
     let none-2 = none-twice g.E.Sink (codes "Error") (find_duplicate requested) c.eprint_duplicate.new.err c.eprint_duplicate-2.new.err c.eprint_duplicate-2.result more c.if-eprint_duplicate-2.false in
-    let sides = rw (c.deref-4.ensures.value, c.deref-5.ensures.value, none-2.1, none.1, c.messages-err.ensures.value) at c.audit_sides.ensures in
+    let sides = rw (c.deref-4.ensures.value, c.in_ok-lost.ensures, c.deref-5.ensures.value, c.deref-6.ensures.value, none-2.1, none.1, c.messages-err.ensures.value) at c.audit_sides.ensures in
     inl (lines, requested, c.in_ok-lines.ensures, c.in_ok-requested.ensures, rw (none.0, none-2.0) sides)

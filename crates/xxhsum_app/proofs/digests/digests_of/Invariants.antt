@@ -7,8 +7,8 @@ invariant-loop-side g l = record {
   rows : List Row;
   done : List (Side Item (List ℕ));
   parts : by_path (items_of l.fn.lines) (texts_of l.fn.names) ≡ done ++ by_path (items_of l.lines_left) (texts_of l.names_left);
-  are : AreRows (files_of g.S.Store g.S.File.Source l.fn.context.store.now) l.fn.kind done rows;
-  holds : HoldsRows l.fn.kind rows l.compared;
+  are : AreRows (files_of g.S.Store g.S.File.Source l.fn.context.store.now) l.fn.kind (texts_of l.fn.lost) done rows;
+  holds : HoldsRows l.fn.kind (texts_of l.fn.lost) rows l.compared;
   reports : EprintsLines g.E.Sink (messages_in rows) l.initial.err l.err;
 }
 

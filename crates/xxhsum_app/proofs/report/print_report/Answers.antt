@@ -1,36 +1,34 @@
-use Rattle.xxhsum_app.proofs.Prelude.{◌+◌, ◌∙◌, ◌≤◌, PrintsLine, Took, Took-join, ap, arith, drop, found_of, founds_of, is-err, length, map_more, shown_lines, subst, sym, take, take_all}
-use Rattle.xxhsum_app.proofs.ReportFacts.{ends-in-counts, map-at, report-stops, shown-push, stops-in-line}
+use Rattle.xxhsum_app.proofs.Prelude.{◌∙◌, OutOfMemory, PrintsLine, founds_of, is-err, subst, texts_of}
+use Rattle.xxhsum_app.proofs.ReportFacts.{ends-in-counts, report-stops, stops-in-back, stops-in-counts, stops-in-front}
 use Rattle.xxhsum_app.proofs.report.print_report.Goals as goal
 
-pub returns-in_err-print_one : goal.returns-in_err-print_one
-returns-in_err-print_one g c =
-    let so_far = c.loop-verdict.invariant in
-    let k = c.loop-verdict.verdict-index in
-    let found = c.args.found.now in
-    let stop = c.in_err-print_one.field-0.0 in
-    report-stops (Unit {0}) g.W.Sink c.args.options (founds_of found) _ _ stop c.from_residual.result (is-err c.from_residual.result stop c.from_residual.ensures.1)
-    (stops-in-line (Unit {0}) g.W.Sink c.args.options (founds_of found) (founds_of (take k found)) (founds_of (drop (k + 1) found)) _ _ _ _ stop c.if-options.false
-    (map-at found_of found k _ c.loop-verdict-test.true) so_far.prints c.in_err-print_one.ensures.prints)
+pub returns-in_err-print_verdicts : goal.returns-in_err-print_verdicts
+returns-in_err-print_verdicts g c =
+    let stop = c.in_err-print_verdicts.field-0.0 in
+    let found = founds_of c.args.found.now in
+    let unread = texts_of c.args.unread.now in
+    report-stops (Unit {0}) g.W.Sink c.args.options found unread _ _ stop c.from_residual.result (is-err c.from_residual.result stop c.from_residual.ensures.1)
+    (stops-in-front (Unit {0}) g.W.Sink c.args.options found unread c.if-options.false _ _ stop c.in_err-print_verdicts.ensures.prints)
 
-pub loop-verdict-preserved : goal.loop-verdict-preserved
-loop-verdict-preserved g c =
-    let so_far = c.loop-verdict.invariant in
-    let k = c.loop-verdict.verdict-index in
-    let found = c.args.found.now in
-    let lines = shown_lines c.args.options.is_quiet in
-    record {
-      prints = subst (λ text. Took g.W.Sink text c.args.out.now c.print_one.new.out)
-          (sym (ap lines (map_more found_of found k _ c.loop-verdict-test.true) ∙ shown-push c.args.options.is_quiet (founds_of (take k found)) _))
-          (Took-join g.W.Sink _ _ _ _ _ so_far.prints c.in_ok-print_one.ensures.prints);
-      works = c.in_ok-print_one.ensures.works;
-    }
+pub returns-in_err-print_unread : goal.returns-in_err-print_unread
+returns-in_err-print_unread g c =
+    let stop = c.in_err-print_unread.field-0.0 in
+    let found = founds_of c.args.found.now in
+    let unread = texts_of c.args.unread.now in
+    report-stops (Unit {0}) g.W.Sink c.args.options found unread _ _ stop c.from_residual-in_err-print_unread.result
+    (is-err c.from_residual-in_err-print_unread.result stop c.from_residual-in_err-print_unread.ensures.1)
+    (stops-in-back (Unit {0}) g.W.Sink c.args.options found unread c.if-options.false _ _ _ stop c.in_ok-print_verdicts.ensures.prints c.in_err-print_unread.ensures.prints)
+
+pub returns-in_err-counts : goal.returns-in_err-counts
+returns-in_err-counts g c =
+    let found = founds_of c.args.found.now in
+    let unread = texts_of c.args.unread.now in
+    report-stops (Unit {0}) g.W.Sink c.args.options found unread _ _ OutOfMemory c.from_residual-in_err-counts.result
+    (is-err c.from_residual-in_err-counts.result OutOfMemory c.from_residual-in_err-counts.ensures.1)
+    (stops-in-counts (Unit {0}) g.W.Sink c.args.options found unread c.if-options.false _ _ _ c.in_ok-print_verdicts.ensures.prints c.in_ok-print_unread.ensures.prints)
 
 pub returns : goal.returns
 returns g c =
-    let so_far = c.loop-verdict.invariant in
-    let k = c.loop-verdict.verdict-index in
-    let found = c.args.found.now in
-    let all : length found ≤ k = omega (arith, c.loop-verdict-test.false) in
-    let took = subst (λ some. Took g.W.Sink (shown_lines c.args.options.is_quiet (founds_of some)) c.args.out.now c.loop-verdict.out) (take_all k found all) so_far.prints in
-    ends-in-counts g.W.Sink c.args.options (founds_of found) c.args.out.now c.loop-verdict.out c.print.new.out c.print.result c.if-options.false took
-    (subst (λ bytes. PrintsLine g.W.Sink bytes c.loop-verdict.out c.print.new.out c.print.result) (c.deref.ensures.value ∙ c.in_ok-counts.ensures) c.print.ensures.prints)
+    ends-in-counts g.W.Sink c.args.options (founds_of c.args.found.now) (texts_of c.args.unread.now) c.if-options.false _ _ _ c.print.new.out c.print.result
+    c.in_ok-print_verdicts.ensures.prints c.in_ok-print_unread.ensures.prints
+    (subst (λ bytes. PrintsLine g.W.Sink bytes c.print_unread.new.out c.print.new.out c.print.result) (c.deref.ensures.value ∙ c.in_ok-counts.ensures) c.print.ensures.prints)

@@ -1,4 +1,4 @@
-use Rattle.xxhsum_app.proofs.Prelude.{◌∙◌, ◌≡◌, ParsedArgs, Kind, List, None, Ok, Option, Options, Some, Interactive, ap, parsed_args, codes, drop, false, kind_of_program, map, refl, sym, true, ℕ}
+use Rattle.xxhsum_app.proofs.Prelude.{◌∙◌, ◌≡◌, ParsedArgs, Kind, List, None, Option, Options, Some, Interactive, parsed_args, codes, drop, false, kind_of_program, map, refl, sym, true, ℕ}
 use Rattle.xxhsum_program.specs.Command.{Answers, Reads, Tells, answer_text, command_from, command_of, is_well, requested_run, waits_for_terminal, wrong_text}
 use Rattle.xxhsum_app.proofs.run.run_arguments.Goals as goal
 

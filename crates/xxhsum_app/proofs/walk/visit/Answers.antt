@@ -1,13 +1,13 @@
 use Rattle.xxhsum_app.specs.Walk.{state_of}
 use Rattle.xxhsum_app.specs.Messages.{messages_of}
-use Rattle.xxhsum_app.proofs.Prelude.{◌∙◌, EprintsLines, IsIn, IsSeen, Leaf, Lost, Passed, Tree, and-false, and-true, append-nil, closed_text, place_of, refl, reports-nothing, subst, sym, tree_of}
-use Rattle.xxhsum_app.proofs.VisitFacts.{folder-seen, sees-as}
+use Rattle.xxhsum_app.proofs.Prelude.{[], ◌++◌, ◌∷◌, ◌≡◌, EprintsLines, MatchResult, OutOfMemory, IsIn, IsSeen, Leaf, Lost, Passed, Tree, append-nil, closed_text, map, place_of, refl, reports-nothing, subst, sym, tree_of}
+use Rattle.xxhsum_app.proofs.VisitFacts.{folder-seen, sees-as, sees-lost}
 use Rattle.xxhsum_app.proofs.walk.visit.Goals as goal
 
 pub returns-in_ok-add_file-in-File : goal.returns-in_ok-add_file-in-File
 returns-in_ok-add_file-in-File g c =
     let is_file = rw (c.deref.ensures.value, c.in-File.is) at c.kind_at.ensures in
-    (Leaf c.args.place.name.items, (refl, is_file), refl, c.in_ok-add_file-in-File.ensures, sym (and-true _), reports-nothing g.E.Sink c.args.err.now)
+    (Leaf c.args.place.name.items, (refl, is_file), refl, c.in_ok-add_file-in-File.ensures, sym (append-nil _), reports-nothing g.E.Sink c.args.err.now)
 
 pub returns-in-Folder : goal.returns-in-Folder
 returns-in-Folder g c =
@@ -21,10 +21,14 @@ returns-in-Folder g c =
 pub returns-in-Other : goal.returns-in-Other
 returns-in-Other g c =
     let is_other = rw (c.deref.ensures.value, c.in-Other.is) at c.kind_at.ensures in
-    (Passed c.args.place.name.items, (refl, is_other), refl, sym (append-nil _), sym (and-true _), reports-nothing g.E.Sink c.args.err.now)
+    (Passed c.args.place.name.items, (refl, is_other), refl, sym (append-nil _), sym (append-nil _), reports-nothing g.E.Sink c.args.err.now)
 
 pub returns-in-Unknown : goal.returns-in-Unknown
 returns-in-Unknown g c =
     let is_lost = rw (c.deref.ensures.value, c.in-Unknown.is) at c.kind_at.ensures in
-    let message = subst (λ name. EprintsLines g.E.Sink (closed_text name c.in-Unknown.refusal) c.args.err.now c.mark_incomplete.new.err) c.deref-in-Unknown.ensures.value c.mark_incomplete.ensures.reports in
-    (Lost c.args.place.name.items c.in-Unknown.refusal, (refl, is_lost), refl, sym (append-nil _), c.mark_incomplete.ensures.lost ∙ and-false _, message)
+    let adds = subst (λ name. MatchResult c.add_unread.result
+    (λ _. (map (λ name. name.items) c.add_unread.new.unread.items ≡ map (λ name. name.items) c.args.walked.now.unread.items ++ name ∷ []) × EprintsLines g.E.Sink (closed_text name c.in-Unknown.refusal) c.args.err.now c.add_unread.new.err)
+    (λ stop. (stop ≡ OutOfMemory) × (c.add_unread.new.err ≡ c.args.err.now))) c.deref-in-Unknown.ensures.value c.add_unread.ensures in
+    sees-lost (IsSeen (tree_of g.S.Store g.S.Folders c.args.store.now) (place_of c.args.place)) (messages_of g.E.Sink c.args.err.now c.add_unread.new.err)
+    (state_of c.args.waiting.now.items c.args.walked.now) (state_of c.args.waiting.now.items (record { files = c.args.walked.now.files; unread = c.add_unread.new.unread }))
+    (Lost c.args.place.name.items c.in-Unknown.refusal) (refl, is_lost) refl (sym (append-nil _)) c.add_unread.result adds

@@ -6,12 +6,12 @@
 use crate::rattle::prelude::Vec;
 use crate::programs::xxhsum_app::digests::digests_of;
 use crate::programs::xxhsum_app::read_list::read_list;
-use crate::programs::xxhsum_app::report::{are_same, print_report};
+use crate::programs::xxhsum_app::report::{is_good, print_report};
 use crate::rattle::{AllocError, Global};
 use crate::programs::xxh_io::kind::Kind;
 use crate::programs::xxh_io::streams::Sink;
 use crate::programs::xxhsum_audit::digest::FileDigest;
-use crate::programs::xxhsum_audit::moves::verdicts;
+use crate::programs::xxhsum_audit::moves::{Compared, verdicts};
 use crate::programs::xxhsum_audit::order::{find_duplicate, names_of, put_lines_in_order, put_names_in_order};
 use crate::programs::xxhsum_fs::store::Store;
 use crate::programs::xxhsum_line::entry::Entry;
@@ -26,7 +26,8 @@ use crate::programs::xxhsum_program::terminal::TimedSink;
 /// the same.
 ///
 /// A list that can't be read, a malformed line, and a duplicate line or name are reported, and then nothing is printed.
-/// A name without a digest is reported, and its line is left out.
+/// A name without a digest is reported, and printed as unreadable; so are the names that are `lost`, which a walk could
+/// not read, and the lines of names below them.
 ///
 /// The caller shows that no write to the output has failed before.
 ///
@@ -35,17 +36,19 @@ use crate::programs::xxhsum_program::terminal::TimedSink;
 /// [`Stop::WriteFailed`] if a write to standard output fails, and [`Stop::OutOfMemory`] if memory runs out.
 pub fn audit_names<S: Store, T: TimedSink, W: Output, E: Sink>(
     context: &Context<'_, S, T>,
+    lost: &[Vec<u8>],
     list: &[u8],
     names: &[Vec<u8>],
     streams: &mut Streams<W, E>,
 ) -> Result<bool, Stop> {
     streams.release();
-    audit_list(context, list, names, streams)
+    audit_list(context, lost, list, names, streams)
 }
 
 // Compares the names with the lines of the list of this name. The caller shows that all output is written.
 fn audit_list<S: Store, T: TimedSink, W: Output, E: Sink>(
     context: &Context<'_, S, T>,
+    lost: &[Vec<u8>],
     list: &[u8],
     names: &[Vec<u8>],
     streams: &mut Streams<W, E>,
@@ -53,12 +56,13 @@ fn audit_list<S: Store, T: TimedSink, W: Output, E: Sink>(
     let Some(entries) = read_list(context, list, streams.messages())? else {
         return Ok(false);
     };
-    audit_lines(context, list, &entries, names, streams)
+    audit_lines(context, lost, list, &entries, names, streams)
 }
 
 // Compares the names with the entries of a list.
 fn audit_lines<S: Store, T: TimedSink, W: Output, E: Sink>(
     context: &Context<'_, S, T>,
+    lost: &[Vec<u8>],
     list: &[u8],
     entries: &[Entry],
     names: &[Vec<u8>],
@@ -67,6 +71,7 @@ fn audit_lines<S: Store, T: TimedSink, W: Output, E: Sink>(
     let lines = lines_in_order(context.alloc, entries)?;
     let requested = names_in_order(context.alloc, names)?;
     let listed = names_of(context.alloc, &lines)?;
+    let lost = borrowed_names(context.alloc, lost)?;
     let err = streams.messages();
     if eprint_duplicate(list, &listed, err) {
         return Ok(false);
@@ -74,7 +79,7 @@ fn audit_lines<S: Store, T: TimedSink, W: Output, E: Sink>(
     if eprint_duplicate(b"Error", &requested, err) {
         return Ok(false);
     }
-    audit_sides(context, &lines, &requested, streams)
+    audit_sides(context, &lost, &lines, &requested, streams)
 }
 
 // Returns the entries, ordered by name.
@@ -126,19 +131,28 @@ fn eprint_duplicate<E: Sink>(among: &[u8], names: &[&[u8]], err: &mut E) -> bool
 // Hashes the names, merged with the lines, both in order, and prints the verdicts.
 fn audit_sides<S: Store, T: TimedSink, W: Output, E: Sink>(
     context: &Context<'_, S, T>,
+    lost: &[&[u8]],
     lines: &[FileDigest<'_>],
     requested: &[&[u8]],
     streams: &mut Streams<W, E>,
 ) -> Result<bool, Stop> {
     let kind = kind_of_new(lines, context.options.kind);
-    let compared = digests_of(context, kind, lines, requested, streams.messages())?;
-    let is_complete = compared.is_complete;
-    let found = verdicts(context.alloc, compared)?;
-    print_report(context.alloc, context.options, &found, &mut streams.out)?;
-    if !are_same(&found) {
-        return Ok(false);
-    }
-    Ok(is_complete)
+    let compared = digests_of(context, kind, lost, lines, requested, streams.messages())?;
+    let Compared {
+        matched,
+        removed,
+        added,
+        unread,
+    } = compared;
+    let found = verdicts(context.alloc, matched, removed, added)?;
+    print_report(
+        context.alloc,
+        context.options,
+        &found,
+        &unread,
+        &mut streams.out,
+    )?;
+    Ok(is_good(&found, &unread))
 }
 
 // Returns the algorithm for names without a line: that of the first line in the order of names.

@@ -64,7 +64,11 @@ fn add_names(
     Ok(())
 }
 
-fn add_name(alloc: Global, name: &[u8], names: &mut Vec<Vec<u8>>) -> Result<(), AllocError> {
+pub(crate) fn add_name(
+    alloc: Global,
+    name: &[u8],
+    names: &mut Vec<Vec<u8>>,
+) -> Result<(), AllocError> {
     let mut owned = Vec::new(alloc);
     owned.extend_from_slice(name)?;
     names.push(owned)?;

@@ -7,52 +7,97 @@ use crate::rattle::prelude::Vec;
 use crate::rattle::itoa::Buffer;
 use crate::rattle::{AllocError, Global};
 use crate::programs::xxh_io::streams::Sink;
-use crate::programs::xxhsum_audit::text::verdict_line;
+use crate::programs::xxhsum_audit::text::{unreadable_text, verdict_text};
 use crate::programs::xxhsum_audit::verdict::{Class, Verdict, count_of};
 use crate::programs::xxhsum_options::options::Options;
 use crate::programs::xxhsum_program::stdout::print;
 use crate::programs::xxhsum_program::stop::Stop;
 
-// Prints the verdicts, and the count of each class.
+// Prints the verdicts, the names that can't be read, and the count of each class.
 pub(crate) fn print_report<W: Sink>(
     alloc: Global,
     options: Options,
     found: &[Verdict<'_>],
+    unread: &[&[u8]],
     out: &mut W,
 ) -> Result<(), Stop> {
     if options.is_status_only {
         return Ok(());
     }
-    for verdict in found {
-        print_one(alloc, options.is_quiet, *verdict, out)?;
-    }
-    let counts = counts_line(alloc, found)?;
+    print_verdicts(alloc, options, found, out)?;
+    print_unread(alloc, options, unread, out)?;
+    let counts = counts_line(alloc, options, found, unread)?;
     print(&counts, out)
 }
 
-// Prints the line of a verdict. If it is quiet, files that are the same have none.
+// Prints the texts of the verdicts.
+fn print_verdicts<W: Sink>(
+    alloc: Global,
+    options: Options,
+    found: &[Verdict<'_>],
+    out: &mut W,
+) -> Result<(), Stop> {
+    for verdict in found {
+        print_one(alloc, options, *verdict, out)?;
+    }
+    Ok(())
+}
+
+// Prints the texts of the names that can't be read.
+fn print_unread<W: Sink>(
+    alloc: Global,
+    options: Options,
+    unread: &[&[u8]],
+    out: &mut W,
+) -> Result<(), Stop> {
+    for name in unread {
+        print_name(alloc, options, name, out)?;
+    }
+    Ok(())
+}
+
+// Prints the text of a verdict. With `-q`, files that are the same have none.
 fn print_one<W: Sink>(
     alloc: Global,
-    is_quiet: bool,
+    options: Options,
     verdict: Verdict<'_>,
     out: &mut W,
 ) -> Result<(), Stop> {
-    if is_quiet && verdict.class() == Class::Same {
+    if options.is_quiet && verdict.class() == Class::Same {
         return Ok(());
     }
-    let line = verdict_line(alloc, verdict)?;
-    print(&line, out)
+    let text = verdict_text(alloc, verdict, options.ends_in_nul)?;
+    print(&text, out)
 }
 
-// Returns the line with the count of each class.
-fn counts_line(alloc: Global, found: &[Verdict<'_>]) -> Result<Vec<u8>, AllocError> {
+// Prints the text of a name that can't be read.
+fn print_name<W: Sink>(
+    alloc: Global,
+    options: Options,
+    name: &[u8],
+    out: &mut W,
+) -> Result<(), Stop> {
+    let text = unreadable_text(alloc, name, options.ends_in_nul)?;
+    print(&text, out)
+}
+
+// Returns the text with the count of each class.
+fn counts_line(
+    alloc: Global,
+    options: Options,
+    found: &[Verdict<'_>],
+    unread: &[&[u8]],
+) -> Result<Vec<u8>, AllocError> {
     let mut line = Vec::new(alloc);
     put_count(&mut line, Class::Same, found, b" same, ")?;
     put_count(&mut line, Class::Changed, found, b" changed, ")?;
     put_count(&mut line, Class::Moved, found, b" moved, ")?;
     put_count(&mut line, Class::Copied, found, b" copied, ")?;
     put_count(&mut line, Class::New, found, b" new, ")?;
-    put_count(&mut line, Class::Missing, found, b" missing\n")?;
+    put_count(&mut line, Class::Missing, found, b" missing, ")?;
+    put_number(&mut line, unread.len())?;
+    line.extend_from_slice(b" unreadable")?;
+    line.push(if options.ends_in_nul { 0 } else { b'\n' })?;
     Ok(line)
 }
 
@@ -62,13 +107,22 @@ fn put_count(
     found: &[Verdict<'_>],
     word: &[u8],
 ) -> Result<(), AllocError> {
-    let mut digits = Buffer::new();
-    line.extend_from_slice(digits.format(count_of(class, found)).as_bytes())?;
+    put_number(line, count_of(class, found))?;
     line.extend_from_slice(word)
 }
 
+fn put_number(line: &mut Vec<u8>, number: usize) -> Result<(), AllocError> {
+    let mut digits = Buffer::new();
+    line.extend_from_slice(digits.format(number).as_bytes())
+}
+
+// True if all are the same, and no name is unreadable.
+pub(crate) fn is_good(found: &[Verdict<'_>], unread: &[&[u8]]) -> bool {
+    are_same(found) && unread.is_empty()
+}
+
 // True if all are the same.
-pub(crate) fn are_same(found: &[Verdict<'_>]) -> bool {
+fn are_same(found: &[Verdict<'_>]) -> bool {
     for verdict in found {
         if verdict.class() != Class::Same {
             return false;

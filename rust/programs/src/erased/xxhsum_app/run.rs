@@ -6,7 +6,7 @@
 use crate::rattle::prelude::Vec;
 use crate::programs::xxhsum_app::audit::audit_names;
 use crate::programs::xxhsum_app::names::names_listed;
-use crate::programs::xxhsum_app::walk::files_below;
+use crate::programs::xxhsum_app::walk::{files_below, has_none};
 use crate::rattle::{AllocError, Global};
 use crate::programs::xxh_io::streams::{Sink, Source};
 use crate::programs::xxhsum_fs::folders::Folders;
@@ -146,16 +146,16 @@ where
         return audit_below(context, list, rest, streams);
     }
     if !context.options.names_from.are_listed() {
-        return audit_names(context, list, rest, streams);
+        return audit_names(context, &[], list, rest, streams);
     }
     let Some(names) = names_listed(context, rest, input, streams.messages())? else {
         return Ok(false);
     };
-    audit_names(context, list, &names, streams)
+    audit_names(context, &[], list, &names, streams)
 }
 
-// Audits the files of the names and below their folders against `list`. If a folder can't be read, there is no audit,
-// since missing lines can't be reported.
+// Audits the files of the names and below their folders against `list`. Folders that can't be read are unreadable in
+// the report.
 fn audit_below<S: Store + Folders, T: TimedSink, W: Output, E: Sink>(
     context: &Context<'_, S, T>,
     list: &[u8],
@@ -163,12 +163,7 @@ fn audit_below<S: Store + Folders, T: TimedSink, W: Output, E: Sink>(
     streams: &mut Streams<W, E>,
 ) -> Result<bool, Stop> {
     match files_below(context.alloc, context.store, names, streams.messages()) {
-        Ok(walked) => {
-            if !walked.is_complete {
-                return Ok(false);
-            }
-            audit_names(context, list, &walked.files, streams)
-        }
+        Ok(walked) => audit_names(context, &walked.unread, list, &walked.files, streams),
         Err(stop) => Err(stop),
     }
 }
@@ -182,7 +177,7 @@ fn walk_folders<S: Store + Folders, T: TimedSink, W: Output, E: Sink>(
     match files_below(context.alloc, context.store, names, streams.messages()) {
         Ok(walked) => {
             let done = hash_names(context, &walked.files, streams);
-            all_well(walked.is_complete, done)
+            all_well(has_none(&walked.unread), done)
         }
         Err(stop) => Err(stop),
     }

@@ -4,6 +4,7 @@
 //! Finds the files below folders.
 
 use crate::rattle::prelude::Vec;
+use crate::programs::xxhsum_app::names::add_name;
 use crate::rattle::{AllocError, Global};
 use crate::programs::xxh_io::refusal::Refusal;
 use crate::programs::xxh_io::streams::Sink;
@@ -17,8 +18,8 @@ use crate::programs::xxhsum_program::stop::Stop;
 pub struct Walked {
     /// The names of the files, in order.
     pub files: Vec<Vec<u8>>,
-    /// True if the names in each folder could be read and looked up.
-    pub is_complete: bool,
+    /// The folders that could not be read, and the names in folders that could not be looked up.
+    pub unread: Vec<Vec<u8>>,
 }
 
 // A name to visit: a given name, or a name in a folder.
@@ -44,7 +45,7 @@ pub fn files_below<S: Store + Folders, E: Sink>(
 ) -> Result<Walked, Stop> {
     let mut walked = Walked {
         files: Vec::new(alloc),
-        is_complete: true,
+        unread: Vec::new(alloc),
     };
     let mut waiting = Vec::new(alloc);
     put_names(alloc, b"", true, names, &mut waiting)?;
@@ -111,10 +112,7 @@ fn visit<S: Store + Folders, E: Sink>(
         }
         PathKind::Folder => open_folder(alloc, store, &name, waiting, walked, err),
         PathKind::Other => Ok(()),
-        PathKind::Unknown(refusal) => {
-            mark_incomplete(&name, refusal, &mut walked.is_complete, err);
-            Ok(())
-        }
+        PathKind::Unknown(refusal) => add_unread(alloc, &name, refusal, &mut walked.unread, err),
     }
 }
 
@@ -153,8 +151,7 @@ fn open_folder<S: Store + Folders, E: Sink>(
         }
         Err(FolderError::OutOfMemory) => Err(Stop::OutOfMemory),
         Err(FolderError::Refused(refusal)) => {
-            mark_incomplete(name, refusal, &mut walked.is_complete, err);
-            Ok(())
+            add_unread(alloc, name, refusal, &mut walked.unread, err)
         }
     }
 }
@@ -176,13 +173,25 @@ fn in_order(names: Vec<Vec<u8>>) -> Vec<Vec<u8>> {
     names
 }
 
-// Reports a folder that can't be read, or a name that can't be looked up. The walk is then incomplete.
-fn mark_incomplete<E: Sink>(name: &[u8], refusal: Refusal, is_complete: &mut bool, err: &mut E) {
+// Adds and reports a folder that can't be read, or a name that can't be looked up. If out of memory, reports nothing.
+fn add_unread<E: Sink>(
+    alloc: Global,
+    name: &[u8],
+    refusal: Refusal,
+    unread: &mut Vec<Vec<u8>>,
+    err: &mut E,
+) -> Result<(), Stop> {
+    add_name(alloc, name, unread)?;
     let outcome = Outcome::Unread {
         reason: Reason::Unopened { refusal },
     };
     eprint_outcome(name, &outcome, err);
-    *is_complete = false;
+    Ok(())
+}
+
+/// True if there is no name.
+pub fn has_none(names: &[Vec<u8>]) -> bool {
+    names.is_empty()
 }
 
 /// Lemma: a walk finds exactly the files that the given names lead to through names in folders, if each folder could be

@@ -12,3 +12,8 @@
 /// names. The audit of the same lines and names in any other order is the same, also for a list joined from the lists
 /// of several jobs.
 pub fn laws_of_audits() {}
+
+/// Lemma (no code), the laws of an audit's text. Each result is one line, whatever names it has. Two results with one
+/// line have the same name, class and other name; so have two with one record that ends with a NUL, if no name has a
+/// NUL.
+pub fn laws_of_texts() {}

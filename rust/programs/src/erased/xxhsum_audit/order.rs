@@ -33,8 +33,28 @@ pub fn compare_paths(a: &[u8], b: &[u8]) -> Ordering {
     normalize_path(a).cmp(normalize_path(b))
 }
 
+/// True if the path of the name is that of the folder, or below it. All paths are below `.`.
+pub fn hides(folder: &[u8], name: &[u8]) -> bool {
+    let base = normalize_path(folder);
+    base == b".".as_slice() || holds_path(base, normalize_path(name))
+}
+
+fn holds_path(base: &[u8], path: &[u8]) -> bool {
+    match path.strip_prefix(base) {
+        Some(rest) => base.is_empty() || base.ends_with(b"/") || is_tail(rest),
+        None => false,
+    }
+}
+
+fn is_tail(rest: &[u8]) -> bool {
+    match rest.first() {
+        Some(byte) => *byte == b'/',
+        None => true,
+    }
+}
+
 // Compares two names for sorting: those with one path by all their bytes.
-fn rank_names(a: &[u8], b: &[u8]) -> Ordering {
+pub(crate) fn rank_names(a: &[u8], b: &[u8]) -> Ordering {
     match compare_paths(a, b) {
         Ordering::Less => Ordering::Less,
         Ordering::Equal => a.cmp(b),
@@ -52,7 +72,7 @@ pub fn compare_digests(a: FileDigest<'_>, b: FileDigest<'_>) -> Ordering {
 }
 
 // Compares two digests for sorting: those of one algorithm and value by their names.
-fn rank_digests(a: FileDigest<'_>, b: FileDigest<'_>) -> Ordering {
+pub(crate) fn rank_digests(a: FileDigest<'_>, b: FileDigest<'_>) -> Ordering {
     match compare_digests(a, b) {
         Ordering::Less => Ordering::Less,
         Ordering::Equal => rank_names(a.name, b.name),

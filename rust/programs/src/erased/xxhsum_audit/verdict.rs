@@ -4,7 +4,7 @@
 //! The result of an audit for a line, a name, or both.
 
 use crate::programs::xxhsum_audit::digest::FileDigest;
-use crate::programs::xxhsum_audit::order::compare_digests;
+use crate::programs::xxhsum_audit::order::{compare_digests, rank_digests, rank_names};
 use std::cmp::Ordering;
 
 /// The result of a line, of a name, or of both.
@@ -60,6 +60,30 @@ impl<'n> Verdict<'n> {
             Verdict::Changed { line, name }
         }
     }
+
+    // Returns the digest of the name that it is about.
+    fn told(self) -> FileDigest<'n> {
+        match self {
+            Verdict::Same { name, .. }
+            | Verdict::Changed { name, .. }
+            | Verdict::Moved { name, .. }
+            | Verdict::Copied { name, .. }
+            | Verdict::New { name } => name,
+            Verdict::Missing { line } => line,
+        }
+    }
+
+    // Returns the digest that it is compared with: that of the line, or of the original of a copy.
+    fn source(self) -> FileDigest<'n> {
+        match self {
+            Verdict::Same { line, .. }
+            | Verdict::Changed { line, .. }
+            | Verdict::Moved { line, .. }
+            | Verdict::Missing { line } => line,
+            Verdict::Copied { original, .. } => original,
+            Verdict::New { name } => name,
+        }
+    }
 }
 
 impl Verdict<'_> {
@@ -74,6 +98,31 @@ impl Verdict<'_> {
             Verdict::Missing { .. } => Class::Missing,
         }
     }
+}
+
+// Returns the position of a class among the classes.
+fn rank_of_class(class: Class) -> u8 {
+    match class {
+        Class::Same => 0,
+        Class::Changed => 1,
+        Class::Moved => 2,
+        Class::Copied => 3,
+        Class::New => 4,
+        Class::Missing => 5,
+    }
+}
+
+// Compares two results by the names that they are about, and then by all else.
+fn rank_verdicts(a: Verdict<'_>, b: Verdict<'_>) -> Ordering {
+    let classes = rank_of_class(a.class()).cmp(&rank_of_class(b.class()));
+    let digests = rank_digests(a.told(), b.told());
+    let sources = rank_digests(a.source(), b.source());
+    rank_names(a.told().name, b.told().name).then(classes.then(digests.then(sources)))
+}
+
+// Sorts results by the names that they are about.
+pub(crate) fn put_verdicts_in_order(verdicts: &mut [Verdict<'_>]) {
+    verdicts.sort_unstable_by(|a, b| rank_verdicts(*a, *b));
 }
 
 /// Returns how many of the results are of this class.

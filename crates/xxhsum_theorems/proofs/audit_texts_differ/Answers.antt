@@ -1,0 +1,4 @@
+use Rattle.xxhsum_theorems.proofs.audit_texts_differ.Goals as goal
+
+pub returns : goal.returns
+returns c = record { lines = c.laws_of_texts.ensures.lines; records = c.laws_of_texts.ensures.records }
