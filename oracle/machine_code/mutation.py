@@ -2,19 +2,25 @@
 condition or shift, an instruction left out, or two neighbours swapped.
 
 A change is tested by requests that run the instruction (queries.py). It is detected if the source's term differs from
-the definition's, or if the source does something that no call may do. Undetected changes are listed in equivalent_mutants
-with their reasons, in one file per source. A listed change that is detected fails. With --all an unneeded reason fails
-too. A crash of this program doesn't count as detection."""
+the definition's, or if the source does something that no call may do. A crash of this program doesn't count as
+detection.
+
+An undetected change of the C library's sources fails if random calls of the built library find a result that it changes
+(executions.py). How many of the detected changes these calls find shows what they are worth. Those of the cargo crate's
+source are listed in equivalent_mutants with their reasons. A listed change that is detected fails. With --all an
+unneeded reason fails too."""
 import collections
 import functools
 import hashlib
 import itertools
 import os
 import random
+import tempfile
 
-from reasons import CRASH, UNNOTICED, Reasons, is_fault
+from reasons import CRASH, UNNOTICED, Called, Reasons, is_fault
 from symbolic_terms import definition, nodes
 
+from .executions import Library
 from .instructions import PARTS, SETS, TABLE, VECTORS, letters
 from .objects import TEXT, Immediate, Place, Register
 from .one_shots import is_plain
@@ -182,11 +188,23 @@ def more_ways(cpu, reached, asked, entries, is_all, section, beside):
 
 
 def noticed(name, make, count, is_all, is_drawn=anywhere, beside=FOR_C):
-    """Returns the number of tested changes of a source, and the failures. `is_drawn` selects the sections."""
-    cpu, known = make(), Reasons(os.path.join(FOLDER, f"{name}.txt"))
+    """Returns the number of tested changes of a source, the failures, and remarks. `is_drawn` selects the sections."""
+    cpu = make()
     some = of_draws(functools.partial(drawn, cpu, is_drawn), count, DRAWS if is_all else 1)
+    if beside is FOR_C:
+        return noticed_by_library(name, cpu, some, is_all)
+    known = Reasons(os.path.join(FOLDER, f"{name}.txt"))
     texts, bad = noticed_of(cpu, some, known, is_all, beside)
     return len(texts), bad + [f"no change needs the reason of {words}" for words in (known.unused(texts) if is_all else ())]
+
+
+def noticed_by_library(name, cpu, changes, is_all):
+    """The same for a source of the C library, which is built and called."""
+    def call(_, after):
+        return library.first_difference([cpu.program.sections[x.section][x.at] for x in after], after)
+    with tempfile.TemporaryDirectory(prefix="machine-text-") as workdir:
+        library = Library(name, cpu.program, os.path.join(workdir, "library"))
+        return noticed_by_calls(cpu, changes, is_all, call)
 
 
 def of_draws(one, count, draws=1):
@@ -200,22 +218,37 @@ def part_of(changes, part):
     return lambda places: itertools.islice(changes(places), part, None, TASKS)
 
 
+def noticed_by_calls(cpu, changes, is_all, call):
+    """Returns the number of tested changes, messages for undetected ones that change a result, and the counts of calls.
+    `call` returns the first difference of a change's text and instructions."""
+    count, bad, called = 0, [], Called()
+    for text, instructions, what in tested(cpu, changes, is_all, FOR_C):
+        what = called.outcome(what, functools.partial(call, text, instructions))
+        count, bad = count + 1, bad + [f"{what}: {text}"] * is_fault(what, False)
+    return count, bad + called.faults(), called.told()
+
+
 def noticed_of(cpu, changes, known, is_all, beside=FOR_C):
-    """Returns the texts of the tested changes, and the messages for undetected ones. `changes` draws from a source's
-    places; `known` has the reasons. The queries about a change don't depend on other changes."""
+    """Returns the texts of the tested changes, and the messages for undetected ones without a reason in `known`."""
+    bad, texts = [], []
+    for text, _, what in tested(cpu, changes, is_all, beside, known.of):
+        has_reason = bool(known.of(text))
+        texts.append(text)
+        if is_fault(what, has_reason):
+            bad.append(f"{what}{', and has a reason' if has_reason else ''}: {text}")
+    return texts, bad
+
+
+def tested(cpu, changes, is_all, beside, has_reason=lambda text: False):
+    """Yields (text, instructions, outcome) of each change that `changes` draws from a source's places. Those with a
+    reason are tested by fewer queries. The queries about a change don't depend on other changes."""
     nodes.forget()
     cpu.limit = LIMIT
     entries = definition.program().run()
     asked = queries(entries, is_all, beside.calls, cpu.library)
     found = reaching(cpu, asked)
-    bad, texts = [], []
     near_to = functools.partial(near, entries=entries, count=NEAR, shortest=beside.shortest)
     for place, text, instructions in changes(sorted(found)):
-        texts.append(text)
         reached = [query for k, query in enumerate(asked) if found[place] >> k & 1]
-        has_reason = bool(known.of(text))
-        more = () if has_reason else more_ways(cpu, reached, asked, entries, is_all, place[0], beside)
-        what = outcome(cpu, instructions, reached, random.Random(text), near_to, more)
-        if is_fault(what, has_reason):
-            bad.append(f"{what}{', and has a reason' if has_reason else ''}: {text}")
-    return texts, bad
+        more = () if has_reason(text) else more_ways(cpu, reached, asked, entries, is_all, place[0], beside)
+        yield text, instructions, outcome(cpu, instructions, reached, random.Random(text), near_to, more)

@@ -52,11 +52,11 @@ def makers(texts):
 
 
 def counted(title, least, ask):
-    """Returns a task with a minimum number of cases: `ask` returns the number that passed, and the failures."""
+    """Returns a task with a minimum number of cases: `ask` returns the number that passed, the failures, and remarks."""
     def outcome():
-        count, bad = ask()
+        count, bad, *remarks = ask()
         few = [f"{count} cases, and {least} at least are wanted"] if count < least and not bad else []
-        return f"{count} cases", bad + few
+        return "; ".join([f"{count} cases", *remarks]), bad + few
     return Task(title, outcome)
 
 

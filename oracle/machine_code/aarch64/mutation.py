@@ -5,18 +5,50 @@ operation. objdump decodes the changed bytes, like the source's. Bytes that are 
 lacks, aren't a change: the table's refusal would prove nothing."""
 import functools
 import os
+import re
 import tempfile
 
-from reasons import Reasons
 from symbolic_terms import Unsupported
 
-from .. import mutation
+from .. import executions, mutation
+from . import objects
 from .objects import SIZE, Shift, listing
 from .table import TABLE, Processor
 
-EQUAL = os.path.join(os.path.dirname(os.path.abspath(__file__)), "equivalent_mutants.txt")
 MANY, FEW = 1000, 40              # changes of a random seed, with --all and without
 BITS = 8 * SIZE
+
+
+# Names of the relocations' types.
+TYPES = {objects.PAGE: "ADR_PREL_PG_HI21", objects.LOW_ADD: "ADD_ABS_LO12_NC", objects.JUMP: "JUMP26",
+         objects.CALL: "CALL26", objects.LOW_64: "LDST64_ABS_LO12_NC", objects.LOW_128: "LDST128_ABS_LO12_NC"}
+
+
+class Library(executions.Library):
+    """The C library for 64-bit ARM, under qemu, beside the reference's header."""
+    tools, emulator = "aarch64-linux-gnu-", ["qemu-aarch64", "-L", "/usr/aarch64-linux-gnu"]
+
+    def __init__(self, program, folder):
+        super().__init__("aarch64", program, folder)
+        macros = "-DXXH_STATIC_LINKING_ONLY", "-DXXH_IMPLEMENTATION"
+        header = "-include", "/usr/include/xxhash.h", "-x", "c", os.devnull
+        self.reference = self.compiled("reference.so", "-shared", "-fPIC", *macros, *header)
+        self.program = program
+
+    def with_bit(self, text):
+        """Returns what differs if a bit of an instruction is inverted, or an empty string. `text` is that of `drawn`."""
+        section, at, bit = re.match(r"(\S+) (0x\w+) .*: bit (\d+) ", text).groups()
+        section, at = f".text.{section}", int(at, 16)
+        head, lines = self.program.heads[section], list(self.lines)
+        word = int.from_bytes(self.program.object.body(head)[at:at + SIZE], "little") ^ 1 << int(bit)
+        number = self.line_at[section, at]
+        relocation = self.program.relocations_of(head).get(at)
+        if relocation:
+            symbol = re.search(r"([.\w]+)\]?$", lines[number])[1]
+            lines[number] = f"\t.reloc ., R_AARCH64_{TYPES[relocation[0]]}, {symbol}; .inst {word:#x}"
+        else:
+            lines[number] = f"\t.inst {word:#x}"
+        return self.difference_of(lines)
 
 
 class Changed:
@@ -81,11 +113,11 @@ def plain(operand):
 
 
 def noticed(program, part):
-    """Returns the number of changes, and the undetected ones without a reason: one part of all, or a few."""
+    """Returns the number of changes, and the undetected ones that change a result: one part of all, or a few."""
     is_all = part is not None
-    with tempfile.TemporaryDirectory(prefix="arm-text-") as room:
-        changed = Changed(program, os.path.join(room, "text.o"))
+    with tempfile.TemporaryDirectory(prefix="arm-text-") as workdir:
+        changed = Changed(program, os.path.join(workdir, "text.o"))
         some = mutation.of_draws(functools.partial(drawn, changed), MANY if is_all else FEW)
         some = mutation.part_of(some, part) if is_all else some
-        texts, bad = mutation.noticed_of(Processor(program), some, Reasons(EQUAL), is_all)
-    return len(texts), bad
+        library = Library(program, os.path.join(workdir, "library"))
+        return mutation.noticed_by_calls(Processor(program), some, is_all, lambda text, _: library.with_bit(text))

@@ -3,27 +3,28 @@
 A change is one instruction replaced by another of the same types, or one inverted bit of an instruction. Changes that
 the reader or the validator refuses are counted separately. The others are tested by requests that run the instruction.
 A change is detected if a value differs at a point, or there is no value. If the terms differ but no such point is
-found, it counts as refused. Changes that break no guarantee are in equivalent_mutants.txt, each with its reason. A crash of
-this program counts as neither."""
+found, it counts as refused. A crash of this program counts as neither.
+
+An undetected change fails if random calls in Node find a result that it changes (executions.py). How many of the
+detected changes these calls find shows what they are worth."""
 import collections
 import copy
+import functools
 import itertools
-import os
 import random
 
-from reasons import CRASH, UNNOTICED, WRONG_RULE, Reasons, is_fault
+from reasons import CRASH, UNNOTICED, WRONG_RULE, Called, is_fault
 from symbolic_terms import REFUSALS, Request, WrongRule, comparison, nodes
 from symbolic_terms.mutation import differs
 
 from ..xxh3_updates import TAKE_BLOCKS
-from . import calls, every_length, refusals
+from . import calls, every_length, executions, refusals
 from .comparing import Texts, with_seed_0
 from .module import Malformed, Reader
 from .opcodes import OPCODES
 from .validator import Validator, ends_of
 from .xxh3_streams import ModuleUpdates
 
-EQUAL = os.path.join(os.path.dirname(os.path.abspath(__file__)), "equivalent_mutants.txt")
 LENGTHS = [*range(10), *range(14, 36, 3), 63, 64, 65, 96, 97, 120, 128, 129, 145, 200, 240, 241, 256, 257, 300, 1030]
 # If those detect nothing: edges first, then each length, or for streams each ninth.
 EDGES = [16, 17, 8, 9, 3, 4, 5, 128, 129, 240, 241, 31, 32, 33, 64, 65, 96, 97, 256, 257, 0, 1, 512, 513, 576, 1024,
@@ -327,16 +328,19 @@ def shown(given):
 def tell(machines, name, count, seed, is_all):
     """Tests `count` random changes of a module and those by hand. Returns the counts of outcomes, and the failures."""
     vm = machines[name]
-    covered, texts, known = Covered(vm, is_all), Texts(), Reasons(EQUAL)
+    covered, texts, called = Covered(vm, is_all), Texts(), Called()
     counts, bad = collections.Counter(), []
-    for text, changed, queries in (*drawn_by_hand(vm, covered), *drawn(vm, covered, count, seed)):
+    for number, (text, changed, queries) in enumerate((*drawn_by_hand(vm, covered), *drawn(vm, covered, count, seed))):
         what = NOT_VALID if changed is None else outcome(changed, texts, queries)
-        has_reason = what == UNNOTICED and bool(known.of(f"{name}, {text}"))
-        if what == UNNOTICED and not has_reason:
+        if what == UNNOTICED:
             what = outcome(changed, texts, more(queries))
             what = of_many_bytes(changed) if what == UNNOTICED else what
             texts.forget()
-        counts["unnoticed, with a reason" if has_reason else what.partition(":")[0]] += 1
-        if is_fault(what, has_reason):
+        if what in (NOTICED, UNNOTICED):
+            what = called.outcome(what, functools.partial(
+                executions.first_difference, vm.module.whole, changed.module.whole, number))
+        counts[what.partition(":")[0]] += 1
+        if is_fault(what, False):
             bad.append(f"{what}: {text}")
-    return f"{covered.told(vm)}; " + ", ".join(f"{n} {what}" for what, n in counts.most_common()), bad
+    told = ", ".join(f"{n} {what}" for what, n in counts.most_common())
+    return f"{covered.told(vm)}; {told}; {called.told()}", bad + called.faults()
