@@ -6,13 +6,13 @@ import re
 import shutil
 import subprocess
 
-import clients
-from file_program import file_program_agrees
-from launcher import OLD, SETS
-from report import tail, want
-from sides import THEIRS, Side, others, run
-from library import C, sets_here, sets_of_library
-from tools import TOP, bytes_of, must, ran, write
+from c.checks import clients
+from c.checks.file_program import file_program_agrees
+from c.checks.launcher import OLD, SETS
+from checks.lib.report import last_line, check
+from c.checks.sides import THEIRS, Side, others, run
+from c.checks.library import C, sets_here, sets_of_library
+from checks.lib.tools import TOP, bytes_of, must, ran, write
 
 NAME = 'twox-hash'
 PREFIX = '/usr/lib/twox-hash'
@@ -20,18 +20,23 @@ FOLDER = os.path.join(PREFIX, 'lib')
 # What of lintian is left: the second `lib` of the folder is meant, as in those of LLVM; xxh is no C, whose calls gcc
 # could fortify; a word that it takes for a misspelled one is code; what it takes for a library that needs no other is a
 # program, linked statically so that it starts without any; and the section .comment names the logic of the proofs.
-LEFT = ('repeated-path-segment', 'hardening-no-fortify-functions', 'spelling-error-in-binary',
-        'shared-library-lacks-prerequisites', 'binary-has-unneeded-section')
+LEFT = (
+    'repeated-path-segment',
+    'hardening-no-fortify-functions',
+    'spelling-error-in-binary',
+    'shared-library-lacks-prerequisites',
+    'binary-has-unneeded-section',
+)
 EXAMPLE = os.path.join(TOP, 'examples', 'c', 'hash-file.c')
 
 
 class Package:
     """The package file, and the machine's own library before."""
 
-    def __init__(self, room):
-        self.room, self.ours = room, library(sets_here()[-1])
-        self.said = must([os.path.join(C, 'package'), room]).splitlines()[-1]
-        self.file, = glob.glob(os.path.join(room, '*.deb'))
+    def __init__(self, workdir):
+        self.workdir, self.ours = workdir, library(sets_here()[-1])
+        self.output = must([os.path.join(C, 'package'), workdir]).splitlines()[-1]
+        (self.file,) = glob.glob(os.path.join(workdir, '*.deb'))
         self.theirs_before = their_state()
 
 
@@ -48,56 +53,80 @@ def their_state():
 
 
 def is_installed():
-    done = subprocess.run(['dpkg-query', '-W', '-f', '${db:Status-Status}', NAME], stdout=subprocess.PIPE,
-                          stderr=subprocess.DEVNULL, text=True)
+    done = subprocess.run(
+        ['dpkg-query', '-W', '-f', '${db:Status-Status}', NAME],
+        stdout=subprocess.PIPE,
+        stderr=subprocess.DEVNULL,
+        text=True,
+    )
     return done.returncode == 0
 
 
 def lintian_is_silent(package):
     """Except a warning and three hints: see LEFT."""
-    said = must(['lintian', '--fail-on', 'none', '--display-info', '--pedantic', '--suppress-tags', ','.join(LEFT),
-                 package.file])
-    tags = [line for line in said.splitlines() if re.match('[EWIP]: ', line)]
-    want(not tags, ' / '.join(tags))
+    output = must(
+        [
+            'lintian',
+            '--fail-on',
+            'none',
+            '--display-info',
+            '--pedantic',
+            '--suppress-tags',
+            ','.join(LEFT),
+            package.file,
+        ]
+    )
+    tags = [line for line in output.splitlines() if re.match('[EWIP]: ', line)]
+    check(not tags, ' / '.join(tags))
     return f'no error, warning or hint but {", ".join(LEFT)}'
 
 
 def installs(package):
     """dpkg installs it, lists what the package file has, and finds nothing changed."""
     must(['dpkg', '-i', package.file])
-    want(not must(['dpkg', '-V', NAME]), 'dpkg -V finds a change')
+    check(not must(['dpkg', '-V', NAME]), 'dpkg -V finds a change')
     listed = {path for path in must(['dpkg', '-L', NAME]).splitlines() if path != '/.'}
-    packed = {line.split(' -> ')[0].split(' ./', 1)[1] for line in
-              must(['dpkg-deb', '-c', package.file]).splitlines() if not line.endswith(' ./')}
-    want(listed == {'/' + path.rstrip('/') for path in packed}, 'dpkg -L lists other files')
+    packed = {
+        line.split(' -> ')[0].split(' ./', 1)[1]
+        for line in must(['dpkg-deb', '-c', package.file]).splitlines()
+        if not line.endswith(' ./')
+    }
+    check(listed == {'/' + path.rstrip('/') for path in packed}, 'dpkg -L lists other files')
     files = [path for path in listed if os.path.isfile(path)]
-    for path in (*map(library, sets_of_library()), '/usr/bin/xxh', '/usr/share/man/man1/xxh.1.gz', f'/usr/share/doc/{NAME}/copyright'):
-        want(path in files, f'without {path}')
-    want(their_state() == package.theirs_before, "Debian's library is another")
-    return package.said.split(': ', 1)[1] + f'; {len(files)} files and links'
+    for path in (
+        *map(library, sets_of_library()),
+        '/usr/bin/xxh',
+        '/usr/share/man/man1/xxh.1.gz',
+        f'/usr/share/doc/{NAME}/copyright',
+    ):
+        check(path in files, f'without {path}')
+    check(their_state() == package.theirs_before, "Debian's library is another")
+    return package.output.split(': ', 1)[1] + f'; {len(files)} files and links'
 
 
-def hashes_file(side, words):
+def hashes_file(side, args):
     """A program of examples/c hashes a file on this library, with xxhsum's result."""
-    done = run(side, [*words, EXAMPLE])
-    want(done.status == 0, tail(done.out))
+    done = run(side, [*args, EXAMPLE])
+    check(done.status == 0, last_line(done.out))
     digest = must(['xxhsum', '-H2', EXAMPLE]).split()[0]
-    want(f'3-128 {digest}' in done.out.splitlines(), 'the hash differs')
+    check(f'3-128 {digest}' in done.out.splitlines(), 'the hash differs')
 
 
 def builds_by_pkg_config(package):
     """With pkg-config's folder in the environment, and a path for the loader in the program."""
-    flags = must(['pkg-config', '--cflags', '--libs', 'libxxhash'],
-                 env={**os.environ, 'PKG_CONFIG_PATH': os.path.join(FOLDER, 'pkgconfig')}).split()
+    flags = must(
+        ['pkg-config', '--cflags', '--libs', 'libxxhash'],
+        env={**os.environ, 'PKG_CONFIG_PATH': os.path.join(FOLDER, 'pkgconfig')},
+    ).split()
     folders = [os.path.normpath(flag[2:]) for flag in flags if flag.startswith('-I')]
-    want(folders == [PREFIX + '/include'], f'the header of another library: {flags}')
-    path = os.path.join(package.room, 'by-pkg-config')
+    check(folders == [PREFIX + '/include'], f'the header of another library: {flags}')
+    path = os.path.join(package.workdir, 'by-pkg-config')
     must(['gcc', EXAMPLE, *flags, '-Wl,-rpath,' + FOLDER, '-o', path])
     hashes_file(Side('the installed package', None, package.ours), [path])
 
 
 def builds_by_cmake(package):
-    folder = os.path.join(package.room, 'by-cmake')
+    folder = os.path.join(package.workdir, 'by-cmake')
     must(['cmake', '-S', os.path.join(TOP, 'examples', 'cmake'), '-B', folder, '-DCMAKE_PREFIX_PATH=' + PREFIX])
     must(['cmake', '--build', folder])
     hashes_file(Side('the installed package', None, package.ours), [os.path.join(folder, 'hash-file')])
@@ -105,7 +134,7 @@ def builds_by_cmake(package):
 
 def copied_root(package):
     """A folder with rsync and the files that it loads, as a root."""
-    root = os.path.join(package.room, 'root')
+    root = os.path.join(package.workdir, 'root')
     for part in ('lib', 'lib64', 'bin'):
         os.makedirs(os.path.join(root, 'usr', part))
         os.symlink('usr/' + part, os.path.join(root, part))
@@ -121,7 +150,7 @@ def copied_root(package):
 def library_in(root):
     """The libxxhash that rsync loads in this root."""
     done = ran(['chroot', root, '/usr/bin/rsync', '--version'], env={**others(), 'LD_DEBUG': 'libs'})
-    want(done.returncode == 0, tail(done.stdout))
+    check(done.returncode == 0, last_line(done.stdout))
     return os.path.normpath(' '.join(re.findall(r'calling init: (\S*libxxhash\S*)', done.stdout)) or 'none')
 
 
@@ -132,12 +161,12 @@ def serves_a_machine(package):
     must(['dpkg-deb', '-x', package.file, root])
     must(['ldconfig', '-r', root])
     theirs = library_in(root)
-    want(not theirs.startswith(PREFIX), f'the package alone changes what is loaded: {theirs}')
+    check(not theirs.startswith(PREFIX), f'the package alone changes what is loaded: {theirs}')
     write(os.path.join(root, 'etc/ld.so.conf.d/00-twox-hash.conf'), FOLDER + '\n')
     must(['ldconfig', '-r', root])
-    want(library_in(root) == package.ours, f'{library_in(root)} is loaded')
+    check(library_in(root) == package.ours, f'{library_in(root)} is loaded')
     shutil.rmtree(root + PREFIX)
-    want(library_in(root) == theirs, f'{library_in(root)} is loaded without the package')
+    check(library_in(root) == theirs, f'{library_in(root)} is loaded without the package')
     return 'by 00-twox-hash.conf and ldconfig, in a folder as root'
 
 
@@ -145,8 +174,8 @@ def commands_are_there(package):
     """xxh prints what xxhsum prints, and its manual page can be read."""
     with open(EXAMPLE, 'rb') as file:
         printed = must(['/usr/bin/xxh', 'hash', '3-128'], stdin=file).strip()
-    want(printed == must(['xxhsum', '-H2', EXAMPLE]).split()[0], 'the hash differs')
-    want('xxh blocks' in must(['zcat', '/usr/share/man/man1/xxh.1.gz']), 'the manual page is another')
+    check(printed == must(['xxhsum', '-H2', EXAMPLE]).split()[0], 'the hash differs')
+    check('xxh blocks' in must(['zcat', '/usr/share/man/man1/xxh.1.gz']), 'the manual page is another')
 
 
 def both_builds_run(package, v3):
@@ -154,24 +183,26 @@ def both_builds_run(package, v3):
     note = file_program_agrees(PREFIX)
     if not v3:
         return note
-    for words, build in (([], SETS[v3]), (OLD, SETS[0])):
+    for args, build in (([], SETS[v3]), (OLD, SETS[0])):
         path = os.path.join(PREFIX, 'libexec', NAME, build, 'xxhsum')
         os.rename(path, path + '.away')
-        done = subprocess.run([*words, os.path.join(PREFIX, 'bin', 'xxhsum'), EXAMPLE], capture_output=True, text=True)
+        done = subprocess.run([*args, os.path.join(PREFIX, 'bin', 'xxhsum'), EXAMPLE], capture_output=True, text=True)
         os.rename(path + '.away', path)
-        want((done.returncode, done.stdout) == (127, '') and path in done.stderr, f'{build} is not what runs')
-        want(must([*words, os.path.join(PREFIX, 'bin', 'xxhsum'), '-q', EXAMPLE]) == must(['xxhsum', '-q', EXAMPLE]),
-             f'{build} prints another line')
+        check((done.returncode, done.stdout) == (127, '') and path in done.stderr, f'{build} is not what runs')
+        check(
+            must([*args, os.path.join(PREFIX, 'bin', 'xxhsum'), '-q', EXAMPLE]) == must(['xxhsum', '-q', EXAMPLE]),
+            f'{build} prints another line',
+        )
     return note + '; each build where the processor has it'
 
 
-def change_is_told(package):
+def change_is_reported(package):
     """dpkg -V reports a changed file."""
     path = os.path.join(PREFIX, 'include', 'xxhash.h')
     with open(path, 'a') as file:
         file.write('\n')
     done = subprocess.run(['dpkg', '-V', NAME], stdout=subprocess.PIPE, text=True)
-    want(done.stdout.split() == ['??5??????', path], f'dpkg -V says {done.stdout or "nothing"}')
+    check(done.stdout.split() == ['??5??????', path], f'dpkg -V says {done.stdout or "nothing"}')
 
 
 def leaves_nothing(package):
@@ -180,17 +211,17 @@ def leaves_nothing(package):
     listed = [path for path in must(['dpkg', '-L', NAME]).splitlines() if NAME in path or not os.path.isdir(path)]
     must(['dpkg', '-r', NAME])
     left = [path for path in listed if os.path.lexists(path)] + glob.glob(f'/var/lib/dpkg/info/{NAME}.*')
-    want(not left, f'left: {", ".join(left)}')
-    want(not is_installed(), 'dpkg still knows it')
-    want(their_state() == package.theirs_before, "Debian's library is another")
+    check(not left, f'left: {", ".join(left)}')
+    check(not is_installed(), 'dpkg still knows it')
+    check(their_state() == package.theirs_before, "Debian's library is another")
     return f"{len(listed)} paths are gone; Debian's library has the bytes and the place that it had"
 
 
-def check_all(report, room, sides, v3):
+def check_all(report, workdir, sides, v3):
     if is_installed():
-        report.row('the Debian package', f'{NAME} is installed here, and this check would remove it: do so by hand')
+        report.record('the Debian package', f'{NAME} is installed here, and this check would remove it: do so by hand')
         return
-    folder = os.path.join(room, 'package')
+    folder = os.path.join(workdir, 'package')
     os.mkdir(folder)
     package = Package(folder)
     report.attempt('the Debian package: lintian', lintian_is_silent, package)
@@ -199,12 +230,15 @@ def check_all(report, room, sides, v3):
         report.attempt('the Debian package: a program by pkg-config', builds_by_pkg_config, package)
         report.attempt('the Debian package: a program by CMake', builds_by_cmake, package)
         # It loads Debian's library, and ours if LD_LIBRARY_PATH has its folder.
-        report.attempt('the Debian package: python3-xxhash where it is told to', clients.python_hashes,
-                       sides._replace(ours=Side('the installed package', FOLDER, package.ours)))
+        report.attempt(
+            'the Debian package: python3-xxhash where it is told to',
+            clients.python_hashes,
+            sides._replace(ours=Side('the installed package', FOLDER, package.ours)),
+        )
         report.attempt('the Debian package: a whole machine', serves_a_machine, package)
         report.attempt('the Debian package: xxh', commands_are_there, package)
         report.attempt('the Debian package: both builds of xxhsum', both_builds_run, package, v3)
-        report.attempt('the Debian package: a changed file is told', change_is_told, package)
+        report.attempt('the Debian package: a changed file is told', change_is_reported, package)
         report.attempt('the Debian package: removed', leaves_nothing, package)
     finally:
         if is_installed():
