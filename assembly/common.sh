@@ -2,7 +2,7 @@
 # `fail` defined. $assembly is this folder.
 assembly=$(cd "$(dirname "${BASH_SOURCE[0]}")" && pwd)
 
-# read_build WORDS: sets `update` if an argument is --update, and `prover` to the command whose verbs `lib` and `run`
+# read_build ARGS: sets `update` if an argument is --update, and `prover` to the command whose verbs `lib` and `run`
 # prove and build, which --of-ci changes. It runs through `annotated`, with no prefetches if an argument is --plain.
 read_build() {
     update='' prover=rt annotated=("$assembly/annotated")
@@ -11,7 +11,7 @@ read_build() {
         case $word in
         --update) update=yes ;;
         --plain) annotated+=(--plain) ;;
-        --of-ci) prover=$assembly/over_ci.py ;;
+        --of-ci) prover=$assembly/over-ci ;;
         *) return 1 ;;
         esac
     done
@@ -46,11 +46,11 @@ prove_into() {
 write_text() {
     local object=$1 file=$2/$3 title=$4 same=$assembly/same_bytes.py
     shift 4
-    python3 -B "$assembly/names.py" "$object" "$@" || fail "the functions of $object got no names"
-    python3 -B "$assembly/text.py" "$object" "$title" "$@" > "$file.s" || fail "$file.s was not written"
-    "${tools}as" "$file.s" -o "$room/text.o" || fail "$file.s was not assembled"
-    python3 -B "$same" "$object" "$room/text.o" >&2 || fail "$file.s is not the text of $object"
-    python3 -B "$same" --sums "$room/text.o" > "$file.sums" || fail "$file.sums was not written"
+    python3 -B "$assembly/.." assembly.names names "$object" "$@" || fail "the functions of $object got no names"
+    python3 -B "$assembly/.." assembly.text text "$object" "$title" "$@" > "$file.s" || fail "$file.s was not written"
+    "${tools}as" "$file.s" -o "$workdir/text.o" || fail "$file.s was not assembled"
+    python3 -B "$same" "$object" "$workdir/text.o" >&2 || fail "$file.s is not the text of $object"
+    python3 -B "$same" --sums "$workdir/text.o" > "$file.sums" || fail "$file.sums was not written"
 }
 
 # settle MADE COMMITTED UPDATE: prints which generated files differ from the committed ones. If UPDATE isn't empty it

@@ -12,7 +12,7 @@ x86-64-v4 too, from the same module (wide.py). Before that it compares, and stop
 
 For 64-bit ARM the toolchain has clang optimize the module, changes its text and has clang compile that: the
 prefetches are in the first of the two. FOLDER and WIDE get the module that the object was made from, as module.ll,
-and the `words`, the arguments of clang's last call; WIDE also the object, as module.o."""
+and the `args` of clang's last call; WIDE also the object, as module.o."""
 import filecmp
 import os
 import re
@@ -20,8 +20,8 @@ import subprocess
 import sys
 import tempfile
 
-import prefetch
-import wide
+from assembly import prefetch
+from assembly import wide
 
 FOR_X86_64 = ['-mbranches-within-32B-boundaries']
 
@@ -31,33 +31,33 @@ def stop(why):
 
 
 class Clang:
-    def __init__(self, path, words):
-        self.path, self.words = path, words
-        self.target = [word for word in words if word.startswith('--target=')]
+    def __init__(self, path, args):
+        self.path, self.args = path, args
+        self.target = [word for word in args if word.startswith('--target=')]
 
-    def run(self, words, folder='.'):
-        return subprocess.run([self.path, *words], cwd=folder).returncode
+    def run(self, args, folder='.'):
+        return subprocess.run([self.path, *args], cwd=folder).returncode
 
     def module(self):
         """The bitcode that these arguments compile, or None if they compile none."""
-        read = [word for word in self.words if word.endswith('.bc') and os.path.exists(word)]
-        return read[0] if len(read) == 1 and '-x' in self.words else None
+        read = [word for word in self.args if word.endswith('.bc') and os.path.exists(word)]
+        return read[0] if len(read) == 1 and '-x' in self.args else None
 
-    def made(self):
-        return os.path.abspath(self.words[self.words.index('-o') + 1])
+    def output(self):
+        return os.path.abspath(self.args[self.args.index('-o') + 1])
 
-    def compile(self, folder, made, more=()):
+    def compile(self, folder, output, more=()):
         """Runs the arguments with the module of its name in a folder, and writes another file."""
-        words = [made if os.path.abspath(word) == self.made() else word for word in self.words]
-        if self.run([*words, *more], folder):
+        args = [output if os.path.abspath(word) == self.output() else word for word in self.args]
+        if self.run([*args, *more], folder):
             stop(f'clang does not compile the module in {folder}')
 
-    def written(self, kind, folder, made, *more):
+    def written(self, output_type, folder, output, *more):
         """Writes the module of a folder as clang reads it, as text (-S) or as bitcode (-c), under the same name,
         with which a text begins."""
-        os.makedirs(made, exist_ok=True)
-        words = [*self.target, '--no-default-config', '-w', '-x', 'ir', '-Xclang', '-disable-llvm-passes', '-emit-llvm']
-        if self.run([*words, *more, kind, self.module(), '-o', os.path.join(made, self.module())], folder):
+        os.makedirs(output, exist_ok=True)
+        args = [*self.target, '--no-default-config', '-w', '-x', 'ir', '-Xclang', '-disable-llvm-passes', '-emit-llvm']
+        if self.run([*args, *more, output_type, self.module(), '-o', os.path.join(output, self.module())], folder):
             stop(f'clang does not read the module in {folder}')
 
     def text(self, folder):
@@ -75,28 +75,30 @@ def write(path, text):
         file.write(text)
 
 
-def expect_as_text(clang, room):
+def expect_as_text(clang, workdir):
     """Checks that the module as text gives the toolchain's object. Returns the text, as clang reads it."""
-    ordered, proved, again = (os.path.join(room, it) for it in ('ordered', 'proved', 'again'))
+    ordered, proved, again = (os.path.join(workdir, it) for it in ('ordered', 'proved', 'again'))
     # The text includes the order of a value's uses, which determines only the order of some instructions.
     clang.written('-S', os.getcwd(), ordered, '-Xclang', '-emit-llvm-uselists')
     clang.compile(ordered, again)
-    if not filecmp.cmp(again, clang.made(), shallow=False):
+    if not filecmp.cmp(again, clang.output(), shallow=False):
         stop('the module as text gives another object than the toolchain has: this kit builds otherwise')
     clang.written('-S', os.getcwd(), proved)
     return clang.text(proved)
 
 
-def compile_changed(clang, room, text, made, is_wide=False):
+def compile_changed(clang, workdir, text, output, is_wide=False):
     """Writes the object of the module with its additions, after checking that without them it is the proved one.
     Returns its text."""
-    annotated, bitcode, as_read, narrow = (os.path.join(room, it) for it in ('annotated', 'bitcode', 'as_read', 'narrow'))
+    annotated, bitcode, as_read, narrow = (
+        os.path.join(workdir, it) for it in ('annotated', 'bitcode', 'as_read', 'narrow')
+    )
     write(os.path.join(annotated, clang.module()), with_changes(text, is_wide))
     clang.written('-c', annotated, bitcode)
     clang.written('-S', bitcode, as_read)
     if without_changes(clang, as_read, narrow, is_wide) != text:
         stop('without what was added the module is not the one that was proved')
-    clang.compile(bitcode, made, FOR_X86_64 if re.search('^target triple = "x86_64', text, re.M) else [])
+    clang.compile(bitcode, output, FOR_X86_64 if re.search('^target triple = "x86_64', text, re.M) else [])
     return clang.text(annotated)
 
 
@@ -117,35 +119,35 @@ def without_changes(clang, folder, narrow, is_wide):
 
 def keep(folder, clang, module):
     write(os.path.join(folder, 'module.ll'), module)
-    write(os.path.join(folder, 'words'), '\n'.join(clang.words) + '\n')
+    write(os.path.join(folder, 'args'), '\n'.join(clang.args) + '\n')
 
 
 def compile_all(clang, widened):
     """Writes the object of the module with prefetches in place of the toolchain's, and the one for x86-64-v4.
     Returns the first one's text."""
-    with tempfile.TemporaryDirectory() as room:
-        text = expect_as_text(clang, room)
+    with tempfile.TemporaryDirectory() as workdir:
+        text = expect_as_text(clang, workdir)
         if widened:
             os.makedirs(widened, exist_ok=True)
-            made = os.path.join(widened, 'module.o')
-            keep(widened, clang, compile_changed(clang, room, text, made, is_wide=True))
-        return compile_changed(clang, room, text, clang.made())
+            output = os.path.join(widened, 'module.o')
+            keep(widened, clang, compile_changed(clang, workdir, text, output, is_wide=True))
+        return compile_changed(clang, workdir, text, clang.output())
 
 
-def main(path, kept, widened, *words):
-    clang = Clang(path, list(words))
-    status = clang.run(words)
+def run_clang(path, stored, widened, *args):
+    clang = Clang(path, list(args))
+    status = clang.run(args)
     if status:
         return status
-    module = next((read(word) for word in words if word.endswith('.ll') and os.path.exists(word)), None)
+    module = next((read(word) for word in args if word.endswith('.ll') and os.path.exists(word)), None)
     if clang.module():
         module = compile_all(clang, widened)
-    if kept and module and '-c' in words:
-        keep(kept, clang, module)
+    if stored and module and '-c' in args:
+        keep(stored, clang, module)
     return 0
 
 
-if __name__ == '__main__':
+def main():
     if len(sys.argv) < 5:
         sys.exit(__doc__)
-    sys.exit(main(*sys.argv[1:]))
+    return run_clang(*sys.argv[1:])

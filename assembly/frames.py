@@ -1,23 +1,42 @@
 """The frame of a function at each of its instructions, and the directives that declare it to an assembler.
 
-A frame is the distance of the stack pointer below the CFA, which is where it was before the call, and the places below the
-CFA of the registers that the caller needs back. It is computed by following the instructions and their jumps, since LLVM's own
-tables are wrong for 64-bit ARM. The code that is framed here moves the stack pointer only by constants. Anything else that
-writes it is refused, and so is a place that two paths reach with different frames, and a function that returns with a frame.
+A frame is the distance of the stack pointer below the CFA, which is where it was before the call, and the places below
+the CFA of the registers that the caller needs back. It is computed by following the instructions and their jumps, since
+LLVM's own tables are wrong for 64-bit ARM. The code that is framed here moves the stack pointer only by constants.
+Anything else that writes it is refused, and so is a place that two paths reach with different frames, and a function
+that returns with a frame.
 
 Unwinders, debuggers and profilers depend on these directives; no value does."""
 import re
-from collections import namedtuple
+from typing import NamedTuple, Optional
 
-Frame = namedtuple('Frame', 'depth saved')    # saved: pairs of a register's number and its place below the CFA
-# An instruction: its text, and the number of its jump's target, OUTSIDE, or None if it doesn't jump.
-Step = namedtuple('Step', 'text target')
 OUTSIDE = -1
+
+
+class Frame(NamedTuple):
+    """The distance to the CFA, and pairs of a register's number and its place below the CFA."""
+
+    depth: int
+    saved: tuple[tuple[int, int], ...]
+
+
+class Step(NamedTuple):
+    """An instruction: its text, and the number of its jump's target, OUTSIDE, or None if it doesn't jump."""
+
+    text: str
+    target: Optional[int]
 
 
 class Processor:
     """The parts of frames that depend on the processor. `numbers` are DWARF's numbers of the registers that a caller
-    needs back."""
+    needs back, `jumps` the text of a jump."""
+
+    numbers: dict[str, int]
+    jumps: re.Pattern[str]
+
+    def moved(self, text, depth, saved):
+        """The depth after an instruction, whose stores of registers are written to `saved`."""
+        raise NotImplementedError
 
     def after(self, text, frame):
         """The frame after an instruction."""
@@ -39,11 +58,14 @@ class Processor:
 
 class X86(Processor):
     """x86-64, as objdump and as clang write it."""
-    entry = 8                                  # the address to return to
+
+    entry = 8  # the address to return to
     returns, ends, jumps = re.compile(r'repz? ret|ret'), re.compile(r'jmp|ud2|int3|hlt'), re.compile(r'j\w+ ')
     numbers = {'rbx': 3, 'rbp': 6, 'r12': 12, 'r13': 13, 'r14': 14, 'r15': 15}
-    writes = re.compile(r'(?!cmp|test)\S+ .*,%[er]?spl?$|(leave|enter|pushf|popf)|xchg .*%[er]?spl?\b'
-                        r'|(inc|dec|neg|not|pop|bswap|set\w+) %[er]?spl?$')
+    writes = re.compile(
+        r'(?!cmp|test)\S+ .*,%[er]?spl?$|(leave|enter|pushf|popf)|xchg .*%[er]?spl?\b'
+        r'|(inc|dec|neg|not|pop|bswap|set\w+) %[er]?spl?$'
+    )
 
     def moved(self, text, depth, saved):
         if found := re.fullmatch(r'pushq? %(\w+)', text):
@@ -122,12 +144,12 @@ def followed(processor, steps, number, frame, entry):
 def directives(processor, steps):
     """For each instruction the lines before it."""
     found = frames(processor, steps)
-    said = Frame(processor.entry, ())
+    current = Frame(processor.entry, ())
     for number in range(len(steps)):
-        frame = found.get(number, said)
-        before, now = dict(said.saved), dict(frame.saved)
-        lines = [f'\t.cfi_def_cfa_offset {frame.depth}'] if frame.depth != said.depth else []
+        frame = found.get(number, current)
+        before, now = dict(current.saved), dict(frame.saved)
+        lines = [f'\t.cfi_def_cfa_offset {frame.depth}'] if frame.depth != current.depth else []
         lines += [f'\t.cfi_offset {name}, {at}' for name, at in now.items() if before.get(name) != at]
         lines += [f'\t.cfi_restore {name}' for name in before if name not in now]
-        said = frame
+        current = frame
         yield lines

@@ -1,7 +1,6 @@
-#!/usr/bin/env python3
 """Renames the functions of an object to the names of its source:
 
-    assembly/names.py OBJECT [TAG]
+    python3 -B . assembly.names names OBJECT [TAG]
 
 A name of the toolchain, such as `twox_core::xxhash3::stripes::take_stripes::<#ebc3218c48dd1f1e>`, becomes one that
 every assembler accepts, `twox_core.xxhash3.stripes.take_stripes`: without the mark of a generic's arguments, which
@@ -12,7 +11,7 @@ import subprocess
 import sys
 from collections import Counter
 
-from same_bytes import Object, is_global
+from assembly.same_bytes import Object, is_global
 
 FUNCTION, MERGED = 2, 0x10
 TOOLS = {62: '', 183: 'aarch64-linux-gnu-'}
@@ -29,8 +28,11 @@ class NewNames:
     def __init__(self, object_, tag):
         self.tag, self.taken = tag, Counter()
         self.symbols, self.sections = {}, {}
-        functions = {object_.heads[symbol.section].name: symbol for symbol in object_.symbols
-                     if symbol.info & 15 == FUNCTION and symbol.section}
+        functions = {
+            object_.heads[symbol.section].name: symbol
+            for symbol in object_.symbols
+            if symbol.info & 15 == FUNCTION and symbol.section
+        }
         for head in object_.loaded():
             if head.name in functions:
                 self.sections[head.name] = '.text.' + self.of_function(functions[head.name])
@@ -49,19 +51,19 @@ class NewNames:
         number = f'.{self.taken[name]}' if self.taken[name] > 1 else ''
         return name + number + (f'.{self.tag}' if self.tag else '')
 
-    def words(self):
+    def options(self):
         """objcopy's arguments."""
         for option, names in (('--redefine-sym', self.symbols), ('--rename-section', self.sections)):
             for old, new in names.items():
                 yield from (option, f'{old}={new}') if old != new else ()
 
 
-def main(path, tag=''):
+def rename_symbols(path, tag=''):
     object_ = Object(path)
-    subprocess.run([TOOLS[object_.machine] + 'objcopy', *NewNames(object_, tag).words(), path], check=True)
+    subprocess.run([TOOLS[object_.machine] + 'objcopy', *NewNames(object_, tag).options(), path], check=True)
 
 
-if __name__ == '__main__':
+def main():
     if len(sys.argv) not in (2, 3):
         sys.exit(__doc__)
-    main(*sys.argv[1:])
+    rename_symbols(*sys.argv[1:])

@@ -56,31 +56,36 @@ def with_cuts_below(it):
     return cut(parts[1]) if parts[0] == CUT else parts
 
 
-def kinds_of_parameters(sources):
+def types_of_parameters(sources):
     """By an export's name the width of each of its parameters, and whether it is an address or a length."""
     found = {}
     for path in sources:
         with open(path, encoding='utf-8') as file:
             for name, parameters in EXPORT.findall(file.read()):
-                found[name] = [kind for it in parameters.split(',') if it.strip() for kind in crossing(name, it.split(':')[1].strip())]
+                found[name] = [
+                    type_name
+                    for it in parameters.split(',')
+                    if it.strip()
+                    for type_name in crossing(name, it.split(':')[1].strip())
+                ]
     return found
 
 
-def crossing(name, kind):
-    if kind in ('u32', 'u64'):
-        return [(f'i{kind[1:]}', False)]
-    if kind.startswith('&'):
-        return [('i64', True)] * (2 if kind.startswith('&[') else 1)
-    stop(f'{name} takes {kind}, of which it is not known how it crosses')
+def crossing(name, type_name):
+    if type_name in ('u32', 'u64'):
+        return [(f'i{type_name[1:]}', False)]
+    if type_name.startswith('&'):
+        return [('i64', True)] * (2 if type_name.startswith('&[') else 1)
+    stop(f'{name} takes {type_name}, of which it is not known how it crosses')
 
 
-def with_numbers(function, kinds, name):
+def with_numbers(function, types, name):
     """The function with parameters of 32 bits for addresses and lengths."""
     given = [it for it in function if it[0] == 'param']
-    if [it[2:] for it in given] != [[width] for width, _ in kinds]:
+    if [it[2:] for it in given] != [[width] for width, _ in types]:
         stop(f'{name} has other parameters than its source says')
     new, locals_, begin = [], [], []
-    for (_, number, width), (_, is_address) in zip(given, kinds):
+    for (_, number, width), (_, is_address) in zip(given, types):
         if is_address:
             new.append(['param', f'{number}.n', 'i32'])
             locals_.append(['local', number, width])
@@ -92,24 +97,24 @@ def with_numbers(function, kinds, name):
     return [*function[:2], *new, *head, *locals_, *begin, *body]
 
 
-def main(source, out, *sources):
+def narrow_module(source, out, *sources):
     with open(source, encoding='utf-8') as file:
         [module] = parsed(file.read())
-    kinds = kinds_of_parameters(sources)
+    types = types_of_parameters(sources)
     exported = {it[2][1]: it[1].strip('"') for it in module[1:] if it[0] == 'export' and it[2][0] == 'func'}
-    if set(exported.values()) != set(kinds):
-        stop(f'the module has other exports than the sources: {set(exported.values()) ^ set(kinds)}')
-    made = []
+    if set(exported.values()) != set(types):
+        stop(f'the module has other exports than the sources: {set(exported.values()) ^ set(types)}')
+    functions = []
     for it in module[1:]:
         if it[0] == 'func' and it[1] in exported:
-            it = with_numbers(it, kinds[exported[it[1]]], exported[it[1]])
-        made.append(written(with_cuts_below(it)))
+            it = with_numbers(it, types[exported[it[1]]], exported[it[1]])
+        functions.append(written(with_cuts_below(it)))
     with open(out, 'w', encoding='utf-8') as file:
-        file.write('(module\n' + '\n'.join(made) + '\n)\n')
+        file.write('(module\n' + '\n'.join(functions) + '\n)\n')
 
 
-if __name__ == '__main__':
+def main():
     if len(sys.argv) < 4:
         sys.exit(__doc__)
     sys.setrecursionlimit(100_000)
-    main(*sys.argv[1:])
+    narrow_module(*sys.argv[1:])

@@ -1,20 +1,28 @@
-"""Adds prefetches to a module of LLVM in text, or removes them again:
-
-    assembly/prefetch.py add | strip < MODULE.ll
+"""Adds prefetches to a module of LLVM in text, or removes them again.
 
 A prefetch hints to the processor to load a line of 64 bytes. By LLVM's definition it does nothing else, also if its
 address is invalid. `add` writes them where the functions of PLACES request the next bytes of an input, and refuses a
 module that lacks a place of a hash that it has. `strip` removes what `add` writes, and nothing else."""
 import re
-import sys
-from collections import namedtuple
+from typing import NamedTuple, Optional
 
-# Where a module gets prefetches: in a function, before each call of one of `callees`. The argument `bytes` of these,
-# counted from 0, points to `lines` lines of an input, and the prefetched lines are `ahead` bytes after them. If `apart`
-# is true the address is computed as a number: in a loop LLVM then has a pointer to the input and one to the secret,
-# instead of one index for both, by which some processors split an instruction in two. With `within` only the instance
-# of that function counts that the named function calls: a generic function is in a module once for each use.
-Place = namedtuple('Place', 'function callees bytes lines ahead apart within', defaults=[False, None])
+
+class Place(NamedTuple):
+    """Where a module gets prefetches: in a function, before each call of one of `callees`. The argument `bytes` of
+    these, counted from 0, points to `lines` lines of an input, and the prefetched lines are `ahead` bytes after them.
+    If `apart` is true the address is computed as a number: in a loop LLVM then has a pointer to the input and one to
+    the secret, instead of one index for both, by which some processors split an instruction in two. With `within` only
+    the instance of that function counts that the named function calls: a generic function is in a module once for each
+    use."""
+
+    function: str
+    callees: list[str]
+    bytes: int
+    lines: int
+    ahead: int
+    apart: bool = False
+    within: Optional[str] = None
+
 
 STRIPES = 'xxhash3::stripes::StripeAccumulator::'
 BLOCKS = 'xxhash3::stripes::blocks::'
@@ -30,9 +38,15 @@ EVERYWHERE = [
 IN_MANY_BLOCKS = Place(BLOCKS + 'process_block', FOUR_STRIPES, 2, 4, BYTES_OF_MANY, within=BLOCKS + 'take_many_blocks')
 IN_BLOCKS = Place(BLOCKS + 'process_block', FOUR_STRIPES, 2, 4, BYTES_OF_MANY, apart=True)
 # By eight lanes: the stripes around whole blocks, and as a one-shot's last.
-IN_PARTS_OF_BLOCKS = Place('xxhash3::stripes::within::accumulate_within', ['lanes8::ImplVector::accumulate'], 2, 1,
-                           BYTES_OF_SINGLE_STRIPES, within='xxhash3::stripes::take_widened')
-PLACES = {
+IN_PARTS_OF_BLOCKS = Place(
+    'xxhash3::stripes::within::accumulate_within',
+    ['lanes8::ImplVector::accumulate'],
+    2,
+    1,
+    BYTES_OF_SINGLE_STRIPES,
+    within='xxhash3::stripes::take_widened',
+)
+PLACES: dict[str, list[Place]] = {
     'x86-64': [*EVERYWHERE, IN_MANY_BLOCKS],
     'x86-64-v2': [*EVERYWHERE, IN_MANY_BLOCKS],
     'x86-64-v3': [*EVERYWHERE, IN_BLOCKS, IN_PARTS_OF_BLOCKS],
@@ -49,8 +63,10 @@ ADDRESS_APART = f'''\
   {NAME}{{n}} = inttoptr i64 {NAME}{{n}}.ahead to ptr
 '''
 PREFETCH = f'  call void @llvm.prefetch.p0(ptr {NAME}{{n}}, i32 0, i32 3, i32 1)\n'
-WRITTEN = re.compile(rf'  ({re.escape(NAME)}[\w.]+ = (getelementptr i8,|ptrtoint|add i64|inttoptr) '
-                     r'|call void @llvm\.prefetch\.p0\().*\n')
+WRITTEN = re.compile(
+    rf'  ({re.escape(NAME)}[\w.]+ = (getelementptr i8,|ptrtoint|add i64|inttoptr) '
+    r'|call void @llvm\.prefetch\.p0\().*\n'
+)
 DECLARED = re.compile(r'\n(; Function Attrs: .*\n)?declare void @llvm\.prefetch\.p0\(.*\)( #(?P<group>\d+))?\n')
 CALL = re.compile(r'(?:%\S+ = )?call [^@]*@(?:"([^"]*)"|([\w.]+))\((.*)\)')
 
@@ -118,8 +134,11 @@ class Module:
     def annotated(self, name, place):
         """A function's body with the prefetches of a place, which it must have."""
         body = self.bodies[name][3]
-        before = {at: ''.join(self.written(place, arguments[place.bytes])) for at, callee, arguments in self.calls(body)
-                  if plain(callee).endswith(tuple(place.callees))}
+        before = {
+            at: ''.join(self.written(place, arguments[place.bytes]))
+            for at, callee, arguments in self.calls(body)
+            if plain(callee).endswith(tuple(place.callees))
+        }
         if not before:
             refuse(f'{name} calls none of {place.callees}')
         return ''.join(before.get(at, '') + line for at, line in enumerate(body.splitlines(keepends=True)))
@@ -150,9 +169,3 @@ def strip(text):
         if declared['group']:
             text = re.sub(rf'^attributes #{declared["group"]} = .*\n', '', text, flags=re.M)
     return text
-
-
-if __name__ == '__main__':
-    if sys.argv[1:] not in (['add'], ['strip']):
-        sys.exit(__doc__)
-    sys.stdout.write({'add': add, 'strip': strip}[sys.argv[1]](sys.stdin.read()))

@@ -1,7 +1,6 @@
-#!/usr/bin/env python3
 """Prints the assembly source of an object, from which every assembler makes its bytes again:
 
-    assembly/text.py OBJECT TITLE [TAG]
+    python3 -B . assembly.text text OBJECT TITLE [TAG]
 
 It is made only from the object, by binutils' objdump and as, for x86-64 and 64-bit ARM. Written as bytes are the
 padding before loops, which differs between assemblers; instructions that GNU as would encode differently from the
@@ -14,19 +13,27 @@ import re
 import subprocess
 import sys
 import tempfile
-from collections import defaultdict, namedtuple
+from collections import defaultdict
+from typing import NamedTuple
 
-import frames
-from names import FUNCTION, MERGED, TOOLS
-from same_bytes import EXECUTED, Object, is_global
+from assembly import frames
+from assembly.names import FUNCTION, MERGED, TOOLS
+from assembly.same_bytes import EXECUTED, Object, is_global
 
-# An instruction: its place in its section, its bytes, and its text by objdump.
-Row = namedtuple('Row', 'at raw text')
 WEAK, HIDDEN = 2, 2
+
+
+class Instruction(NamedTuple):
+    """Its place in its section, its bytes, and its text by objdump."""
+
+    at: int
+    raw: bytes
+    text: str
 
 
 class X86:
     """The parts of a source that depend on the processor: x86-64."""
+
     comment = re.compile(r'\s#.*')
     filling = re.compile(r'.*\bnop|data16|xchg %ax,%ax')
     # Instructions that refer to another place, and have no meaning by themselves.
@@ -35,8 +42,13 @@ class X86:
     slot, fill = 16, '.balign 16,0'
     # Marks support for a shadow stack: every function returns only to its caller. It begins with no endbr64, so
     # indirect branch tracking is not declared.
-    notes = ('\t.section .note.gnu.property,"a",@note', '\t.p2align 3', '\t.long 4,16,5', '\t.asciz "GNU"',
-             '\t.long 0xc0000002,4,2,0')
+    notes = (
+        '\t.section .note.gnu.property,"a",@note',
+        '\t.p2align 3',
+        '\t.long 4,16,5',
+        '\t.asciz "GNU"',
+        '\t.long 0xc0000002,4,2,0',
+    )
 
     def bytes(self, raw):
         return '.byte ' + ','.join(map(str, raw))
@@ -44,26 +56,27 @@ class X86:
     def outside(self, name):
         return f'{name}@PLT'
 
-    def end_of_relocation(self, row, at):
+    def end_of_relocation(self, instruction, at):
         """An instruction's offset counts from its end, and a relocation's from the relocation."""
-        return row.at + len(row.raw) - at
+        return instruction.at + len(instruction.raw) - at
 
     def relocated(self, text, there):
         if self.leads.match(text) and '%rip' not in text:
             return f'{text.split()[0]} {there}'
         return text.replace('0x0(%rip)', f'{there}(%rip)')
 
-    def jump(self, row, end, label):
+    def jump(self, instruction, end, label):
         """A jump within a section. If a short one reaches, an assembler uses that, and counts ahead from after the
         jump."""
-        name = row.text.split()[0]
-        if len(row.raw) > 2 and name != 'call' and -126 <= end - row.at <= 127 + len(row.raw):
-            return f'{self.bytes(row.raw[:-4])}\n\t.long {label}-.-4'
+        name = instruction.text.split()[0]
+        if len(instruction.raw) > 2 and name != 'call' and -126 <= end - instruction.at <= 127 + len(instruction.raw):
+            return f'{self.bytes(instruction.raw[:-4])}\n\t.long {label}-.-4'
         return f'{name} {label}'
 
 
 class Arm:
     """And 64-bit ARM."""
+
     comment = re.compile(r'//.*')
     filling = re.compile('(?!)')
     leads = re.compile(r'b |b\.|bl |[ct]bn?z|adrp? |.*:lo12:')
@@ -75,7 +88,7 @@ class Arm:
     def outside(self, name):
         return name
 
-    def end_of_relocation(self, row, at):
+    def end_of_relocation(self, instruction, at):
         return 0
 
     def relocated(self, text, there):
@@ -86,14 +99,14 @@ class Arm:
             return text.replace('#0x0', f':lo12:{there}')
         return f'{text[:-1]}, #:lo12:{there}]'
 
-    def jump(self, row, end, label):
-        return self.led(row.text, label)
+    def jump(self, instruction, end, label):
+        return self.led(instruction.text, label)
 
     def led(self, text, there):
         return re.sub(r'[0-9a-f]+ <.*>$', '', text) + there
 
 
-PROCESSORS = {62: X86(), 183: Arm()}
+PROCESSORS: dict[int, X86 | Arm] = {62: X86(), 183: Arm()}
 
 
 class Text:
@@ -103,41 +116,54 @@ class Text:
         self.tag = f'.{tag}' if tag else ''
         self.sections = {head.name: head for head in self.object.loaded()}
         self.numbers = {name: number for number, name in enumerate(self.sections, 1)}
-        self.functions = {(self.object.heads[symbol.section].name, symbol.value): symbol
-                          for symbol in self.object.symbols if symbol.info & 15 == FUNCTION and symbol.section}
+        self.functions = {
+            (self.object.heads[symbol.section].name, symbol.value): symbol
+            for symbol in self.object.symbols
+            if symbol.info & 15 == FUNCTION and symbol.section
+        }
         # The referenced places in each section.
         self.marks = defaultdict(set)
         listing = self.listing(path)
         processor = frames.BY_MACHINE[self.object.machine]
-        self.frames = {name: list(frames.directives(processor, self.steps(name, rows))) for name, rows in listing.items()}
-        self.code = {name: self.written(name, rows) for name, rows in listing.items()}
+        self.frames = {
+            name: list(frames.directives(processor, self.steps(name, instructions)))
+            for name, instructions in listing.items()
+        }
+        self.code = {name: self.written(name, instructions) for name, instructions in listing.items()}
         self.otherwise = self.written_otherwise()
 
     def listing(self, path):
         """The instructions of each section of code."""
-        words = [self.tools + 'objdump', '-d', '-w', '-z', '--no-show-raw-insn', path]
-        out = subprocess.run(words, check=True, stdout=subprocess.PIPE, text=True).stdout
+        command = [self.tools + 'objdump', '-d', '-w', '-z', '--no-show-raw-insn', path]
+        out = subprocess.run(command, check=True, stdout=subprocess.PIPE, text=True).stdout
         found = {}
         for section, lines in re.findall(r'^Disassembly of section (.*):\n((?:.*\n)*?)(?=Disassembly|\Z)', out, re.M):
             head = self.sections[section]
             body = self.object.body(head)
-            rows = [(int(at, 16) - head.address, text)
-                    for at, text in re.findall(r'^ *([0-9a-f]+):\t(.*)', lines, re.M)]
-            ends = [at for at, _ in rows[1:]] + [len(body)]
-            found[section] = [Row(at, body[at:end], ' '.join(self.processor.comment.sub('', text).split()))
-                              for (at, text), end in zip(rows, ends)]
+            instructions = [
+                (int(at, 16) - head.address, text) for at, text in re.findall(r'^ *([0-9a-f]+):\t(.*)', lines, re.M)
+            ]
+            ends = [at for at, _ in instructions[1:]] + [len(body)]
+            found[section] = [
+                Instruction(at, body[at:end], ' '.join(self.processor.comment.sub('', text).split()))
+                for (at, text), end in zip(instructions, ends)
+            ]
         return found
 
-    def steps(self, section, rows):
+    def steps(self, section, instructions):
         """The instructions of a section for the analysis of frames."""
         processor = frames.BY_MACHINE[self.object.machine]
         leaving = {at for at, *_ in self.object.relocations_of(self.sections[section])}
-        numbers, steps = {row.at: number for number, row in enumerate(rows)}, []
-        for row in rows:
-            target = re.search(r'\b([0-9a-f]+) <.*>$', row.text) if processor.jumps.match(row.text) else None
-            is_outside = target and any(at in leaving for at in range(row.at, row.at + len(row.raw)))
+        numbers, steps = {instruction.at: number for number, instruction in enumerate(instructions)}, []
+        for instruction in instructions:
+            target = (
+                re.search(r'\b([0-9a-f]+) <.*>$', instruction.text) if processor.jumps.match(instruction.text) else None
+            )
+            is_outside = target and any(
+                at in leaving for at in range(instruction.at, instruction.at + len(instruction.raw))
+            )
             inside = target and not is_outside and numbers[int(target[1], 16) - self.sections[section].address]
-            steps.append(frames.Step(row.text, frames.OUTSIDE if is_outside else inside))
+            steps.append(frames.Step(instruction.text, frames.OUTSIDE if is_outside else inside))
         return steps
 
     def label(self, section, at):
@@ -159,39 +185,48 @@ class Text:
     def globals(self):
         return {symbol.name for symbol in self.object.symbols if is_global(symbol) and symbol.section}
 
-    def written(self, section, rows):
+    def written(self, section, instructions):
         """The instructions as assembly source. Without a text they are written as bytes."""
         hits = {at: target for at, _, *target in self.object.relocations_of(self.sections[section])}
-        return [row._replace(text=self.assembled(section, row, hits)) for row in rows]
+        return [instruction._replace(text=self.assembled(section, instruction, hits)) for instruction in instructions]
 
-    def assembled(self, section, row, hits):
-        hit = next((at for at in range(row.at, row.at + len(row.raw)) if at in hits), None)
-        if self.processor.filling.match(row.text):
+    def assembled(self, section, instruction, hits):
+        hit = next((at for at in range(instruction.at, instruction.at + len(instruction.raw)) if at in hits), None)
+        if self.processor.filling.match(instruction.text):
             return None
         if hit is not None:
             where, offset, add = hits[hit]
-            end = self.processor.end_of_relocation(row, hit)
-            return self.processor.relocated(row.text, self.target(where, offset, add + end))
-        jump = self.processor.leads.match(row.text) and re.search(r'\b([0-9a-f]+) <.*>$', row.text)
+            end = self.processor.end_of_relocation(instruction, hit)
+            return self.processor.relocated(instruction.text, self.target(where, offset, add + end))
+        jump = self.processor.leads.match(instruction.text) and re.search(r'\b([0-9a-f]+) <.*>$', instruction.text)
         if jump:
             end = int(jump[1], 16) - self.sections[section].address
-            return self.processor.jump(row, end, self.label(section, end))
-        return row.text
+            return self.processor.jump(instruction, end, self.label(section, end))
+        return instruction.text
 
     def written_otherwise(self):
         """The instructions that GNU as encodes differently: each is assembled in a separate slot."""
-        alone = [(name, row) for name, rows in self.code.items() for row in rows
-                 if row.text and not row.text.startswith('.') and not self.processor.leads.match(row.text)]
-        with tempfile.TemporaryDirectory() as room:
-            source, made = os.path.join(room, 'alone.s'), os.path.join(room, 'alone.o')
+        alone = [
+            (name, instruction)
+            for name, instructions in self.code.items()
+            for instruction in instructions
+            if instruction.text
+            and not instruction.text.startswith('.')
+            and not self.processor.leads.match(instruction.text)
+        ]
+        with tempfile.TemporaryDirectory() as workdir:
+            source, object_file = os.path.join(workdir, 'alone.s'), os.path.join(workdir, 'alone.o')
             with open(source, 'w') as file:
-                file.writelines(f'{row.text}\n{self.processor.fill}\n' for _, row in alone)
-            subprocess.run([self.tools + 'as', source, '-o', made], check=True)
-            object_ = Object(made)
+                file.writelines(f'{instruction.text}\n{self.processor.fill}\n' for _, instruction in alone)
+            subprocess.run([self.tools + 'as', source, '-o', object_file], check=True)
+            object_ = Object(object_file)
         body = next(object_.body(head) for head in object_.heads if head.name == '.text')
         slot = self.processor.slot
-        return {(name, row.at) for at, (name, row) in enumerate(alone)
-                if body[slot * at:slot * (at + 1)] != row.raw.ljust(slot, b'\0')}
+        return {
+            (name, instruction.at)
+            for at, (name, instruction) in enumerate(alone)
+            if body[slot * at : slot * (at + 1)] != instruction.raw.ljust(slot, b'\0')
+        }
 
     def lines(self, title):
         yield f'/* {title} Generated of what is proved: not to be changed by hand. SPDX-License-Identifier: MIT */'
@@ -206,17 +241,17 @@ class Text:
     def lines_of_code(self, section):
         yield from (f'\t.section {section},"ax",@progbits', aligned(self.sections[section]))
         function = None
-        for row, frame in zip(self.code[section], self.frames[section]):
-            begun = self.functions.get((section, row.at))
+        for instruction, frame in zip(self.code[section], self.frames[section]):
+            begun = self.functions.get((section, instruction.at))
             if begun:
                 function = begun
                 yield from self.lines_of_name(begun)
                 yield '\t.cfi_startproc'
             yield from frame
-            if row.at in self.marks[section]:
-                yield f'{self.label(section, row.at)}:'
-            as_bytes = row.text is None or (section, row.at) in self.otherwise
-            yield '\t' + (self.processor.bytes(row.raw) if as_bytes else row.text)
+            if instruction.at in self.marks[section]:
+                yield f'{self.label(section, instruction.at)}:'
+            as_bytes = instruction.text is None or (section, instruction.at) in self.otherwise
+            yield '\t' + (self.processor.bytes(instruction.raw) if as_bytes else instruction.text)
         yield '\t.cfi_endproc'
         yield f'\t.size {function.name},.-{function.name}'
 
@@ -238,20 +273,20 @@ class Text:
         for at, end in zip(begins, [*begins[1:], len(data)]):
             if at in marks:
                 yield f'{self.label(section, at)}:'
-            yield '\t' + words_of(data[at:end])
+            yield '\t' + operands_of(data[at:end])
 
 
 def aligned(head):
     return f'\t.p2align {head.align.bit_length() - 1}'
 
 
-def words_of(data):
+def operands_of(data):
     if len(data) % 8:
         return '.byte ' + ','.join(map(str, data))
     return '.quad ' + ','.join(f'{int.from_bytes(data[at:at + 8], "little"):#x}' for at in range(0, len(data), 8))
 
 
-if __name__ == '__main__':
+def main():
     if len(sys.argv) not in (3, 4):
         sys.exit(__doc__)
     path, title, *tag = sys.argv[1:]

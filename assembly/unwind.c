@@ -3,7 +3,7 @@
    The processor's trap flag stops a call after each instruction. There the frames must lead to the caller: to the place
    after the call, with the caller's stack pointer and the contents of its registers. The code is between first_of_text
    and end_of_text (unwind.ld). Prints the number of instructions and of those with wrong frames, and returns 1 if there
-   are any. For x86-64; assembly/check.py builds it. SPDX-License-Identifier: MIT */
+   are any. For x86-64; assembly/check builds it. SPDX-License-Identifier: MIT */
 #define _GNU_SOURCE
 #include <signal.h>
 #include <stdint.h>
@@ -26,21 +26,22 @@ static unsigned char *visits, *wrong;
 
 /* Calls a function with up to five words, with the trap flag set, and stores its own stack pointer. */
 void stepped(const void *function, const uint64_t *arguments, uintptr_t *stack, const uint64_t *registers);
-__asm__(".text\n.globl stepped\n.type stepped,@function\nstepped:\n.cfi_startproc\n"
-        "push %rbp\n.cfi_adjust_cfa_offset 8\npush %rbx\n.cfi_adjust_cfa_offset 8\n"
-        "push %r12\n.cfi_adjust_cfa_offset 8\npush %r13\n.cfi_adjust_cfa_offset 8\n"
-        "push %r14\n.cfi_adjust_cfa_offset 8\npush %r15\n.cfi_adjust_cfa_offset 8\n"
-        "sub $8,%rsp\n.cfi_adjust_cfa_offset 8\n"
-        "mov %rdi,%rax\nmov %rsi,%r10\nmov %rsp,(%rdx)\n"
-        "mov (%rcx),%rbx\nmov 8(%rcx),%rbp\nmov 16(%rcx),%r12\nmov 24(%rcx),%r13\nmov 32(%rcx),%r14\nmov 40(%rcx),%r15\n"
-        "mov (%r10),%rdi\nmov 8(%r10),%rsi\nmov 16(%r10),%rdx\nmov 24(%r10),%rcx\nmov 32(%r10),%r8\n"
-        "pushfq\n.cfi_adjust_cfa_offset 8\norq $0x100,(%rsp)\npopfq\n.cfi_adjust_cfa_offset -8\n"
-        "call *%rax\n.globl behind_call\nbehind_call:\n"
-        "pushfq\n.cfi_adjust_cfa_offset 8\nandq $~0x100,(%rsp)\npopfq\n.cfi_adjust_cfa_offset -8\n"
-        "add $8,%rsp\n.cfi_adjust_cfa_offset -8\n"
-        "pop %r15\n.cfi_adjust_cfa_offset -8\npop %r14\n.cfi_adjust_cfa_offset -8\n"
-        "pop %r13\n.cfi_adjust_cfa_offset -8\npop %r12\n.cfi_adjust_cfa_offset -8\n"
-        "pop %rbx\n.cfi_adjust_cfa_offset -8\npop %rbp\n.cfi_adjust_cfa_offset -8\nret\n.cfi_endproc\n");
+__asm__(
+    ".text\n.globl stepped\n.type stepped,@function\nstepped:\n.cfi_startproc\n"
+    "push %rbp\n.cfi_adjust_cfa_offset 8\npush %rbx\n.cfi_adjust_cfa_offset 8\n"
+    "push %r12\n.cfi_adjust_cfa_offset 8\npush %r13\n.cfi_adjust_cfa_offset 8\n"
+    "push %r14\n.cfi_adjust_cfa_offset 8\npush %r15\n.cfi_adjust_cfa_offset 8\n"
+    "sub $8,%rsp\n.cfi_adjust_cfa_offset 8\n"
+    "mov %rdi,%rax\nmov %rsi,%r10\nmov %rsp,(%rdx)\n"
+    "mov (%rcx),%rbx\nmov 8(%rcx),%rbp\nmov 16(%rcx),%r12\nmov 24(%rcx),%r13\nmov 32(%rcx),%r14\nmov 40(%rcx),%r15\n"
+    "mov (%r10),%rdi\nmov 8(%r10),%rsi\nmov 16(%r10),%rdx\nmov 24(%r10),%rcx\nmov 32(%r10),%r8\n"
+    "pushfq\n.cfi_adjust_cfa_offset 8\norq $0x100,(%rsp)\npopfq\n.cfi_adjust_cfa_offset -8\n"
+    "call *%rax\n.globl behind_call\nbehind_call:\n"
+    "pushfq\n.cfi_adjust_cfa_offset 8\nandq $~0x100,(%rsp)\npopfq\n.cfi_adjust_cfa_offset -8\n"
+    "add $8,%rsp\n.cfi_adjust_cfa_offset -8\n"
+    "pop %r15\n.cfi_adjust_cfa_offset -8\npop %r14\n.cfi_adjust_cfa_offset -8\n"
+    "pop %r13\n.cfi_adjust_cfa_offset -8\npop %r12\n.cfi_adjust_cfa_offset -8\n"
+    "pop %rbx\n.cfi_adjust_cfa_offset -8\npop %rbp\n.cfi_adjust_cfa_offset -8\nret\n.cfi_endproc\n");
 
 /* Whether a frame is the caller's with everything in it unchanged: reported through `is_well`. */
 static _Unwind_Reason_Code look_at_frame(struct _Unwind_Context *frame, void *is_well)
@@ -70,7 +71,7 @@ static void on_step(int signal, siginfo_t *info, void *context)
     stepped((const void *)(function), (const uint64_t[5]){__VA_ARGS__}, &stack_of_caller, held)
 #define AT(thing) ((uint64_t)(uintptr_t)(thing))
 
-static unsigned char input[LONGEST], secret[256], made[1024];
+static unsigned char input[LONGEST], secret[256], output[1024];
 
 static void call_one_shots(size_t n, uint64_t seed)
 {
@@ -121,16 +122,16 @@ static void call_others(size_t n)
     XXH128_hash_t value = {n, 1};
     CALL(XXH128_isEqual, n, 1, 1, n);
     CALL(XXH128_cmp, AT(&value), AT(&value));
-    CALL(XXH128_canonicalFromHash, AT(made), n, 1);
-    CALL(XXH128_hashFromCanonical, AT(made));
-    CALL(XXH64_canonicalFromHash, AT(made), n);
-    CALL(XXH32_canonicalFromHash, AT(made), n);
-    if (n < sizeof made - 136)
-        CALL(XXH3_generateSecret, AT(made), 136 + n, AT(input), n);
-    CALL(XXH3_generateSecret_fromSeed, AT(made), n);
+    CALL(XXH128_canonicalFromHash, AT(output), n, 1);
+    CALL(XXH128_hashFromCanonical, AT(output));
+    CALL(XXH64_canonicalFromHash, AT(output), n);
+    CALL(XXH32_canonicalFromHash, AT(output), n);
+    if (n < sizeof output - 136)
+        CALL(XXH3_generateSecret, AT(output), 136 + n, AT(input), n);
+    CALL(XXH3_generateSecret_fromSeed, AT(output), n);
 }
 
-static int told(void)
+static int print_result(void)
 {
     long places = 0, faults = 0;
     for (long at = 0; at < end_of_text - first_of_text; at++)
@@ -141,9 +142,10 @@ static int told(void)
 
 int main(void)
 {
-    static const size_t lengths[] = {0,   1,   2,   3,   4,   7,   8,   9,   12,  15,  16,   17,   24,   31,   32,
-                                     33,  48,  63,  64,  65,  96,  97,  127, 128, 129, 160,  161,  192,  224,  239,
-                                     240, 241, 255, 256, 257, 300, 512, 513, 600, 800, 1024, 1025, 2048, 5000, 9000, LONGEST};
+    static const size_t lengths[] = { 0,   1,   2,   3,   4,    7,    8,    9,    12,   15,     16,  17,
+                                      24,  31,  32,  33,  48,   63,   64,   65,   96,   97,     127, 128,
+                                      129, 160, 161, 192, 224,  239,  240,  241,  255,  256,    257, 300,
+                                      512, 513, 600, 800, 1024, 1025, 2048, 5000, 9000, LONGEST };
     const struct sigaction action = {.sa_sigaction = on_step, .sa_flags = SA_SIGINFO};
     XXH32_state_t *narrow = XXH32_createState();
     XXH64_state_t *wide = XXH64_createState();
@@ -162,5 +164,5 @@ int main(void)
             call_stream(lengths[at], state, form);
         call_others(lengths[at]);
     }
-    return told();
+    return print_result();
 }

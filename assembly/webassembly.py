@@ -1,4 +1,3 @@
-#!/usr/bin/env python3
 """Compiles a proved module for WebAssembly a second time, in the form that engines run fastest:
 
     assembly/webassembly.py MODULE OUT [--vectors]
@@ -28,15 +27,25 @@ TARGET = 'wasm64-unknown-unknown'
 APART = 'rattle::export twox_xxh32'
 # Functions that are always inlined, and calls that are, by caller and callee: for inputs of up to 240 bytes with no
 # secret.
-INLINED = re.compile(r'^(define internal .*@"(?:rattle::export [^"]*|twox_core::width_128::oneshot_(?:65_to_128|129_to_240))"\(.*) (#\d+) \{$', re.M)
+INLINED = re.compile(
+    r'^(define internal .*@"(?:rattle::export [^"]*|twox_core::width_128::oneshot_(?:65_to_128|129_to_240))"\(.*) '
+    r'(#\d+) \{$',
+    re.M,
+)
 CALLS_INLINED = [('twox_core::width_64::oneshot_with_secret', 'twox_core::width_64::impl_129_to_240_bytes')]
 # A kernel's default method of its trait: a call without an inline hint from the toolchain.
-OF_TRAIT = re.compile(r'^(define internal void @"twox_core::xxhash3::large::halves4::ImplVector::accumulate_four_stripes"'
-                      r'\(.*) #\d+ \{$', re.M)
+OF_TRAIT = re.compile(
+    r'^(define internal void @"twox_core::xxhash3::large::halves4::ImplVector::accumulate_four_stripes"'
+    r'\(.*) #\d+ \{$',
+    re.M,
+)
 # The function that multiplies, and its body by halves, the steps of `product_by_halves` in crates/symbolic_rules. An
 # opaque copy in the middle hides the product from clang, which would make a call of it.
-PRODUCT = re.compile(r'^(define internal noundef i128 @"twox_core::xxhash3::mixing::full_product"'
-                     r'\(i64 noundef %a0, i64 noundef %a1\) .*\{\n)(?s:.*?)^}\n', re.M)
+PRODUCT = re.compile(
+    r'^(define internal noundef i128 @"twox_core::xxhash3::mixing::full_product"'
+    r'\(i64 noundef %a0, i64 noundef %a1\) .*\{\n)(?s:.*?)^}\n',
+    re.M,
+)
 BY_HALVES = '''start:
   %left.low = and i64 %a0, 4294967295
   %left.high = lshr i64 %a0, 32
@@ -64,8 +73,11 @@ BY_HALVES = '''start:
 }
 '''
 # The function that takes an accumulator from the loop, up to its first line.
-MERGE = re.compile(r'^define internal noundef i64 @"twox_plain::xxhash64::rounds::merge_accumulator"'
-                   r'\(i64 noundef %a0, i64 noundef %a1\) .*\{\nstart:\n', re.M)
+MERGE = re.compile(
+    r'^define internal noundef i64 @"twox_plain::xxhash64::rounds::merge_accumulator"'
+    r'\(i64 noundef %a0, i64 noundef %a1\) .*\{\nstart:\n',
+    re.M,
+)
 # Copies the accumulator, by an assembly of no instruction.
 HANDED_ON = '  %a1 = call i64 asm "", "=r,0"(i64 %from_loop)\n'
 
@@ -80,11 +92,11 @@ def text_of(path):
         return file.read()
 
 
-def words_of(folder):
+def arguments_of(folder):
     """clang's options for the module, except those for its target."""
-    words = re.sub(r'^(-mllvm|-Xclang|-x|-o)\n', r'\1 ', text_of(os.path.join(folder, 'words')), flags=re.M).splitlines()
-    kept = [word for word in words if not word.startswith(OWN) and not word.endswith(('.bc', '.ll'))]
-    return [part for word in kept for part in word.split(' ')]
+    args = re.sub(r'^(-mllvm|-Xclang|-x|-o)\n', r'\1 ', text_of(os.path.join(folder, 'args')), flags=re.M).splitlines()
+    common = [word for word in args if not word.startswith(OWN) and not word.endswith(('.bc', '.ll'))]
+    return [part for word in common for part in word.split(' ')]
 
 
 def stop(why):
@@ -116,6 +128,7 @@ def with_functions_inlined(module):
 
     def inlined(head):
         return f'{head[1]} {head[2]} optsize {{' if f'@"{APART}"(' in head[1] else f'{head[1]} {always} {{'
+
     module, count = INLINED.subn(inlined, module)
     if count != module.count('"wasm-export-name"=') + 2 or module.count(' optsize {') != 1:
         stop(f'this module has {count} functions that are to be inlined')
@@ -128,7 +141,9 @@ def with_functions_inlined(module):
 def with_calls_inlined(module):
     """The module with those calls marked in the same way."""
     for caller, callee in CALLS_INLINED:
-        head = re.search(rf'^define internal .*@"{caller}"\(.*\{{$', module, re.M) or stop(f'this module has no {caller}')
+        head = re.search(rf'^define internal .*@"{caller}"\(.*\{{$', module, re.M) or stop(
+            f'this module has no {caller}'
+        )
         start, end = head.end(), module.index('\n}\n', head.end())
         call = rf'^(  %\S+ = call .*@"{callee}"\(.*\))$'
         body, count = re.subn(call, r'\1 alwaysinline', module[start:end], flags=re.M)
@@ -140,23 +155,25 @@ def with_calls_inlined(module):
 
 def with_vectors(module):
     """The module with functions for a processor with vectors."""
-    module, count = re.subn(r'^(attributes #\d+ = .*"target-cpu"="lime1")', r'\1 "target-features"="+simd128"', module, flags=re.M)
+    module, count = re.subn(
+        r'^(attributes #\d+ = .*"target-cpu"="lime1")', r'\1 "target-features"="+simd128"', module, flags=re.M
+    )
     if not count or len(re.findall(r'"target-(?:cpu|features)"', module)) != 2 * count:
         stop('the functions of this module name another processor, or features')
     return module
 
 
-def main(folder, out, *flags):
+def compile_module(folder, out, *flags):
     module, vectors = text_of(os.path.join(folder, 'module.ll')), []
     for change in with_functions_inlined, with_calls_inlined, with_product_by_halves, with_loop_apart:
         module = change(module)
     if flags:
         module, vectors = with_vectors(module), ['-msimd128']
-    words = [f'--target={TARGET}', '-mcpu=lime1', *vectors, *words_of(folder)]
-    subprocess.run([clang_of_kit(), *words, '-w', '-c', '-x', 'ir', '-', '-o', out], input=module, text=True, check=True)
+    args = [f'--target={TARGET}', '-mcpu=lime1', *vectors, *arguments_of(folder)]
+    subprocess.run([clang_of_kit(), *args, '-w', '-c', '-x', 'ir', '-', '-o', out], input=module, text=True, check=True)
 
 
-if __name__ == '__main__':
+def main():
     if len(sys.argv) not in (3, 4) or sys.argv[3:] not in ([], ['--vectors']):
         sys.exit(__doc__)
-    main(*sys.argv[1:])
+    compile_module(*sys.argv[1:])

@@ -1,7 +1,6 @@
 """Converts a module for x86-64-v3 to one for x86-64-v4, in text of LLVM, and back:
 
-    assembly/wide.py widen | narrow < MODULE.ll
-    assembly/wide.py check OBJECT
+    python3 -B . assembly.wide wide check OBJECT
 
 `widen` changes only what determines no value: `Kernel` returns true for eight lanes (`is_widened`, whose result no
 clause fixes, so that each caller is proved for both), and the functions of WIDE are compiled for x86-64-v4 with vectors
@@ -16,7 +15,7 @@ import re
 import subprocess
 import sys
 
-from names import plain
+from assembly.names import plain
 
 MNEMONICS = os.path.join(os.path.dirname(os.path.abspath(__file__)), 'mnemonics.txt')
 ANSWER = 'twox_core::xxhash3::large::lanes4::ImplVector::is_widened'
@@ -24,10 +23,13 @@ WIDE = ('twox_core::xxhash3::stripes::take_widened', 'twox_core::xxhash3::stripe
 FOR_V3, FOR_V4, WIDTH = '"target-cpu"="x86-64-v3"', '"target-cpu"="x86-64-v4"', '"prefer-vector-width"="512" '
 HEAD = re.compile(r'^(define [^@\n]*@(?:"([^"]*)"|([\w.]+))\(.*) #(\d+) \{$', re.M)
 # The body that returns a constant, the one number in it that may change.
-BODY = re.compile(rf'^(define [^\n]*@"{ANSWER}"\([^\n]*\{{\n(?:(?!\}}).*\n)*?  %\w+ = zext i1 )(true|false)'
-                  r'( to i8\n(?:(?!\}|.* i1 (?:true|false)).*\n)*\})$', re.M)
-TAG = re.compile(r'\.i\d+(_v\d)?$')       # behind a local name of the cargo crate's text
-NEW = 90_000       # numbers from here on are of no group of attributes
+BODY = re.compile(
+    rf'^(define [^\n]*@"{ANSWER}"\([^\n]*\{{\n(?:(?!\}}).*\n)*?  %\w+ = zext i1 )(true|false)'
+    r'( to i8\n(?:(?!\}|.* i1 (?:true|false)).*\n)*\})$',
+    re.M,
+)
+TAG = re.compile(r'\.i\d+(_v\d)?$')  # behind a local name of the cargo crate's text
+NEW = 90_000  # numbers from here on are of no group of attributes
 # What x86-64-v3 lacks, in an instruction as objdump prints it.
 LACKED = re.compile(r'%zmm|%[xy]mm(1[6-9]|2\d|3[01])|%k[0-7]\b|\{')
 
@@ -79,7 +81,9 @@ def narrow(text):
 
 def faults(path, allowed):
     """The instructions of an object that are not allowed."""
-    out = subprocess.run(['objdump', '-d', '-w', '--no-show-raw-insn', path], check=True, capture_output=True, text=True).stdout
+    out = subprocess.run(
+        ['objdump', '-d', '-w', '--no-show-raw-insn', path], check=True, capture_output=True, text=True
+    ).stdout
     wide, found = {plain(name) for name in WIDE}, set()
     for name, lines in re.findall(r'^[0-9a-f]+ <(.*)>:\n((?: .*\n)*)', out, re.M):
         own = TAG.sub('', plain(name))
@@ -99,16 +103,9 @@ def mnemonics():
         return set(re.sub('#.*', '', file.read()).split())
 
 
-def main(verb, path=None):
-    if verb == 'check':
-        found = list(faults(path, mnemonics()))
-        print('\n'.join(found), end='\n' if found else '')
-        return 1 if found else 0
-    sys.stdout.write({'widen': widen, 'narrow': narrow}[verb](sys.stdin.read()))
-    return 0
-
-
-if __name__ == '__main__':
-    if sys.argv[1:] not in (['widen'], ['narrow']) and (len(sys.argv) != 3 or sys.argv[1] != 'check'):
+def main():
+    if len(sys.argv) != 3 or sys.argv[1] != 'check':
         sys.exit(__doc__)
-    sys.exit(main(*sys.argv[1:]))
+    found = list(faults(sys.argv[2], mnemonics()))
+    print('\n'.join(found), end='\n' if found else '')
+    return 1 if found else 0

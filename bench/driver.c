@@ -21,16 +21,23 @@ enum form { ONESHOT, INLINED, CALLED, KERNEL, KERNEL_STREAM };
 static const char *const forms[] = { "oneshot", "inlined", "called", "kernel", "kernel_stream" };
 
 enum hash { XXH32_, XXH64_, XXH3_64_, XXH3_64_SEEDED, XXH3_64_SECRET, XXH3_128_, XXH3_128_SEEDED, HASHES };
-static const char *const hashes[] = { "XXH32", "XXH64", "XXH3-64", "XXH3-64-seeded", "XXH3-64-secret", "XXH3-128", "XXH3-128-seeded" };
+static const char *const hashes[] = { "XXH32",          "XXH64",    "XXH3-64",        "XXH3-64-seeded",
+                                      "XXH3-64-secret", "XXH3-128", "XXH3-128-seeded" };
 static const char *const kernels[] = { "scalar", "lanes2", "lanes4", "split2" };
 
 static const char *form_of(struct row r) { return forms[r.form]; }
-static const char *name_of(struct row r) { return r.form == KERNEL || r.form == KERNEL_STREAM ? kernels[r.which] : hashes[r.which]; }
+static const char *name_of(struct row r)
+{
+    return r.form == KERNEL || r.form == KERNEL_STREAM ? kernels[r.which] : hashes[r.which];
+}
 
 /* For 128 bits it returns the sum of the halves. */
 static uint64_t both(struct halves h) { return h.low + h.high; }
 
-static const struct streams *streams_of(const struct peer *p, int form) { return form == INLINED ? &p->inlined : &p->called; }
+static const struct streams *streams_of(const struct peer *p, int form)
+{
+    return form == INLINED ? &p->inlined : &p->called;
+}
 
 static int offers(const struct peer *p, struct row r)
 {
@@ -104,28 +111,29 @@ static void measure(struct row r)
     const char *names[MOST_PEERS];
     size_t count = offering(r, those, names);
     if (count < 2) return;
-    measure_each(those, names, count, r, r.form == ONESHOT || r.form == KERNEL ? 1 : (double)MIB / (double)stream_length(r.size));
+    measure_each(those, names, count, r,
+                 r.form == ONESHOT || r.form == KERNEL ? 1 : (double)MIB / (double)stream_length(r.size));
 }
 
 static void rows(enum form form, int which, const size_t *sizes)
 {
     for (; *sizes; sizes++) {
         struct row r = { form, which, *sizes };
-        if (wanted(r)) measure(r);
+        if (is_selected(r)) measure(r);
     }
 }
 
 int main(int argc, char **argv)
 {
     static const size_t lengths[] = { 4, 8, 16, 32, 64, 128, 240, 256, 512, 1 << 10, 4 << 10, 16 << 10, 64 << 10,
-        256 << 10, MIB, 2 * MIB, 4 * MIB, 16 * MIB, ROOM, 0 };
+        256 << 10, MIB, 2 * MIB, 4 * MIB, 16 * MIB, CAPACITY, 0 };
     static const size_t few_lengths[] = { 4, 16, 32, 64, 128, 240, 256, 1 << 10, 16 << 10, 256 << 10, 4 * MIB, 0 };
     static const size_t pieces[] = { 1, 8, 16, 24, 32, 40, 64, 100, 256, 1000, 4096, 65536, 0 };
     static const size_t few_pieces[] = { 1, 8, 24, 64, 100, 1000, 65536, 0 };
     static const size_t kernel_lengths[] = { 256, 1 << 10, 4 << 10, 64 << 10, MIB, 16 * MIB, 0 };
     static const size_t kernel_pieces[] = { 64, 1000, 65536, 0 };
-    if (!read_words(argc, argv, 1)) return fprintf(stderr, "usage: driver [--quick] [--only WORD]..\n"), 2;
-    if (!fill_input(ROOM)) return 1;
+    if (!read_options(argc, argv, 1)) return fprintf(stderr, "usage: driver [--quick] [--only WORD]..\n"), 2;
+    if (!fill_input(CAPACITY)) return 1;
     for (int hash = 0; hash < HASHES; hash++) {
         const void *those[MOST_PEERS];
         const char *names[MOST_PEERS];

@@ -4,8 +4,8 @@ import statistics
 
 
 def rows(files):
-    """(form, name, size) to peer to its times: nanoseconds a call, or for 1 MiB of a stream. A file is a round, of whose
-    passes the best time counts."""
+    """(form, name, size) to peer to its times: nanoseconds a call, or for 1 MiB of a stream. A file is a round, of
+    whose passes the best time counts."""
     table = {}
     for file in files:
         best = {}

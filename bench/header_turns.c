@@ -1,6 +1,6 @@
 /* SPDX-License-Identifier: MIT */
-/* Runs the cases of two builds of header.c by turns, and prints for each: its name, the time of theirs over that of ours,
- * the median of all rounds, and our least nanoseconds. */
+/* Runs the cases of two builds of header.c by turns, and prints for each: its name, the time of theirs over that of
+ * ours, the median of all rounds, and our least nanoseconds. */
 #include <stdio.h>
 #include <stdlib.h>
 #include "header.h"

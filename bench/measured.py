@@ -1,6 +1,6 @@
-"""The data of docs/SPEED.md: bench/data/measured.tsv and c.tsv. Their first lines, from `# `, have the date and the machine.
-Each other line is a row: the part, the form, the hash, the size in bytes, our GB/s, our spread in percent, and for
-each peer `name=ratio`, a peer's time over ours, then our spread of that ratio in percent and the ratio of the best
+"""The data of docs/SPEED.md: bench/data/measured.tsv and c.tsv. Their first lines, from `# `, have the date and the
+machine. Each other line is a row: the part, the form, the hash, the size in bytes, our GB/s, our spread in percent, and
+for each peer `name=ratio`, a peer's time over ours, then our spread of that ratio in percent and the ratio of the best
 times, as `c_gcc=1.03/12/0.98`. Figures that an older page lacked are left out: the best times of most rows, and some
 speeds."""
 import os
@@ -33,21 +33,21 @@ class Row:
 
 def read(file=FILE):
     """The texts of the first lines, and the rows."""
-    said, rows = [], []
+    comments, rows = [], []
     with open(file) as lines:
         for line in lines:
             if line.startswith("# "):
-                said.append(line[2:].strip())
+                comments.append(line[2:].strip())
             else:
                 part, form, name, size, speed, spread, *peers = line.rstrip("\n").split("\t")
                 pairs = [it.partition("=") for it in peers]
                 ratios = {peer: Ratio(*map(float, values.split("/"))) for peer, _, values in pairs}
-                ours = map(float, (speed, spread)) if speed else (None, None)
-                rows.append(Row(part, form, name, int(size), *ours, ratios))
-    return said, rows
+                ours, range_of_ours = (float(speed), float(spread)) if speed else (None, None)
+                rows.append(Row(part, form, name, int(size), ours, range_of_ours, ratios))
+    return comments, rows
 
 
-def write(said, rows, file=FILE):
+def write(comments, rows, file=FILE):
     with open(file, "w") as out:
-        out.writelines(f"# {it}\n" for it in said)
+        out.writelines(f"# {it}\n" for it in comments)
         out.writelines(f"{it}\n" for it in rows)

@@ -1,11 +1,10 @@
 """The code that each measurement ran, and whether it has changed since.
 
-bench/data/objects.tsv has a checksum of the measured code for each measurement, or `unknown`. A measurement is older than
-this version if the checksum of the code differs."""
+bench/data/objects.tsv has a checksum of the measured code for each measurement, or `unknown`. A measurement is older
+than this version if the checksum of the code differs."""
 import glob
 import hashlib
 import os
-import subprocess
 
 TOP = os.path.dirname(os.path.dirname(os.path.abspath(__file__)))
 FILE = f"{TOP}/bench/data/objects.tsv"
@@ -18,8 +17,13 @@ CODE = {
     "xxh": [*LIBRARY[:-1], "crates/xxh/src/**/*.rt", "crates/xxh_io/src/**/*.rt", "crates/xxh_program/src/**/*.rt"],
     "dispatch": ["c/asm/x86-64-v4.s"],
     "header": ["c/include/xxhash.h"],
-    "xxhsum": [*LIBRARY[:-1], "crates/xxh_io/src/**/*.rt", "crates/xxh_program/src/**/*.rt", "crates/xxhsum/src/**/*.rt",
-               *(f"crates/xxhsum_{it}/src/**/*.rt" for it in ("app", "audit", "fs", "line", "options", "output", "program"))],
+    "xxhsum": [
+        *LIBRARY[:-1],
+        "crates/xxh_io/src/**/*.rt",
+        "crates/xxh_program/src/**/*.rt",
+        "crates/xxhsum/src/**/*.rt",
+        *(f"crates/xxhsum_{it}/src/**/*.rt" for it in ("app", "audit", "fs", "line", "options", "output", "program")),
+    ],
     "cargo": CRATE,
     "cargo_programs": [*CRATE, "rust/programs/src/**/*.rs"],
     "python": ["python/native/*", "python/src/twox_hash/*.py", "c/asm/x86-64-*.s"],
@@ -29,8 +33,14 @@ CODE = {
 
 
 def files(name, top=TOP):
-    return sorted({os.path.relpath(path, top) for it in CODE[name] for path in glob.glob(f"{top}/{it}", recursive=True)
-                   if os.path.isfile(path)})
+    return sorted(
+        {
+            os.path.relpath(path, top)
+            for it in CODE[name]
+            for path in glob.glob(f"{top}/{it}", recursive=True)
+            if os.path.isfile(path)
+        }
+    )
 
 
 def checksum(name, top=TOP):
@@ -42,18 +52,6 @@ def checksum(name, top=TOP):
     return whole.hexdigest()
 
 
-def checksum_at(name, commit, room):
-    """The same of a commit, or `unknown` if the repository does not have it."""
-    top = os.path.join(room, commit)
-    if not os.path.isdir(top):
-        packed = subprocess.run(["git", "archive", commit], cwd=TOP, capture_output=True)
-        if packed.returncode:
-            return "unknown"
-        os.mkdir(top)
-        subprocess.run(["tar", "x", "-C", top], input=packed.stdout, check=True)
-    return checksum(name, top)
-
-
 def stored(file=FILE):
     with open(file) as lines:
         return dict(line.rstrip("\n").split("\t") for line in lines if not line.startswith("#"))
@@ -61,7 +59,10 @@ def stored(file=FILE):
 
 def store(sums, file=FILE):
     with open(file, "w") as out:
-        out.write("# The SHA-256 of the code that each measurement ran, by bench/page.py --record. Columns: measurement, checksum.\n")
+        out.write(
+            "# The SHA-256 of the code that each measurement ran, by bench/page --record. Columns: measurement, "
+            "checksum.\n"
+        )
         out.writelines(f"{name}\t{sums[name]}\n" for name in CODE)
 
 

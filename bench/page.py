@@ -1,11 +1,11 @@
-#!/usr/bin/env -S python3 -B
 """Draws docs/SPEED.md and docs/speed.svg from bench/data:
 
-    bench/page.py [--check | FOLDER | --record NAME..]
+    bench/page [--check | FOLDER | --record NAME..]
 
-With --check it checks that the page in docs is up to date; with a folder, it reads the data and writes the page
-there. --record stores the checksum of the code that a measurement ran, by the names of bench/objects.py, and draws the
-page: the page marks a measurement as older than this version if that code has changed since. The tables of `rust/bench`, `rust/programs/bench`, `python/bench` and `web/bench` are copied from bench/data."""
+With --check it checks that the page in docs is up to date; with a folder, it reads the data and writes the page there.
+--record stores the checksum of the code that a measurement ran, by the names of bench/objects.py, and draws the page:
+the page marks a measurement as older than this version if that code has changed since. The tables of `rust/bench`,
+`rust/programs/bench`, `python/bench` and `web/bench` are copied from bench/data."""
 import math
 import os
 import re
@@ -13,10 +13,10 @@ import statistics
 import sys
 from pathlib import Path
 
-sys.path.insert(0, os.path.dirname(os.path.abspath(__file__)))
-import figures
-import measured
-import objects
+from bench import figures
+from bench import measured
+from bench import objects
+from checks.lib import command
 
 TOP = os.path.dirname(os.path.dirname(os.path.abspath(__file__)))
 SETS = ["x86-64-v2", "x86-64-v3"]
@@ -48,14 +48,25 @@ SHARED = [
     ("streams in chunks of 100 to 255 bytes", ("stream",), 100, 255),
     ("streams in chunks of 256 bytes to 64 KiB", ("stream",), 256, 65536),
 ]
-HEADER = [("one-shots of constant length, 4 to 16 bytes", r"constant"), ("one-shots of 0 to 64 bytes", r"0 to 64"),
-          ("one-shots of 128 to 240 bytes", r", (128|2.0)$"), ("one-shots of 1 and 64 KiB", r"KiB"), ("streams", r"^stream")]
-DISPATCH = [("one-shots of", "oneshot", (16, 240, KIB, 4 * KIB, 16 * KIB, 64 * KIB, MIB)),
-            ("streams in chunks of", "stream", (64, 1000, 4 * KIB, 64 * KIB))]
+HEADER = [
+    ("one-shots of constant length, 4 to 16 bytes", r"constant"),
+    ("one-shots of 0 to 64 bytes", r"0 to 64"),
+    ("one-shots of 128 to 240 bytes", r", (128|2.0)$"),
+    ("one-shots of 1 and 64 KiB", r"KiB"),
+    ("streams", r"^stream"),
+]
+DISPATCH = [
+    ("one-shots of", "oneshot", (16, 240, KIB, 4 * KIB, 16 * KIB, 64 * KIB, MIB)),
+    ("streams in chunks of", "stream", (64, 1000, 4 * KIB, 64 * KIB)),
+]
 
 
 def markdown(head, rows):
-    return ["| " + " | ".join(head) + " |", "|---" * len(head) + "|"] + ["| " + " | ".join(row) + " |" for row in rows] + [""]
+    return (
+        ["| " + " | ".join(head) + " |", "|---" * len(head) + "|"]
+        + ["| " + " | ".join(row) + " |" for row in rows]
+        + [""]
+    )
 
 
 def ranged(values):
@@ -71,8 +82,10 @@ def chosen(rows, forms, low, high, names=None):
 
 
 def summary(parts, ratio):
-    lines = [[name, *(ranged([ratio(it) for it in chosen(parts[s], forms, low, high)]) for s in SETS)]
-             for name, forms, low, high in SUMMARY]
+    lines = [
+        [name, *(ranged([ratio(it) for it in chosen(parts[s], forms, low, high)]) for s in SETS)]
+        for name, forms, low, high in SUMMARY
+    ]
     return markdown(["what", "x86-64-v2, the default", "x86-64-v3"], lines)
 
 
@@ -83,16 +96,25 @@ def data_of(name):
 def age(code, sums=None):
     """The end of the line below a table."""
     sums = sums or objects.stored()
-    why = "this repository does not have that commit" if sums[code] == "unknown" else "the measured code has changed since"
+    why = (
+        "this repository does not have that commit"
+        if sums[code] == "unknown"
+        else "the measured code has changed since"
+    )
     return f" Older than this version: {why}." if objects.is_older(code, sums) else ""
 
 
 def origin(name, first=None):
     """The date, the commit and the processor of a file of data, from its first line."""
-    found = re.search(r"(on (\d{4}-\d\d-\d\d), (?:at|stored by) commit) (\w+), on (.+?)(?: and rustc|, | \(|\.$|\. )", first or data_of(name)[0])
+    found = re.search(
+        r"(on (\d{4}-\d\d-\d\d), (?:at|stored by) commit) (\w+), on (.+?)(?: and rustc|, | \(|\.$|\. )",
+        first or data_of(name)[0],
+    )
     if not found:
-        sys.exit(f"bench/data/{name}.tsv: the first line has no date, commit and processor, as in "
-                 "`on 2026-11-29, at commit 766c1647, on an Intel Xeon`")
+        sys.exit(
+            f"bench/data/{name}.tsv: the first line has no date, commit and processor, as in "
+            "`on 2026-11-29, at commit 766c1647, on an Intel Xeon`"
+        )
     return found
 
 
@@ -106,8 +128,8 @@ def copied(name):
     """A table that another program printed, and the sentences on how it was measured."""
     lines = data_of(name)
     origin(name)
-    said = [it[2:] for it in lines if it.startswith("# ")]
-    return [*counted(name), *(line for it in [said[0] + age(name), *said[1:]] for line in (it, ""))]
+    comments = [it[2:] for it in lines if it.startswith("# ")]
+    return [*counted(name), *(line for it in [comments[0] + age(name), *comments[1:]] for line in (it, ""))]
 
 
 def counted(name):
@@ -120,9 +142,14 @@ def twox_hash(parts):
     rows = {s: [it for it in parts[s] if "twox_hash" in it.peers] for s in SETS}
     if not all(rows.values()):
         return []
-    return ["## Beside the Rust crate `twox-hash`", "",
-            "The crate's sources, 2.1.5, built for the same instruction set. At x86-64-v2 too, it uses AVX2 if the processor has it.", "",
-            *summary(rows, lambda it: it.peers["twox_hash"].median)]
+    return [
+        "## Beside the Rust crate `twox-hash`",
+        "",
+        "The crate's sources, 2.1.5, built for the same instruction set. At x86-64-v2 too, it uses AVX2 if the "
+        "processor has it.",
+        "",
+        *summary(rows, lambda it: it.peers["twox_hash"].median),
+    ]
 
 
 def lowest(parts):
@@ -138,23 +165,39 @@ def shared(rows):
     for name, forms, low, high in SHARED:
         ratios = {it: it.peers["c_shared"].median for it in chosen(rows, forms, low, high)}
         of_xxh3 = [it for row, it in ratios.items() if row.name.startswith("XXH3-")]
-        lines.append([name, ranged([it for row, it in ratios.items() if not row.name.startswith("XXH3-")]), ranged(of_xxh3)])
+        lines.append(
+            [name, ranged([it for row, it in ratios.items() if not row.name.startswith("XXH3-")]), ranged(of_xxh3)]
+        )
     return markdown(["what", "XXH32, XXH64", "XXH3"], lines)
 
 
 def dispatch(rows):
     """The calls `.._dispatch`, of both widths."""
     ratios = {(it.form, it.size, it.name): f"{it.peers['c_shared'].median:.2f}" for it in rows}
-    lines = [[f"{name} {figures.size(size).replace(' B', ' bytes')}", *(ratios[form, size, width] for width in ("XXH3-64", "XXH3-128"))]
-             for name, form, sizes in DISPATCH for size in sizes]
+    lines = [
+        [
+            f"{name} {figures.size(size).replace(' B', ' bytes')}",
+            *(ratios[form, size, width] for width in ("XXH3-64", "XXH3-128")),
+        ]
+        for name, form, sizes in DISPATCH
+        for size in sizes
+    ]
     return markdown(["what", "64 bits", "128 bits"], lines)
 
 
 def header():
     """The cases of bench/header, of each compiler."""
     rows = [it.split("\t") for it in data_of("header") if not it.startswith("#")]
-    lines = [[title, *(ranged([float(it[2]) for it in rows if it[0].startswith(compiler) and re.search(cases, it[1])])
-                       for compiler in ("gcc", "clang"))] for title, cases in HEADER]
+    lines = [
+        [
+            title,
+            *(
+                ranged([float(it[2]) for it in rows if it[0].startswith(compiler) and re.search(cases, it[1])])
+                for compiler in ("gcc", "clang")
+            ),
+        ]
+        for title, cases in HEADER
+    ]
     return markdown(["what", "gcc 12", "clang 14"], lines)
 
 
@@ -162,8 +205,10 @@ def programs(rows):
     by_name = {}
     for it in rows:
         by_name.setdefault(it.name, {})[it.form] = it
-    lines = [[name, *(f"{it[way].speed:.2f}, {it[way].peers['xxhsum'].median:.2f}" for way in ("file", "pipe"))]
-             for name, it in by_name.items()]
+    lines = [
+        [name, *(f"{it[way].speed:.2f}, {it[way].peers['xxhsum'].median:.2f}" for way in ("file", "pipe"))]
+        for name, it in by_name.items()
+    ]
     return markdown(["`xxh hash`", "a file: GB/s, ratio", "a pipe: GB/s, ratio"], lines)
 
 
@@ -200,21 +245,34 @@ def picture(rows, names):
         up = lambda v: y0 + height - (math.log2(v) - bottom) / (top - bottom) * height
         out.append(f'<text x="{x0}" y="{y0 - 8}" font-weight="bold">{name}, GB/s</text>')
         out.append(f'<rect x="{x0}" y="{y0}" width="{width}" height="{height}" fill="none" stroke="#bbb"/>')
-        out += [f'<text x="{x0 - 6}" y="{up(2.0 ** it) + 4:.1f}" text-anchor="end">{2.0 ** it:g}</text>' for it in range(bottom, top + 1)]
-        out += [f'<text x="{across(it):.1f}" y="{y0 + height + 14}" text-anchor="middle">{figures.size(it)}</text>'
-                for it in (4, 64, KIB, 16 * KIB, MIB, 64 * MIB) if it <= of[-1].size]
+        out += [
+            f'<text x="{x0 - 6}" y="{up(2.0 ** it) + 4:.1f}" text-anchor="end">{2.0 ** it:g}</text>'
+            for it in range(bottom, top + 1)
+        ]
+        out += [
+            f'<text x="{across(it):.1f}" y="{y0 + height + 14}" text-anchor="middle">{figures.size(it)}</text>'
+            for it in (4, 64, KIB, 16 * KIB, MIB, 64 * MIB)
+            if it <= of[-1].size
+        ]
         for peer in [*PEERS, "ours"]:
             points = " ".join(f"{across(at):.1f},{up(it):.1f}" for at, it in speeds[peer].items())
-            out.append(f'<polyline points="{points}" fill="none" stroke="{COLOURS[peer]}" stroke-width="{2.5 if peer == "ours" else 1.2}"/>')
+            out.append(
+                f'<polyline points="{points}" fill="none" stroke="{COLOURS[peer]}" '
+                f'stroke-width="{2.5 if peer == "ours" else 1.2}"/>'
+            )
     total = 40 + (len(names) + 1) // 2 * (height + 60)
     for i, peer in enumerate(["ours", *PEERS]):
         out.append(f'<rect x="{left + i * 140}" y="{total - 6}" width="14" height="4" fill="{COLOURS[peer]}"/>')
         out.append(f'<text x="{left + i * 140 + 20}" y="{total}">{peer}</text>')
-    return (f'<svg xmlns="http://www.w3.org/2000/svg" width="{left + 2 * width + gap + 20}" height="{total + 20}" '
-            f'font-family="sans-serif" font-size="11"><rect width="100%" height="100%" fill="white"/>' + "\n".join(out) + "</svg>\n")
+    return (
+        f'<svg xmlns="http://www.w3.org/2000/svg" width="{left + 2 * width + gap + 20}" height="{total + 20}" '
+        f'font-family="sans-serif" font-size="11"><rect width="100%" height="100%" fill="white"/>'
+        + "\n".join(out)
+        + "</svg>\n"
+    )
 
 
-def page(said, parts):
+def page(comments, parts):
     text = f"""# Speed
 
 A ratio is a peer's time divided by ours: above 1, this library is faster. A cell has the median over hashes and sizes, and the range. Each measurement is compared with the **fastest peer**: the reference library's header by gcc (`c_gcc`) or by clang (`c_clang`), Debian's shared library (`c_shared`), or the Rust crate `xxhash-rust`. [bench/data](../bench/data) has all {sum(map(len, parts.values()))} measurements of libraries.
@@ -298,34 +356,48 @@ Instructions of the reference's header, by gcc 12 -O3, divided by ours for one c
 - One process measures all peers in turns. A figure is the median of eight rounds, a round the best of many turns of 0.025 ms or of one call, in three passes over all measurements.
 - Each peer is called through a pointer to a function, and compares the length with the buffer of 64 MiB, as ours does. Debian's library needs one more call, and is built for plain x86-64.
 """
-    day = when("measured", said[0], "library")
-    drawn = {"SUMMARY": summary(parts, best) + day, "TWOX_HASH": twox_hash(parts) + day, "LOWEST": lowest(parts) + day,
-             "SHARED": shared(parts["c"]) + when("c"), "DISPATCH": dispatch(parts["dispatch"]) + when("c", code="dispatch"),
-             "HEADER": header() + when("header"),
-             "CARGO": copied("cargo"), "CARGO_COUNTS": counted("cargo_counts") + when("cargo"),
-             "CARGO_MAPS": counted("cargo_maps") + when("cargo"), "CARGO_PROGRAMS": copied("cargo_programs"),
-             "PYTHON": copied("python"), "WEB": copied("web"), "PROGRAMS": programs(parts["program"]) + when("measured", said[0], "xxh"), "XXHSUM": xxhsum(),
-             "ARM": arm(), "SAID": [f"- {it}" for it in said]}
-    return "\n".join(line for it in text.rstrip("\n").split("\n") for line in drawn.get(it[1:], [it])) + "\n"
+    day = when("measured", comments[0], "library")
+    blocks = {
+        "SUMMARY": summary(parts, best) + day,
+        "TWOX_HASH": twox_hash(parts) + day,
+        "LOWEST": lowest(parts) + day,
+        "SHARED": shared(parts["c"]) + when("c"),
+        "DISPATCH": dispatch(parts["dispatch"]) + when("c", code="dispatch"),
+        "HEADER": header() + when("header"),
+        "CARGO": copied("cargo"),
+        "CARGO_COUNTS": counted("cargo_counts") + when("cargo"),
+        "CARGO_MAPS": counted("cargo_maps") + when("cargo"),
+        "CARGO_PROGRAMS": copied("cargo_programs"),
+        "PYTHON": copied("python"),
+        "WEB": copied("web"),
+        "PROGRAMS": programs(parts["program"]) + when("measured", comments[0], "xxh"),
+        "XXHSUM": xxhsum(),
+        "ARM": arm(),
+        "SAID": [f"- {it}" for it in comments],
+    }
+    return "\n".join(line for it in text.rstrip("\n").split("\n") for line in blocks.get(it[1:], [it])) + "\n"
 
 
-def main(words):
-    if words[:1] == ["--record"]:
-        objects.store({**objects.stored(), **{name: objects.checksum(name) for name in words[1:]}})
-        words = []
-    is_check = words == ["--check"]
-    folder = words[0] if words and not is_check else None
-    said, rows = measured.read(f"{folder}/measured.tsv" if folder else measured.FILE)
+def main():
+    parser = command.parser(__doc__, name="bench/page")
+    way = parser.add_mutually_exclusive_group()
+    way.add_argument("--check", action="store_true", help="compare the page with the data, and write nothing")
+    way.add_argument("--record", nargs="+", metavar="NAME", help="store the checksum of the code of these measurements")
+    way.add_argument("folder", nargs="?", metavar="FOLDER", help="read the data here, and write the page here")
+    given = parser.parse_args()
+    if given.record:
+        objects.store({**objects.stored(), **{name: objects.checksum(name) for name in given.record}})
+    is_check, folder = given.check, given.folder
+    comments, rows = measured.read(f"{folder}/measured.tsv" if folder else measured.FILE)
     rows += measured.read(f"{DATA}/c.tsv")[1]
     parts = {name: [it for it in rows if it.part == name] for name in dict.fromkeys(it.part for it in rows)}
-    drawn = {"SPEED.md": page(said, parts), "speed.svg": picture(parts[SETS[0]], ["XXH32", "XXH64", "XXH3-64", "XXH3-128"])}
-    for name, text in drawn.items():
+    pages = {
+        "SPEED.md": page(comments, parts),
+        "speed.svg": picture(parts[SETS[0]], ["XXH32", "XXH64", "XXH3-64", "XXH3-128"]),
+    }
+    for name, text in pages.items():
         path = Path(folder or f"{TOP}/docs", name)
         if not is_check:
             path.write_text(text)
         elif path.read_text() != text:
-            sys.exit(f"docs/{name} is not as bench/page.py draws it: run it, also if only the measured code has changed")
-
-
-if __name__ == "__main__":
-    main(sys.argv[1:])
+            sys.exit(f"docs/{name} is not as bench/page draws it: run it, also if only the measured code has changed")

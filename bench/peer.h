@@ -10,8 +10,8 @@ struct halves { uint64_t low, high; };
 
 /* Size of the input's buffer. Our exports compare a length with it, and a secret's with its size, which no caller in
  * Rattle has to do: so that this favours nobody, the one-shots of every peer do. */
-#define ROOM ((size_t)64 << 20)
-#define IN_ROOM(length) ((length) < ROOM ? (length) : ROOM)
+#define CAPACITY ((size_t)64 << 20)
+#define CLIPPED(length) ((length) < CAPACITY ? (length) : CAPACITY)
 
 enum { SCALAR, LANES2, LANES4, SPLIT2, KERNELS };
 

@@ -9,13 +9,22 @@
 
 static struct halves halves(XXH128_hash_t h) { return (struct halves){ h.low64, h.high64 }; }
 
-static uint32_t xxh32(uint32_t seed, const void *p, size_t n) { return XXH32(p, IN_ROOM(n), seed); }
-static uint64_t xxh64(uint64_t seed, const void *p, size_t n) { return XXH64(p, IN_ROOM(n), seed); }
-static uint64_t xxh3_64(const void *p, size_t n) { return XXH3_64bits(p, IN_ROOM(n)); }
-static uint64_t xxh3_64_seeded(uint64_t seed, const void *p, size_t n) { return XXH3_64bits_withSeed(p, IN_ROOM(n), seed); }
-static uint64_t xxh3_64_keyed(const void *s, size_t m, const void *p, size_t n) { return XXH3_64bits_withSecret(p, IN_ROOM(n), s, IN_ROOM(m)); }
-static struct halves xxh3_128(const void *p, size_t n) { return halves(XXH3_128bits(p, IN_ROOM(n))); }
-static struct halves xxh3_128_seeded(uint64_t seed, const void *p, size_t n) { return halves(XXH3_128bits_withSeed(p, IN_ROOM(n), seed)); }
+static uint32_t xxh32(uint32_t seed, const void *p, size_t n) { return XXH32(p, CLIPPED(n), seed); }
+static uint64_t xxh64(uint64_t seed, const void *p, size_t n) { return XXH64(p, CLIPPED(n), seed); }
+static uint64_t xxh3_64(const void *p, size_t n) { return XXH3_64bits(p, CLIPPED(n)); }
+static uint64_t xxh3_64_seeded(uint64_t seed, const void *p, size_t n)
+{
+    return XXH3_64bits_withSeed(p, CLIPPED(n), seed);
+}
+static uint64_t xxh3_64_keyed(const void *s, size_t m, const void *p, size_t n)
+{
+    return XXH3_64bits_withSecret(p, CLIPPED(n), s, CLIPPED(m));
+}
+static struct halves xxh3_128(const void *p, size_t n) { return halves(XXH3_128bits(p, CLIPPED(n))); }
+static struct halves xxh3_128_seeded(uint64_t seed, const void *p, size_t n)
+{
+    return halves(XXH3_128bits_withSeed(p, CLIPPED(n), seed));
+}
 
 /* The calls that hash a chunk, none of them inlined. Those of the shared library never are. */
 #ifdef XXH_INLINE_ALL
@@ -43,10 +52,13 @@ STREAM(xxh32_inlined, uint32_t, XXH32_state_t, XXH32_reset(&state, 0), XXH32_upd
 STREAM(xxh32_called, uint32_t, XXH32_state_t, XXH32_reset(&state, 0), update_32, XXH32_digest(&state))
 STREAM(xxh64_inlined, uint64_t, XXH64_state_t, XXH64_reset(&state, 0), XXH64_update, XXH64_digest(&state))
 STREAM(xxh64_called, uint64_t, XXH64_state_t, XXH64_reset(&state, 0), update_64, XXH64_digest(&state))
-STREAM(xxh3_64_inlined, uint64_t, XXH3_state_t, RESET_3(XXH3_64bits_reset), XXH3_64bits_update, XXH3_64bits_digest(&state))
+STREAM(xxh3_64_inlined, uint64_t, XXH3_state_t, RESET_3(XXH3_64bits_reset), XXH3_64bits_update,
+       XXH3_64bits_digest(&state))
 STREAM(xxh3_64_called, uint64_t, XXH3_state_t, RESET_3(XXH3_64bits_reset), update_3_64, XXH3_64bits_digest(&state))
-STREAM(xxh3_128_inlined, struct halves, XXH3_state_t, RESET_3(XXH3_128bits_reset), XXH3_128bits_update, halves(XXH3_128bits_digest(&state)))
-STREAM(xxh3_128_called, struct halves, XXH3_state_t, RESET_3(XXH3_128bits_reset), update_3_128, halves(XXH3_128bits_digest(&state)))
+STREAM(xxh3_128_inlined, struct halves, XXH3_state_t, RESET_3(XXH3_128bits_reset), XXH3_128bits_update,
+       halves(XXH3_128bits_digest(&state)))
+STREAM(xxh3_128_called, struct halves, XXH3_state_t, RESET_3(XXH3_128bits_reset), update_3_128,
+       halves(XXH3_128bits_digest(&state)))
 
 const struct peer PEER = {
     NAME(PEER), xxh32, xxh64, xxh3_64, xxh3_64_seeded, xxh3_64_keyed, xxh3_128, xxh3_128_seeded,

@@ -31,10 +31,17 @@ WEAK stream_of_64 EXPORT(xxh3_64_stream_lanes4), EXPORT(xxh3_64_stream_split2);
 
 const struct peer PEER = {
     NAME(PEER),
-    EXPORT(xxh32), EXPORT(xxh64), EXPORT(xxh3_64), EXPORT(xxh3_64_with_seed), EXPORT(xxh3_64_with_secret),
-    EXPORT(xxh3_128), EXPORT(xxh3_128_with_seed),
+    EXPORT(xxh32),
+    EXPORT(xxh64),
+    EXPORT(xxh3_64),
+    EXPORT(xxh3_64_with_seed),
+    EXPORT(xxh3_64_with_secret),
+    EXPORT(xxh3_128),
+    EXPORT(xxh3_128_with_seed),
     { EXPORT(xxh32_stream), EXPORT(xxh64_stream), EXPORT(xxh3_64_stream), EXPORT(xxh3_128_stream) },
-    { EXPORT(xxh32_stream_called), EXPORT(xxh64_stream_called), EXPORT(xxh3_64_stream_called), EXPORT(xxh3_128_stream_called) },
+    { EXPORT(xxh32_stream_called), EXPORT(xxh64_stream_called), EXPORT(xxh3_64_stream_called),
+      EXPORT(xxh3_128_stream_called) },
     { EXPORT(xxh3_64_scalar), EXPORT(xxh3_64_lanes2), EXPORT(xxh3_64_lanes4), EXPORT(xxh3_64_split2) },
-    { EXPORT(xxh3_64_stream_scalar), EXPORT(xxh3_64_stream_lanes2), EXPORT(xxh3_64_stream_lanes4), EXPORT(xxh3_64_stream_split2) },
+    { EXPORT(xxh3_64_stream_scalar), EXPORT(xxh3_64_stream_lanes2), EXPORT(xxh3_64_stream_lanes4),
+      EXPORT(xxh3_64_stream_split2) },
 };

@@ -10,14 +10,23 @@
     struct halves start##_xxh3_128(const void *input, size_t length); \
     struct halves start##_xxh3_128_seeded(uint64_t seed, const void *input, size_t length); \
     stream_of_32 start##_xxh32_stream, start##_xxh32_stream_called; \
-    stream_of_64 start##_xxh64_stream, start##_xxh64_stream_called, start##_xxh3_64_stream, start##_xxh3_64_stream_called; \
+    stream_of_64 start##_xxh64_stream, start##_xxh64_stream_called, start##_xxh3_64_stream, \
+        start##_xxh3_64_stream_called; \
     stream_of_128 start##_xxh3_128_stream, start##_xxh3_128_stream_called; \
     const struct peer name = { \
-        #name, start##_xxh32, start##_xxh64, start##_xxh3_64, start##_xxh3_64_seeded, start##_xxh3_64_keyed, \
-        start##_xxh3_128, start##_xxh3_128_seeded, \
+        #name, \
+        start##_xxh32, \
+        start##_xxh64, \
+        start##_xxh3_64, \
+        start##_xxh3_64_seeded, \
+        start##_xxh3_64_keyed, \
+        start##_xxh3_128, \
+        start##_xxh3_128_seeded, \
         { start##_xxh32_stream, start##_xxh64_stream, start##_xxh3_64_stream, start##_xxh3_128_stream }, \
-        { start##_xxh32_stream_called, start##_xxh64_stream_called, start##_xxh3_64_stream_called, start##_xxh3_128_stream_called }, \
-        { 0 }, { 0 }, \
+        { start##_xxh32_stream_called, start##_xxh64_stream_called, start##_xxh3_64_stream_called, \
+          start##_xxh3_128_stream_called }, \
+        { 0 }, \
+        { 0 }, \
     }
 
 PEER_OF(xxhash_rust, rust);

@@ -1,8 +1,8 @@
 """Writes measured.tsv, c.tsv or header.tsv from what the drivers and the programs measured in their rounds:
 
-    rounds.py ROOM DATA FILE_SIZE LOAD_BEFORE LOAD_AFTER
-    rounds.py --shared ROOM FILE LOAD_BEFORE LOAD_AFTER
-    rounds.py --header LINES FILE LOAD_BEFORE LOAD_AFTER
+    bench.rounds FOLDER DATA FILE_SIZE LOAD_BEFORE LOAD_AFTER
+    bench.rounds --shared FOLDER FILE LOAD_BEFORE LOAD_AFTER
+    bench.rounds --header LINES FILE LOAD_BEFORE LOAD_AFTER
 """
 import datetime
 import glob
@@ -11,8 +11,8 @@ import statistics
 import subprocess
 import sys
 
-import figures
-import measured
+from bench import figures
+from bench import measured
 
 MIB = 1 << 20
 
@@ -30,40 +30,45 @@ def row(part, key, cell):
     return measured.Row(part, form, name, size, speed, 100 * figures.spread(cell["ours"]), peers)
 
 
-def rows_of(room, folder, part):
-    return [row(part, *it) for it in figures.rows(sorted(glob.glob(os.path.join(room, folder, "round_*")))).items()]
+def rows_of(workdir, folder, part):
+    return [row(part, *it) for it in figures.rows(sorted(glob.glob(os.path.join(workdir, folder, "round_*")))).items()]
 
 
-def programs(room, file_size):
+def programs(workdir, file_size):
     """`xxh` beside `xxhsum`: their seconds for a file, and for a pipe."""
     times = {}
-    with open(os.path.join(room, "programs.txt")) as lines:
+    with open(os.path.join(workdir, "programs.txt")) as lines:
         for line in lines:
-            way, kind, ours, theirs = line.split()
-            times.setdefault((kind, way), []).append((float(ours), float(theirs)))
-    for (kind, way), pairs in times.items():
+            way, algorithm, ours, theirs = line.split()
+            times.setdefault((algorithm, way), []).append((float(ours), float(theirs)))
+    for (algorithm, way), pairs in times.items():
         ours, theirs = zip(*pairs)
         ratios = [b / a for a, b in pairs]
         peer = measured.Ratio(statistics.median(ratios), 100 * figures.spread(ratios), min(theirs) / min(ours))
         speed = file_size / statistics.median(ours) / 1e9
-        yield measured.Row("program", way, kind, file_size, speed, 100 * figures.spread(ours), {"xxhsum": peer})
+        yield measured.Row("program", way, algorithm, file_size, speed, 100 * figures.spread(ours), {"xxhsum": peer})
 
 
-def command(*words):
-    done = subprocess.run(words, capture_output=True, text=True)
+def command(*args):
+    done = subprocess.run(args, capture_output=True, text=True)
     return (done.stdout.strip() or done.stderr.strip()).split("\n")[0]
 
 
 def processor():
     with open("/proc/cpuinfo") as lines:
-        return next((it.split(":", 1)[1].strip() for it in lines if it.startswith("model name")), "an unknown processor")
+        return next(
+            (it.split(":", 1)[1].strip() for it in lines if it.startswith("model name")), "an unknown processor"
+        )
 
 
 def machine():
     """The date, the commit and the machine."""
     commit = command("git", "rev-parse", "--short=8", "HEAD")
-    return (f"Measured on {datetime.date.today().isoformat()}, at commit {commit}, on {processor()} with {os.cpu_count()} virtual "
-            f"cores ({command('uname', '-sr')}).")
+    return (
+        f"Measured on {datetime.date.today().isoformat()}, at commit {commit}, on {processor()} with {os.cpu_count()} "
+        f"virtual "
+        f"cores ({command('uname', '-sr')})."
+    )
 
 
 def load(before, after):
@@ -73,24 +78,29 @@ def load(before, after):
 def origin(before, after, peers):
     """The machine, and what built the peers."""
     rust = os.path.basename(glob.glob("/usr/share/cargo/registry/xxhash-rust-*")[0])
-    return [machine(),
-            f"Compilers: {command('gcc', '--version')}; {command('clang', '--version')}; {command('rustc', '--version')}.",
-            f"Peers: {command('xxhsum', '--version')}; {rust}{'; twox-hash 2.1.5' if 'twox_hash' in peers else ''}.",
-            load(before, after),
-            "Each function begins at a multiple of 64, ours and the peers' alike, at another position in each round, because "
-            "the time of a few nanoseconds depends on the position. Debian's library is as Debian made it."]
+    return [
+        machine(),
+        f"Compilers: {command('gcc', '--version')}; {command('clang', '--version')}; {command('rustc', '--version')}.",
+        f"Peers: {command('xxhsum', '--version')}; {rust}{'; twox-hash 2.1.5' if 'twox_hash' in peers else ''}.",
+        load(before, after),
+        "Each function begins at a multiple of 64, ours and the peers' alike, at another position in each round, "
+        "because "
+        "the time of a few nanoseconds depends on the position. Debian's library is as Debian made it.",
+    ]
 
 
-def main(room, data, file_size, before, after):
-    sets = sorted(os.path.basename(path) for path in glob.glob(os.path.join(room, "x86-64-v?")))
-    rows = [it for name in sets for it in rows_of(room, name, name)]
-    said = origin(before, after, rows[0].peers)
-    measured.write(said, [*rows, *programs(room, int(file_size))], os.path.join(data, "measured.tsv"))
+def all_tables(workdir, data, file_size, before, after):
+    sets = sorted(os.path.basename(path) for path in glob.glob(os.path.join(workdir, "x86-64-v?")))
+    rows = [it for name in sets for it in rows_of(workdir, name, name)]
+    comments = origin(before, after, rows[0].peers)
+    measured.write(comments, [*rows, *programs(workdir, int(file_size))], os.path.join(data, "measured.tsv"))
 
 
-def shared(room, file, before, after):
+def shared(workdir, file, before, after):
     """The two shared libraries, of which only XXH3 has the names `.._dispatch`."""
-    rows = rows_of(room, "c", "c") + [it for it in rows_of(room, "dispatch", "dispatch") if it.name.startswith("XXH3-")]
+    rows = rows_of(workdir, "c", "c") + [
+        it for it in rows_of(workdir, "dispatch", "dispatch") if it.name.startswith("XXH3-")
+    ]
     measured.write([machine(), load(before, after)], rows, file)
 
 
@@ -101,5 +111,6 @@ def header(lines, file, before, after):
         out.write(found.read())
 
 
-if __name__ == "__main__":
-    {"--shared": shared, "--header": header}[sys.argv[1]](*sys.argv[2:]) if sys.argv[1].startswith("--") else main(*sys.argv[1:])
+def main():
+    by_option = {"--shared": shared, "--header": header}.get(sys.argv[1])
+    by_option(*sys.argv[2:]) if by_option else all_tables(*sys.argv[1:])

@@ -20,7 +20,7 @@
 #include "../c/include/xxhash.h"
 #include "turns.h"
 
-#define ROOM (64 * MIB)
+#define CAPACITY (64 * MIB)
 #define SEED 7
 
 #define EACH_CALL(X) \
@@ -76,7 +76,17 @@ static void load(struct library *library, const char *name, const char *path, bo
 enum form { ONESHOT, STREAM };
 static const char *const forms[] = { "oneshot", "stream" };
 
-enum hash { XXH32_, XXH64_, XXH3_64_, XXH3_64_SEEDED, XXH3_64_SECRET, XXH3_128_, XXH3_128_SEEDED, XXH3_128_SECRET, HASHES };
+enum hash {
+    XXH32_,
+    XXH64_,
+    XXH3_64_,
+    XXH3_64_SEEDED,
+    XXH3_64_SECRET,
+    XXH3_128_,
+    XXH3_128_SEEDED,
+    XXH3_128_SECRET,
+    HASHES
+};
 static const char *const hashes[] = { "XXH32", "XXH64", "XXH3-64", "XXH3-64-seeded", "XXH3-64-secret", "XXH3-128",
     "XXH3-128-seeded", "XXH3-128-secret" };
 
@@ -144,23 +154,23 @@ static void rows(enum form form, const size_t *sizes)
     for (int hash = 0; hash < HASHES; hash++)
         for (const size_t *size = sizes; *size; size++) {
             struct row r = { form, hash, *size };
-            if (wanted(r)) measure(r);
+            if (is_selected(r)) measure(r);
         }
 }
 
 int main(int argc, char **argv)
 {
     static const size_t lengths[] = { 1, 4, 8, 16, 32, 64, 128, 240, 256, 512, 1 << 10, 4 << 10, 16 << 10, 64 << 10,
-        256 << 10, MIB, 4 * MIB, 16 * MIB, ROOM, 0 };
+        256 << 10, MIB, 4 * MIB, 16 * MIB, CAPACITY, 0 };
     static const size_t few_lengths[] = { 1, 4, 16, 64, 240, 256, 1 << 10, 16 << 10, MIB, 0 };
     static const size_t pieces[] = { 1, 8, 16, 32, 40, 64, 100, 129, 160, 200, 255, 256, 1000, 4096, 65536, 0 };
     static const size_t few_pieces[] = { 1, 16, 64, 200, 1000, 65536, 0 };
     const bool is_dispatched = argc > 3 && strcmp(argv[3], "--dispatch") == 0;
-    if (argc < 3 || !read_words(argc, argv, 3 + is_dispatched))
+    if (argc < 3 || !read_options(argc, argv, 3 + is_dispatched))
         return fprintf(stderr, "usage: shared OURS THEIRS [--dispatch] [--quick] [--only WORD]..\n"), 2;
     load(&libraries[0], "ours", argv[1], false); /* first, since the loader gives a name that it knows no second file */
     load(&libraries[1], "c_shared", argv[2], is_dispatched);
-    if (!fill_input(ROOM)) fail("no memory");
+    if (!fill_input(CAPACITY)) fail("no memory");
     rows(ONESHOT, quick ? few_lengths : lengths);
     rows(STREAM, quick ? few_pieces : pieces);
     return 0;

@@ -2,8 +2,8 @@
  *
  *     FORM NAME SIZE PEER NANOSECONDS
  *
- * for each row and peer. A virtual machine's neighbours slow it for milliseconds: a call through a pointer then takes 39
- * cycles in place of 10. The file that includes this has the rows, and `called`, which calls a peer. */
+ * for each row and peer. A virtual machine's neighbours slow it for milliseconds: a call through a pointer then takes
+ * 39 cycles in place of 10. The file that includes this has the rows, and `called`, which calls a peer. */
 #ifndef TURNS_H
 #define TURNS_H
 #include <stdint.h>
@@ -23,7 +23,7 @@
 struct row { int form, which; size_t size; };
 
 static unsigned char *input, secret[SECRET];
-static int quick, words;
+static int quick, filters;
 static char *word[100];
 
 /* The sum of the results of this many calls of a peer. The function is chosen outside the loop. */
@@ -99,32 +99,32 @@ static void measure_each(const void *const *those, const char *const *names, siz
 }
 
 /* Whether each word is in the row's "FORM NAME SIZE". */
-static int wanted(struct row r)
+static int is_selected(struct row r)
 {
     char line[100];
     snprintf(line, sizeof line, "%s %s %zu", form_of(r), name_of(r), r.size);
-    for (int w = 0; w < words; w++)
+    for (int w = 0; w < filters; w++)
         if (!strstr(line, word[w])) return 0;
     return 1;
 }
 
-/* Reads the words from this one on: --quick, which takes fewer rows and less time for each, and --only WORD, which takes
- * the rows that hold it (of several words each). No if there are others. */
-static int read_words(int argc, char **argv, int first)
+/* Reads the options from this one on: --quick, which takes fewer rows and less time for each, and --only WORD, which
+ * takes the rows that hold it (of several words each). No if there are others. */
+static int read_options(int argc, char **argv, int first)
 {
     for (int i = first; i < argc; i++)
         if (!strcmp(argv[i], "--quick")) quick = 1;
-        else if (!strcmp(argv[i], "--only") && i + 1 < argc && words < 100) word[words++] = argv[++i];
+        else if (!strcmp(argv[i], "--only") && i + 1 < argc && filters < 100) word[filters++] = argv[++i];
         else return 0;
     return 1;
 }
 
 /* Makes an input of so many bytes, and the secret. No if there is no memory. */
-static int fill_input(size_t room)
+static int fill_input(size_t length)
 {
     uint64_t x = 1;
-    if (!(input = malloc(room))) return 0;
-    for (size_t i = 0; i < room; i++) {
+    if (!(input = malloc(length))) return 0;
+    for (size_t i = 0; i < length; i++) {
         x = x * 6364136223846793005u + 1442695040888963407u;
         input[i] = (unsigned char)(x >> 56);
         if (i < SECRET) secret[i] = (unsigned char)(x >> 48);

@@ -16,16 +16,16 @@ require() {
     command -v "$2" > /dev/null || fail "no $2: install the package $1"
 }
 
-# read_target WORDS: removes --target NAME from the arguments, and leaves the others in `words`. `target` is then the
+# read_target ARGS: removes --target NAME from the arguments, and leaves the others in `args`. `target` is then the
 # processor of the build, `tools` is the prefix of its gcc and binutils, `lib` its library's folder, `asm` its source's
-# folder, and `made` runs make with both.
+# folder, and `make_command` runs make with both.
 read_target() {
     target=x86-64
     if [ "${1:-}" = --target ]; then
         target=${2:-}
         shift $(($# < 2 ? $# : 2))
     fi
-    words=("$@")
+    args=("$@")
     case $target in
     x86-64) tools='' lib=$out/lib ;;
     aarch64) tools=aarch64-linux-gnu- lib=$out/aarch64 ;;
@@ -33,10 +33,11 @@ read_target() {
     esac
     asm=$out/asm/$target
     # Relative paths, because make splits others at the spaces of the folder's own.
-    made=(make -s CC="${tools}gcc" CFLAGS='-O2 -Werror' asm="${asm#"$top/c/"}" out="out/made/$target" lib="${lib#"$top/c/"}")
+    make_command=(make -s CC="${tools}gcc" CFLAGS='-O2 -Werror' asm="${asm#"$top/c/"}" out="out/made/$target"
+        lib="${lib#"$top/c/"}")
 }
 
-# read_cpu WORDS: removes --cpu NAME from the arguments, and leaves the others in `words`. `cpu` is then the instruction
+# read_cpu ARGS: removes --cpu NAME from the arguments, and leaves the others in `args`. `cpu` is then the instruction
 # set that programs are built for, or `both`: without --cpu the larger one if the loader reports that the machine has
 # it. What is built is run once, so `both` needs a machine that has the larger one.
 read_cpu() {
@@ -51,7 +52,7 @@ read_cpu() {
         *) fail "no processor '$cpu': there are x86-64-v2, x86-64-v3 and both" ;;
         esac
     fi
-    words=("$@")
+    args=("$@")
     [ -n "$cpu" ] || cpu=$(best_cpu)
 }
 

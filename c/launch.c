@@ -20,22 +20,22 @@ static int cut(char *path)
 }
 
 /* The folder above that of this program: 0 if the system doesn't report it. */
-static int find_folder(char *path, size_t room)
+static int find_folder(char *path, size_t size)
 {
-    ssize_t length = readlink(ITSELF, path, room);
-    if (length < 0 || (size_t)length == room) return 0;
+    ssize_t length = readlink(ITSELF, path, size);
+    if (length < 0 || (size_t)length == size) return 0;
     path[length] = 0;
     return cut(path) && cut(path);
 }
 
-int main(int count, char **words)
+int main(int count, char **argv)
 {
     char path[PATH_MAX + sizeof BUILDS "x86-64-v3/" PROGRAM];
 
     (void)count;
     if (find_folder(path, PATH_MAX)) {
         strcat(path, has_v3(features_here()) ? BUILDS "x86-64-v3/" PROGRAM : BUILDS "x86-64-v2/" PROGRAM);
-        execv(path, words);
+        execv(path, argv);
     } else {
         strcpy(path, ITSELF);
     }

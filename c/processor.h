@@ -20,7 +20,7 @@ enum {
 };
 
 struct features {
-    unsigned leaf_1, leaf_1_edx, leaf_7, extended, kept;
+    unsigned leaf_1, leaf_1_edx, leaf_7, extended, enabled;
 };
 
 static __inline__ int has_all(unsigned word, unsigned bits)
@@ -38,18 +38,18 @@ static __inline__ struct features features_here(void)
     }
     if (__get_cpuid_count(7, 0, &a, &b, &c, &d)) found.leaf_7 = b;
     if (__get_cpuid(0x80000001, &a, &b, &c, &d)) found.extended = c;
-    if (has_all(found.leaf_1, LEAF_1_XSAVE)) __asm__("xgetbv" : "=a"(found.kept), "=d"(d) : "c"(0));
+    if (has_all(found.leaf_1, LEAF_1_XSAVE)) __asm__("xgetbv" : "=a"(found.enabled), "=d"(d) : "c"(0));
     return found;
 }
 
 static __inline__ int has_avx2(struct features here)
 {
-    return has_all(here.leaf_7, LEAF_7_AVX2) && has_all(here.kept, KEEPS_AVX);
+    return has_all(here.leaf_7, LEAF_7_AVX2) && has_all(here.enabled, KEEPS_AVX);
 }
 
 static __inline__ int has_avx512(struct features here)
 {
-    return has_avx2(here) && has_all(here.leaf_7, LEAF_7_AVX512F) && has_all(here.kept, KEEPS_AVX512);
+    return has_avx2(here) && has_all(here.leaf_7, LEAF_7_AVX512F) && has_all(here.enabled, KEEPS_AVX512);
 }
 
 static __inline__ int has_v3(struct features here)

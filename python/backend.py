@@ -26,8 +26,17 @@ SETS = {'x86_64': {f'x86-64-v{k}': f'v{k}_' for k in (2, 3, 4)}, 'aarch64': {'aa
 # The other machines whose names differ: by GNU's name, in a wheel's tag and in the names of Debian's folders.
 TAGS, FOLDERS = {'arm': 'armv7l', 'powerpc64le': 'ppc64le'}, {'i686': 'i386'}
 PROVED = [*(f'asm/{name}.s' for sets in SETS.values() for name in sets), 'asm/state_sizes.h', 'include/xxhash.h']
-FLAGS = ['-std=c11', '-O2', '-g0', '-fPIC', '-fvisibility=hidden', '-Wall', '-Wextra', '-Wno-cast-function-type',
-         '-Wno-missing-field-initializers']
+FLAGS = [
+    '-std=c11',
+    '-O2',
+    '-g0',
+    '-fPIC',
+    '-fvisibility=hidden',
+    '-Wall',
+    '-Wextra',
+    '-Wno-cast-function-type',
+    '-Wno-missing-field-initializers',
+]
 # The interface of this Python, as in tags of wheels: cp311, or cp311d of a debug build. And the limited one: a file
 # built with it serves each CPython from 3.11 on, with slower calls.
 ABI = 'cp' + sysconfig.get_config_var('SOABI').split('-')[1]
@@ -43,8 +52,8 @@ def project():
     Python has tomllib from 3.11 on, and a build uses no other package."""
     with open(os.path.join(HERE, 'pyproject.toml'), encoding='utf-8') as file:
         table = file.read().partition('[project]\n')[2].partition('\n[')[0]
-    rows = re.findall(r'^([\w-]+) = (\[\n.*?^\]|.*?)$', table, re.M | re.S)
-    return {name: ast.literal_eval(re.sub(r'^\{ (\w+) = ', r'{"\1": ', value)) for name, value in rows}
+    lines = re.findall(r'^([\w-]+) = (\[\n.*?^\]|.*?)$', table, re.M | re.S)
+    return {name: ast.literal_eval(re.sub(r'^\{ (\w+) = ', r'{"\1": ', value)) for name, value in lines}
 
 
 PROJECT = project()
@@ -63,6 +72,7 @@ def proved(path):
 
 
 # ---- the extension ----
+
 
 def renamed(text, prefix):
     """The source with a prefix before each name that the linker sees, so that two instruction sets fit into one
@@ -95,11 +105,11 @@ def machine():
     return name, ''
 
 
-def texts(room, name):
+def texts(workdir, name):
     """The machine's instruction sets of the proved calls, as files of assembly source."""
     paths = []
     for instructions, prefix in SETS[name].items():
-        paths.append(os.path.join(room, f'{instructions}.s'))
+        paths.append(os.path.join(workdir, f'{instructions}.s'))
         with open(paths[-1], 'w') as file:
             file.write(renamed(read(proved(f'asm/{instructions}.s')).decode(), prefix))
     return paths
@@ -121,39 +131,60 @@ def compile_extension(path, name, reason, abi=ABI):
     flags = [*FLAGS, *ASSERTIONS, *[LIMITED_FLAG] * (abi == LIMITED), *shlex.split(os.environ.get('CFLAGS', ''))]
     if reason:
         print(f'twox-hash: compiled from xxhash.h, which is not proved: {reason}', flush=True)
-    with tempfile.TemporaryDirectory() as room:
-        calls = ['-DTWOX_HASH_SOURCE'] if reason else texts(room, name)
-        done = subprocess.run([*compiler(), '-shared', *flags, *(f'-I{folder}' for folder in includes), *sources,
-                               *calls, *LINKS,
-                               *shlex.split(os.environ.get('LDFLAGS', '')), '-o', path])
+    with tempfile.TemporaryDirectory() as workdir:
+        calls = ['-DTWOX_HASH_SOURCE'] if reason else texts(workdir, name)
+        done = subprocess.run(
+            [
+                *compiler(),
+                '-shared',
+                *flags,
+                *(f'-I{folder}' for folder in includes),
+                *sources,
+                *calls,
+                *LINKS,
+                *shlex.split(os.environ.get('LDFLAGS', '')),
+                '-o',
+                path,
+            ]
+        )
     if done.returncode:
         raise SystemExit('twox-hash: cannot compile the extension')
 
 
 # ---- packages ----
 
+
 def metadata(reason=''):
     """The package's description. A wheel of the code of xxhash.h claims no proof."""
     summary = PROJECT['description'].replace('that is proved equal to the xxHash definition', 'compiled from C')
     keywords = [word for word in PROJECT['keywords'] if not reason or word != 'verified']
-    lines = ['Metadata-Version: 2.1', f'Name: {PROJECT["name"]}', f'Version: {PROJECT["version"]}',
-             f'Summary: {summary if reason else PROJECT["description"]}', f'License: {PROJECT["license"]["text"]}',
-             f'Keywords: {",".join(keywords)}', *(f'Classifier: {line}' for line in PROJECT['classifiers']),
-             f'Requires-Python: {PROJECT["requires-python"]}', 'Description-Content-Type: text/markdown', '']
+    lines = [
+        'Metadata-Version: 2.1',
+        f'Name: {PROJECT["name"]}',
+        f'Version: {PROJECT["version"]}',
+        f'Summary: {summary if reason else PROJECT["description"]}',
+        f'License: {PROJECT["license"]["text"]}',
+        f'Keywords: {",".join(keywords)}',
+        *(f'Classifier: {line}' for line in PROJECT['classifiers']),
+        f'Requires-Python: {PROJECT["requires-python"]}',
+        'Description-Content-Type: text/markdown',
+        '',
+    ]
     return '\n'.join(lines).encode() + b'\n' + read(HERE, PROJECT['readme'])
 
 
 def sources(folder, name):
     """A folder's own files, by their names in a folder of a package: nothing that was built."""
     found = sorted(os.listdir(os.path.join(HERE, folder)))
-    kinds = ('.py', '.pyi', '.typed', '.c', '.h')
-    return {f'{name}/{file}': read(HERE, folder, file) for file in found if file.endswith(kinds)}
+    suffixes = ('.py', '.pyi', '.typed', '.c', '.h')
+    return {f'{name}/{file}': read(HERE, folder, file) for file in found if file.endswith(suffixes)}
 
 
 def documents():
     """The licence, which in the repository is in the parent folder; and PROVENANCE, if release/make passes it."""
-    licence = next(path for path in (os.path.join(HERE, 'LICENSE'), os.path.join(HERE, '..', 'LICENSE'))
-                   if os.path.exists(path))
+    licence = next(
+        path for path in (os.path.join(HERE, 'LICENSE'), os.path.join(HERE, '..', 'LICENSE')) if os.path.exists(path)
+    )
     provenance = os.path.join(HERE, 'PROVENANCE')
     return {'LICENSE': read(licence), **({'PROVENANCE': read(provenance)} if os.path.exists(provenance) else {})}
 
@@ -166,11 +197,11 @@ def write_wheel(folder, name, reason, files, abi=ABI):
     files |= {f'{about}/METADATA': metadata(reason), f'{about}/WHEEL': wheel.encode()}
     files |= {f'{about}/{file}': text for file, text in documents().items()}
     record = io.StringIO()
-    rows = csv.writer(record, lineterminator='\n')
+    lines = csv.writer(record, lineterminator='\n')
     for path, text in files.items():
         digest = base64.urlsafe_b64encode(hashlib.sha256(text).digest()).rstrip(b'=').decode()
-        rows.writerow([path, f'sha256={digest}', len(text)])
-    rows.writerow([f'{about}/RECORD', '', ''])
+        lines.writerow([path, f'sha256={digest}', len(text)])
+    lines.writerow([f'{about}/RECORD', '', ''])
     files[f'{about}/RECORD'] = record.getvalue().encode()
     with zipfile.ZipFile(os.path.join(folder, f'{STEM}-{tag}.whl'), 'w', zipfile.ZIP_DEFLATED) as archive:
         for path, text in files.items():
@@ -186,8 +217,8 @@ def build_wheel(wheel_directory, config_settings=None, metadata_directory=None):
     if abi not in (ABI, LIMITED):
         raise SystemExit(f'twox-hash: the abi must be {ABI} or {LIMITED}, not {abi}')
     name, reason = machine()
-    with tempfile.TemporaryDirectory() as room:
-        path = os.path.join(room, 'library.so')
+    with tempfile.TemporaryDirectory() as workdir:
+        path = os.path.join(workdir, 'library.so')
         compile_extension(path, name, reason, abi)
         files = sources('src/twox_hash', 'twox_hash') | {library(name, abi): read(path)}
         return write_wheel(wheel_directory, name, reason, files, abi)
@@ -200,13 +231,18 @@ def build_editable(wheel_directory, config_settings=None, metadata_directory=Non
 
 
 def build_sdist(sdist_directory, config_settings=None):
-    files = {'PKG-INFO': metadata(), **documents(), **sources('src/twox_hash', 'src/twox_hash'),
-             **sources('native', 'native')}
+    files = {
+        'PKG-INFO': metadata(),
+        **documents(),
+        **sources('src/twox_hash', 'src/twox_hash'),
+        **sources('native', 'native'),
+    }
     files |= {name: read(HERE, name) for name in ('README.md', 'backend.py', 'pyproject.toml')}
     files |= {f'proved/{os.path.basename(path)}': read(proved(path)) for path in PROVED}
     # No time and no name of the build is in the file.
-    with open(os.path.join(sdist_directory, f'{STEM}.tar.gz'), 'wb') as out, gzip.GzipFile('', 'wb', 9, out, 0) as packed, \
-            tarfile.open(fileobj=packed, mode='w', format=tarfile.PAX_FORMAT) as archive:
+    with open(os.path.join(sdist_directory, f'{STEM}.tar.gz'), 'wb') as out, gzip.GzipFile(
+        '', 'wb', 9, out, 0
+    ) as packed, tarfile.open(fileobj=packed, mode='w', format=tarfile.PAX_FORMAT) as archive:
         for path, text in files.items():
             entry = tarfile.TarInfo(f'{STEM}/{path}')
             entry.size, entry.mode = len(text), 0o644

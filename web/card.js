@@ -1,7 +1,7 @@
 // SPDX-License-Identifier: MIT
 /** A file or a text in the list. */
 import { lineOf } from "./lines.js";
-import { NAMES, copy, copyOf, keyInWords, sizeInWords } from "./words.js";
+import { NAMES, copy, copyOf, keyText, sizeText } from "./text.js";
 
 const OF_ANOTHER_KEY = "Hashed with another seed or secret. Hash again to use this one.";
 
@@ -10,7 +10,7 @@ export class Card {
   #item;
   #digests;
   #keyId;
-  #words;
+  #message;
   #verdicts = [];
   #judged = "";
 
@@ -24,7 +24,7 @@ export class Card {
     this.name = name;
     this.hold(blob);
     this.state = "waiting";
-    this.#words = "Waiting";
+    this.#message = "Waiting";
   }
 
   /** Keeps the blob and its size, since a browser may report 0 for a file that has vanished meanwhile. */
@@ -35,10 +35,10 @@ export class Card {
 
   /** The card's element. */
   view() {
-    return this.#item ??= this.#made();
+    return this.#item ??= this.#element();
   }
 
-  #made() {
+  #element() {
     this.#item = copyOf("card");
     this.#part(".name").textContent = this.name;
     this.#part("progress").setAttribute("aria-label", `Progress of ${this.name}`);
@@ -47,8 +47,8 @@ export class Card {
     this.#part(".act").addEventListener("click", () => this.act());
     this.#part(".more").addEventListener("click", () => this.open(!this.isOpen));
     this.#part(".remove").addEventListener("click", () => this.list.remove(this));
-    this.#draw();
-    this.#drawVerdicts();
+    this.#render();
+    this.#renderVerdicts();
     return this.#item;
   }
 
@@ -78,7 +78,7 @@ export class Card {
 
   /** Called when the fields have another seed or secret. */
   keyChanged() {
-    if (this.#item && this.state === "done") this.#draw();
+    if (this.#item && this.state === "done") this.#render();
   }
 
   wait() {
@@ -90,10 +90,10 @@ export class Card {
   start(key) {
     this.state = "running";
     this.started = performance.now();
-    this.used = keyInWords(key.seed, key.secret);
+    this.used = keyText(key.seed, key.secret);
     this.#keyId = key.id;
     this.job = this.list.start(this, key);
-    this.show(sizeInWords(this.size));
+    this.show(sizeText(this.size));
   }
 
   stop() {
@@ -104,36 +104,36 @@ export class Card {
   progress(done) {
     const seconds = (performance.now() - this.started) / 1000;
     if (this.#item) this.#part("progress").value = done / this.size;
-    this.tell(`${sizeInWords(done)} of ${sizeInWords(this.size)}, ${sizeInWords(done / seconds)}/s`);
+    this.setMessage(`${sizeText(done)} of ${sizeText(this.size)}, ${sizeText(done / seconds)}/s`);
   }
 
   finish(digests, milliseconds) {
     this.#digests = digests;
-    const speed = milliseconds >= 1 && this.size > 1e6 ? `, ${sizeInWords(this.size / milliseconds * 1000)}/s` : "";
-    this.end("done", `${sizeInWords(this.size)}${speed}${this.used}`);
+    const speed = milliseconds >= 1 && this.size > 1e6 ? `, ${sizeText(this.size / milliseconds * 1000)}/s` : "";
+    this.end("done", `${sizeText(this.size)}${speed}${this.used}`);
   }
 
-  end(state, words) {
+  end(state, message) {
     this.list.forget(this);
     this.state = state;
-    this.show(words);
+    this.show(message);
     this.list.startNext();
   }
 
-  show(words) {
+  show(message) {
     if (this.state !== "done") this.#digests = undefined;
-    this.#words = words;
-    if (this.#item) this.#draw();
+    this.#message = message;
+    if (this.#item) this.#render();
     this.list.changed();
   }
 
-  #draw() {
+  #render() {
     this.#item.classList.toggle("failed", this.state === "failed");
     this.#part("progress").hidden = this.state !== "running";
     if (this.state !== "running") this.#part("progress").value = 0;
     this.showDigests();
-    this.#drawButton();
-    this.tell(this.#words);
+    this.#renderButton();
+    this.setMessage(this.#message);
   }
 
   showDigests() {
@@ -171,32 +171,32 @@ export class Card {
     return this.digests?.[kind] ? lineOf(kind, this.digests[kind], this.name) : "";
   }
 
-  #drawButton() {
+  #renderButton() {
     const word = this.isBusy() ? "Stop" : this.state !== "done" ? "Start again" : this.isStale ? "Hash again" : "";
     this.#part(".act").hidden = !word;
     this.#part(".act").textContent = word;
     this.#part(".act").setAttribute("aria-label", `${word}: ${this.name}`);
   }
 
-  tell(words) {
-    this.#words = words;
-    if (this.#item) this.#part(".state").textContent = this.state === "done" && this.isStale ? OF_ANOTHER_KEY : words;
+  setMessage(message) {
+    this.#message = message;
+    if (this.#item) this.#part(".state").textContent = this.state === "done" && this.isStale ? OF_ANOTHER_KEY : message;
   }
 
   /** Shows the result of the comparison: each verdict has a flag for equality and a text. */
   judge(verdicts) {
-    const words = verdicts.map((verdict) => verdict.words).join("\n");
-    if (words === this.#judged) return;
-    this.#judged = words;
+    const message = verdicts.map((verdict) => verdict.message).join("\n");
+    if (message === this.#judged) return;
+    this.#judged = message;
     this.#verdicts = verdicts;
-    if (this.#item) this.#drawVerdicts();
+    if (this.#item) this.#renderVerdicts();
   }
 
-  #drawVerdicts() {
-    this.#part(".verdicts").replaceChildren(...this.#verdicts.map(({ isSame, words }) => {
+  #renderVerdicts() {
+    this.#part(".verdicts").replaceChildren(...this.#verdicts.map(({ isSame, message }) => {
       const item = document.createElement("li");
       item.className = isSame ? "same" : "different";
-      item.textContent = words;
+      item.textContent = message;
       return item;
     }));
   }

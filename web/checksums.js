@@ -3,7 +3,7 @@
 import { readField } from "./key.js";
 import { readExpected, readList, sameKind } from "./lines.js";
 import { Rows } from "./rows.js";
-import { $, NAMES, copyOf, counted, inThousands } from "./words.js";
+import { $, NAMES, copyOf, counted, inThousands } from "./text.js";
 
 /** Returns the digest in the field, or undefined if there is none. */
 function readExpectedField() {
@@ -12,39 +12,39 @@ function readExpectedField() {
 
 /** True if one of these digests is the one in the field. */
 export function isExpected(digests) {
-  const wanted = readExpectedField();
-  return wanted !== undefined && sameKind(wanted, digests) !== undefined;
+  const expected = readExpectedField();
+  return expected !== undefined && sameKind(expected, digests) !== undefined;
 }
 
 /** Compares the cards with the digest in the field, and returns each card's verdict. */
 export function compareWithField(cards) {
-  const wanted = readExpectedField();
-  const done = wanted ? cards.filter((card) => card.digests) : [];
+  const expected = readExpectedField();
+  const done = expected ? cards.filter((card) => card.digests) : [];
   const isStale = cards.some((card) => card.state === "done" && card.isStale);
-  const verdicts = new Map(done.map((card) => [card, verdictOf(wanted, card, "")]));
+  const verdicts = new Map(done.map((card) => [card, verdictOf(expected, card, "")]));
   const same = done.filter((card) => verdicts.get(card).isSame);
-  $("verdict").textContent = wanted ? fieldInWords(wanted, done, same, cards.length, isStale) : "";
+  $("verdict").textContent = expected ? fieldText(expected, done, same, cards.length, isStale) : "";
   $("verdict").className = same.length ? "same" : done.length ? "different" : "quiet";
   return verdicts;
 }
 
-function fieldInWords(wanted, done, same, all, isStale) {
+function fieldText(expected, done, same, all, isStale) {
   if (all === 0) return "There is nothing to compare it with yet.";
   if (done.length === 0 && isStale) return "Hash again to compare it: the digests are of another seed or secret.";
   if (done.length === 0) return "There is no digest to compare it with yet.";
   const left = done.length < all ? ` ${inThousands(all - done.length)} more have no digest.` : "";
-  if (same.length === 0) return `Different${done[0].used}: ${done.length === 1 ? `no digest of ${done[0].name}` : `none of the ${inThousands(done.length)}`} is this one.${left}${otherInWords(wanted)}`;
+  if (same.length === 0) return `Different${done[0].used}: ${done.length === 1 ? `no digest of ${done[0].name}` : `none of the ${inThousands(done.length)}`} is this one.${left}${otherText(expected)}`;
   const others = done.length > same.length ? ` Different from ${counted(done.length - same.length, "other")}.` : "";
-  return `Same: ${NAMES[sameKind(wanted, same[0].digests)]} of ${same.map(({ name }) => name).join(", ")}.${others}${left}`;
+  return `Same: ${NAMES[sameKind(expected, same[0].digests)]} of ${same.map(({ name }) => name).join(", ")}.${others}${left}`;
 }
 
-function otherInWords({ digits, mayBe }) {
+function otherText({ digits, mayBe }) {
   return mayBe ? ` ${digits.length} digits may also be ${mayBe}, which this page doesn't compute.` : "";
 }
 
-function verdictOf(wanted, card, where) {
-  const kind = sameKind(wanted, card.digests);
-  return kind ? { isSame: true, words: `Same${where}: ${NAMES[kind]}` } : { isSame: false, words: `Different${where || " from the expected digest"}${card.used}` };
+function verdictOf(expected, card, where) {
+  const kind = sameKind(expected, card.digests);
+  return kind ? { isSame: true, message: `Same${where}: ${NAMES[kind]}` } : { isSame: false, message: `Different${where || " from the expected digest"}${card.used}` };
 }
 
 /** The text of a row of a checksum file, by its card's state. */
@@ -72,7 +72,7 @@ class Line {
     if (!this.#item) {
       this.#item = copyOf("checkrow");
       this.#item.querySelector(".file").textContent = this.name;
-      this.#draw();
+      this.#render();
     }
     return this.#item;
   }
@@ -80,10 +80,10 @@ class Line {
   show(word) {
     if (word === this.word) return;
     this.word = word;
-    if (this.#item) this.#draw();
+    if (this.#item) this.#render();
   }
 
-  #draw() {
+  #render() {
     const place = this.#item.querySelector(".word");
     place.textContent = this.word;
     place.className = `word ${this.word === "same" ? "same" : OPEN.includes(this.word) ? "quiet" : "different"}`;
@@ -124,7 +124,7 @@ export class Checklist {
     matched(this.entries, cards, this.name).forEach((card, i) => {
       const verdict = card?.digests && verdictOf(this.entries[i], card, ` as in ${this.name}`);
       const word = verdict ? (verdict.isSame ? "same" : "different") : card ? WITHOUT_DIGEST[card.state] : "not here";
-      if (verdict) verdicts.set(card, verdict.isSame ? verdict : { ...verdict, words: `Different from ${this.name}${card.used}` });
+      if (verdict) verdicts.set(card, verdict.isSame ? verdict : { ...verdict, message: `Different from ${this.name}${card.used}` });
       counts[word] = (counts[word] ?? 0) + 1;
       this.lines[i].show(word);
     });
@@ -142,17 +142,17 @@ export class Checklist {
 
   /** Shows the seed and secret that its files were hashed with: xxhsum's lines have none. */
   showKey(used) {
-    const words = used && `Hashed ${used.slice(2)}. xxhsum has no seed and no secret: to verify its lines, empty both fields and hash again.`;
-    if (this.part(".keyed").textContent !== words) this.part(".keyed").textContent = words;
+    const keyed = used && `Hashed ${used.slice(2)}. xxhsum has no seed and no secret: to verify its lines, empty both fields and hash again.`;
+    if (this.part(".keyed").textContent !== keyed) this.part(".keyed").textContent = keyed;
   }
 
   showCounts(counts) {
-    const words = COUNTED.filter((word) => counts[word]).map((word) => `${inThousands(counts[word])} ${word}`);
-    if (this.others) words.push(`${counted(this.others, "line")} not understood`);
+    const parts = COUNTED.filter((word) => counts[word]).map((word) => `${inThousands(counts[word])} ${word}`);
+    if (this.others) parts.push(`${counted(this.others, "line")} not understood`);
     const place = this.part(".counts");
     const isGood = counts.same === this.entries.length && !this.others;
     place.className = `counts ${isGood ? "same" : OPEN.some((word) => counts[word]) ? "quiet" : "different"}`;
-    const text = `${counted(this.entries.length + this.others, "line")}: ${words.join(", ")}.`;
+    const text = `${counted(this.entries.length + this.others, "line")}: ${parts.join(", ")}.`;
     if (place.textContent !== text) place.textContent = text;
     this.part(".hint").hidden = !counts["not here"];
   }

@@ -1,32 +1,32 @@
 // SPDX-License-Identifier: MIT
 /** The fields of the seed and the secret. */
 import { SECRET_MINIMUM_LENGTH } from "./twox_hash.js";
-import { $ } from "./words.js";
+import { $ } from "./text.js";
 
 /** Returns the seed in the field, or undefined if there is none. Throws if it is no seed. */
 function readSeed() {
-  const words = $("seed").value.trim();
-  if (words === "") return undefined;
-  if (!/^(0x[0-9a-f]+|[0-9]+)$/i.test(words) || BigInt(words) >= 2n ** 64n) {
+  const text = $("seed").value.trim();
+  if (text === "") return undefined;
+  if (!/^(0x[0-9a-f]+|[0-9]+)$/i.test(text) || BigInt(text) >= 2n ** 64n) {
     throw new Error("The seed must be an integer from 0 to 18446744073709551615, decimal or hexadecimal after 0x.");
   }
-  return BigInt(words);
+  return BigInt(text);
 }
 
 /** Returns the secret in the field, or undefined if there is none. Throws if it is no secret. */
 function readSecret() {
-  const words = $("secret").value;
-  if (words === "") return undefined;
+  const text = $("secret").value;
+  if (text === "") return undefined;
   const isHex = document.querySelector("[name=form]:checked").value === "hex";
-  const bytes = isHex ? bytesOfHex(words) : new TextEncoder().encode(words);
+  const bytes = isHex ? bytesOfHex(text) : new TextEncoder().encode(text);
   if (bytes.length < SECRET_MINIMUM_LENGTH) {
     throw new Error(`This secret has ${bytes.length} bytes. It needs at least ${SECRET_MINIMUM_LENGTH}.`);
   }
   return bytes;
 }
 
-function bytesOfHex(words) {
-  const digits = words.replace(/[\s:]/g, "");
+function bytesOfHex(text) {
+  const digits = text.replace(/[\s:]/g, "");
   const wrong = digits.match(/[^0-9a-f]/i);
   if (wrong) throw new Error(`"${wrong[0]}" is not a hexadecimal digit.`);
   if (digits.length % 2) throw new Error(`There are ${digits.length} hexadecimal digits. Each byte needs two.`);

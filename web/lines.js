@@ -97,16 +97,16 @@ function turned(digits) {
  * Parses a pasted digest, with or without a name. Throws if there is none. `mayBe` has the other possible hashes, if
  * no name identifies it as ours.
  */
-export function readExpected(words) {
-  const expected = readPasted(words);
-  return { ...expected, mayBe: /XXH/i.test(words) ? undefined : MAY_BE[expected.digits.length] };
+export function readExpected(text) {
+  const expected = readPasted(text);
+  return { ...expected, mayBe: /XXH/i.test(text) ? undefined : MAY_BE[expected.digits.length] };
 }
 
-function readPasted(words) {
-  const line = readLine(words.trim());
+function readPasted(text) {
+  const line = readLine(text.trim());
   // A line pasted from a tool without the prefix may be XXH3.
-  if (line) return line.kinds[0] === "xxh64" && !words.includes("XXH64") ? { ...line, kinds: KINDS_BY_LENGTH[16] } : line;
-  const parts = words.split(/[\s:=,()*]+/).filter(Boolean);
+  if (line) return line.kinds[0] === "xxh64" && !text.includes("XXH64") ? { ...line, kinds: KINDS_BY_LENGTH[16] } : line;
+  const parts = text.split(/[\s:=,()*]+/).filter(Boolean);
   const digits = parts.map((part) => part.replace(/^(0x|XXH3_)/i, "")).find((part) => /^[0-9a-f]{8,}$/i.test(part));
   const name = parts.map((part) => part.match(/^(XXH32|XXH64|XXH128|XXH3)(?![0-9])/i)?.[1].toUpperCase()).find(Boolean);
   const other = parts.find((part) => OTHER_NAME.test(part));

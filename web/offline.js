@@ -3,12 +3,12 @@
  * Caches the page's files, so that it works without a network after the first visit. With a network, each file is
  * requested again and its copy replaced. page_files.json has their names.
  */
-const KEPT = "twox_hash";
+const CACHE = "twox_hash";
 
 async function keepAll() {
   const names = await (await fetch("page_files.json", { cache: "reload" })).json();
-  const kept = await caches.open(KEPT);
-  await kept.addAll(["./", ...names].map((name) => new Request(name, { cache: "reload" })));
+  const cache = await caches.open(CACHE);
+  await cache.addAll(["./", ...names].map((name) => new Request(name, { cache: "reload" })));
 }
 
 async function answer(request) {
@@ -16,7 +16,7 @@ async function answer(request) {
   try {
     fresh = await fetch(request);
   } catch (error) {
-    const older = await (await caches.open(KEPT)).match(request);
+    const older = await (await caches.open(CACHE)).match(request);
     if (older) return older;
     throw error;
   }
@@ -25,8 +25,8 @@ async function answer(request) {
 }
 
 async function renew(request, fresh) {
-  const kept = await caches.open(KEPT);
-  if (await kept.match(request)) await kept.put(request, fresh);
+  const cache = await caches.open(CACHE);
+  if (await cache.match(request)) await cache.put(request, fresh);
 }
 
 addEventListener("install", (event) => event.waitUntil(keepAll().then(() => skipWaiting())));

@@ -6,7 +6,7 @@ import { filesOfDrop, filesOfInput } from "./gather.js";
 import { readKey } from "./key.js";
 import { BEGINNING_BYTES, ENDINGS, mayBeList } from "./lines.js";
 import { Rows } from "./rows.js";
-import { $, NAMES, copy, counted, inThousands, keyInWords, say, sizeInWords } from "./words.js";
+import { $, NAMES, copy, counted, inThousands, keyText, announce, sizeText } from "./text.js";
 
 const MILLISECONDS_AFTER_TYPING = 120;
 const MILLISECONDS_BEFORE_COMPARING = 30;
@@ -108,11 +108,11 @@ const list = {
   /** Starts the next files, up to the limit. With an invalid seed or secret, none until it is corrected. */
   startNext() {
     const card = queue.first;
-    if (!card || !hasRoomFor(card)) return;
+    if (!card || !hasSpaceFor(card)) return;
     const key = readKey();
     if (key.wrong) {
       $("key").open = true;
-      card.tell(`Waiting: ${key.wrong} is invalid`);
+      card.setMessage(`Waiting: ${key.wrong} is invalid`);
       return;
     }
     card.start(key);
@@ -132,7 +132,7 @@ const list = {
     if (item === text) text = null;
     rows.remove(item);
     element.remove();
-    say(`${item.name} was removed`);
+    announce(`${item.name} was removed`);
     (next?.querySelector(".remove") ?? $("files")).focus();
     this.changed();
     this.startNext();
@@ -155,7 +155,7 @@ function drop(items, item) {
   if (items.includes(item)) items.splice(items.indexOf(item), 1);
 }
 
-function hasRoomFor({ size }) {
+function hasSpaceFor({ size }) {
   const running = [...cards.values()].filter((card) => card !== text);
   const bytes = running.reduce((sum, card) => sum + card.size, size);
   return running.length === 0 || (running.length < FILES_AT_ONCE && bytes <= BYTES_AT_ONCE);
@@ -200,14 +200,14 @@ function showActions() {
   $("lines").hidden = !hasDigests;
   $("lines-note").hidden = !files.some((card) => card.digests && card.used);
   showCompact(files.length >= COMPACT_FROM);
-  $("tally").textContent = list.isCompact ? tallyInWords(isBusy) : "";
-  if (list.isCompact && wasBusy && !isBusy) say($("tally").textContent);
+  $("tally").textContent = list.isCompact ? tallyText(isBusy) : "";
+  if (list.isCompact && wasBusy && !isBusy) announce($("tally").textContent);
   wasBusy = isBusy;
 }
 
-function tallyInWords(isBusy) {
+function tallyText(isBusy) {
   const done = files.filter((card) => card.digests);
-  const bytes = sizeInWords(done.reduce((sum, card) => sum + card.size, 0));
+  const bytes = sizeText(done.reduce((sum, card) => sum + card.size, 0));
   const failed = files.filter(({ state }) => state === "failed").length;
   const hashed = isBusy || done.length < files.length ? `${inThousands(done.length)} of ${counted(files.length, "file")}` : counted(files.length, "file");
   return `${hashed} hashed, ${bytes}${failed ? `; ${inThousands(failed)} can't be read` : ""}.`;
@@ -235,7 +235,7 @@ async function add(found) {
     else addFile(path, file, error);
     if (i % FILES_IN_A_TURN === FILES_IN_A_TURN - 1) await new Promise((resolve) => setTimeout(resolve));
   }
-  if (found.length) say(found.length === 1 ? `${found[0].path} was added` : `${counted(found.length, "file")} were added`);
+  if (found.length) announce(found.length === 1 ? `${found[0].path} was added` : `${counted(found.length, "file")} were added`);
   $("files-note").textContent = found.length ? "" : "It contains no file.";
   compare();
   if (found.length) showResults();
@@ -255,7 +255,7 @@ function addFile(path, file, error) {
   const card = new Card(list, path, file ?? new Blob([]));
   files.push(card);
   rows.add(card);
-  if (error) card.wait = () => card.end("failed", failureInWords(error));
+  if (error) card.wait = () => card.end("failed", failureText(error));
   card.wait();
 }
 
@@ -277,15 +277,15 @@ function showResults() {
 function hashText() {
   if (text?.state === "running") list.stop(text);
   if (text) list.forget(text);
-  const words = $("text").value;
+  const content = $("text").value;
   const key = readKey();
-  $("text-error").textContent = words && key.wrong ? `Not hashed: ${key.wrong} is invalid.` : "";
-  if (words === "") {
+  $("text-error").textContent = content && key.wrong ? `Not hashed: ${key.wrong} is invalid.` : "";
+  if (content === "") {
     removeText();
     return;
   }
   text ??= addText();
-  text.hold(new Blob([words]));
+  text.hold(new Blob([content]));
   if (!key.wrong) {
     text.start(key);
     return;
@@ -331,7 +331,7 @@ function clear() {
   $("typed").replaceChildren();
   $("checklists").replaceChildren();
   compare();
-  say("The list is empty");
+  announce("The list is empty");
   $("files").focus();
 }
 
@@ -346,7 +346,7 @@ function save() {
   link.download = `checksums.${ENDINGS[$("kind").value]}`;
   link.click();
   setTimeout(() => URL.revokeObjectURL(link.href), 60_000);
-  say(`${link.download} is saved`);
+  announce(`${link.download} is saved`);
 }
 
 // ---- messages of the worker
@@ -364,16 +364,16 @@ const ANSWERS = {
   done: ({ digests, milliseconds }, card) => {
     if (card !== text && !card.isStale && isExpected(digests)) stopSearch();
     card.finish(digests, milliseconds);
-    if (!list.isCompact) say(`${card.name}: done`);
+    if (!list.isCompact) announce(`${card.name}: done`);
   },
   stopped: (_, card) => {
     card.end("stopped", "Stopped. There is no digest.");
-    say(`${card.name}: stopped`);
+    announce(`${card.name}: stopped`);
   },
   failed: (answer, card) => {
-    const words = failureInWords(answer);
-    card.end("failed", words);
-    say(`${card.name}: ${words}`);
+    const message = failureText(answer);
+    card.end("failed", message);
+    announce(`${card.name}: ${message}`);
   },
 };
 
@@ -383,7 +383,7 @@ worker.addEventListener("message", ({ data }) => {
 });
 worker.addEventListener("error", () => showUnsupported("The page's worker didn't start, so nothing can be hashed."));
 
-function failureInWords({ name, message }) {
+function failureText({ name, message }) {
   if (name === "NotFoundError" || name === "NotReadableError") {
     return "This file vanished, changed or can't be read. There is no digest.";
   }
@@ -416,7 +416,7 @@ $("expected").addEventListener("input", compare);
 /** Updates the current seed and secret. Digests of others can't be compared: their cards show that. */
 function takeKey() {
   const key = readKey();
-  const used = keyInWords(key.seed, key.secret);
+  const used = keyText(key.seed, key.secret);
   $("key-used").textContent = used && ` (${used.slice(2)})`;
   if (key.id === list.keyId) return;
   list.keyId = key.id;

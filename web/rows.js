@@ -1,5 +1,5 @@
 // SPDX-License-Identifier: MIT
-import { inThousands } from "./words.js";
+import { inThousands } from "./text.js";
 
 /** A long list, of which the first rows are on the page, and more as the user scrolls to their end. */
 
@@ -15,7 +15,7 @@ export class Rows {
     this.more = more;
     this.items = [];
     this.shown = 0;
-    this.room = ROWS_AT_ONCE;
+    this.limit = ROWS_AT_ONCE;
     more.addEventListener("click", () => this.showMore());
     new IntersectionObserver((seen) => seen.some((it) => it.isIntersecting) && this.showMore(), { rootMargin: "600px" })
       .observe(more);
@@ -47,17 +47,17 @@ export class Rows {
   }
 
   clear() {
-    this.room = ROWS_AT_ONCE;
+    this.limit = ROWS_AT_ONCE;
     this.set([]);
   }
 
   showMore() {
-    this.room += ROWS_AT_ONCE;
+    this.limit += ROWS_AT_ONCE;
     this.fill();
   }
 
   fill() {
-    const next = this.items.slice(this.shown, this.room);
+    const next = this.items.slice(this.shown, this.limit);
     this.shown += next.length;
     for (const item of next) this.place.append(item.view());
     const left = this.items.length - this.shown;

@@ -11,21 +11,39 @@ import webbrowser
 
 TOP = os.path.dirname(os.path.dirname(os.path.realpath(__file__)))
 PORT = 8000
-PUBLIC = ("/web/", "/docs/", "/crates/", "/README.md", "/CALLING.md", "/CONTRIBUTING.md", "/LICENSE",
-          "/oracle/vectors.txt")
+PUBLIC = (
+    "/web/",
+    "/docs/",
+    "/crates/",
+    "/README.md",
+    "/CALLING.md",
+    "/CONTRIBUTING.md",
+    "/LICENSE",
+    "/oracle/vectors.txt",
+)
 
 
 def is_public(path):
     """True if a whole path is in `PUBLIC`, or below one that ends with a slash."""
-    return any(path + "/" == TOP + it or path.startswith(TOP + it) if it.endswith("/") else path == TOP + it for it in PUBLIC)
+    return any(
+        path + "/" == TOP + it or path.startswith(TOP + it) if it.endswith("/") else path == TOP + it for it in PUBLIC
+    )
 
 
 class Handler(http.server.SimpleHTTPRequestHandler):
     """The files of `PUBLIC`, with sources and pages as text."""
 
-    extensions_map = {".json": "application/json", ".html": "text/html; charset=utf-8", ".css": "text/css", ".js": "text/javascript",
-                      ".mjs": "text/javascript", ".wasm": "application/wasm", ".svg": "image/svg+xml",
-                      ".png": "image/png", "": "text/plain; charset=utf-8"}
+    extensions_map = {
+        ".json": "application/json",
+        ".html": "text/html; charset=utf-8",
+        ".css": "text/css",
+        ".js": "text/javascript",
+        ".mjs": "text/javascript",
+        ".wasm": "application/wasm",
+        ".svg": "image/svg+xml",
+        ".png": "image/png",
+        "": "text/plain; charset=utf-8",
+    }
 
     def __init__(self, *arguments):
         super().__init__(*arguments, directory=TOP)
@@ -56,9 +74,9 @@ def server(port, handler=Handler):
     return http.server.ThreadingHTTPServer(("127.0.0.1", port), handler)
 
 
-def main(words):
-    numbers = [word for word in words if word.isdigit()]
-    if [word for word in words if word not in numbers and word != "--open"] or len(numbers) > 1:
+def main(args):
+    numbers = [word for word in args if word.isdigit()]
+    if [word for word in args if word not in numbers and word != "--open"] or len(numbers) > 1:
         sys.exit("usage: web/serve.py [PORT] [--open]")
     try:
         serving = server(int(numbers[0]) if numbers else PORT)
@@ -66,7 +84,7 @@ def main(words):
         sys.exit(f"web/serve.py: {error.strerror}: use another port, for example web/serve.py 8001")
     address = f"http://127.0.0.1:{serving.server_address[1]}/web/"
     print(f"{address} (Ctrl-C ends it)", flush=True)
-    if "--open" in words:
+    if "--open" in args:
         webbrowser.open(address)
     try:
         serving.serve_forever()

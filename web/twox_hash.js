@@ -99,7 +99,7 @@ let loading = null;
 export async function load(source = besideThisFile) {
   if (loaded) return;
   if (!isSupported()) throw new TwoxHashError("unsupported", "WebAssembly is not available here.");
-  loading ??= instantiate(source).then((exports) => { loaded = new Room(exports); });
+  loading ??= instantiate(source).then((exports) => { loaded = new Instance(exports); });
   try {
     await loading;
   } catch (error) {
@@ -180,7 +180,7 @@ class Places {
 /**
  * The module's memory: a value, a chunk of input, the places of streams, and at its end a secret, with which it grows.
  */
-class Room {
+class Instance {
   constructor(exports) {
     this.exports = exports;
     this.end = Number(exports.__heap_base.value);
@@ -222,8 +222,8 @@ class Room {
   grow(length) {
     if (length <= this.size) return;
     const { memory } = this.exports;
-    const [pages, wanted] = [memory.buffer.byteLength, length].map((bytes) => Math.ceil(bytes / PAGE_BYTES));
-    if (wanted > pages) growBy(memory, Math.max(wanted - pages, pages >> 1), wanted - pages);
+    const [pages, needed] = [memory.buffer.byteLength, length].map((bytes) => Math.ceil(bytes / PAGE_BYTES));
+    if (needed > pages) growBy(memory, Math.max(needed - pages, pages >> 1), needed - pages);
     this.size = memory.buffer.byteLength;
   }
 
@@ -290,7 +290,7 @@ function growBy(memory, pages, least) {
   }
 }
 
-function room() {
+function loadedModule() {
   if (!loaded) throw new TwoxHashError("not-loaded", "Await load() before the first call.");
   return loaded;
 }
@@ -317,13 +317,13 @@ function asInput(input) {
 }
 
 /** Returns bytes unchanged if they fit into the chunk, and otherwise as an array of this file's own. */
-function asBytes(input, code = "input", what = "The input", wanted = "text or bytes") {
+function asBytes(input, code = "input", what = "The input", expected = "text or bytes") {
   if (tagOfArray.call(input) === "Uint8Array") {
     const length = lengthOfArray.call(input);
     if (length > 0 && length <= CHUNK_BYTES) return input;
   }
   if (!isBytes(input)) {
-    throw new TwoxHashError(code, `${what} must be ${wanted}, an ArrayBuffer or a view of one. Received ${nameOf(input)}.`);
+    throw new TwoxHashError(code, `${what} must be ${expected}, an ArrayBuffer or a view of one. Received ${nameOf(input)}.`);
   }
   try {
     return ownView(input);
@@ -433,8 +433,8 @@ function refuse(code) {
 export function toHex(value, kind) {
   const bits = VALUE_BITS[asKind(kind)];
   if (typeof value !== "bigint" && !(bits === 32 && Number.isInteger(value))) {
-    const wanted = bits === 32 ? "a whole number" : "a BigInt";
-    throw new TwoxHashError("value", `The value must be ${wanted}. Received ${shown(value)}.`);
+    const expected = bits === 32 ? "a whole number" : "a BigInt";
+    throw new TwoxHashError("value", `The value must be ${expected}. Received ${shown(value)}.`);
   }
   if (value < 0 || BigInt(value) >> BigInt(bits)) {
     throw new TwoxHashError("value", `The value ${value} is out of range for ${kind}: it must be from 0 to 2^${bits} - 1.`);
@@ -502,7 +502,7 @@ export function xxh3_128(input, options = {}) {
 }
 
 function hash(kind, given, options) {
-  const memory = room();
+  const memory = loadedModule();
   const key = asKey(kind, options); // first, since a getter of the options may change the input
   const input = asInput(given);
   const whole = lengthOf(input);
@@ -580,7 +580,7 @@ export class Stream {
    *     XXH64 take no secret
    */
   constructor(kind, options = {}) {
-    const memory = room();
+    const memory = loadedModule();
     this.#kind = asKind(kind);
     const key = asKey(kind, options);
     this.#places = memory.places[FAMILY[kind]];
@@ -640,7 +640,7 @@ export class Stream {
    * @returns {Stream}
    */
   static load(saved, options = {}) {
-    const memory = room();
+    const memory = loadedModule();
     const state = readSaved(memory, ownView(asBytes(saved, "state", "The saved state", "bytes")));
     const { seed } = options ?? {};
     if (seed !== undefined) throw new TwoxHashError("options", "The seed is part of the saved state.");
@@ -652,7 +652,7 @@ export class Stream {
 
   #goOnFrom(memory, { record, digestOfSecret }) {
     const digest = this.#hasOwnSecret ? this.#digestOfSecret(memory) : undefined;
-    if (digest !== digestOfSecret) throw new TwoxHashError("secret", secretInWords(digest, digestOfSecret));
+    if (digest !== digestOfSecret) throw new TwoxHashError("secret", secretText(digest, digestOfSecret));
     memory.put(this.#place.record, record);
     if (this.#digestCode(memory) !== DONE) throw notAState("no bytes lead to it");
   }
@@ -722,7 +722,7 @@ export class Stream {
   /** Returns the memory, in which the stream is with its secret. */
   #enter() {
     if (this.#places === null) throw new TwoxHashError("freed", "The stream was freed.");
-    const memory = room();
+    const memory = loadedModule();
     if (this.#place.stream !== this) {
       this.#takePlace(memory);
       memory.put(this.#place.record, this.#record);
@@ -785,7 +785,7 @@ export function updateAll(streams, piece) {
 
 /** Hashes a chunk with streams. No code of a caller runs meanwhile, so that the chunk keeps its length. */
 function takePiece(streams, piece) {
-  const memory = room();
+  const memory = loadedModule();
   const input = asInput(piece);
   const whole = lengthOf(input);
   let at = 0;
@@ -898,7 +898,7 @@ function notAState(why) {
   return new TwoxHashError("state", `Not a saved state: ${why}.`);
 }
 
-function secretInWords(given, needed) {
+function secretText(given, needed) {
   if (needed === undefined) return "The saved stream has no secret, but one was passed.";
   if (given === undefined) return "The saved stream needs the secret that it was started with.";
   return "The saved stream was started with another secret.";

@@ -5,5 +5,8 @@ import pytest
 from borg.logger import setup_logging
 
 setup_logging()
-sys.exit(pytest.main(['-q', '-p', 'no:cacheprovider', '--pyargs', 'borg.testsuite.checksums',
-                      'borg.testsuite.file_integrity']))
+sys.exit(
+    pytest.main(
+        ['-q', '-p', 'no:cacheprovider', '--pyargs', 'borg.testsuite.checksums', 'borg.testsuite.file_integrity']
+    )
+)

@@ -89,16 +89,16 @@ static void load(struct library *library, const char *path)
 
 static long compared, differing;
 
-static void tell(int same, const char *form, ...)
+static void report(int same, const char *form, ...)
 {
-    va_list words;
+    va_list arguments;
     compared++;
     if (same) return;
     if (++differing > 20) return;
     printf("    differs: ");
-    va_start(words, form);
-    vprintf(form, words);
-    va_end(words);
+    va_start(arguments, form);
+    vprintf(form, arguments);
+    va_end(arguments);
     printf("\n");
 }
 
@@ -139,30 +139,30 @@ static uint64_t random_seed(void)
     }
 }
 
-#define ROOM ((size_t)1 << 17)
+#define BUFFER_BYTES ((size_t)1 << 17)
 
 /* A buffer of random bytes that ends right before memory that may not be read. */
 static unsigned char *guarded(void)
 {
-    unsigned char *room = mmap(0, ROOM + 4096, PROT_READ | PROT_WRITE, MAP_PRIVATE | MAP_ANONYMOUS, -1, 0);
-    if (room == MAP_FAILED || mprotect(room + ROOM, 4096, PROT_NONE)) fail("no memory");
-    for (size_t i = 0; i < ROOM; i++) room[i] = (unsigned char)(random_word() >> 56);
-    return room;
+    unsigned char *buffer = mmap(0, BUFFER_BYTES + 4096, PROT_READ | PROT_WRITE, MAP_PRIVATE | MAP_ANONYMOUS, -1, 0);
+    if (buffer == MAP_FAILED || mprotect(buffer + BUFFER_BYTES, 4096, PROT_NONE)) fail("no memory");
+    for (size_t i = 0; i < BUFFER_BYTES; i++) buffer[i] = (unsigned char)(random_word() >> 56);
+    return buffer;
 }
 
-static unsigned char *input_room, *secret_room;
+static unsigned char *input_buffer, *secret_buffer;
 
 /* An input or a secret of this many bytes, at the end of its buffer. */
 static const unsigned char *input_of(size_t length)
 {
-    input_room[ROOM - 1 - below(64)] = (unsigned char)random_word();
-    return input_room + ROOM - length;
+    input_buffer[BUFFER_BYTES - 1 - below(64)] = (unsigned char)random_word();
+    return input_buffer + BUFFER_BYTES - length;
 }
 
 static const unsigned char *secret_of(size_t length)
 {
-    secret_room[ROOM - 1 - below(136)] = (unsigned char)random_word();
-    return secret_room + ROOM - length;
+    secret_buffer[BUFFER_BYTES - 1 - below(136)] = (unsigned char)random_word();
+    return secret_buffer + BUFFER_BYTES - length;
 }
 
 /* A length: most often near the limits of the ranges and of the buffers, rarely long. */
@@ -173,7 +173,7 @@ static size_t random_length(void)
     case 1: return 230 + below(40);
     case 2: return 500 + below(40);
     case 3: return below(5000);
-    case 4: return below(64) ? below(1100) : below(ROOM);
+    case 4: return below(64) ? below(1100) : below(BUFFER_BYTES);
     default: return below(300);
     }
 }
@@ -181,9 +181,9 @@ static size_t random_length(void)
 /* ---- One-shots ---- */
 
 #define SAME(call, length) \
-    tell(ours.call == reference.call, "%s, length %zu", #call, (size_t)(length))
+    report(ours.call == reference.call, "%s, length %zu", #call, (size_t)(length))
 #define SAME_128(call, length) \
-    tell(same_128(ours.call, reference.call), "%s, length %zu", #call, (size_t)(length))
+    report(same_128(ours.call, reference.call), "%s, length %zu", #call, (size_t)(length))
 
 static void oneshots(const void *p, size_t n, uint64_t seed, const void *secret, size_t m)
 {
@@ -221,12 +221,13 @@ struct pair_64 { XXH64_state_t *ours, *reference; };
 struct pair_3 { XXH3_state_t *ours, *reference; };
 
 #define BOTH(pair, call, ...) \
-    tell(ours.call((pair).ours, ##__VA_ARGS__) == reference.call((pair).reference, ##__VA_ARGS__), "%s", #call)
+    report(ours.call((pair).ours, ##__VA_ARGS__) == reference.call((pair).reference, ##__VA_ARGS__), "%s", #call)
 #define BOTH_128(pair, call) \
-    tell(same_128(ours.call((pair).ours), reference.call((pair).reference)), "%s", #call)
-#define CREATE(kind) { ours.kind##_createState(), reference.kind##_createState() }
-#define COPY(kind, to, from) \
-    (ours.kind##_copyState((to).ours, (from).ours), reference.kind##_copyState((to).reference, (from).reference))
+    report(same_128(ours.call((pair).ours), reference.call((pair).reference)), "%s", #call)
+#define CREATE(algorithm) { ours.algorithm##_createState(), reference.algorithm##_createState() }
+#define COPY(algorithm, to, from) \
+    (ours.algorithm##_copyState((to).ours, (from).ours), \
+     reference.algorithm##_copyState((to).reference, (from).reference))
 
 static const void *random_piece(size_t *length)
 {
@@ -355,15 +356,15 @@ static void canonical_forms(void)
     ours.XXH32_canonicalFromHash(&a4, (uint32_t)low), reference.XXH32_canonicalFromHash(&b4, (uint32_t)low);
     ours.XXH64_canonicalFromHash(&a8, low), reference.XXH64_canonicalFromHash(&b8, low);
     ours.XXH128_canonicalFromHash(&a16, one), reference.XXH128_canonicalFromHash(&b16, one);
-    tell(!memcmp(&a4, &b4, 4), "XXH32_canonicalFromHash");
-    tell(!memcmp(&a8, &b8, 8), "XXH64_canonicalFromHash");
-    tell(!memcmp(&a16, &b16, 16), "XXH128_canonicalFromHash");
+    report(!memcmp(&a4, &b4, 4), "XXH32_canonicalFromHash");
+    report(!memcmp(&a8, &b8, 8), "XXH64_canonicalFromHash");
+    report(!memcmp(&a16, &b16, 16), "XXH128_canonicalFromHash");
     SAME(XXH32_hashFromCanonical(&b4), 4);
     SAME(XXH64_hashFromCanonical(&b8), 8);
     SAME_128(XXH128_hashFromCanonical(&b16), 16);
     SAME(XXH128_isEqual(one, other), 16);
-    int order = ours.XXH128_cmp(&one, &other), wanted = reference.XXH128_cmp(&one, &other);
-    tell((order > 0) == (wanted > 0) && (order < 0) == (wanted < 0), "XXH128_cmp");
+    int order = ours.XXH128_cmp(&one, &other), expected = reference.XXH128_cmp(&one, &other);
+    report((order > 0) == (expected > 0) && (order < 0) == (expected < 0), "XXH128_cmp");
 }
 
 static void secrets_of_seeds(void)
@@ -372,7 +373,7 @@ static void secrets_of_seeds(void)
     uint64_t seed = random_seed();
     ours.XXH3_generateSecret_fromSeed(a, seed);
     reference.XXH3_generateSecret_fromSeed(b, seed);
-    tell(!memcmp(a, b, sizeof a), "XXH3_generateSecret_fromSeed");
+    report(!memcmp(a, b, sizeof a), "XXH3_generateSecret_fromSeed");
 }
 
 /* A secret from a custom seed, in a buffer that ends right before memory that may not be read, and too short in one
@@ -383,12 +384,12 @@ static void generated_secrets(void)
     size_t n = below(10) ? XXH3_SECRET_SIZE_MIN + below(865) : below(XXH3_SECRET_SIZE_MIN);
     size_t m = below(20) ? below(600) : 0;
     const unsigned char *seed = m || below(2) ? input_of(m) : NULL;
-    unsigned char *room = secret_room + ROOM - n;
-    memcpy(theirs, room - 16, 16 + n);
-    XXH_errorcode code = ours.XXH3_generateSecret(room, n, seed, m);
-    tell(code == reference.XXH3_generateSecret(theirs + 16, n, seed, m), "XXH3_generateSecret, %zu of %zu: %d", n, m,
+    unsigned char *buffer = secret_buffer + BUFFER_BYTES - n;
+    memcpy(theirs, buffer - 16, 16 + n);
+    XXH_errorcode code = ours.XXH3_generateSecret(buffer, n, seed, m);
+    report(code == reference.XXH3_generateSecret(theirs + 16, n, seed, m), "XXH3_generateSecret, %zu of %zu: %d", n, m,
          (int)code);
-    tell(!memcmp(room - 16, theirs, 16 + n), "XXH3_generateSecret, %zu of %zu", n, m);
+    report(!memcmp(buffer - 16, theirs, 16 + n), "XXH3_generateSecret, %zu of %zu", n, m);
 }
 
 /* ---- Every length of a secret ---- */
@@ -415,15 +416,15 @@ static void refused_secrets(void)
     XXH128_hash_t none = { 0, 0 };
     for (size_t m = 0; m < XXH3_SECRET_SIZE_MIN; m++) {
         const unsigned char *secret = m ? secret_of(m) : NULL;
-        tell(ours.XXH3_64bits_reset_withSecret(state, secret, m) == XXH_ERROR, "64 takes a secret of %zu bytes", m);
-        tell(ours.XXH3_128bits_reset_withSecret(state, secret, m) == XXH_ERROR, "128 takes a secret of %zu bytes", m);
-        tell(ours.XXH3_64bits_reset_withSecretandSeed(state, secret, m, 5) == XXH_ERROR,
+        report(ours.XXH3_64bits_reset_withSecret(state, secret, m) == XXH_ERROR, "64 takes a secret of %zu bytes", m);
+        report(ours.XXH3_128bits_reset_withSecret(state, secret, m) == XXH_ERROR, "128 takes a secret of %zu bytes", m);
+        report(ours.XXH3_64bits_reset_withSecretandSeed(state, secret, m, 5) == XXH_ERROR,
              "64 takes a secret of %zu bytes and a seed", m);
-        tell(ours.XXH3_128bits_reset_withSecretandSeed(state, secret, m, 5) == XXH_ERROR,
+        report(ours.XXH3_128bits_reset_withSecretandSeed(state, secret, m, 5) == XXH_ERROR,
              "128 takes a secret of %zu bytes and a seed", m);
-        tell(ours.XXH3_64bits_digest(state) == before, "a refused secret of %zu bytes changes the state", m);
-        tell(ours.XXH3_64bits_withSecret(p, 700, secret, m) == 0, "64 hashes with %zu bytes", m);
-        tell(same_128(ours.XXH3_128bits_withSecret(p, 700, secret, m), none), "128 hashes with %zu bytes", m);
+        report(ours.XXH3_64bits_digest(state) == before, "a refused secret of %zu bytes changes the state", m);
+        report(ours.XXH3_64bits_withSecret(p, 700, secret, m) == 0, "64 hashes with %zu bytes", m);
+        report(same_128(ours.XXH3_128bits_withSecret(p, 700, secret, m), none), "128 hashes with %zu bytes", m);
     }
     ours.XXH3_freeState(state);
 }
@@ -439,9 +440,9 @@ static void seed_0_and_secret(void)
             if (wide) ours.XXH3_128bits_reset_withSecretandSeed(state, secret, 192, 0);
             else ours.XXH3_64bits_reset_withSecretandSeed(state, secret, 192, 0);
             ours.XXH3_128bits_update(state, p, n);
-            XXH128_hash_t wanted = reference.XXH3_128bits_withSecretandSeed(p, n, secret, 192, 0);
-            tell(same_128(ours.XXH3_128bits_digest(state), wanted), "%zu bytes with a secret and the seed 0, reset %d",
-                 n, wide);
+            XXH128_hash_t expected = reference.XXH3_128bits_withSecretandSeed(p, n, secret, 192, 0);
+            report(same_128(ours.XXH3_128bits_digest(state), expected),
+                   "%zu bytes with a secret and the seed 0, reset %d", n, wide);
         }
     }
     ours.XXH3_freeState(state);
@@ -481,7 +482,7 @@ static void null_inputs(void)
 static void null_refused(void)
 {
     struct pair_3 none = { NULL, NULL }, a = CREATE(XXH3);
-    unsigned char room[2][192] = { { 0 } }, *const null = NULL;
+    unsigned char buffer[2][192] = { { 0 } }, *const null = NULL;
     BOTH(none, XXH3_64bits_reset);
     BOTH(none, XXH3_64bits_reset_withSeed, 3);
     BOTH(none, XXH3_64bits_reset_withSecret, secret_of(192), 192);
@@ -498,86 +499,88 @@ static void null_refused(void)
         BOTH(a, XXH3_128bits_reset_withSecret, null, m);
         BOTH(a, XXH3_128bits_reset_withSecretandSeed, null, m, 3);
     }
-    tell(ours.XXH3_64bits_digest(a.ours) == before, "a null secret changes the state");
+    report(ours.XXH3_64bits_digest(a.ours) == before, "a null secret changes the state");
     BOTH(a, XXH3_freeState);
     SAME(XXH3_generateSecret(null, 192, secret_of(9), 9), 192);
-    tell(ours.XXH3_generateSecret(room[0], 192, null, 9) == reference.XXH3_generateSecret(room[1], 192, null, 9),
+    report(ours.XXH3_generateSecret(buffer[0], 192, null, 9) == reference.XXH3_generateSecret(buffer[1], 192, null, 9),
          "XXH3_generateSecret of a null seed");
-    tell(!memcmp(room[0], room[1], 192), "XXH3_generateSecret of a null seed writes");
+    report(!memcmp(buffer[0], buffer[1], 192), "XXH3_generateSecret of a null seed writes");
 }
 
-/* ---- States of ours: of each kind, with the reference's value for the same bytes ---- */
+/* ---- States of ours: of each algorithm, with the reference's value for the same bytes ---- */
 
-enum kind { KIND_32, KIND_64, KIND_3_64, KIND_3_128, KINDS };
+enum algorithm { ALGORITHM_32, ALGORITHM_64, ALGORITHM_3_64, ALGORITHM_3_128, ALGORITHMS };
 
-static void *created(enum kind kind)
+static void *created(enum algorithm algorithm)
 {
-    switch (kind) {
-    case KIND_32: return ours.XXH32_createState();
-    case KIND_64: return ours.XXH64_createState();
+    switch (algorithm) {
+    case ALGORITHM_32: return ours.XXH32_createState();
+    case ALGORITHM_64: return ours.XXH64_createState();
     default: return ours.XXH3_createState();
     }
 }
 
-static void freed(enum kind kind, void *state)
+static void freed(enum algorithm algorithm, void *state)
 {
-    switch (kind) {
-    case KIND_32: ours.XXH32_freeState(state); break;
-    case KIND_64: ours.XXH64_freeState(state); break;
+    switch (algorithm) {
+    case ALGORITHM_32: ours.XXH32_freeState(state); break;
+    case ALGORITHM_64: ours.XXH64_freeState(state); break;
     default: ours.XXH3_freeState(state);
     }
 }
 
-static XXH_errorcode reset(enum kind kind, void *state, uint32_t seed)
+static XXH_errorcode reset(enum algorithm algorithm, void *state, uint32_t seed)
 {
-    switch (kind) {
-    case KIND_32: return ours.XXH32_reset(state, seed);
-    case KIND_64: return ours.XXH64_reset(state, seed);
-    case KIND_3_64: return ours.XXH3_64bits_reset_withSeed(state, seed);
+    switch (algorithm) {
+    case ALGORITHM_32: return ours.XXH32_reset(state, seed);
+    case ALGORITHM_64: return ours.XXH64_reset(state, seed);
+    case ALGORITHM_3_64: return ours.XXH3_64bits_reset_withSeed(state, seed);
     default: return ours.XXH3_128bits_reset_withSeed(state, seed);
     }
 }
 
-static XXH_errorcode update(enum kind kind, void *state, const void *p, size_t n)
+static XXH_errorcode update(enum algorithm algorithm, void *state, const void *p, size_t n)
 {
-    switch (kind) {
-    case KIND_32: return ours.XXH32_update(state, p, n);
-    case KIND_64: return ours.XXH64_update(state, p, n);
-    case KIND_3_64: return ours.XXH3_64bits_update(state, p, n);
+    switch (algorithm) {
+    case ALGORITHM_32: return ours.XXH32_update(state, p, n);
+    case ALGORITHM_64: return ours.XXH64_update(state, p, n);
+    case ALGORITHM_3_64: return ours.XXH3_64bits_update(state, p, n);
     default: return ours.XXH3_128bits_update(state, p, n);
     }
 }
 
-static XXH128_hash_t digest(enum kind kind, const void *state)
+static XXH128_hash_t digest(enum algorithm algorithm, const void *state)
 {
-    switch (kind) {
-    case KIND_32: return (XXH128_hash_t){ ours.XXH32_digest(state), 0 };
-    case KIND_64: return (XXH128_hash_t){ ours.XXH64_digest(state), 0 };
-    case KIND_3_64: return (XXH128_hash_t){ ours.XXH3_64bits_digest(state), 0 };
+    switch (algorithm) {
+    case ALGORITHM_32: return (XXH128_hash_t){ ours.XXH32_digest(state), 0 };
+    case ALGORITHM_64: return (XXH128_hash_t){ ours.XXH64_digest(state), 0 };
+    case ALGORITHM_3_64: return (XXH128_hash_t){ ours.XXH3_64bits_digest(state), 0 };
     default: return ours.XXH3_128bits_digest(state);
     }
 }
 
-static XXH128_hash_t value(enum kind kind, const void *p, size_t n, uint32_t seed)
+static XXH128_hash_t value(enum algorithm algorithm, const void *p, size_t n, uint32_t seed)
 {
-    switch (kind) {
-    case KIND_32: return (XXH128_hash_t){ reference.XXH32(p, n, seed), 0 };
-    case KIND_64: return (XXH128_hash_t){ reference.XXH64(p, n, seed), 0 };
-    case KIND_3_64: return (XXH128_hash_t){ reference.XXH3_64bits_withSeed(p, n, seed), 0 };
+    switch (algorithm) {
+    case ALGORITHM_32: return (XXH128_hash_t){ reference.XXH32(p, n, seed), 0 };
+    case ALGORITHM_64: return (XXH128_hash_t){ reference.XXH64(p, n, seed), 0 };
+    case ALGORITHM_3_64: return (XXH128_hash_t){ reference.XXH3_64bits_withSeed(p, n, seed), 0 };
     default: return reference.XXH3_128bits_withSeed(p, n, seed);
     }
 }
 
 /* A state that was just created represents no bytes and the seed 0. */
-static void created_state(enum kind kind)
+static void created_state(enum algorithm algorithm)
 {
-    void *state = created(kind);
+    void *state = created(algorithm);
     size_t n = random_length();
     const unsigned char *p = input_of(n);
-    tell(same_128(digest(kind, state), value(kind, NULL, 0, 0)), "a created state of kind %d", (int)kind);
-    tell(update(kind, state, p, n) == XXH_OK, "a created state of kind %d refuses", (int)kind);
-    tell(same_128(digest(kind, state), value(kind, p, n, 0)), "a created state of kind %d and %zu bytes", (int)kind, n);
-    freed(kind, state);
+    report(same_128(digest(algorithm, state), value(algorithm, NULL, 0, 0)), "a created state of algorithm %d",
+           (int)algorithm);
+    report(update(algorithm, state, p, n) == XXH_OK, "a created state of algorithm %d refuses", (int)algorithm);
+    report(same_128(digest(algorithm, state), value(algorithm, p, n, 0)),
+           "a created state of algorithm %d and %zu bytes", (int)algorithm, n);
+    freed(algorithm, state);
 }
 
 /* Fills a state with what another program could have left there: all zero, all ones, any bytes. */
@@ -599,45 +602,46 @@ static void spoil(unsigned char *state, size_t size)
 
 /* Memory that no reset has written is refused and unchanged. A state with changed bytes may or may not be refused:
  * in both cases a call returns, and reads and writes nothing else. A reset makes either valid. */
-static void state_never_reset(enum kind kind)
+static void state_never_reset(enum algorithm algorithm)
 {
     static const size_t lengths[] = { 0, 1, 31, 64, 255, 256, 257, 512, 513, 1500 };
     static const XXH128_hash_t none = { 0, 0 };
     static unsigned char before[4096];
-    void *state = created(kind);
+    void *state = created(algorithm);
     size_t size = malloc_usable_size(state), n = lengths[below(10)];
     const unsigned char *p = input_of(n);
     int never = below(2) == 0;
     if (size > sizeof before) fail("a state has more than 4096 bytes");
     overwrite(state, size);
-    if (!never) reset(kind, state, 5), spoil(state, size);
+    if (!never) reset(algorithm, state, 5), spoil(state, size);
     memcpy(before, state, size);
-    XXH_errorcode code = update(kind, state, p, n);
-    XXH128_hash_t hash = digest(kind, state);
-    tell(code == XXH_ERROR || (code == XXH_OK && !never), "kind %d, never reset: %d", (int)kind, (int)code);
-    tell(code == XXH_OK || (!memcmp(before, state, size) && same_128(hash, none)), "kind %d, refused, changes",
-         (int)kind);
-    tell(reset(kind, state, 9) == XXH_OK && update(kind, state, p, n) == XXH_OK, "kind %d refuses after a reset",
-         (int)kind);
-    tell(same_128(digest(kind, state), value(kind, p, n, 9)), "kind %d after a reset", (int)kind);
-    freed(kind, state);
+    XXH_errorcode code = update(algorithm, state, p, n);
+    XXH128_hash_t hash = digest(algorithm, state);
+    report(code == XXH_ERROR || (code == XXH_OK && !never), "algorithm %d, never reset: %d", (int)algorithm, (int)code);
+    report(code == XXH_OK || (!memcmp(before, state, size) && same_128(hash, none)), "algorithm %d, refused, changes",
+         (int)algorithm);
+    report(reset(algorithm, state, 9) == XXH_OK && update(algorithm, state, p, n) == XXH_OK,
+           "algorithm %d refuses after a reset", (int)algorithm);
+    report(same_128(digest(algorithm, state), value(algorithm, p, n, 9)), "algorithm %d after a reset", (int)algorithm);
+    freed(algorithm, state);
 }
 
 /* ---- Memory of a state that was freed ---- */
 
 /* malloc returns the memory of a state that was just freed, with the content that free left in it: it is no state.
  * Returns whether it was that memory. */
-static int freed_memory(enum kind kind)
+static int freed_memory(enum algorithm algorithm)
 {
-    void *state = created(kind);
+    void *state = created(algorithm);
     uintptr_t place = (uintptr_t)state;
     size_t size = malloc_usable_size(state), n = random_length();
-    reset(kind, state, 5);
-    update(kind, state, input_of(n), n);
-    freed(kind, state);
+    reset(algorithm, state, 5);
+    update(algorithm, state, input_of(n), n);
+    freed(algorithm, state);
     void *memory = malloc(size);
     if (!memory) fail("no memory");
-    tell(update(kind, memory, input_of(n), n) == XXH_ERROR, "kind %d is served after it was freed", (int)kind);
+    report(update(algorithm, memory, input_of(n), n) == XXH_ERROR, "algorithm %d is served after it was freed",
+           (int)algorithm);
     int same = (uintptr_t)memory == place;
     free(memory);
     return same;
@@ -645,23 +649,25 @@ static int freed_memory(enum kind kind)
 
 static void all_freed_memory(long count)
 {
-    long same[KINDS] = { 0 };
-    for (long i = 0; i < count; i++) same[i % KINDS] += freed_memory((enum kind)(i % KINDS));
-    for (int kind = 0; kind < KINDS; kind++) tell(same[kind] > 0, "malloc gives no freed memory of kind %d", kind);
+    long same[ALGORITHMS] = { 0 };
+    for (long i = 0; i < count; i++) same[i % ALGORITHMS] += freed_memory((enum algorithm)(i % ALGORITHMS));
+    for (int algorithm = 0; algorithm < ALGORITHMS; algorithm++)
+        report(same[algorithm] > 0, "malloc gives no freed memory of algorithm %d", algorithm);
     group("memory of states that were freed");
 }
 
 /* ---- Every length to 1,100 ---- */
 
-static void stream_in_pieces(enum kind kind, size_t n, size_t piece)
+static void stream_in_pieces(enum algorithm algorithm, size_t n, size_t piece)
 {
-    void *state = created(kind);
+    void *state = created(algorithm);
     uint32_t seed = (uint32_t)random_seed();
-    reset(kind, state, seed);
-    for (size_t at = 0; at < n; at += piece) update(kind, state, input_room + at, n - at < piece ? n - at : piece);
-    tell(same_128(digest(kind, state), value(kind, input_room, n, seed)), "kind %d, %zu bytes in pieces of %zu",
-         (int)kind, n, piece);
-    freed(kind, state);
+    reset(algorithm, state, seed);
+    for (size_t at = 0; at < n; at += piece)
+        update(algorithm, state, input_buffer + at, n - at < piece ? n - at : piece);
+    report(same_128(digest(algorithm, state), value(algorithm, input_buffer, n, seed)),
+           "algorithm %d, %zu bytes in pieces of %zu", (int)algorithm, n, piece);
+    freed(algorithm, state);
 }
 
 /* One-shots against the reference's, with inputs at four alignments; streams of ours in chunks of one length, or
@@ -672,10 +678,11 @@ static void every_length(void)
     for (size_t n = 0; n <= 1100; n++) {
         for (size_t i = 0; i < sizeof places / sizeof *places; i++) {
             size_t m = 136 + below(400);
-            oneshots(input_room + places[i], n, random_seed(), secret_of(m), m);
+            oneshots(input_buffer + places[i], n, random_seed(), secret_of(m), m);
         }
-        for (int kind = 0; kind < KINDS; kind++)
-            for (size_t i = 0; i < sizeof pieces / sizeof *pieces; i++) stream_in_pieces((enum kind)kind, n, pieces[i]);
+        for (int algorithm = 0; algorithm < ALGORITHMS; algorithm++)
+            for (size_t i = 0; i < sizeof pieces / sizeof *pieces; i++)
+                stream_in_pieces((enum algorithm)algorithm, n, pieces[i]);
     }
 }
 
@@ -684,18 +691,19 @@ static void every_length(void)
 #define THREADS 8
 #define STREAMS 1000
 
-/* Streams of ours in chunks of 100 bytes, each kind in turn. Returns how many differ from the reference's one-shots. */
+/* Streams of ours in chunks of 100 bytes, each algorithm in turn. Returns how many differ from the reference's
+ * one-shots. */
 static void *streams_of_a_thread(void *first)
 {
     long differ = 0;
     for (size_t i = (size_t)first; i < (size_t)first + STREAMS; i++) {
-        enum kind kind = (enum kind)(i % KINDS);
+        enum algorithm algorithm = (enum algorithm)(i % ALGORITHMS);
         size_t n = i * 7 % 2000;
-        void *state = created(kind);
-        reset(kind, state, (uint32_t)i);
-        for (size_t at = 0; at < n; at += 100) update(kind, state, input_room + at, n - at < 100 ? n - at : 100);
-        differ += !same_128(digest(kind, state), value(kind, input_room, n, (uint32_t)i));
-        freed(kind, state);
+        void *state = created(algorithm);
+        reset(algorithm, state, (uint32_t)i);
+        for (size_t at = 0; at < n; at += 100) update(algorithm, state, input_buffer + at, n - at < 100 ? n - at : 100);
+        differ += !same_128(digest(algorithm, state), value(algorithm, input_buffer, n, (uint32_t)i));
+        freed(algorithm, state);
     }
     return (void *)differ;
 }
@@ -708,7 +716,7 @@ static void threads(void)
         if (pthread_create(&running[i], NULL, streams_of_a_thread, (void *)(i * 333))) fail("no thread");
     for (size_t i = 0; i < THREADS; i++) {
         pthread_join(running[i], &differ);
-        tell(!differ, "%ld streams of a thread", (long)differ);
+        report(!differ, "%ld streams of a thread", (long)differ);
     }
 }
 
@@ -727,7 +735,7 @@ static void no_memory(void)
     void *states[] = { ours.XXH32_createState(), ours.XXH64_createState(), ours.XXH3_createState() };
     while ((piece = pieces)) pieces = piece->next, free(piece);
     if (setrlimit(RLIMIT_AS, &before)) fail("no limit of memory can be set");
-    for (int i = 0; i < 3; i++) tell(!states[i], "createState answers %p without memory", states[i]);
+    for (int i = 0; i < 3; i++) report(!states[i], "createState answers %p without memory", states[i]);
 }
 
 /* ---- More than 4 GiB ---- */
@@ -739,14 +747,14 @@ static void no_memory(void)
 static const unsigned char *huge_input(void)
 {
     int file = memfd_create("huge", 0);
-    unsigned char *room = mmap(0, PARTS * PART, PROT_NONE, MAP_PRIVATE | MAP_ANONYMOUS | MAP_NORESERVE, -1, 0);
-    if (file < 0 || room == MAP_FAILED || ftruncate(file, (off_t)PART))
+    unsigned char *buffer = mmap(0, PARTS * PART, PROT_NONE, MAP_PRIVATE | MAP_ANONYMOUS | MAP_NORESERVE, -1, 0);
+    if (file < 0 || buffer == MAP_FAILED || ftruncate(file, (off_t)PART))
         fail("no memory for an input of more than 4 GiB");
     for (size_t i = 0; i < PARTS; i++)
-        if (mmap(room + i * PART, PART, PROT_READ | PROT_WRITE, MAP_SHARED | MAP_FIXED, file, 0) == MAP_FAILED)
+        if (mmap(buffer + i * PART, PART, PROT_READ | PROT_WRITE, MAP_SHARED | MAP_FIXED, file, 0) == MAP_FAILED)
             fail("no memory for an input of more than 4 GiB");
-    for (size_t i = 0; i < PART; i += 8) { uint64_t word = random_word(); memcpy(room + i, &word, 8); }
-    return room;
+    for (size_t i = 0; i < PART; i += 8) { uint64_t word = random_word(); memcpy(buffer + i, &word, 8); }
+    return buffer;
 }
 
 static void huge(void)
@@ -788,8 +796,8 @@ int main(int argc, char **argv)
     long count = atol(argv[3]);
     load(&reference, argv[1]);
     load(&ours, argv[2]);
-    input_room = guarded();
-    secret_room = guarded();
+    input_buffer = guarded();
+    secret_buffer = guarded();
     if (after_free) return all_freed_memory(count), differing != 0;
     SAME(XXH_versionNumber(), 0);
     for (long i = 0; i < count / 2; i++) random_oneshots();
@@ -804,7 +812,8 @@ int main(int argc, char **argv)
     refused_secrets();
     seed_0_and_secret();
     group("secrets of each length");
-    for (long i = 0; i < count; i++) created_state((enum kind)(i % KINDS)), state_never_reset((enum kind)(i % KINDS));
+    for (long i = 0; i < count; i++)
+        created_state((enum algorithm)(i % ALGORITHMS)), state_never_reset((enum algorithm)(i % ALGORITHMS));
     group("states just created, and never reset");
     every_length();
     group("each length to 1100");

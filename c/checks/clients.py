@@ -7,30 +7,39 @@ import socket
 import subprocess
 import tempfile
 import time
-from collections import namedtuple
+from typing import NamedTuple, Optional
 
-from report import Fault, tail, want
-from sides import loaded, run, want_library
-from tools import free_port, write
+from checks.lib.report import Fault, last_line, check
+from c.checks.sides import Side, loaded, run, check_library
+from checks.lib.tools import free_port, write
 
 HERE = os.path.dirname(os.path.abspath(__file__))
 PYTHON = '/usr/bin/python3'
-# The original, ours, ours with changed results, and ours with hashes that end the process.
-Sides = namedtuple('Sides', 'theirs ours wrong stopping')
+
+
+class Sides(NamedTuple):
+    """The original, ours, ours with changed results, and ours with hashes that end the process."""
+
+    theirs: Side
+    ours: Side
+    wrong: Side
+    stopping: Optional[Side]
 
 
 # ---- python3-xxhash ----
 
+
 def python_hashes(sides):
-    words = [PYTHON, '-B', os.path.join(HERE, 'python_hashes.py')]
-    theirs, ours, wrong = (run(side, words) for side in (sides.theirs, sides.ours, sides.wrong))
-    want(theirs.status == 0, tail(theirs.out))
-    want(ours.out == theirs.out, 'hashes differ from the original')
-    want(wrong.out != theirs.out, 'a wrong library is not noticed')
+    command = [PYTHON, '-B', os.path.join(HERE, 'python_hashes.py')]
+    theirs, ours, wrong = (run(side, command) for side in (sides.theirs, sides.ours, sides.wrong))
+    check(theirs.status == 0, last_line(theirs.out))
+    check(ours.out == theirs.out, 'hashes differ from the original')
+    check(wrong.out != theirs.out, 'a wrong library is not noticed')
     return f'{len(ours.out.splitlines())} lines are the same; a wrong library is noticed'
 
 
 # ---- rsync ----
+
 
 def rsync_source(folder):
     """Files of several lengths, and their destinations: older copies of them with some bytes changed."""
@@ -54,8 +63,22 @@ def rsync_run(folder, choice, sender, receiver):
     logs = os.path.join(folder, 'receiver')
     set_here = ' '.join(f"{name}='{value}'" for name, value in receiver.variables(logs).items())
     remote = f'env -u LD_LIBRARY_PATH -u GLIBC_TUNABLES {set_here} rsync'
-    done = run(sender, ['rsync', '-a', '--checksum', '--no-whole-file', f'--checksum-choice={choice}', '--stats',
-                        '-e', shell, f'--rsync-path={remote}', source + '/', f'host:{target}/'])
+    done = run(
+        sender,
+        [
+            'rsync',
+            '-a',
+            '--checksum',
+            '--no-whole-file',
+            f'--checksum-choice={choice}',
+            '--stats',
+            '-e',
+            shell,
+            f'--rsync-path={remote}',
+            source + '/',
+            f'host:{target}/',
+        ],
+    )
     same = subprocess.run(['diff', '-rq', source, target], stdout=subprocess.DEVNULL).returncode == 0
     return done, same, loaded(logs)
 
@@ -63,35 +86,42 @@ def rsync_run(folder, choice, sender, receiver):
 def rsync_pair(choice, sender, receiver):
     with tempfile.TemporaryDirectory() as folder:
         done, same, files = rsync_run(folder, choice, sender, receiver)
-        want(done.status == 0, tail(done.out))
-        want_library(receiver, files)
-        want(same, 'the files differ')
+        check(done.status == 0, last_line(done.out))
+        check_library(receiver, files)
+        check(same, 'the files differ')
         matched = [line for line in done.out.splitlines() if line.startswith('Matched data')]
-        want(matched and 'Matched data: 0 ' not in matched[0], 'no block was matched')
+        check(matched and 'Matched data: 0 ' not in matched[0], 'no block was matched')
         return matched[0]
 
 
 def rsync_control(choice, sender, receiver):
     with tempfile.TemporaryDirectory() as folder:
         done, _, _ = rsync_run(folder, choice, sender, receiver)
-        want(done.status != 0, 'a wrong library is not noticed')
-        return f'noticed: {tail(done.out)}'
+        check(done.status != 0, 'a wrong library is not noticed')
+        return f'noticed: {last_line(done.out)}'
 
 
 # ---- borgbackup ----
 
-def borg(side, folder, *words):
-    return run(side, ['borg', *words], folder=folder, BORG_BASE_DIR=os.path.join(folder, side.name),
-               BORG_UNKNOWN_UNENCRYPTED_REPO_ACCESS_IS_OK='yes', BORG_RELOCATED_REPO_ACCESS_IS_OK='yes')
+
+def borg(side, folder, *args):
+    return run(
+        side,
+        ['borg', *args],
+        folder=folder,
+        BORG_BASE_DIR=os.path.join(folder, side.name),
+        BORG_UNKNOWN_UNENCRYPTED_REPO_ACCESS_IS_OK='yes',
+        BORG_RELOCATED_REPO_ACCESS_IS_OK='yes',
+    )
 
 
 def borg_archive(folder, writer):
     source = os.path.join(folder, 'source')
     for length in (0, 10, 100000, 4000000):
         write(os.path.join(source, f'file-{length}'), os.urandom(length))
-    for words in (['init', '-e', 'none', 'repository'], ['create', 'repository::one', 'source']):
-        done = borg(writer, folder, *words)
-        want(done.status == 0, tail(done.out))
+    for args in (['init', '-e', 'none', 'repository'], ['create', 'repository::one', 'source']):
+        done = borg(writer, folder, *args)
+        check(done.status == 0, last_line(done.out))
 
 
 def borg_pair(writer, reader):
@@ -99,55 +129,74 @@ def borg_pair(writer, reader):
     with tempfile.TemporaryDirectory() as folder:
         borg_archive(folder, writer)
         os.mkdir(os.path.join(folder, 'out'))
-        for side, where, words in ((reader, '', ['check', '--verify-data', 'repository']),
-                                   (reader, '', ['create', 'repository::two', 'source']),
-                                   (writer, '', ['check', 'repository']),
-                                   (reader, 'out', ['extract', '../repository::one'])):
-            done = borg(side, os.path.join(folder, where), *words)
-            want(done.status == 0 and 'ntegrity' not in done.out, tail(done.out))
+        for side, where, args in (
+            (reader, '', ['check', '--verify-data', 'repository']),
+            (reader, '', ['create', 'repository::two', 'source']),
+            (writer, '', ['check', 'repository']),
+            (reader, 'out', ['extract', '../repository::one']),
+        ):
+            done = borg(side, os.path.join(folder, where), *args)
+            check(done.status == 0 and 'ntegrity' not in done.out, last_line(done.out))
         same = subprocess.run(['diff', '-rq', 'source', 'out/source'], cwd=folder, stdout=subprocess.DEVNULL)
-        want(same.returncode == 0, 'what was taken out differs')
+        check(same.returncode == 0, 'what was taken out differs')
 
 
 def borg_control(writer, reader):
     with tempfile.TemporaryDirectory() as folder:
         borg_archive(folder, writer)
         done = borg(reader, folder, 'create', 'repository::two', 'source')
-        told = [line for line in done.out.splitlines() if 'ntegrity' in line]
-        want(done.status != 0 or told, 'a wrong library is not noticed')
-        return f'noticed: {told[0] if told else tail(done.out)}'
+        lines = [line for line in done.out.splitlines() if 'ntegrity' in line]
+        check(done.status != 0 or lines, 'a wrong library is not noticed')
+        return f'noticed: {lines[0] if lines else last_line(done.out)}'
 
 
 def borg_tests(sides):
-    words = [PYTHON, '-B', os.path.join(HERE, 'borg_tests.py')]
+    command = [PYTHON, '-B', os.path.join(HERE, 'borg_tests.py')]
     with tempfile.TemporaryDirectory() as folder:
-        ours, wrong = (run(side, words, folder=folder, HOME=folder) for side in (sides.ours, sides.wrong))
-    want(ours.status == 0, tail(ours.out))
-    want(wrong.status != 0, 'a wrong library is not noticed')
-    return f'{tail(ours.out)}; on a wrong library {tail(wrong.out)}'
+        ours, wrong = (run(side, command, folder=folder, HOME=folder) for side in (sides.ours, sides.wrong))
+    check(ours.status == 0, last_line(ours.out))
+    check(wrong.status != 0, 'a wrong library is not noticed')
+    return f'{last_line(ours.out)}; on a wrong library {last_line(wrong.out)}'
 
 
 # ---- apt ----
+
 
 def apt_root(folder):
     """A root for apt with a repository of test packages. Returns the environment variable with its path."""
     for part in ('etc/apt.conf.d', 'etc/preferences.d', 'repository', 'lists/partial', 'cache/archives/partial'):
         os.makedirs(os.path.join(folder, part))
-    write(os.path.join(folder, 'repository/Packages'), ''.join(
-        f'Package: made-up-{i}\nVersion: 1.{i}\nArchitecture: all\nMaintainer: nobody\nDepends: made-up-{i // 2 + 1}\n'
-        f'Filename: ./made-up-{i}.deb\nSize: {i}\nSHA256: {i:064d}\nDescription: package {i}\n\n' for i in range(300)))
+    write(
+        os.path.join(folder, 'repository/Packages'),
+        ''.join(
+            f'Package: made-up-{i}\nVersion: 1.{i}\nArchitecture: all\nMaintainer: nobody\nDepends: '
+            f'made-up-{i // 2 + 1}\n'
+            f'Filename: ./made-up-{i}.deb\nSize: {i}\nSHA256: {i:064d}\nDescription: package {i}\n\n'
+            for i in range(300)
+        ),
+    )
     write(os.path.join(folder, 'etc/sources.list'), f'deb [trusted=yes] file:{folder}/repository ./\n')
     write(os.path.join(folder, 'etc/status'), '')
-    settings = {'Dir::Etc': 'etc', 'Dir::Etc::parts': 'etc/apt.conf.d', 'Dir::Etc::main': 'etc/none', 'Dir::State': '',
-                'Dir::State::lists': 'lists', 'Dir::State::status': 'etc/status', 'Dir::Cache': 'cache'}
-    return write(os.path.join(folder, 'conf'), 'APT::Sandbox::User "root";\nDebug::pkgCacheGen "1";\n' + ''.join(
-        f'{name} "{os.path.join(folder, path)}";\n' for name, path in settings.items()))
+    settings = {
+        'Dir::Etc': 'etc',
+        'Dir::Etc::parts': 'etc/apt.conf.d',
+        'Dir::Etc::main': 'etc/none',
+        'Dir::State': '',
+        'Dir::State::lists': 'lists',
+        'Dir::State::status': 'etc/status',
+        'Dir::Cache': 'cache',
+    }
+    return write(
+        os.path.join(folder, 'conf'),
+        'APT::Sandbox::User "root";\nDebug::pkgCacheGen "1";\n'
+        + ''.join(f'{name} "{os.path.join(folder, path)}";\n' for name, path in settings.items()),
+    )
 
 
 def apt_accepts(side, conf):
     """True if apt accepts the existing cache, by the hash in it."""
     done = run(side, ['apt-cache', 'depends', 'made-up-7'], APT_CONFIG=conf)
-    want(done.status == 0 and 'Depends: made-up-4' in done.out, tail(done.out))
+    check(done.status == 0 and 'Depends: made-up-4' in done.out, last_line(done.out))
     return 'pkgcache.bin is valid' in done.out
 
 
@@ -156,10 +205,10 @@ def apt_pair(sides, writer, reader):
     with tempfile.TemporaryDirectory() as folder:
         conf = apt_root(folder)
         done = run(writer, ['apt-get', 'update'], APT_CONFIG=conf)
-        want(done.status == 0, tail(done.out))
-        want(run(writer, ['apt-cache', 'gencaches'], APT_CONFIG=conf).status == 0, 'no cache was written')
-        want(apt_accepts(reader, conf), 'the cache of the other side is not valid')
-        want(not apt_accepts(sides.wrong, conf), 'a wrong library is not noticed')
+        check(done.status == 0, last_line(done.out))
+        check(run(writer, ['apt-cache', 'gencaches'], APT_CONFIG=conf).status == 0, 'no cache was written')
+        check(apt_accepts(reader, conf), 'the cache of the other side is not valid')
+        check(not apt_accepts(sides.wrong, conf), 'a wrong library is not noticed')
         return 'the cache is valid; a wrong library is noticed'
 
 
@@ -175,17 +224,26 @@ def gdb_session(sides):
     with tempfile.TemporaryDirectory() as folder:
         write(os.path.join(folder, 'program.c'), PROGRAM)
         built = subprocess.run(['gcc', '-g', '-O0', 'program.c', '-o', 'program'], cwd=folder)
-        want(built.returncode == 0, 'the program was not built')
-        asked = ('info line twice', 'ptype struct point', 'info scope main', 'info functions twice', 'disassemble /s twice')
-        words = ['gdb', '-nx', '-batch', *[word for command in asked for word in ('-ex', command)], 'program']
-        theirs, ours, stopped = (run(side, words, folder=folder) for side in (sides.theirs, sides.ours, sides.stopping))
-    want(theirs.status == 0 and 'double up;' in theirs.out, tail(theirs.out))
-    want(ours.out == theirs.out, 'the session differs')
-    want(stopped.status != 0, 'gdb never asks the library')
+        check(built.returncode == 0, 'the program was not built')
+        asked = (
+            'info line twice',
+            'ptype struct point',
+            'info scope main',
+            'info functions twice',
+            'disassemble /s twice',
+        )
+        session = ['gdb', '-nx', '-batch', *[word for command in asked for word in ('-ex', command)], 'program']
+        theirs, ours, stopped = (
+            run(side, session, folder=folder) for side in (sides.theirs, sides.ours, sides.stopping)
+        )
+    check(theirs.status == 0 and 'double up;' in theirs.out, last_line(theirs.out))
+    check(ours.out == theirs.out, 'the session differs')
+    check(stopped.status != 0, 'gdb never asks the library')
     return f'{len(ours.out.splitlines())} lines are the same; a library that stops at each hash is noticed'
 
 
 # ---- lighttpd ----
+
 
 def listens(port):
     with socket.socket() as probe:
@@ -195,11 +253,18 @@ def listens(port):
 def start_lighttpd(side, folder, port):
     """A server of the folder's pages that listens."""
     conf = os.path.join(folder, 'conf')
-    write(conf, f'server.document-root = "{folder}/pages"\nserver.bind = "127.0.0.1"\nserver.port = {port}\n'
-                'server.feature-flags = ("server.h2c" => "enable", "server.h2proto" => "enable")\n'
-                'mimetype.assign = (".txt" => "text/plain")\n')
-    server = subprocess.Popen(['lighttpd', '-D', '-f', conf], env=side.environment(os.path.join(folder, side.name)),
-                              stdout=subprocess.DEVNULL, stderr=subprocess.DEVNULL)
+    write(
+        conf,
+        f'server.document-root = "{folder}/pages"\nserver.bind = "127.0.0.1"\nserver.port = {port}\n'
+        'server.feature-flags = ("server.h2c" => "enable", "server.h2proto" => "enable")\n'
+        'mimetype.assign = (".txt" => "text/plain")\n',
+    )
+    server = subprocess.Popen(
+        ['lighttpd', '-D', '-f', conf],
+        env=side.environment(os.path.join(folder, side.name)),
+        stdout=subprocess.DEVNULL,
+        stderr=subprocess.DEVNULL,
+    )
     for _ in range(200):
         if listens(port):
             return server
@@ -217,12 +282,16 @@ def lighttpd_answer(side, folder, *headers):
     try:
         with open(f'/proc/{server.pid}/maps') as maps:
             files = {os.path.realpath(line.split()[-1]) for line in maps if 'libxxhash' in line}
-        done = subprocess.run(['curl', '-sI', '--noproxy', '*', '--http2-prior-knowledge', *headers, page],
-                              stdout=subprocess.PIPE, text=True, timeout=30)
+        done = subprocess.run(
+            ['curl', '-sI', '--noproxy', '*', '--http2-prior-knowledge', *headers, page],
+            stdout=subprocess.PIPE,
+            text=True,
+            timeout=30,
+        )
     finally:
         server.send_signal(signal.SIGTERM)
         server.wait(timeout=20)
-    want_library(side, files)
+    check_library(side, files)
     return [line.strip() for line in done.stdout.splitlines() if line.lower().startswith(('http/2', 'etag'))]
 
 
@@ -231,13 +300,13 @@ def lighttpd_tags(sides):
         os.mkdir(os.path.join(folder, 'pages'))
         write(os.path.join(folder, 'pages', 'page.txt'), 'a page\n')
         theirs = lighttpd_answer(sides.theirs, folder)
-        want(len(theirs) == 2 and theirs[0] == 'HTTP/2 200', f'the original answers {theirs}')
+        check(len(theirs) == 2 and theirs[0] == 'HTTP/2 200', f'the original answers {theirs}')
         ours = lighttpd_answer(sides.ours, folder)
-        want(ours == theirs, f'{ours} in place of {theirs}')
+        check(ours == theirs, f'{ours} in place of {theirs}')
         tag = theirs[1].split(': ', 1)[1]
         known = lighttpd_answer(sides.ours, folder, '-H', f'If-None-Match: {tag}')
-        want(known and known[0] == 'HTTP/2 304', f'a page that is known by the tag of the original: {known}')
-        want(not lighttpd_answer(sides.stopping, folder), 'lighttpd never asks the library')
+        check(known and known[0] == 'HTTP/2 304', f'a page that is known by the tag of the original: {known}')
+        check(not lighttpd_answer(sides.stopping, folder), 'lighttpd never asks the library')
     return f'ETag {tag} on both; a library that stops at each hash is noticed'
 
 

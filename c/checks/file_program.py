@@ -2,8 +2,8 @@
 import os
 import tempfile
 
-from report import want
-from tools import TOP, must
+from checks.lib.report import check
+from checks.lib.tools import TOP, must
 
 
 def file_program_agrees(prefix):
@@ -13,11 +13,13 @@ def file_program_agrees(prefix):
     for name in ('xxhsum', 'xxh32sum', 'xxh64sum', 'xxh128sum'):
         own, theirs = os.path.join(prefix, 'bin', name), f'/usr/bin/{name}'
         line = must([own, '-q', file])
-        want(line == must([theirs, '-q', file]), f'{name} prints {line!r}')
+        check(line == must([theirs, '-q', file]), f'{name} prints {line!r}')
         for maker, checker in ((own, theirs), (theirs, own)):
-            want(must([checker, '-c'], stdin=line_file(must([maker, '-q', '--tag', file]))) == f'{file}: OK\n',
-                 f'{checker} refuses what {maker} printed')
-        want(os.path.isfile(os.path.join(prefix, f'share/man/man1/{name}.1')), f'{name} has no manual page')
+            check(
+                must([checker, '-c'], stdin=line_file(must([maker, '-q', '--tag', file]))) == f'{file}: OK\n',
+                f'{checker} refuses what {maker} printed',
+            )
+        check(os.path.isfile(os.path.join(prefix, f'share/man/man1/{name}.1')), f'{name} has no manual page')
     return 'lines and lists of four names'
 
 

@@ -1,11 +1,12 @@
 """Programs that are built with the installed files: the headers, pkg-config with -static, CMake."""
 import os
 
-from report import want
-from tools import TOP, must, ran
+from checks.lib.report import check
+from checks.lib.tools import TOP, must, ran
 
-DISPATCHED = ('#include <xxh_x86dispatch.h>\n'
-              'int main(void) { return XXH3_64bits_dispatch("", 0) != XXH3_64bits("", 0); }\n')
+DISPATCHED = (
+    '#include <xxh_x86dispatch.h>\n' 'int main(void) { return XXH3_64bits_dispatch("", 0) != XXH3_64bits("", 0); }\n'
+)
 EXAMPLE_C = os.path.join(TOP, 'examples', 'c', 'hash-file.c')
 # A name inside twox_c that is in each program which contains its code.
 MARK = 'twox_c'
@@ -24,17 +25,19 @@ def compiled(built, text, compiler, *flags):
 
 def refuses(built, text, word, compiler, *flags):
     """The compiler refuses a source with one error, whose message has the word."""
-    status, errors, said = compiled(built, text, compiler, *flags)
-    want(status != 0, 'it is compiled')
-    want(len(errors) == 1, f'{len(errors)} errors')
-    want(word in said, f'without {word}: {errors[0]}')
-    return next(line for line in said.splitlines() if word in line).split(': ', 1)[-1]
+    status, errors, output = compiled(built, text, compiler, *flags)
+    check(status != 0, 'it is compiled')
+    check(len(errors) == 1, f'{len(errors)} errors')
+    check(word in output, f'without {word}: {errors[0]}')
+    return next(line for line in output.splitlines() if word in line).split(': ', 1)[-1]
 
 
 def dispatch_header_serves(built):
-    path = os.path.join(built.room, 'dispatched')
-    must([built.tools + 'gcc', '-x', 'c', '-', '-I', built.include, '-x', 'none', built.archive, '-o', path],
-         input=DISPATCHED)
+    path = os.path.join(built.workdir, 'dispatched')
+    must(
+        [built.tools + 'gcc', '-x', 'c', '-', '-I', built.include, '-x', 'none', built.archive, '-o', path],
+        input=DISPATCHED,
+    )
     must([path])
 
 
@@ -50,28 +53,28 @@ def static_by_pkg_config(built):
     """A program that is linked with -static by pkg-config contains our code, also if Debian's archive is installed.
     With Debian's own pkg-config file it doesn't."""
     flags = must(['pkg-config', '--cflags', '--libs', '--static', 'libxxhash'], env=package_path(built)).split()
-    path = os.path.join(built.room, 'hash-file-static')
+    path = os.path.join(built.workdir, 'hash-file-static')
     must(['gcc', '-static', EXAMPLE_C, *flags, '-o', path])
-    want(holds(built, path), "it holds another library's code")
-    theirs = os.path.join(built.room, 'hash-file-theirs')
+    check(holds(built, path), "it holds another library's code")
+    theirs = os.path.join(built.workdir, 'hash-file-theirs')
     must(['gcc', '-static', EXAMPLE_C, '-lxxhash', '-o', theirs])
-    want(not holds(built, theirs), "Debian's archive isn't told from ours")
+    check(not holds(built, theirs), "Debian's archive isn't told from ours")
     return [path]
 
 
 def by_cmake(built):
     """examples/cmake, which finds the package xxHash. Returns its two programs."""
-    folder = os.path.join(built.room, 'example-cmake')
+    folder = os.path.join(built.workdir, 'example-cmake')
     must(['cmake', '-S', os.path.join(TOP, 'examples', 'cmake'), '-B', folder, f'-DCMAKE_PREFIX_PATH={built.prefix}'])
     must(['cmake', '--build', folder])
     path = os.path.join(folder, 'hash-file-static')
-    want(holds(built, path), "it holds another library's code")
+    check(holds(built, path), "it holds another library's code")
     return [os.path.join(folder, 'hash-file')], [path]
 
 
 def cpp_by_cmake(built):
     """examples/cpp, which wraps the states in classes."""
-    folder = os.path.join(built.room, 'example-cpp')
+    folder = os.path.join(built.workdir, 'example-cpp')
     must(['cmake', '-S', os.path.join(TOP, 'examples', 'cpp'), '-B', folder, f'-DCMAKE_PREFIX_PATH={built.prefix}'])
     must(['cmake', '--build', folder])
     return [os.path.join(folder, 'hash-file')]
@@ -79,5 +82,7 @@ def cpp_by_cmake(built):
 
 def check_all(report, built):
     report.attempt('xxh_x86dispatch.h', dispatch_header_serves, built)
-    report.attempt('xxh_x86dispatch.h with XXH_INLINE_ALL is refused',
-                   lambda: dispatch_header_is_refused(built, '-DXXH_INLINE_ALL', word='library to link'))
+    report.attempt(
+        'xxh_x86dispatch.h with XXH_INLINE_ALL is refused',
+        lambda: dispatch_header_is_refused(built, '-DXXH_INLINE_ALL', word='library to link'),
+    )

@@ -46,7 +46,7 @@ static char called[NAMES];
 /* A name, which counts as called from here on. */
 #define THE(name) (called[NUMBER_##name] = 1, name)
 
-static void want(int holds, const char *what, size_t length)
+static void check(int holds, const char *what, size_t length)
 {
     if (holds) return;
     fprintf(stderr, "names: %s, %zu bytes\n", what, length);
@@ -67,7 +67,7 @@ static const XXH64_hash_t seed = 0x9e3779b97f4a7c15;
         size_t piece_ = 1; \
         for (size_t at_ = 0; at_ < (length); at_ += piece_, piece_ += piece_ % 3 + 1) { \
             if (piece_ > (length) - at_) piece_ = (length) - at_; \
-            want(THE(name)(state, input + at_, piece_) == XXH_OK, #name, length); \
+            check(THE(name)(state, input + at_, piece_) == XXH_OK, #name, length); \
         } \
     } while (0)
 
@@ -76,32 +76,32 @@ static const XXH64_hash_t seed = 0x9e3779b97f4a7c15;
     static void plain_##bits(size_t length) \
     { \
         XXH##bits##_state_t *state = THE(XXH##bits##_createState)(), *copy = XXH##bits##_createState(); \
-        XXH##bits##_hash_t wanted = THE(XXH##bits)(input, length, (XXH##bits##_hash_t)seed); \
+        XXH##bits##_hash_t expected = THE(XXH##bits)(input, length, (XXH##bits##_hash_t)seed); \
         XXH##bits##_canonical_t bytes; \
-        want(state && copy, "memory", length); \
-        want(THE(XXH##bits##_reset)(state, (XXH##bits##_hash_t)seed) == XXH_OK, "XXH" #bits "_reset", length); \
+        check(state && copy, "memory", length); \
+        check(THE(XXH##bits##_reset)(state, (XXH##bits##_hash_t)seed) == XXH_OK, "XXH" #bits "_reset", length); \
         IN_PIECES(XXH##bits##_update, state, length); \
         THE(XXH##bits##_copyState)(copy, state); \
-        want(THE(XXH##bits##_digest)(state) == wanted, "a stream of XXH" #bits, length); \
+        check(THE(XXH##bits##_digest)(state) == expected, "a stream of XXH" #bits, length); \
         XXH##bits##_update(copy, input, 10); \
-        want(XXH##bits##_digest(state) == wanted, "a stream of XXH" #bits " after its copy went on", length); \
-        want(XXH##bits##_digest(copy) != wanted, "a copy of a stream of XXH" #bits, length); \
-        want(THE(XXH##bits##_freeState)(state) == XXH_OK, "XXH" #bits "_freeState", length); \
+        check(XXH##bits##_digest(state) == expected, "a stream of XXH" #bits " after its copy went on", length); \
+        check(XXH##bits##_digest(copy) != expected, "a copy of a stream of XXH" #bits, length); \
+        check(THE(XXH##bits##_freeState)(state) == XXH_OK, "XXH" #bits "_freeState", length); \
         XXH##bits##_freeState(copy); \
-        THE(XXH##bits##_canonicalFromHash)(&bytes, wanted); \
-        want(bytes.digest[0] == wanted >> (bits - 8), "XXH" #bits "_canonicalFromHash", length); \
-        want(THE(XXH##bits##_hashFromCanonical)(&bytes) == wanted, "XXH" #bits "_hashFromCanonical", length); \
+        THE(XXH##bits##_canonicalFromHash)(&bytes, expected); \
+        check(bytes.digest[0] == expected >> (bits - 8), "XXH" #bits "_canonicalFromHash", length); \
+        check(THE(XXH##bits##_hashFromCanonical)(&bytes) == expected, "XXH" #bits "_hashFromCanonical", length); \
     }
 PLAIN(32)
 PLAIN(64)
 
 /* A stream of XXH3 after one of the resets of a width. */
-#define STREAM(width, differs, reset, update, wanted) \
+#define STREAM(width, differs, reset, update, expected) \
     do { \
-        want(reset == XXH_OK, #reset, length); \
+        check(reset == XXH_OK, #reset, length); \
         IN_PIECES(update, state, length); \
         THE(XXH3_copyState)(copy, state); \
-        want(!(differs(THE(XXH3_##width##bits_digest)(copy), wanted)), "after " #reset, length); \
+        check(!(differs(THE(XXH3_##width##bits_digest)(copy), expected)), "after " #reset, length); \
     } while (0)
 
 #define SECRET secret, sizeof secret
@@ -125,17 +125,18 @@ WIDTH(128, DIFFER_128, XXH3_128bits_update_dispatch)
 
 static void other_names(size_t length)
 {
-    want(THE(XXH3_64bits_dispatch)(input, length) == XXH3_64bits(input, length), "XXH3_64bits_dispatch", length);
-    want(THE(XXH3_64bits_withSeed_dispatch)(input, length, seed) == XXH3_64bits_withSeed(input, length, seed),
+    check(THE(XXH3_64bits_dispatch)(input, length) == XXH3_64bits(input, length), "XXH3_64bits_dispatch", length);
+    check(THE(XXH3_64bits_withSeed_dispatch)(input, length, seed) == XXH3_64bits_withSeed(input, length, seed),
          "XXH3_64bits_withSeed_dispatch", length);
-    want(THE(XXH3_64bits_withSecret_dispatch)(input, length, SECRET) == XXH3_64bits_withSecret(input, length, SECRET),
+    check(THE(XXH3_64bits_withSecret_dispatch)(input, length, SECRET) == XXH3_64bits_withSecret(input, length, SECRET),
          "XXH3_64bits_withSecret_dispatch", length);
-    want(same(THE(XXH3_128bits_dispatch)(input, length), XXH3_128bits(input, length)), "XXH3_128bits_dispatch", length);
-    want(same(THE(XXH3_128bits_withSeed_dispatch)(input, length, seed), XXH3_128bits_withSeed(input, length, seed)),
+    check(same(THE(XXH3_128bits_dispatch)(input, length), XXH3_128bits(input, length)), "XXH3_128bits_dispatch",
+          length);
+    check(same(THE(XXH3_128bits_withSeed_dispatch)(input, length, seed), XXH3_128bits_withSeed(input, length, seed)),
          "XXH3_128bits_withSeed_dispatch", length);
-    want(same(THE(XXH3_128bits_withSecret_dispatch)(input, length, SECRET),
+    check(same(THE(XXH3_128bits_withSecret_dispatch)(input, length, SECRET),
               XXH3_128bits_withSecret(input, length, SECRET)), "XXH3_128bits_withSecret_dispatch", length);
-    want(THE(XXH_featureTest)() >= XXH_SSE2 && XXH_featureTest() <= XXH_AVX512, "XXH_featureTest", length);
+    check(THE(XXH_featureTest)() >= XXH_SSE2 && XXH_featureTest() <= XXH_AVX512, "XXH_featureTest", length);
 }
 #else
 WIDTH(64, DIFFER, XXH3_64bits_update)
@@ -147,10 +148,10 @@ static void other_names(size_t length) { (void)length; }
 static void streams_of_xxh3(size_t length)
 {
     XXH3_state_t *state = THE(XXH3_createState)(), *copy = XXH3_createState();
-    want(state && copy, "memory", length);
+    check(state && copy, "memory", length);
     streams_64(state, copy, length);
     streams_128(state, copy, length);
-    want(THE(XXH3_freeState)(state) == XXH_OK, "XXH3_freeState", length);
+    check(THE(XXH3_freeState)(state) == XXH_OK, "XXH3_freeState", length);
     XXH3_freeState(copy);
 }
 
@@ -159,24 +160,25 @@ static void values_of_128(size_t length)
 {
     XXH128_hash_t one = THE(XXH128)(input, length, seed), other = one;
     XXH128_canonical_t bytes;
-    want(same(one, XXH3_128bits_withSeed(input, length, seed)), "XXH128", length);
-    want(THE(XXH128_isEqual)(one, other) && !THE(XXH128_cmp)(&one, &other), "XXH128_isEqual of one hash", length);
+    check(same(one, XXH3_128bits_withSeed(input, length, seed)), "XXH128", length);
+    check(THE(XXH128_isEqual)(one, other) && !THE(XXH128_cmp)(&one, &other), "XXH128_isEqual of one hash", length);
     other.low64 ^= 1;
-    want(!XXH128_isEqual(one, other), "XXH128_isEqual of two", length);
-    want((XXH128_cmp(&one, &other) > 0) == (one.low64 > other.low64), "XXH128_cmp", length);
+    check(!XXH128_isEqual(one, other), "XXH128_isEqual of two", length);
+    check((XXH128_cmp(&one, &other) > 0) == (one.low64 > other.low64), "XXH128_cmp", length);
     THE(XXH128_canonicalFromHash)(&bytes, one);
-    want(bytes.digest[0] == one.high64 >> 56 && bytes.digest[15] == (one.low64 & 255), "XXH128_canonicalFromHash",
+    check(bytes.digest[0] == one.high64 >> 56 && bytes.digest[15] == (one.low64 & 255), "XXH128_canonicalFromHash",
          length);
-    want(same(THE(XXH128_hashFromCanonical)(&bytes), one), "XXH128_hashFromCanonical", length);
+    check(same(THE(XXH128_hashFromCanonical)(&bytes), one), "XXH128_hashFromCanonical", length);
 }
 
 /* The secret of a seed gives the values of the seed if only the secret is used. */
 static void secrets(void)
 {
-    want(THE(XXH3_generateSecret)(secret, sizeof secret, "custom", 6) == XXH_OK, "XXH3_generateSecret", 6);
-    want(XXH3_generateSecret(secret, XXH3_SECRET_SIZE_MIN - 1, "custom", 6) == XXH_ERROR, "XXH3_generateSecret, few", 6);
+    check(THE(XXH3_generateSecret)(secret, sizeof secret, "custom", 6) == XXH_OK, "XXH3_generateSecret", 6);
+    check(XXH3_generateSecret(secret, XXH3_SECRET_SIZE_MIN - 1, "custom", 6) == XXH_ERROR, "XXH3_generateSecret, few",
+          6);
     THE(XXH3_generateSecret_fromSeed)(secret, seed);
-    want(XXH3_64bits_withSecret(input, sizeof input, SECRET) == XXH3_64bits_withSeed(input, sizeof input, seed),
+    check(XXH3_64bits_withSecret(input, sizeof input, SECRET) == XXH3_64bits_withSeed(input, sizeof input, seed),
          "XXH3_generateSecret_fromSeed", sizeof input);
 }
 
@@ -184,7 +186,7 @@ int main(void)
 {
     static const size_t lengths[] = { 0, 1, 15, 16, 17, 31, 32, 100, 240, 241, 511, 512, 513, 1025, sizeof input };
     for (size_t i = 0; i < sizeof input; i++) input[i] = (unsigned char)(i * i >> 3 ^ i);
-    want(THE(XXH_versionNumber)() == XXH_VERSION_NUMBER, "XXH_versionNumber", 0);
+    check(THE(XXH_versionNumber)() == XXH_VERSION_NUMBER, "XXH_versionNumber", 0);
     secrets();
     for (size_t i = 0; i < sizeof lengths / sizeof *lengths; i++) {
         plain_32(lengths[i]);

@@ -29,7 +29,7 @@ _Static_assert(sizeof(XXH64_state_t) == 88 && alignof(XXH64_state_t) == 8, "XXH6
 
 static long compared, bad;
 
-static void want(int holds, const char *what)
+static void check(int holds, const char *what)
 {
     compared++;
     if (!holds && ++bad <= 20) printf("    differs: %s\n", what);
@@ -54,17 +54,17 @@ static void *symbol(const char *path, const char *name)
 }
 
 /* A buffer with a state in it, and whether the bytes on both sides of it are unchanged. */
-struct room {
+struct buffer {
     alignas(64) unsigned char bytes[BESIDE + 64 + 88 + BESIDE];
 };
 
-static void fill(struct room *room) { memset(room->bytes, STAYS, sizeof room->bytes); }
+static void fill(struct buffer *buffer) { memset(buffer->bytes, STAYS, sizeof buffer->bytes); }
 
-static int stays(const struct room *room, const void *state, size_t size)
+static int stays(const struct buffer *buffer, const void *state, size_t size)
 {
-    size_t at = (size_t)((const unsigned char *)state - room->bytes);
-    for (size_t i = 0; i < sizeof room->bytes; i++)
-        if ((i < at || i >= at + size) && room->bytes[i] != STAYS) return 0;
+    size_t at = (size_t)((const unsigned char *)state - buffer->bytes);
+    for (size_t i = 0; i < sizeof buffer->bytes; i++)
+        if ((i < at || i >= at + size) && buffer->bytes[i] != STAYS) return 0;
     return 1;
 }
 
@@ -79,8 +79,8 @@ static unsigned char *lone_page(size_t size)
     return pages + size;
 }
 
-/* The calls of a kind, and its tests. `place` is the offset of its mark. */
-#define KIND(bits, stripe, place, mark) \
+/* The calls of an algorithm, and its tests. `place` is the offset of its mark. */
+#define ALGORITHM(bits, stripe, place, mark) \
     struct calls_##bits { \
         __typeof__(&XXH##bits) whole; \
         __typeof__(&XXH##bits##_reset) reset; \
@@ -90,44 +90,44 @@ static unsigned char *lone_page(size_t size)
     }; \
     static struct calls_##bits calls_of_##bits(const char *reference, const char *ours) \
     { \
-        return (struct calls_##bits){ \
-            (__typeof__(&XXH##bits))symbol(reference, "XXH" #bits), \
-            (__typeof__(&XXH##bits##_reset))symbol(ours, "XXH" #bits "_reset"), \
-            (__typeof__(&XXH##bits##_update))symbol(ours, "XXH" #bits "_update"), \
-            (__typeof__(&XXH##bits##_digest))symbol(ours, "XXH" #bits "_digest"), \
-            (__typeof__(&XXH##bits##_copyState))symbol(ours, "XXH" #bits "_copyState") }; \
+        return (struct calls_##bits){ (__typeof__(&XXH##bits))symbol(reference, "XXH" #bits), \
+                                      (__typeof__(&XXH##bits##_reset))symbol(ours, "XXH" #bits "_reset"), \
+                                      (__typeof__(&XXH##bits##_update))symbol(ours, "XXH" #bits "_update"), \
+                                      (__typeof__(&XXH##bits##_digest))symbol(ours, "XXH" #bits "_digest"), \
+                                      (__typeof__(&XXH##bits##_copyState))symbol(ours, "XXH" #bits "_copyState") }; \
     } \
     /* A stream in a state, and a copy of it in another. */ \
-    static void stream_##bits(struct calls_##bits by, struct room *room, struct room *other, size_t at, size_t most) \
+    static void stream_##bits(struct calls_##bits by, struct buffer *buffer, struct buffer *other, size_t at, \
+                              size_t most) \
     { \
-        XXH##bits##_state_t *state = (void *)(room->bytes + at), *copy = (void *)(other->bytes + at); \
+        XXH##bits##_state_t *state = (void *)(buffer->bytes + at), *copy = (void *)(other->bytes + at); \
         XXH##bits##_hash_t seed = (XXH##bits##_hash_t)random_word(); \
-        want(by.reset(state, seed) == XXH_OK, "a reset of XXH" #bits); \
+        check(by.reset(state, seed) == XXH_OK, "a reset of XXH" #bits); \
         for (size_t taken = 0, piece; taken < sizeof input; taken += piece) { \
             piece = random_word() % most; \
             if (piece > sizeof input - taken) piece = sizeof input - taken; \
-            want(by.update(state, input + taken, piece) == XXH_OK, "an update of XXH" #bits); \
-            want(by.digest(state) == by.whole(input, taken + piece, seed), "a digest of XXH" #bits); \
+            check(by.update(state, input + taken, piece) == XXH_OK, "an update of XXH" #bits); \
+            check(by.digest(state) == by.whole(input, taken + piece, seed), "a digest of XXH" #bits); \
             by.copy(copy, state); \
-            want(by.digest(copy) == by.digest(state), "a copy of XXH" #bits); \
+            check(by.digest(copy) == by.digest(state), "a copy of XXH" #bits); \
         } \
-        want(stays(room, state, sizeof *state) && stays(other, copy, sizeof *copy), "what lies beside XXH" #bits); \
+        check(stays(buffer, state, sizeof *state) && stays(other, copy, sizeof *copy), "what lies beside XXH" #bits); \
     } \
     /* Memory that is no state is refused, and stays as it is. */ \
-    static void refused_##bits(struct calls_##bits by, struct room *room, size_t at, const char *what) \
+    static void refused_##bits(struct calls_##bits by, struct buffer *buffer, size_t at, const char *what) \
     { \
-        XXH##bits##_state_t *state = (void *)(room->bytes + at); \
-        struct room before = *room; \
-        want(by.update(state, input, 3) == XXH_ERROR && by.digest(state) == 0, what); \
-        want(!memcmp(before.bytes, room->bytes, sizeof before.bytes), what); \
+        XXH##bits##_state_t *state = (void *)(buffer->bytes + at); \
+        struct buffer before = *buffer; \
+        check(by.update(state, input, 3) == XXH_ERROR && by.digest(state) == 0, what); \
+        check(!memcmp(before.bytes, buffer->bytes, sizeof before.bytes), what); \
     } \
-    static void never_reset_##bits(struct calls_##bits by, struct room *room, size_t at) \
+    static void never_reset_##bits(struct calls_##bits by, struct buffer *buffer, size_t at) \
     { \
         static const int left[] = { 0, 0xff, 0xcc, 0xcd, 0xdd, 0xfe, 0xaa, STAYS }; \
-        unsigned char *state = room->bytes + at; \
+        unsigned char *state = buffer->bytes + at; \
         for (size_t i = 0; i < sizeof left / sizeof *left; i++) { \
             memset(state, left[i], sizeof(XXH##bits##_state_t)); \
-            refused_##bits(by, room, at, "XXH" #bits " of memory of one byte"); \
+            refused_##bits(by, buffer, at, "XXH" #bits " of memory of one byte"); \
         } \
     } \
     /* A word of the mark and a number of bytes, in memory of any other bytes. */ \
@@ -137,17 +137,18 @@ static unsigned char *lone_page(size_t size)
         for (size_t i = 0; i < sizeof(XXH##bits##_state_t); i++) state[i] = (unsigned char)random_word(); \
         memcpy(state + place, &word, sizeof word); \
     } \
-    static void word_##bits(struct calls_##bits by, struct room *room, size_t at, int usage) \
+    static void word_##bits(struct calls_##bits by, struct buffer *buffer, size_t at, int usage) \
     { \
-        unsigned char *state = room->bytes + at; \
+        unsigned char *state = buffer->bytes + at; \
         put_word_##bits(state, usage); \
         if (usage < 0 || usage >= stripe) { \
-            refused_##bits(by, room, at, "XXH" #bits " of a word beside the mark"); \
+            refused_##bits(by, buffer, at, "XXH" #bits " of a word beside the mark"); \
             return; \
         } \
-        want(by.update((void *)state, input, random_word() % 100) == XXH_OK, "XXH" #bits " of a word that passes"); \
+        check(by.update((void *)state, input, random_word() % 100) == XXH_OK, "XXH" #bits " of a word that passes"); \
         by.digest((void *)state); \
-        want(stays(room, state, sizeof(XXH##bits##_state_t)), "what lies beside XXH" #bits " of a word that passes"); \
+        check(stays(buffer, state, sizeof(XXH##bits##_state_t)), \
+              "what lies beside XXH" #bits " of a word that passes"); \
     } \
     /* Such memory at the start and at the end of a page, next to memory that can't be read. */ \
     static void lone_##bits(struct calls_##bits by) \
@@ -165,17 +166,17 @@ static unsigned char *lone_page(size_t size)
     static void try_##bits(const char *reference, const char *ours) \
     { \
         struct calls_##bits by = calls_of_##bits(reference, ours); \
-        struct room room, other; \
+        struct buffer buffer, other; \
         lone_##bits(by); \
         for (size_t at = BESIDE; at < BESIDE + 64; at += alignof(XXH##bits##_state_t)) { \
-            fill(&room), fill(&other); \
-            for (int round = 0; round < 50; round++) stream_##bits(by, &room, &other, at, round % 4 ? 20 : 300); \
-            never_reset_##bits(by, &room, at); \
-            for (int usage = -2; usage <= stripe + 2; usage++) word_##bits(by, &room, at, usage); \
+            fill(&buffer), fill(&other); \
+            for (int round = 0; round < 50; round++) stream_##bits(by, &buffer, &other, at, round % 4 ? 20 : 300); \
+            never_reset_##bits(by, &buffer, at); \
+            for (int usage = -2; usage <= stripe + 2; usage++) word_##bits(by, &buffer, at, usage); \
         } \
     }
-KIND(32, 16, 12, MARK_32)
-KIND(64, 32, 40, MARK_64)
+ALGORITHM(32, 16, 12, MARK_32)
+ALGORITHM(64, 32, 40, MARK_64)
 
 /* Variables on the stack, next to each other, as in most programs. */
 static void on_the_stack(const char *reference, const char *ours)
@@ -187,21 +188,21 @@ static void on_the_stack(const char *reference, const char *ours)
     XXH32_state_t third;
     by_32.reset(&first, 1), by_64.reset(&second, 2), by_32.reset(&third, 3);
     by_32.update(&first, input, 100), by_64.update(&second, input, 200), by_32.update(&third, input, 300);
-    want(by_32.digest(&first) == by_32.whole(input, 100, 1), "the first state on the stack");
-    want(by_64.digest(&second) == by_64.whole(input, 200, 2), "the second state on the stack");
-    want(by_32.digest(&third) == by_32.whole(input, 300, 3), "the third state on the stack");
+    check(by_32.digest(&first) == by_32.whole(input, 100, 1), "the first state on the stack");
+    check(by_64.digest(&second) == by_64.whole(input, 200, 2), "the second state on the stack");
+    check(by_32.digest(&third) == by_32.whole(input, 300, 3), "the third state on the stack");
 }
 
-int main(int count, char **words)
+int main(int count, char **argv)
 {
     if (count != 3) {
         fprintf(stderr, "usage: own_states REFERENCE OURS\n");
         return 2;
     }
     for (size_t i = 0; i < sizeof input; i++) input[i] = (unsigned char)random_word();
-    try_32(words[1], words[2]);
-    try_64(words[1], words[2]);
-    on_the_stack(words[1], words[2]);
+    try_32(argv[1], argv[2]);
+    try_64(argv[1], argv[2]);
+    on_the_stack(argv[1], argv[2]);
     printf("%ld compared, %ld differ\n", compared, bad);
     return bad != 0;
 }

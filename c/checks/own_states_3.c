@@ -35,7 +35,7 @@ static struct library reference, ours;
 static long compared, bad;
 static unsigned char input[20000], secret[LONGEST_SECRET];
 
-static void want(int holds, const char *what, size_t number)
+static void check(int holds, const char *what, size_t number)
 {
     compared++;
     if (!holds && ++bad <= 20) printf("    differs: %s, %zu\n", what, number);
@@ -136,12 +136,12 @@ static void stream(void *state, void *other, struct key key)
 {
     const size_t most = (size_t)1 << (1 + random_word() % 12);
     before_reset(state, (int)(random_word() % 7));
-    want(reset(state, key) == XXH_OK, "a reset", key.length);
+    check(reset(state, key) == XXH_OK, "a reset", key.length);
     for (size_t n = 0, length; n < sizeof input - most && random_word() % 12; n += length) {
         length = random_word() % most;
         __typeof__(&XXH3_64bits_update) update = random_word() % 2 ? ours.XXH3_64bits_update : ours.XXH3_128bits_update;
-        want(update(state, input + n, length) == XXH_OK, "an update", n);
-        want(is_right(state, key, n + length), "a digest", n + length);
+        check(update(state, input + n, length) == XXH_OK, "an update", n);
+        check(is_right(state, key, n + length), "a digest", n + length);
         if (random_word() % 3) continue;
         if (random_word() % 2) memcpy(other, state, BYTES);
         else ours.XXH3_copyState(other, state);
@@ -170,10 +170,10 @@ static void refused(unsigned char *state, const char *what, size_t number)
     unsigned char before[BYTES];
     memcpy(before, state, BYTES);
     const XXH128_hash_t wide = ours.XXH3_128bits_digest((void *)state);
-    want(ours.XXH3_64bits_update((void *)state, input, 300) == XXH_ERROR, what, number);
-    want(ours.XXH3_128bits_update((void *)state, input, 3) == XXH_ERROR, what, number);
-    want(ours.XXH3_64bits_digest((void *)state) == 0 && wide.low64 == 0 && wide.high64 == 0, what, number);
-    want(!memcmp(before, state, BYTES), what, number);
+    check(ours.XXH3_64bits_update((void *)state, input, 300) == XXH_ERROR, what, number);
+    check(ours.XXH3_128bits_update((void *)state, input, 3) == XXH_ERROR, what, number);
+    check(ours.XXH3_64bits_digest((void *)state) == 0 && wide.low64 == 0 && wide.high64 == 0, what, number);
+    check(!memcmp(before, state, BYTES), what, number);
 }
 
 /* Memory with no mark, whose address may not be read. */
@@ -197,16 +197,16 @@ static void beside_a_mark(unsigned char *state)
     static const struct key keys[] = { { 0, 0, 0 }, { 2, 0, 192 }, { 2, 0, 200 }, { 4, 7, 200 } };
     for (size_t i = 0; i < sizeof keys / sizeof *keys; i++) {
         for (size_t bit = 0; bit < 64; bit++) {
-            want(reset((void *)state, keys[i]) == XXH_OK, "a reset", i);
+            check(reset((void *)state, keys[i]) == XXH_OK, "a reset", i);
             state[MARK + bit / 8] ^= (unsigned char)(1 << bit % 8);
             refused(state, "a mark with another bit", 64 * i + bit);
         }
-        want(reset((void *)state, keys[i]) == XXH_OK, "a reset", i);
+        check(reset((void *)state, keys[i]) == XXH_OK, "a reset", i);
         state[BUFFERED] = 1, state[BUFFERED + 1] = 1;
         refused(state, "257 bytes buffered", i);
     }
     for (uint64_t length = 0; length < 136; length += 27) {
-        want(reset((void *)state, keys[2]) == XXH_OK, "a reset", length);
+        check(reset((void *)state, keys[2]) == XXH_OK, "a reset", length);
         memcpy(state + LENGTH, &length, sizeof length);
         refused(state, "a secret of a refused length", length);
     }
@@ -216,11 +216,11 @@ static void refused_resets(unsigned char *state)
 {
     for (size_t length = 0; length < 136; length++)
         for (int call = 2; call < 6; call++) {
-            want(reset((void *)state, (struct key){ call % 2 ? 1 : 2, 3, 300 }) == XXH_OK, "a reset", length);
+            check(reset((void *)state, (struct key){ call % 2 ? 1 : 2, 3, 300 }) == XXH_OK, "a reset", length);
             unsigned char before[BYTES];
             memcpy(before, state, BYTES);
-            want(reset((void *)state, (struct key){ call, 5, length }) == XXH_ERROR, "a short secret", length);
-            want(!memcmp(before, state, BYTES), "a state after a short secret", length);
+            check(reset((void *)state, (struct key){ call, 5, length }) == XXH_ERROR, "a short secret", length);
+            check(!memcmp(before, state, BYTES), "a state after a short secret", length);
         }
 }
 
@@ -231,15 +231,15 @@ static void changed_secrets(void *state)
 {
     for (size_t length = 136; length <= LONGEST_SECRET; length += 28) {
         const struct key key = { 2, 0, length };
-        unsigned char kept = secret[length - 1];
-        want(reset(state, key) == XXH_OK && ours.XXH3_64bits_update(state, input, 100) == XXH_OK, "a stream", length);
+        unsigned char saved = secret[length - 1];
+        check(reset(state, key) == XXH_OK && ours.XXH3_64bits_update(state, input, 100) == XXH_OK, "a stream", length);
         const XXH64_hash_t before = reference.XXH3_64bits_withSecret(input, 100, secret, length);
         for (size_t i = 0; i < length; i++) secret[i] ^= 0x81;
         const XXH64_hash_t after = reference.XXH3_64bits_withSecret(input, 100, secret, length);
         const XXH64_hash_t hash = ours.XXH3_64bits_digest(state);
-        want(before != after && hash == (length == 192 ? before : after), "a changed secret", length);
+        check(before != after && hash == (length == 192 ? before : after), "a changed secret", length);
         for (size_t i = 0; i < length; i++) secret[i] ^= 0x81;
-        want(kept == secret[length - 1], "the secret", length);
+        check(saved == secret[length - 1], "the secret", length);
     }
 }
 
@@ -249,15 +249,15 @@ static void initialized_states(void *state)
     const struct key keys[] = { { 0, 0, 0 }, { 2, 0, 192 }, { 2, 0, 200 } };
     for (size_t i = 0; i < sizeof keys / sizeof *keys; i++) {
         const void *address;
-        want(reset(state, keys[i]) == XXH_OK && ours.XXH3_64bits_update(state, input, 1000) == XXH_OK, "a stream", i);
+        check(reset(state, keys[i]) == XXH_OK && ours.XXH3_64bits_update(state, input, 1000) == XXH_OK, "a stream", i);
         XXH3_INITSTATE((XXH3_state_t *)state);
         memcpy(&address, (unsigned char *)state + ADDRESS, sizeof address);
-        if (i < 2 || address) want(is_right(state, keys[i], 1000), "a state after XXH3_INITSTATE", i);
+        if (i < 2 || address) check(is_right(state, keys[i], 1000), "a state after XXH3_INITSTATE", i);
         else refused(state, "a state whose address XXH3_INITSTATE cleared", i);
     }
 }
 
-int main(int count, char **words)
+int main(int count, char **argv)
 {
     if (count != 3) {
         fprintf(stderr, "usage: own_states_3 REFERENCE OURS\n");
@@ -265,8 +265,8 @@ int main(int count, char **words)
     }
     for (size_t i = 0; i < sizeof input; i++) input[i] = (unsigned char)random_word();
     for (size_t i = 0; i < sizeof secret; i++) secret[i] = (unsigned char)random_word();
-    reference = opened(words[1]);
-    ours = opened(words[2]);
+    reference = opened(argv[1]);
+    ours = opened(argv[2]);
     const size_t size = (size_t)sysconf(_SC_PAGESIZE);
     unsigned char *page = lone_page(size), *state = page + size - BYTES;
     streams();

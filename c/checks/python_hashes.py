@@ -3,7 +3,7 @@ Debian's python3 runs it, on one library or another."""
 import random
 import xxhash
 
-KINDS = ('xxh32', 'xxh64', 'xxh3_64', 'xxh3_128')
+ALGORITHMS = ('xxh32', 'xxh64', 'xxh3_64', 'xxh3_128')
 LENGTHS = [*range(300), 511, 512, 513, 1000, 5000, 100000, 1 << 20]
 
 
@@ -14,9 +14,11 @@ def in_pieces(hasher, data):
         data = data[length:]
 
 
-def print_hashes(kind, data, seed):
-    make = getattr(xxhash, kind)
-    print(make(data, seed=seed).hexdigest(), make(data).intdigest(), getattr(xxhash, kind + '_hexdigest')(data, seed))
+def print_hashes(algorithm, data, seed):
+    make = getattr(xxhash, algorithm)
+    print(
+        make(data, seed=seed).hexdigest(), make(data).intdigest(), getattr(xxhash, algorithm + '_hexdigest')(data, seed)
+    )
     hasher = make(seed=seed)
     in_pieces(hasher, data)
     other = hasher.copy()
@@ -31,5 +33,5 @@ random.seed(5)
 print(xxhash.XXHASH_VERSION)
 for length in LENGTHS:
     data, seed = random.randbytes(length), random.getrandbits(32)
-    for kind in KINDS:
-        print_hashes(kind, data, seed)
+    for algorithm in ALGORITHMS:
+        print_hashes(algorithm, data, seed)

@@ -4,7 +4,8 @@
  *     source_values ROUNDS
  *
  * The reference is an object of its header, whose names begin with theirs_. Each input and secret is a block of its
- * exact length, at any alignment, for the sanitizers. Prints how much was compared, and returns 1 if something differs. */
+ * exact length, at any alignment, for the sanitizers. Prints how much was compared, and returns 1 if something
+ * differs. */
 #define XXH_INLINE_ALL
 #include "xxhash.h"
 #include <stdio.h>
@@ -224,7 +225,8 @@ static void memory(void)
     XXH3_state_t *state = XXH3_createState();
     check(state_32 && XXH32_digest(state_32) == XXH32("", 0, 0), "XXH32_createState", 0);
     check(state_64 && XXH64_digest(state_64) == XXH64("", 0, 0), "XXH64_createState", 0);
-    check(state && (uintptr_t)state % 64 == 0 && XXH3_64bits_digest(state) == XXH3_64bits("", 0), "XXH3_createState", 0);
+    check(state && (uintptr_t)state % 64 == 0 && XXH3_64bits_digest(state) == XXH3_64bits("", 0), "XXH3_createState",
+          0);
     check(XXH32_freeState(state_32) == XXH_OK && XXH64_freeState(state_64) == XXH_OK && XXH3_freeState(state) == XXH_OK
               && XXH32_freeState(NULL) == XXH_OK && XXH64_freeState(NULL) == XXH_OK && XXH3_freeState(NULL) == XXH_OK,
           "freeState", 0);

@@ -2,9 +2,9 @@
 import os
 import subprocess
 
-from report import want
-from library import C
-from tools import bytes_of, must, ran
+from checks.lib.report import check
+from c.checks.library import C
+from checks.lib.tools import bytes_of, must, ran
 
 # What release 0.8.3 has in addition to the names of 0.8.1, on x86-64.
 NEWER = {'XXH_featureTest'}
@@ -17,15 +17,15 @@ def exported(path):
 def names_are_theirs(path, their_path):
     ours, theirs = exported(path), exported(their_path)
     newer = NEWER if 'XXH3_64bits_dispatch' in theirs else set()
-    want(not theirs - ours, f'without {", ".join(sorted(theirs - ours))}')
-    want(ours - theirs == newer, f'with {", ".join(sorted(ours - theirs))}')
+    check(not theirs - ours, f'without {", ".join(sorted(theirs - ours))}')
+    check(ours - theirs == newer, f'with {", ".join(sorted(ours - theirs))}')
     return f'all {len(theirs)}' + ''.join(f', and {name}' for name in sorted(newer))
 
 
-def table_agrees(words):
+def table_agrees(args):
     """A program that prints the oracle's table."""
-    done, table = subprocess.run(words, stdout=subprocess.PIPE, timeout=300), bytes_of('oracle/vectors.txt')
-    want(done.returncode == 0 and done.stdout == table, 'the table is another')
+    done, table = subprocess.run(args, stdout=subprocess.PIPE, timeout=300), bytes_of('oracle/vectors.txt')
+    check(done.returncode == 0 and done.stdout == table, 'the table is another')
     return f'{len(table.splitlines()) - 1} rows'
 
 
@@ -34,26 +34,28 @@ def calls_program(built, name, *flags):
     return built.program(name, os.path.join(C, 'checks', 'calls.c'), '-pthread', *flags)
 
 
-def calls(program, their_path, path, count, *words, **variables):
-    done = ran([*program, their_path, path, str(count), *words], timeout=1200, env={**os.environ, **variables})
+def calls(program, their_path, path, count, *args, **variables):
+    done = ran([*program, their_path, path, str(count), *args], timeout=1200, env={**os.environ, **variables})
     return done.returncode, done.stdout
 
 
-def calls_agree(program, their_path, path, count, *words, **variables):
-    status, out = calls(program, their_path, path, count, *words, **variables)
+def calls_agree(program, their_path, path, count, *args, **variables):
+    status, out = calls(program, their_path, path, count, *args, **variables)
     faults = [line.strip() for line in out.splitlines() if ' 0 differ' not in line]
-    want(status == 0, ' / '.join(faults)[:400] or f'status {status}')
+    check(status == 0, ' / '.join(faults)[:400] or f'status {status}')
     groups = [line.strip().split(': ') for line in out.splitlines() if ' 0 differ' in line]
     return '; '.join(f'{name} {found.split()[0]}' for name, found in groups)
 
 
 def freed_states_are_refused(program, their_path, path, count):
     """Memory that held a state and was freed is no state, with the content that free leaves or overwrites."""
-    return '; '.join(calls_agree(program, their_path, path, count, '--freed', **variables)
-                     for variables in ({}, {'MALLOC_PERTURB_': '170'}))
+    return '; '.join(
+        calls_agree(program, their_path, path, count, '--freed', **variables)
+        for variables in ({}, {'MALLOC_PERTURB_': '170'})
+    )
 
 
 def calls_notice(program, their_path, path, count):
     status, out = calls(program, their_path, path, count)
-    want(status == 1, f'status {status}')
+    check(status == 1, f'status {status}')
     return '; '.join(line.strip() for line in out.splitlines() if 'compared' in line)

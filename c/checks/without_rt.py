@@ -6,60 +6,78 @@ import shutil
 import tempfile
 import time
 
-import aarch64
-import arm_roots
-import launcher
-import made
-import values
-from report import Fault, tail, want
-from sides import THEIRS, Side
-from library import Built
-from tools import clean_copy, hide_rt, install_packages, must, path_without, ran, text_of, write
+from c.checks import aarch64
+from checks.lib import arm_roots
+from c.checks import launcher
+from c.checks import installed
+from c.checks import values
+from checks.lib.report import Fault, last_line, check
+from c.checks.sides import THEIRS, Side
+from c.checks.library import Built
+from checks.lib.tools import clean_copy, hide_rt, install_packages, must, path_without, ran, text_of, write
 
-PACKAGES = {'gcc': 'gcc', 'g++': 'g++', '/usr/include/stdio.h': 'libc6-dev', 'nm': 'binutils', 'make': 'make',
-            'python3': 'python3', 'pkg-config': 'pkg-config', 'cmake': 'cmake', 'clang': 'clang',
-            'musl-gcc': 'musl-tools', 'qemu-x86_64': 'qemu-user', 'xxhsum': 'xxhash', THEIRS: 'libxxhash0',
-            '/usr/lib/x86_64-linux-gnu/libxxhash.a': 'libxxhash-dev'}
+PACKAGES = {
+    'gcc': 'gcc',
+    'g++': 'g++',
+    '/usr/include/stdio.h': 'libc6-dev',
+    'nm': 'binutils',
+    'make': 'make',
+    'python3': 'python3',
+    'pkg-config': 'pkg-config',
+    'cmake': 'cmake',
+    'clang': 'clang',
+    'musl-gcc': 'musl-tools',
+    'qemu-x86_64': 'qemu-user',
+    'xxhsum': 'xxhash',
+    THEIRS: 'libxxhash0',
+    '/usr/lib/x86_64-linux-gnu/libxxhash.a': 'libxxhash-dev',
+}
 ARM_PACKAGES = {**aarch64.PACKAGES, 'gcc': 'gcc', 'make': 'make', 'python3': 'python3'}
 ARM_GCC, ON_ARM = 'aarch64-linux-gnu-gcc', 'run=qemu-aarch64 -L /usr/aarch64-linux-gnu'
 # A function, the text in its source in place of a constant, the goal that detects it, and a word of its message.
-WRONG_TEXTS = (('XXH64', '$0x9e3779b185ebca87', '$0x9e3779b185ebca89', 'check-values', 'differ'),
-               ('XXH64_reset', '$0x60ea27eeadc0b5d6', '$0x60ea27eeadc0b5d7', 'check-names', 'a stream of XXH64'))
+WRONG_TEXTS = (
+    ('XXH64', '$0x9e3779b185ebca87', '$0x9e3779b185ebca89', 'check-values', 'differ'),
+    ('XXH64_reset', '$0x60ea27eeadc0b5d6', '$0x60ea27eeadc0b5d7', 'check-names', 'a stream of XXH64'),
+)
 # What isn't a function's bytes: a word of the source, another in its place, and the part that then differs, or the
 # section of the word.
 OTHER_TEXTS = {
     'a place in a mergeable section': (r'(\.L\d+_)10\(%rip\)', r'\g<1>0+0x10(%rip)', None),
-    'a function that chooses another': (r'(\.type \S+\.products_of_block),@function', r'\1,@gnu_indirect_function',
-                                        '.text.twox_plain.xxhash32.rounds.impl_from_128'),
+    'a function that chooses another': (
+        r'(\.type \S+\.products_of_block),@function',
+        r'\1,@gnu_indirect_function',
+        '.text.twox_plain.xxhash32.rounds.impl_from_128',
+    ),
     "a section's flags": (r'(\.section \.rodata\.static\.0),"a"', r'\1,"aw"', '.rodata.static.0'),
     'the visibility of a name': (r'\.globl XXH64\n', r'\g<0>\t.hidden XXH64\n', 'names'),
     'a note': ('0xc0000002,4,2,0', '0xc0000002,4,3,0', 'notes'),
-    'a frame': (r'\.cfi_def_cfa_offset 16\n', '.cfi_def_cfa_offset 24\n', 'frames')}
+    'a frame': (r'\.cfi_def_cfa_offset 16\n', '.cfi_def_cfa_offset 24\n', 'frames'),
+}
 COMPILERS = ('clang', 'g++', 'clang++', 'gcc -flto', 'clang -flto=thin', 'gcc -std=c89 -pedantic -Werror')
 
 
-def run_make(copy, *words, **variables):
-    return ran(['make', '-s', '-C', os.path.join(copy, 'c'), *words], env={**os.environ, **variables})
+def run_make(copy, *args, **variables):
+    return ran(['make', '-s', '-C', os.path.join(copy, 'c'), *args], env={**os.environ, **variables})
 
 
-def make(copy, *words):
-    done = run_make(copy, *words)
-    want(done.returncode == 0, tail(done.stdout))
+def make(copy, *args):
+    done = run_make(copy, *args)
+    check(done.returncode == 0, last_line(done.stdout))
     return done.stdout
 
 
-def is_made(copy):
+def is_built(copy):
     begin = time.monotonic()
     make(copy)
     return f'{time.monotonic() - begin:.1f} s'
 
 
-def passes_make_check(copy, compiler, out, *words):
+def passes_make_check(copy, compiler, out, *args):
     """make check succeeds, having compared each source and called each name."""
-    said = make(copy, f'CC={compiler}', f'out={out}', *words, 'check')
-    same, names = re.findall(r'^same: .*', said, re.M), re.findall(r'^all \d+ names', said, re.M)
-    want('all values' in said and same and names, f'it says {tail(said)}')
-    want('pragma' not in said and 'warning' not in said, f'it warns: {said[:300]}')
+    output = make(copy, f'CC={compiler}', f'out={out}', *args, 'check')
+    same, names = re.findall(r'^same: .*', output, re.M), re.findall(r'^all \d+ names', output, re.M)
+    check('all values' in output and same and names, f'it says {last_line(output)}')
+    check('pragma' not in output and 'warning' not in output, f'it warns: {output[:300]}')
     return '; '.join([*names, *same])
 
 
@@ -69,14 +87,15 @@ def passes_in_a_folder(copy, folder):
     return passes_make_check(folder, 'cc', 'out')
 
 
-def is_refused(copy, word, *words, **variables):
+def is_refused(copy, word, *args, **variables):
     """make stops with one line that states the reason."""
-    done = run_make(copy, *words, **variables)
-    want(done.returncode != 0 and word in done.stdout, f'status {done.returncode}: {tail(done.stdout)}')
+    done = run_make(copy, *args, **variables)
+    check(done.returncode != 0 and word in done.stdout, f'status {done.returncode}: {last_line(done.stdout)}')
     return word
 
 
 # ---- wrong copies ----
+
 
 class Changed:
     """A file of the copy with another text in it, during a test."""
@@ -100,7 +119,8 @@ def wrong_text_is_noticed(copy, function, right, wrong, goal, word):
     def change(text):
         at = text.index(right, text.index(f'\n{function}:'))
         sections[:] = re.findall(r'\.section (\S+?),"ax"', text[:at])
-        return text[:at] + wrong + text[at + len(right):]
+        return text[:at] + wrong + text[at + len(right) :]
+
     with Changed(copy, 'asm/x86-64-v2.s', change):
         is_refused(copy, word, 'out=out/wrong', goal)
         is_refused(copy, f'{sections[-1]}: other than what was proved', 'out=out/wrong', 'check-bytes')
@@ -113,50 +133,67 @@ def other_text_is_noticed(copy, right, wrong, part):
 
     def change(text):
         found = re.search(right, text)
-        sections[:] = re.findall(r'\.section (\S+?),"ax"', text[:found.start()])
-        return text[:found.start()] + found.expand(wrong) + text[found.end():]
+        sections[:] = re.findall(r'\.section (\S+?),"ax"', text[: found.start()])
+        return text[: found.start()] + found.expand(wrong) + text[found.end() :]
+
     with Changed(copy, 'asm/x86-64-v2.s', change):
         return is_refused(copy, f'{part or sections[-1]}: other than what was proved', 'out=out/other', 'check-bytes')
 
 
 def uncalled_name_is_noticed(copy):
     """A program that omits a call prints other names than the library has."""
+
     def change(text):
         return text.replace('        values_of_128(lengths[i]);\n', '').replace('static void values', 'void values')
+
     with Changed(copy, 'checks/names.c', change):
         return is_refused(copy, 'differ', 'out=out/uncalled', 'check-names')
 
 
-def foreign_compiler(room, machine):
+def foreign_compiler(workdir, machine):
     """A compiler for another machine, which reports that machine."""
-    return write(os.path.join(room, 'cc-' + machine), f'#!/bin/sh\necho {machine}\n', 0o755)
+    return write(os.path.join(workdir, 'cc-' + machine), f'#!/bin/sh\necho {machine}\n', 0o755)
 
 
-def is_from_source(copy, word, *words):
+def is_from_source(copy, word, *args):
     """make prints in one line that it compiles C, and why."""
-    done = run_make(copy, '-n', *words)
+    done = run_make(copy, '-n', *args)
     first = done.stdout.splitlines()[0]
-    want(done.returncode == 0 and word in first and ' -c source/xxhash.c ' in done.stdout, tail(done.stdout))
+    check(done.returncode == 0 and word in first and ' -c source/xxhash.c ' in done.stdout, last_line(done.stdout))
     return first
 
 
-def check_refusals(report, copy, room):
+def check_refusals(report, copy, workdir):
     for machine in ('riscv64-linux-gnu', 'aarch64-linux-android', 'x86_64-linux-gnux32', 'arm64-apple-darwin22'):
-        said = f'which is not proved: no assembly source for {machine}, only for Linux on'
-        report.attempt(f'{machine}: from C', is_from_source, copy, said, f'CC={foreign_compiler(room, machine)}')
+        message = f'which is not proved: no assembly source for {machine}, only for Linux on'
+        report.attempt(f'{machine}: from C', is_from_source, copy, message, f'CC={foreign_compiler(workdir, machine)}')
     report.attempt('no compiler', is_refused, copy, "no C compiler: CC is '/nowhere/cc'", 'CC=/nowhere/cc')
-    report.attempt('gcc -m32: from C', is_from_source, copy, 'no assembly source for pointers of 32 bits', 'CC=gcc -m32')
-    report.attempt('a PREFIX that is no whole path', is_refused, copy, 'PREFIX must begin with /', 'install',
-                   'PREFIX=here')
+    report.attempt(
+        'gcc -m32: from C', is_from_source, copy, 'no assembly source for pointers of 32 bits', 'CC=gcc -m32'
+    )
+    report.attempt(
+        'a PREFIX that is no whole path', is_refused, copy, 'PREFIX must begin with /', 'install', 'PREFIX=here'
+    )
     for goal in ('install', 'uninstall'):
-        report.attempt(f'{goal} without PREFIX', is_refused, copy,
-                       f'PREFIX is required: make -C c {goal} PREFIX=/opt/twox_hash', goal, f'DESTDIR={room}/nowhere')
-    report.attempt('uninstall of another library', other_library_stays, copy, room)
-    report.attempt('make check without python3', lambda: is_refused(
-        copy, 'python3 not found', 'out=out/no-python', 'check-bytes', PATH=path_without(room, 'python3')))
+        report.attempt(
+            f'{goal} without PREFIX',
+            is_refused,
+            copy,
+            f'PREFIX is required: make -C c {goal} PREFIX=/opt/twox_hash',
+            goal,
+            f'DESTDIR={workdir}/nowhere',
+        )
+    report.attempt('uninstall of another library', other_library_stays, copy, workdir)
+    report.attempt(
+        'make check without python3',
+        lambda: is_refused(
+            copy, 'python3 not found', 'out=out/no-python', 'check-bytes', PATH=path_without(workdir, 'python3')
+        ),
+    )
 
 
 # ---- folders ----
+
 
 def names_of(copy, lib):
     return len(values.exported(os.path.join(copy, 'c', lib, 'libxxhash.so.0')))
@@ -170,18 +207,26 @@ def folders_stay_apart(copy):
         out = f'out/apart-{number}'
         make(copy, f'out={out}', f'lib={out}/{place}', 'all', 'check-values', 'check-bytes')
         found = names_of(copy, f'{out}/{place}')
-        want(found == 58, f'with lib={out}/{place} it has {found} names')
+        check(found == 58, f'with lib={out}/{place} it has {found} names')
     return f'{len(places)} folders'
 
 
 def processors_stay_apart(copy):
     """Two processors in one tree, in any order and with one folder: each library has the names of its processor."""
     arm = f'CC={ARM_GCC}'
-    for words, names in (([arm], 49), ([], 58), ([arm], 49), ([arm, 'lib=out/arm'], 49), (['lib=out/other'], 58),
-                         (['lib=out/arm'], 58), ([arm, 'lib=out/arm'], 49)):
-        make(copy, *words)
-        lib = next((word[4:] for word in words if word.startswith('lib=')), 'out/lib')
-        want(names_of(copy, lib) == names, f'{words}: {names_of(copy, lib)} names')
+    turns: list[tuple[list[str], int]] = [
+        ([arm], 49),
+        ([], 58),
+        ([arm], 49),
+        ([arm, 'lib=out/arm'], 49),
+        (['lib=out/other'], 58),
+        (['lib=out/arm'], 58),
+        ([arm, 'lib=out/arm'], 49),
+    ]
+    for args, names in turns:
+        make(copy, *args)
+        lib = next((word[4:] for word in args if word.startswith('lib=')), 'out/lib')
+        check(names_of(copy, lib) == names, f'{args}: {names_of(copy, lib)} names')
     return '49 and 58 names, in turns'
 
 
@@ -189,95 +234,107 @@ def files_below(folder):
     return sorted(os.path.relpath(f'{where}/{name}', folder) for where, _, names in os.walk(folder) for name in names)
 
 
-def is_taken_away(copy, room):
+def is_taken_away(copy, workdir):
     """uninstall removes exactly what install creates. install prints where that is, and which programs load it."""
-    root = os.path.join(room, 'destination')
+    root = os.path.join(workdir, 'destination')
     place = os.path.join(root, 'opt/twox_hash')
-    said = make(copy, 'install', 'PREFIX=/opt/twox_hash', f'DESTDIR={root}')
-    want(f'{place}/lib and include: no program runs on it unless' in said, f'install says {tail(said)}')
+    output = make(copy, 'install', 'PREFIX=/opt/twox_hash', f'DESTDIR={root}')
+    check(f'{place}/lib and include: no program runs on it unless' in output, f'install says {last_line(output)}')
     put = files_below(place)
-    want(len(put) >= 10, f'it puts {put}')
+    check(len(put) >= 10, f'it puts {put}')
     write(os.path.join(place, 'lib', 'other.so'), '')
     make(copy, 'uninstall', 'PREFIX=/opt/twox_hash', f'DESTDIR={root}')
-    want(files_below(root) == ['opt/twox_hash/lib/other.so'], f'it leaves {files_below(root)}')
-    said = make(copy, 'install', 'PREFIX=/usr/local', f'DESTDIR={root}')
-    want('after ldconfig each program of this machine' in said, f'install to /usr/local says {tail(said)}')
+    check(files_below(root) == ['opt/twox_hash/lib/other.so'], f'it leaves {files_below(root)}')
+    output = make(copy, 'install', 'PREFIX=/usr/local', f'DESTDIR={root}')
+    check('after ldconfig each program of this machine' in output, f'install to /usr/local says {last_line(output)}')
     make(copy, 'uninstall', 'PREFIX=/usr/local/', f'DESTDIR={root}')
-    want(not os.path.exists(os.path.join(root, 'usr/local')), 'a folder is left')
+    check(not os.path.exists(os.path.join(root, 'usr/local')), 'a folder is left')
     return f'{len(put)} files'
 
 
-def other_library_stays(copy, room):
+def other_library_stays(copy, workdir):
     """uninstall removes nothing if the header is another library's."""
-    include = os.path.join(room, 'theirs/opt/include')
+    include = os.path.join(workdir, 'theirs/opt/include')
     os.makedirs(include)
     shutil.copy('/usr/include/xxhash.h', include)
-    word = is_refused(copy, 'there is no twox_hash in', 'uninstall', 'PREFIX=/opt', f'DESTDIR={room}/theirs')
-    want(files_below(include) == ['xxhash.h'], 'the header is gone')
+    word = is_refused(copy, 'there is no twox_hash in', 'uninstall', 'PREFIX=/opt', f'DESTDIR={workdir}/theirs')
+    check(files_below(include) == ['xxhash.h'], 'the header is gone')
     return word
 
 
 # ---- all ----
 
-def static_table_agrees(copy, room, compiler, out, run=()):
+
+def static_table_agrees(copy, workdir, compiler, out, run=()):
     """The oracle's table by a static program, with musl's loader or none."""
     make(copy, f'CC={compiler}', f'out={out}')
-    program = os.path.join(room, f'table-{os.path.basename(out)}')
+    program = os.path.join(workdir, f'table-{os.path.basename(out)}')
     source, library = os.path.join(copy, 'oracle', 'vectors.c'), os.path.join(copy, 'c', out, 'lib', 'libtwox_hash.a')
     must([compiler, '-O2', '-static', '-w', '-I', os.path.join(copy, 'c', 'include'), source, library, '-o', program])
-    want('INTERP' not in must(['readelf', '-lW', program]), 'the program asks for a loader')
+    check('INTERP' not in must(['readelf', '-lW', program]), 'the program asks for a loader')
     return values.table_agrees([*run, program])
 
 
-def check_makefile(report, copy, room):
-    report.attempt('make', is_made, copy)
+def check_makefile(report, copy, workdir):
+    report.attempt('make', is_built, copy)
     report.attempt('make check', passes_make_check, copy, 'cc', 'out')
     for number, compiler in enumerate(COMPILERS):
         report.attempt(f'make check by {compiler}', passes_make_check, copy, compiler, f'out/by-{number}')
-    report.attempt('make check in a path with a space', passes_in_a_folder, copy, f"{room}/a user's copy, 1")
-    report.attempt("musl: the oracle's table by a static program", static_table_agrees, copy, room, 'musl-gcc',
-                   'out/musl')
+    report.attempt('make check in a path with a space', passes_in_a_folder, copy, f"{workdir}/a user's copy, 1")
+    report.attempt(
+        "musl: the oracle's table by a static program", static_table_agrees, copy, workdir, 'musl-gcc', 'out/musl'
+    )
     report.attempt('folders of one name', folders_stay_apart, copy)
-    report.attempt('install and uninstall', is_taken_away, copy, room)
+    report.attempt('install and uninstall', is_taken_away, copy, workdir)
     for wrong in WRONG_TEXTS:
         report.attempt(f'a wrong text of {wrong[0]} is noticed', wrong_text_is_noticed, copy, *wrong)
-    for what, words in OTHER_TEXTS.items():
-        report.attempt(f'{what} is noticed', other_text_is_noticed, copy, *words)
+    for what, args in OTHER_TEXTS.items():
+        report.attempt(f'{what} is noticed', other_text_is_noticed, copy, *args)
     report.attempt('a name that is not called is noticed', uncalled_name_is_noticed, copy)
-    check_refusals(report, copy, room)
+    check_refusals(report, copy, workdir)
 
 
-def check_x86(report, copy, room, has_v3, examples):
-    check_makefile(report, copy, room)
-    built = Built.by_make(room, copy)
+def check_x86(report, copy, workdir, has_v3, examples):
+    check_makefile(report, copy, workdir)
+    built = Built.by_make(workdir, copy)
     every, paths = built.libraries()
     for path in every:
         report.attempt(f'names of {os.path.relpath(path, built.folder)}', values.names_are_theirs, path, THEIRS)
-    made.check_all(report, built, paths)
+    installed.check_all(report, built, paths)
     for compiler in ('gcc', 'clang'):
-        report.attempt(f'the launcher of two builds by {compiler}', launcher.launches, room, has_v3, compiler)
+        report.attempt(f'the launcher of two builds by {compiler}', launcher.launches, workdir, has_v3, compiler)
     program = values.calls_program(built, 'calls')
     report.attempt('states after freeState', values.freed_states_are_refused, [program], THEIRS, built.plain, 1000)
     for path in paths:
-        report.attempt(f'calls of {os.path.relpath(path, built.folder)}', values.calls_agree, [program], THEIRS, path,
-                       10000)
+        report.attempt(
+            f'calls of {os.path.relpath(path, built.folder)}', values.calls_agree, [program], THEIRS, path, 10000
+        )
     examples(report, built, Side('make install', built.folder, paths[-1]))
 
 
-def check_arm(report, copy, room):
+def check_arm(report, copy, workdir):
     report.attempt('make check for 64-bit ARM', passes_make_check, copy, ARM_GCC, 'out', 'lib=out/aarch64', ON_ARM)
     report.attempt('two processors in one tree', processors_stay_apart, copy)
-    report.attempt("musl for 64-bit ARM: the oracle's table by a static program", static_table_agrees, copy, room,
-                   arm_roots.musl_gcc(room), 'out/arm-musl', ['qemu-aarch64'])
+    report.attempt(
+        "musl for 64-bit ARM: the oracle's table by a static program",
+        static_table_agrees,
+        copy,
+        workdir,
+        arm_roots.musl_gcc(workdir),
+        'out/arm-musl',
+        ['qemu-aarch64'],
+    )
 
 
 def check_all(report, target, has_v3, examples):
     install_packages(PACKAGES if target == 'x86-64' else ARM_PACKAGES)
-    with tempfile.TemporaryDirectory() as room:
-        hide_rt(room)
-        copy = os.path.join(room, 'copy')
+    with tempfile.TemporaryDirectory() as workdir:
+        hide_rt(workdir)
+        copy = os.path.join(workdir, 'copy')
         clean_copy(copy)
         try:
-            check_x86(report, copy, room, has_v3, examples) if target == 'x86-64' else check_arm(report, copy, room)
+            check_x86(report, copy, workdir, has_v3, examples) if target == 'x86-64' else check_arm(
+                report, copy, workdir
+            )
         except Fault as fault:
-            report.row('make install', str(fault))
+            report.record('make install', str(fault))

@@ -17,24 +17,26 @@ import tempfile
 import threading
 import time
 
-import command
-from report import Report
-from tools import TOP, ran, text_of
+from checks.lib import command
+from checks.lib.report import Report
+from checks.lib.tools import TOP, ran, text_of
 
 from .parts import Part
 
 # Checks over symbols, which need no proof: they use the processors that the proofs leave idle.
-FOR_ALL_BYTES = [("the definitions beside the reference's code", 32, "oracle/symbolic"),
-                 ("the C header beside the definitions", 120, "oracle/symbolic --headers c/include"),
-                 ("the C source as gcc and clang compile it, beside the definitions", 72, "oracle/c-object"),
-                 ("the assembly text beside the definitions", 140, "oracle/machine-text"),
-                 ("the crate's calls, as rustc compiles them, beside the definitions", 95, "oracle/rust-object"),
-                 ("the modules for browsers beside the definitions", 53, "oracle/modules")]
+FOR_ALL_BYTES = [
+    ("the definitions beside the reference's code", 32, "oracle/symbolic"),
+    ("the C header beside the definitions", 120, "oracle/symbolic --headers c/include"),
+    ("the C source as gcc and clang compile it, beside the definitions", 72, "oracle/c-object"),
+    ("the assembly text beside the definitions", 140, "oracle/machine-text"),
+    ("the crate's calls, as rustc compiles them, beside the definitions", 95, "oracle/rust-object"),
+    ("the modules for browsers beside the definitions", 53, "oracle/modules"),
+]
 
 
 def memory_in_use():
     kib = dict(re.findall(r"^(\w+): +(\d+)", text_of("/proc/meminfo"), re.M))
-    return (int(kib["MemTotal"]) - int(kib["MemAvailable"])) / 2 ** 20
+    return (int(kib["MemTotal"]) - int(kib["MemAvailable"])) / 2**20
 
 
 class MostMemory(threading.Thread):
@@ -51,17 +53,17 @@ class MostMemory(threading.Thread):
             time.sleep(1)
 
 
-def copied(room):
+def copied(workdir):
     """A copy of the tree, with nothing that was built in it."""
-    top = f"{room}/{os.path.basename(TOP)}"
+    top = f"{workdir}/{os.path.basename(TOP)}"
     shutil.copytree(TOP, top, symlinks=True, ignore=shutil.ignore_patterns(".git", "out", "target", "__pycache__"))
     return top
 
 
-def words_for_ci(room, anew):
+def args_for_ci(workdir, anew):
     """Arguments by which `rt ci` also proves what this machine has kept. Release 13b keeps nothing, and prints its
     usage for such an argument."""
-    return [] if ran(["rt", "ci", *anew], cwd=room).stdout.startswith("usage:") else anew
+    return [] if ran(["rt", "ci", *anew], cwd=workdir).stdout.startswith("usage:") else anew
 
 
 def parts(top, anew):
@@ -69,26 +71,44 @@ def parts(top, anew):
     before they are followed run in parallel with the others. `anew` are the arguments for `rt ci`."""
     yield Part(top, "what the pages quote", 23, "checks/readme").follow()
     wrong_bodies = Part(top, "wrong bodies, beside and after the proofs", 1115, "checks/wrong-bodies", "--beside-ci")
-    beside = [Part(top, "the library for C without rt", 22, "c/check", "--without-rt"),
-              Part(top, "the cargo crate without rt", 37, "rust/check", "--without-rt"),
-              Part(top, "the eraser, and the source that it wrote", 402, "rust/checks/eraser"),
-              Part(top, "scripts, and what is no Rattle", 13, "checks/lint"),
-              Part(top, "the commands of the pages, as they are printed", 6, "checks/pages"),
-              Part(top, "what the gate has to notice", 11, "checks/planted"),
-              *(Part(top, f"{what}, for all bytes", least, "nice", "-n10", *command.split()) for what, least, command in FOR_ALL_BYTES)]
+    beside = [
+        Part(top, "the library for C without rt", 22, "c/check", "--without-rt"),
+        Part(top, "the cargo crate without rt", 37, "rust/check", "--without-rt"),
+        Part(top, "the eraser, and the source that it wrote", 402, "rust/checks/eraser"),
+        Part(top, "scripts, and what is no Rattle", 18, "checks/lint"),
+        Part(top, "the commands of the pages, as they are printed", 6, "checks/pages"),
+        Part(top, "what the gate has to notice", 11, "checks/planted"),
+        *(
+            Part(top, f"{what}, for all bytes", least, "nice", "-n10", *command.split())
+            for what, least, command in FOR_ALL_BYTES
+        ),
+    ]
     yield Part(top, "the table beside the reference library", 4, "oracle/make-vectors", "--check").follow()
     yield Part(top, "proofs of outside vectors, beside the table", 5, "oracle/make-proofs", "--check").follow()
     yield Part(top, "proofs, tests and programs", 36, "rt", "ci", *anew).follow(hearer=wrong_bodies)
-    after = [Part(top, "the assembly text beside what is proved", 48, "assembly/check.py", "--of-ci"),
-             Part(top, "the modules for browsers beside what is proved", 2, "web/build", "--of-ci"),
-             Part(top, "the check of wrong bodies, on planted ones", 23, "checks/wrong-bodies", "--self-test", "twox_words",
-                  "xxhsum_options"),
-             Part(top, "both programs, as cargo builds them", 1170, "rust/programs/check", "--of-ci")]
+    after = [
+        Part(top, "the assembly text beside what is proved", 48, "assembly/check", "--of-ci"),
+        Part(top, "the modules for browsers beside what is proved", 2, "web/build", "--of-ci"),
+        Part(
+            top,
+            "the check of wrong bodies, on planted ones",
+            23,
+            "checks/wrong-bodies",
+            "--self-test",
+            "twox_words",
+            "xxhsum_options",
+        ),
+        Part(top, "both programs, as cargo builds them", 1170, "rust/programs/check", "--of-ci"),
+    ]
     yield Part(top, "the program `xxh`", 196, "checks/program", "--of-ci").follow()
     xxhsum = "crates/xxhsum/out/xxhsum"
     yield Part(top, "the program `xxhsum`", 993, "checks/xxhsum", "--stored", xxhsum, f"{xxhsum}.by-rattle").follow()
-    yield Part(top, "many names, files, reads and arguments", 16, "checks/xxhsum-many", xxhsum, f"{xxhsum}.by-rattle").follow()
-    yield Part(top, "failing system calls", 1200, "checks/failing_calls", "--readdir", xxhsum, "crates/xxh/out/xxh").follow()
+    yield Part(
+        top, "many names, files, reads and arguments", 16, "checks/xxhsum-many", xxhsum, f"{xxhsum}.by-rattle"
+    ).follow()
+    yield Part(
+        top, "failing system calls", 1200, "checks/failing_calls", "--readdir", xxhsum, "crates/xxh/out/xxh"
+    ).follow()
     for part in [*beside, *after[:2], wrong_bodies, *after[2:]]:
         yield part.follow()
 
@@ -98,11 +118,11 @@ def main():
     parser.add_argument("--anew", action="store_true", help="use no result of an earlier run")
     anew = ["--anew"] if parser.parse_args().anew else []
     began, memory, report = time.monotonic(), MostMemory(), Report()
-    with tempfile.TemporaryDirectory(prefix="checks-all-") as room:
+    with tempfile.TemporaryDirectory(prefix="checks-all-") as workdir:
         if anew:
-            os.environ["XDG_CACHE_HOME"] = f"{room}/cache"
-        told, passed, failed = zip(*parts(copied(room), words_for_ci(room, anew)))
-    print("", *told, sep="\n")
+            os.environ["XDG_CACHE_HOME"] = f"{workdir}/cache"
+        summaries, passed, failed = zip(*parts(copied(workdir), args_for_ci(workdir, anew)))
+    print("", *summaries, sep="\n")
     print(f"in all: {(time.monotonic() - began) / 60:.1f} minutes, {memory.most - memory.start_value:.1f} GB of memory")
     report.count(sum(passed), sum(failed))
     return report.end()

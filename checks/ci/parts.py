@@ -19,12 +19,13 @@ class Part:
     """A part of CI that was started: its title, its minimum number of checks, and its command. Its output, with
     standard error, is kept until the part is followed."""
 
-    def __init__(self, top, title, least, *words):
-        self.title, self.least, self.words = title, least, words
+    def __init__(self, top, title, least, *args):
+        self.title, self.least, self.args = title, least, args
         self.began, self.ended, self.lines = time.monotonic(), None, queue.SimpleQueue()
         pipe = subprocess.PIPE
-        self.process = subprocess.Popen(words, cwd=top, stdin=pipe, stdout=pipe, stderr=subprocess.STDOUT, text=True,
-                                        errors="replace")
+        self.process = subprocess.Popen(
+            args, cwd=top, stdin=pipe, stdout=pipe, stderr=subprocess.STDOUT, text=True, errors="replace"
+        )
         threading.Thread(target=self.read, daemon=True).start()
 
     def read(self):
@@ -41,7 +42,7 @@ class Part:
     def follow(self, hearer=None):
         """Prints the output as it comes, and passes it to a part that reads it. Returns the summary of the part, and
         how many checks passed and failed."""
-        print(f"== {self.title}: {' '.join(self.words)}", flush=True)
+        print(f"== {self.title}: {' '.join(self.args)}", flush=True)
         last, used = "", processor_time()
         for line in iter(self.lines.get, None):
             print(line, end="", flush=True)
@@ -59,8 +60,10 @@ class Part:
         """How many checks passed and failed, and why the part failed if its own counts don't show it."""
         counts = COUNTS.search(last)
         passed, failed = map(int, counts.groups()) if counts else (0, 0)
-        why = ("" if counts else "its last line has no counts: " + (last[:200] or "it printed nothing"),
-               status and not failed and f"it ended with status {status}",
-               passed + failed < self.least and f"it has {passed + failed} checks, and {self.least} at least are wanted")
-        told = "; ".join(filter(None, why))
-        return passed, failed or int(bool(told)), told
+        why = (
+            "" if counts else "its last line has no counts: " + (last[:200] or "it printed nothing"),
+            status and not failed and f"it ended with status {status}",
+            passed + failed < self.least and f"it has {passed + failed} checks, and {self.least} at least are expected",
+        )
+        message = "; ".join(filter(None, why))
+        return passed, failed or int(bool(message)), message

@@ -2,10 +2,10 @@
 
     checks/planted
 
-A part that prints nothing, one without counts, one with too few checks, one that reports success and ends with
-another status, and one that is killed each fail; the standard error of a part is in its output. An installation
-waits for another one, and completes one that was killed. checks/quick distinguishes a slow test from one that never ends and from one that fails. The
-last line is "N passed, M failed"; it runs as root on Debian."""
+A part that prints nothing, one without counts, one with too few checks, one that reports success and ends with another
+status, and one that is killed each fail; the standard error of a part is in its output. An installation waits for
+another one, and completes one that was killed. checks/quick distinguishes a slow test from one that never ends and from
+one that fails. The last line is "N passed, M failed"; it runs as root on Debian."""
 import contextlib
 import fcntl
 import io
@@ -14,9 +14,9 @@ import subprocess
 import tempfile
 import time
 
-import command
-from report import Report, want
-from tools import TOP, ran, write
+from checks.lib import command
+from checks.lib.report import Report, check
+from checks.lib.tools import TOP, ran, write
 
 from .parts import Part
 
@@ -49,32 +49,39 @@ LISTS = '/var/lib/apt/lists/lock'
 def is_judged(script, passes):
     printed = io.StringIO()
     with contextlib.redirect_stdout(printed):
-        told, _, failed = Part(TOP, 'planted', 2, 'sh', '-c', f'echo a fault >&2; {script}').follow()
-    want('a fault' in printed.getvalue(), 'what it says of an error is lost')
-    want((failed == 0) == passes, f'{failed} failed: {told}')
-    want(passes or ';' in told.split(' failed', 1)[1].split('processor time')[1], f'it does not say why: {told}')
+        message, _, failed = Part(TOP, 'planted', 2, 'sh', '-c', f'echo a fault >&2; {script}').follow()
+    check('a fault' in printed.getvalue(), 'what it says of an error is lost')
+    check((failed == 0) == passes, f'{failed} failed: {message}')
+    check(passes or ';' in message.split(' failed', 1)[1].split('processor time')[1], f'it does not say why: {message}')
 
 
 def is_counted(name, wrong, checked, last):
     """The last line of checks/quick with this output of `rt`."""
-    with tempfile.TemporaryDirectory() as room:
+    with tempfile.TemporaryDirectory() as workdir:
         text = LATE.replace('WRONG', wrong).replace('NAME', name).replace('CHECKED', checked)
-        write(f'{room}/rt', f'#!/bin/sh\n{text}', 0o755)
-        done = subprocess.run([os.path.join(TOP, 'checks', 'quick'), 'twox_tests'], stdout=subprocess.PIPE, text=True,
-                              env={**os.environ, 'PATH': f'{room}:{os.environ["PATH"]}'})
-    want(done.stdout.splitlines()[-1:] == [last] and (done.returncode == 0) == last.endswith(' 0 failed'),
-         f'status {done.returncode}: {done.stdout}')
+        write(f'{workdir}/rt', f'#!/bin/sh\n{text}', 0o755)
+        done = subprocess.run(
+            [os.path.join(TOP, 'checks', 'quick'), 'twox_tests'],
+            stdout=subprocess.PIPE,
+            text=True,
+            env={**os.environ, 'PATH': f'{workdir}:{os.environ["PATH"]}'},
+        )
+    check(
+        done.stdout.splitlines()[-1:] == [last] and (done.returncode == 0) == last.endswith(' 0 failed'),
+        f'status {done.returncode}: {done.stdout}',
+    )
 
 
 def installation_waits():
     """While another process holds the lock of apt's lists."""
     with open(LISTS, 'a') as lock:
         fcntl.lockf(lock, fcntl.LOCK_EX)
-        done = subprocess.Popen([os.path.join(TOP, 'checks', 'install'), 'apt'], stdout=subprocess.PIPE,
-                                stderr=subprocess.STDOUT, text=True)
+        done = subprocess.Popen(
+            [os.path.join(TOP, 'checks', 'install'), 'apt'], stdout=subprocess.PIPE, stderr=subprocess.STDOUT, text=True
+        )
         time.sleep(3)
-        want(done.poll() is None, f'it did not wait: {done.stdout.read() if done.poll() is not None else ""}')
-    want(done.wait(300) == 0, f'it ended with status {done.returncode}: {done.stdout.read()[-300:]}')
+        check(done.poll() is None, f'it did not wait: {done.stdout.read() if done.poll() is not None else ""}')
+    check(done.wait(300) == 0, f'it ended with status {done.returncode}: {done.stdout.read()[-300:]}')
 
 
 # A dpkg that was killed in the middle of an installation, as apt-get reports it, and that is repaired or not.
@@ -95,16 +102,16 @@ def killed_installation(repair, passes):
             write(os.path.join(folder, name), KILLED.replace('REPAIR', repair), 0o755)
         path = f'{folder}:{os.environ["PATH"]}'
         done = ran([os.path.join(TOP, 'checks', 'install'), 'apt'], env={**os.environ, 'PATH': path})
-        want((done.returncode == 0) == passes, f'it ended with status {done.returncode}: {done.stdout[-300:]}')
+        check((done.returncode == 0) == passes, f'it ended with status {done.returncode}: {done.stdout[-300:]}')
 
 
 def main():
     command.parser(__doc__).parse_args()
     report = Report()
-    for name, words in PARTS.items():
-        report.attempt(name, is_judged, *words)
-    for name, words in TESTS.items():
-        report.attempt(name, is_counted, *words)
+    for name, args in PARTS.items():
+        report.attempt(name, is_judged, *args)
+    for name, args in TESTS.items():
+        report.attempt(name, is_counted, *args)
     report.attempt('an installation waits for another one', installation_waits)
     report.attempt('an installation after one that was killed', killed_installation, 'touch repaired', True)
     report.attempt('one that dpkg can not complete', killed_installation, 'exit 1', False)

@@ -15,9 +15,9 @@ import shutil
 import sys
 import time
 
-import command
-from report import Report
-from tools import TOP, ran, text_of
+from checks.lib import command
+from checks.lib.report import Report
+from checks.lib.tools import TOP, ran, text_of
 
 CRATES = os.path.join(TOP, 'crates')
 AT_A_TIME = min(4, len(os.sched_getaffinity(0)))
@@ -33,8 +33,8 @@ def crates_with_tests():
     return sorted({os.path.relpath(path, CRATES).split(os.sep)[0] for path in sources if '#[test]' in text_of(path)})
 
 
-def tried(crate, *words, given=''):
-    return ran(['rt', 'try', *words], cwd=os.path.join(CRATES, crate), input=given)
+def tried(crate, *args, given=''):
+    return ran(['rt', 'try', *args], cwd=os.path.join(CRATES, crate), input=given)
 
 
 def tests_of(crate):
@@ -50,9 +50,9 @@ def tests_of(crate):
         return 0, 1, done.stdout.strip().splitlines()[-10:]
     passed, failed = (sum(map(int, column)) for column in zip(*counts))
     shown = LATE.sub(lambda late: '' if late[1].endswith(LEFT_TO_THE_GATE) else late[0], done.stdout)
-    told = [line for line in shown.splitlines() if re.match(r'test .* \.\.\. (?!ok)', line)]
-    told += [f'{too_long} tests of four gibibytes were left to the gate'] * (too_long > 0)
-    return passed, failed - too_long or int(done.returncode != 0 and not too_long), told
+    lines = [line for line in shown.splitlines() if re.match(r'test .* \.\.\. (?!ok)', line)]
+    lines += [f'{too_long} tests of four gibibytes were left to the gate'] * (too_long > 0)
+    return passed, failed - too_long or int(done.returncode != 0 and not too_long), lines
 
 
 def vectors():
@@ -60,18 +60,20 @@ def vectors():
     stored = os.path.join(CRATES, 'vectors')
     lines = text_of(os.path.join(stored, 'stdin')).splitlines(keepends=True)
     start = next(i for i, line in enumerate(lines) if i and line.startswith('#'))
-    good, wrong = lines[1:start:7], lines[start + 1:]
-    wanted = [f'disagrees: {line}' for line in wrong] + [f'{len(good)} rows agree, {len(wrong)} do not\n']
+    good, wrong = lines[1:start:7], lines[start + 1 :]
+    expected = [f'disagrees: {line}' for line in wrong] + [f'{len(good)} rows agree, {len(wrong)} do not\n']
     done = tried('vectors', given=''.join(good + wrong))
-    told = [line for line in done.stdout.splitlines(keepends=True) if re.search(r'^disagrees: | rows agree, ', line)]
-    if told == wanted:
+    reported = [
+        line for line in done.stdout.splitlines(keepends=True) if re.search(r'^disagrees: | rows agree, ', line)
+    ]
+    if reported == expected:
         return len(good) + len(wrong), 0, []
-    return 0, 1, [line.rstrip() for line in told if line not in wanted] or done.stdout.splitlines()[-10:]
+    return 0, 1, [line.rstrip() for line in reported if line not in expected] or done.stdout.splitlines()[-10:]
 
 
 def main():
     parser = command.parser(__doc__)
-    parser.add_argument('crates', nargs='*', metavar='CRATE')
+    parser.add_argument('crates', nargs='*', metavar='CRATE', help='the crates to test, by default all')
     named = parser.parse_args().crates
     if not shutil.which('rt'):
         sys.exit('checks/quick: no rt, which compiles the tests')
@@ -81,11 +83,14 @@ def main():
         sys.exit(f'checks/quick: {unknown[0]} has no tests; there are {", ".join(known)} and vectors')
     began, report = time.monotonic(), Report()
     with concurrent.futures.ThreadPoolExecutor(AT_A_TIME) as pool:
-        jobs = {name: pool.submit(vectors if name == 'vectors' else lambda it=name: tests_of(it))
-                for name in ['vectors', *known] if not named or name in named}
+        jobs = {
+            name: pool.submit(vectors if name == 'vectors' else lambda it=name: tests_of(it))
+            for name in ['vectors', *known]
+            if not named or name in named
+        }
         for name, job in jobs.items():
-            good, bad, told = job.result()
+            good, bad, failures = job.result()
             report.count(good, bad)
-            print(f'{name}: {good} passed, {bad} failed', *told, sep='\n  ', flush=True)
+            print(f'{name}: {good} passed, {bad} failed', *failures, sep='\n  ', flush=True)
     print(f'{time.monotonic() - began:.0f} s; nothing was proved')
     return report.end()

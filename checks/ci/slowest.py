@@ -11,20 +11,21 @@ import subprocess
 import sys
 import time
 
-import command
-from mutants import kit
+from checks.lib import command
+from checks.mutants import kit
 
 ENDED = re.compile(r"checked (\S+), \d+ of \d+")
 
 
 def times(crate, is_test):
     """The seconds of each function's proof, and of the whole check."""
-    words = crate.words([*kit.one_job(), "--progress"], tests=is_test, keeps=False)
+    args = crate.words([*kit.one_job(), "--progress"], tests=is_test, keeps=False)
     how = {"cwd": crate.folder, "stdin": subprocess.DEVNULL, "stdout": subprocess.PIPE, "stderr": subprocess.STDOUT}
     began = last = time.monotonic()
     found = {}
-    with subprocess.Popen([*kit.rt.rtlib.guarded(), kit.rt.rtlib.RATTLE, "check", *words], text=True,
-                          errors="replace", **how) as check:
+    with subprocess.Popen(
+        [*kit.rt.rtlib.guarded(), kit.rt.rtlib.RATTLE, "check", *args], text=True, errors="replace", **how
+    ) as check:
         for line in check.stdout:
             now = time.monotonic()
             if ended := ENDED.match(line):
@@ -36,9 +37,9 @@ def times(crate, is_test):
 
 def main():
     parser = command.parser(__doc__)
-    parser.add_argument("--most", type=int, default=10)
-    parser.add_argument("--test", action="store_true")
-    parser.add_argument("crates", nargs="+", metavar="CRATE")
+    parser.add_argument("--most", type=int, default=10, help="functions that are listed of each crate")
+    parser.add_argument("--test", action="store_true", help="also prove the crates' tests")
+    parser.add_argument("crates", nargs="+", metavar="CRATE", help="the crates to prove")
     given = parser.parse_args()
     os.chdir(kit.TOP)
     crates = kit.crates()
@@ -48,5 +49,5 @@ def main():
             kit.build_library(below)
         found, whole = times(crate, given.test)
         print(f"{name}: {len(found)} functions, {whole:.0f} s")
-        for function, took in sorted(found.items(), key=lambda it: -it[1])[:given.most]:
+        for function, took in sorted(found.items(), key=lambda it: -it[1])[: given.most]:
             print(f"  {took:5.1f} s  {function.partition('::')[2]}", flush=True)

@@ -1,9 +1,10 @@
-"""The messages of the commits since this rule: a subject of at most 72 characters, and no absolute path of a machine."""
+"""The messages of the commits since this rule: a subject of at most 72 characters, and no absolute path of a
+machine."""
 import os
 import re
 import subprocess
 
-from tools import TOP
+from checks.lib.tools import TOP
 
 LONGEST_SUBJECT = 72
 # Folders that every system has aren't a machine's own.
@@ -18,8 +19,8 @@ def faults(message):
     yield from (f'a path of a machine: {found[0]}' for found in MACHINE_PATH.finditer(message))
 
 
-def git(*words):
-    done = subprocess.run(['git', *words], cwd=TOP, capture_output=True, text=True, errors='replace')
+def git(*args):
+    done = subprocess.run(['git', *args], cwd=TOP, capture_output=True, text=True, errors='replace')
     return done.stdout if done.returncode == 0 else ''
 
 

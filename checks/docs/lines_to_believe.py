@@ -7,8 +7,8 @@ import glob
 import os
 import re
 
-import command
-from tools import TOP, text_of
+from checks.lib import command
+from checks.lib.tools import TOP, text_of
 
 SPECS = ['twox_words/specs/Word'] + ['twox_plain/specs/' + name for name in ('Units', 'Xxh32', 'Xxh64')]
 SPECS += ['twox_core/specs/' + name for name in ('Primes', 'Steps', 'Secret', 'Short', 'Middle', 'Long', 'Value')]
@@ -39,7 +39,7 @@ def text_lines(name):
     return [line.strip() for line in text_of(f'crates/{name}').splitlines()]
 
 
-def cited_words(lines):
+def cited_names(lines):
     """The definitions of the toolchain's library that the lines import."""
     imports = filter(None, map(CITED.match, lines))
     return {word.strip() for cited in imports for word in cited.group(2).split(',')}
@@ -72,27 +72,36 @@ def counted_beside(name, heads):
     """The number of lines that a reader needs from these items of a file, and the definitions of the toolchain's
     library that they cite."""
     found = items(name, heads)
-    ghosts = [line for lines in found for line in lines if line.startswith('ghost ') and not line.startswith('ghost use ')]
-    words = {word for word in cited_words(text_lines(name)) for lines in found for line in lines
-             if word.strip('◌') in re.findall(r'\w+|[^\w\s]', line)}
-    return sum(map(lines_of_clauses, found)) + len(ghosts), words
+    ghosts = [
+        line for lines in found for line in lines if line.startswith('ghost ') and not line.startswith('ghost use ')
+    ]
+    cited = {
+        word
+        for word in cited_names(text_lines(name))
+        for lines in found
+        for line in lines
+        if word.strip('◌') in re.findall(r'\w+|[^\w\s]', line)
+    }
+    return sum(map(lines_of_clauses, found)) + len(ghosts), cited
 
 
 def counted():
     """The number of lines of this repository, and of definitions of the toolchain's library."""
     specs = [text_lines(spec + '.antt') for spec in SPECS]
     headline = text_lines('theorems/src/lib.rt')
-    lines = sum(bool(line) and not line.startswith(('use ', '--')) and not CITED.match(line)
-                for spec in specs for line in spec)
+    lines = sum(
+        bool(line) and not line.startswith(('use ', '--')) and not CITED.match(line) for spec in specs for line in spec
+    )
     lines += sum(lines_of(name, text_lines(spec + '.antt')) for spec, names in PARTS.items() for name in names)
-    words = set().union(*map(cited_words, [*specs, headline]))
+    names_cited = set().union(*map(cited_names, [*specs, headline]))
     for name, heads in BESIDE.items():
         more, cited = counted_beside(name, heads)
-        lines, words = lines + more, words | cited
-    return lines + lines_of_clauses(headline), len(words)
+        lines, names_cited = lines + more, names_cited | cited
+    return lines + lines_of_clauses(headline), len(names_cited)
 
 
 # ---- the program
+
 
 def definitions_of(path):
     """The definitions of a file of specs/ by their names, each as its lines."""
@@ -116,11 +125,11 @@ def modules():
     found = {}
     for path in glob.glob(os.path.join(TOP, 'crates', '*', 'specs', '**', '*.antt'), recursive=True):
         name = os.path.relpath(path, os.path.join(TOP, 'crates'))
-        found['Rattle.' + name[:-len('.antt')].replace('/', '.')] = definitions_of(name), imports_of(text_lines(name))
+        found['Rattle.' + name[: -len('.antt')].replace('/', '.')] = definitions_of(name), imports_of(text_lines(name))
     return found
 
 
-def words_in(lines):
+def names_in(lines):
     return {word for line in lines for word in re.findall(r"[\w'-]+", line)}
 
 
@@ -129,14 +138,14 @@ def clauses_of(path, head):
     lines, clauses = text_lines(path), []
     for start in (i for i, line in enumerate(lines) if re.match(head, line)):
         end = next(i for i in range(start, len(lines)) if lines[i] in ('{', '{}'))
-        clauses += lines[next(i for i in range(start, end) if re.match(r'(requires|ensures)\b', lines[i])):end]
+        clauses += lines[next(i for i in range(start, end) if re.match(r'(requires|ensures)\b', lines[i])) : end]
     return clauses
 
 
 def counted_of_program(path, head):
     """The number of lines of this repository in the clauses of these functions, with everything that they cite."""
     known, imports, clauses = modules(), imports_of(text_lines(path)), clauses_of(path, head)
-    left = [(imports[word], word) for word in words_in(clauses) if word in imports]
+    left = [(imports[word], word) for word in names_in(clauses) if word in imports]
     seen, lines = set(), len(clauses)
     while left:
         module, name = left.pop()
@@ -148,13 +157,13 @@ def counted_of_program(path, head):
             continue
         seen.add((module, name))
         lines += len(definitions[name])
-        left += [(imported.get(word, module), word) for word in words_in(definitions[name])]
+        left += [(imported.get(word, module), word) for word in names_in(definitions[name])]
     return lines
 
 
 def main():
     command.parser(__doc__).parse_args()
-    lines, words = counted()
-    print(f'{lines} lines of this repository and {words} definitions of the toolchain\'s library')
+    lines, cited = counted()
+    print(f'{lines} lines of this repository and {cited} definitions of the toolchain\'s library')
     print(f'{counted_of_program(PROGRAM_HEADLINE, r"pub fn "):,} lines for `xxhsum`')
     print(f'{counted_of_program(*PROGRAM):,} lines for the contract of `run`')

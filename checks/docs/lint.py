@@ -2,17 +2,23 @@
 
     checks/lint
 
-- shellcheck reads the shell scripts, pyflakes the Python, rustfmt and clippy the Rust, and node the JavaScript;
+- shellcheck reads the shell scripts, pyflakes and mypy the Python, rustfmt and clippy the Rust, and node the
+  JavaScript;
+- black has formatted the Python; no line of Python, shell, C or JavaScript has more than 120 columns, except in the
+  files of LONG_LINES;
 - pages, comments, help texts and error messages have none of the words of checks/docs/words.txt, and doc comments
   don't begin with "Whether" or "What";
+- each argument of a command has a help text;
+- identifiers of Python, shell, C and JavaScript have none of the words of checks/docs/identifiers.txt;
 - the pages of checks/docs/plain.py have sentences of at most 30 words;
 - docs/CONTRACTS.md names each file of `specs/`;
 - commits since this rule have a subject of at most 72 characters, and no absolute path of a machine in their message
   (checks/docs/commits.py).
 
 Each check must first detect planted mistakes. A check that fails without a message, or whose tool fails, counts as
-failed. One line per check, with what it found; the last line is "N passed, M failed". It takes half a minute, and
-installs missing packages: Debian's shellcheck, pyflakes3, rustfmt, rust-clippy and nodejs."""
+failed. One line per check, with what it found; the last line is "N passed, M failed". It takes a minute, and
+installs missing packages: Debian's shellcheck, pyflakes3, mypy, black, rustfmt, rust-clippy and nodejs."""
+import ast
 import contextlib
 import fnmatch
 import functools
@@ -20,18 +26,52 @@ import io
 import os
 import re
 import tempfile
+import tomllib
 
-import command
-from report import Report, want
-from tools import TOP, install_packages, must, ran, text_of, write
+from checks.lib import command
+from checks.lib.report import Report, check
+from checks.lib.tools import TOP, install_packages, must, ran, text_of, write
 
-from . import commits, plain, words
+from . import commits, identifiers, plain, words
 
-PACKAGES = {'shellcheck': 'shellcheck', 'pyflakes3': 'pyflakes3', 'rustfmt': 'rustfmt', 'clippy-driver': 'rust-clippy',
-            'node': 'nodejs'}
+PACKAGES = {
+    'black': 'black',
+    'mypy': 'mypy',
+    'shellcheck': 'shellcheck',
+    'pyflakes3': 'pyflakes3',
+    'rustfmt': 'rustfmt',
+    'clippy-driver': 'rust-clippy',
+    'node': 'nodejs',
+}
 LEFT_OUT = {'out', 'target', '.git', '__pycache__', 'node_modules'}
 # Copies that a program writes, data, and texts of others.
-GENERATED = re.compile(r'/(src/erased|asm|docs/history)/|/(refused|words|saved_by_xxh|vectors|api)\.txt$|/OutsideVectors[0-9]+\.antt$|/LICENSE$|/HANDLES$|/stdin$|/stdout$')
+GENERATED = re.compile(
+    r'/(src/erased|asm|docs/history)/|/(refused|words|saved_by_xxh|vectors|api)\.txt$|/OutsideVectors[0-9]+\.antt$'
+    r'|/(LICENSE|HANDLES|stdin|stdout)$'
+)
+# Python, shell, C and JavaScript.
+CODE = ('.py', '.pyi', '.sh', *identifiers.LIKE_C)
+MOST_COLUMNS = 120
+# Files with longer lines, and why.
+LONG_LINES = {
+    'oracle/*': 'not formatted yet',
+    'assembly/eh_frame.py': 'the verifier tests mutants of this file',
+    'assembly/same_bytes.py': 'the verifier tests mutants of this file',
+    'c/include/xxhash.h': 'the verifier has run over this file',
+    'checks/mutants/kit.py': 'each refusal of refused.txt has a checksum of this file',
+    'checks/mutants/proofs.py': 'each refusal of refused.txt has a checksum of this file',
+    'checks/mutants/source.py': 'each refusal of refused.txt has a checksum of this file',
+    'checks/mutants/trial.py': 'each refusal of refused.txt has a checksum of this file',
+    'bench/page.py': 'the text of a page',
+    'docs/api/contracts.py': 'the text of a page',
+    'rust/checks/edits_page.py': 'the text of a page',
+    'rust/checks/planted_sources.py': 'sources in Rattle',
+    'web/bench_c/large.py': 'scripts in JavaScript',
+    'web/tests/*.py': 'scripts in JavaScript',
+    'web/*.js': 'not wrapped yet',
+    'web/*.mjs': 'not wrapped yet',
+    'web/*.ts': 'not wrapped yet',
+}
 FEATURES = ('random', 'xxhash32', 'xxhash64', 'xxhash3_64', 'xxhash3_128', 'std', 'alloc')
 
 
@@ -49,25 +89,40 @@ def first_line(path):
 
 def of_kind(paths, ending, interpreter):
     """The files whose name has the ending, if there is one, or that the interpreter runs."""
-    return [path for path in paths if ending and path.endswith(ending)
-            or '.' not in os.path.basename(path) and re.match(rf'#!.*{interpreter}(?: -B)?\s*$', first_line(path))]
+    return [
+        path
+        for path in paths
+        if ending
+        and path.endswith(ending)
+        or '.' not in os.path.basename(path)
+        and re.match(rf'#!.*{interpreter}(?: -B)?\s*$', first_line(path))
+    ]
 
 
 def pages(paths):
     """The pages and manual pages, except the changelog."""
-    return [path for path in paths if path.endswith(('.md', '.1'))
-            and os.path.basename(path) != 'CHANGELOG.md']
+    return [path for path in paths if path.endswith(('.md', '.1')) and os.path.basename(path) != 'CHANGELOG.md']
 
 
 def sources(paths):
     """The sources and scripts, except generated copies and data."""
-    return [path for path in paths if not GENERATED.search(path) and not words.is_page(path) and '\0' not in first_line(path)
-            and (os.path.splitext(path)[1] in (*words.LIKE_C, *words.LIKE_SHELL, '.py', '.pyi', '.antt', '.html'))]
+    return [
+        path
+        for path in paths
+        if not GENERATED.search(path)
+        and not words.is_page(path)
+        and '\0' not in first_line(path)
+        and (os.path.splitext(path)[1] in (*words.LIKE_C, *words.LIKE_SHELL, '.py', '.pyi', '.antt', '.html'))
+    ]
 
 
 def documented(paths):
     """The sources whose comments are documentation."""
-    return [path for path in sources(paths) if any(fnmatch.fnmatch(os.path.relpath(path, TOP), it) for it in words.DOCUMENTED)]
+    return [
+        path
+        for path in sources(paths)
+        if any(fnmatch.fnmatch(os.path.relpath(path, TOP), it) for it in words.DOCUMENTED)
+    ]
 
 
 def found(*command):
@@ -78,20 +133,67 @@ def found(*command):
 
 def shellcheck(*paths):
     """Reads scripts, each with the files that it sources."""
-    return found('shellcheck', '--external-sources', '--source-path=SCRIPTDIR', '--severity=warning', '--format=gcc', *paths)
+    return found(
+        'shellcheck', '--external-sources', '--source-path=SCRIPTDIR', '--severity=warning', '--format=gcc', *paths
+    )
 
 
 pyflakes = functools.partial(found, 'pyflakes3')
+black = functools.partial(found, 'black', '--check')
+mypy = functools.partial(found, 'mypy', '--cache-dir', os.devnull)
 rustfmt = functools.partial(found, 'rustfmt', '--check', '-l', '--edition', '2021')
 
 
 def clippy(*roots):
     """Reads the root of each crate that needs no other crate. Those of the programs have no features."""
     features = [word for name in FEATURES for word in ('--cfg', f'feature="{name}"')]
-    with tempfile.TemporaryDirectory() as room:
-        return sum((found('clippy-driver', '--edition', '2021', '--crate-type', 'lib', '--crate-name', 'twox_hash',
-                          *([] if '/programs/' in root else features), '--emit', 'metadata', '--out-dir', room, '-D', 'warnings',
-                          root) for root in roots), [])
+    with tempfile.TemporaryDirectory() as workdir:
+        return sum(
+            (
+                found(
+                    'clippy-driver',
+                    '--edition',
+                    '2021',
+                    '--crate-type',
+                    'lib',
+                    '--crate-name',
+                    'twox_hash',
+                    *([] if '/programs/' in root else features),
+                    '--emit',
+                    'metadata',
+                    '--out-dir',
+                    workdir,
+                    '-D',
+                    'warnings',
+                    root,
+                )
+                for root in roots
+            ),
+            [],
+        )
+
+
+def typed(paths):
+    """The Python that mypy reads: all except what pyproject.toml excludes."""
+    excluded = re.compile(tomllib.loads(text_of('pyproject.toml'))['tool']['mypy']['exclude'])
+    return [path for path in paths if not excluded.match(os.path.relpath(path, TOP))]
+
+
+def long_lines(*paths):
+    for path in paths:
+        name = words.name_of(path)
+        if not any(fnmatch.fnmatch(name, pattern) for pattern in LONG_LINES):
+            for number, line in enumerate(text_of(path).splitlines(), 1):
+                if len(line) > MOST_COLUMNS:
+                    yield f'{path}:{number}: {len(line)} columns'
+
+
+def arguments_without_help(*paths):
+    for path in paths:
+        for node in ast.walk(ast.parse(text_of(path))):
+            if isinstance(node, ast.Call) and getattr(node.func, 'attr', '') == 'add_argument':
+                if not any(word.arg == 'help' for word in node.keywords):
+                    yield f'{path}:{node.lineno}: an argument without help'
 
 
 def node(*paths):
@@ -102,28 +204,62 @@ def unnamed(*specs):
     """The files of definitions that no row of the page names."""
     rows = [line for line in text_of('docs/CONTRACTS.md').splitlines() if line.startswith('| ')]
     named = set(re.findall(r'\w+', ' '.join(rows)))
-    return [f'{path} is in no row of docs/CONTRACTS.md' for path in specs
-            if os.path.basename(path).removesuffix('.antt') not in named]
+    return [
+        f'{path} is in no row of docs/CONTRACTS.md'
+        for path in specs
+        if os.path.basename(path).removesuffix('.antt') not in named
+    ]
 
 
 # For each check a file name and a mistake; several for the words, which are looked for in several places.
 WRONG = {
     shellcheck: [('wrong.sh', '#!/bin/bash\nrm -rf "$nowhere/"*\n')],
     pyflakes: [('wrong.py', 'import os\n')],
+    black: [('wrong.py', 'x  = 1\n')],
+    mypy: [
+        ('wrong.py', 'import os\n\n\ndef f():\n    return os.no_such_name\n'),
+        ('wrong.py', 'def f(a):\n    return a\n\n\nf(1, 2)\n'),
+    ],
+    arguments_without_help: [('wrong.py', "parser.add_argument('--all', action='store_true')\n")],
+    long_lines: [(f'wrong{ending}', 'x' * 121) for ending in ('.py', '.sh', '.c', '.js')],
     rustfmt: [('wrong.rs', 'fn  main(){}\n')],
     clippy: [('wrong.rs', 'pub fn one(a: bool) -> bool { a == true }\n')],
     node: [('wrong.js', 'let = ;\n')],
     words.lines_with_words: [
-        ('wrong.md', 'It `tells` what it tells.\n'), ('wrong.rt', '/// Works but for zero.\nfn f() {}\n'),
-        ('wrong.antt', 'use a\n\n-- the piece\n'), ('wrong.c', 'int a;\n/* Used by\n * whoever calls. */\n'),
-        ('wrong.js', 'let a = "//"; // made anew\n'), ('wrong.py', '"""Answers no."""\n'), ('Makefile', '# kit\n'),
-        ('wrong.py', 'A = 1  # by lot\n'), ('wrong.sh', '#!/bin/bash\necho a # the gate\n'),
+        ('wrong.md', 'It `tells` what it tells.\n'),
+        ('wrong.rt', '/// Works but for zero.\nfn f() {}\n'),
+        ('wrong.antt', 'use a\n\n-- the piece\n'),
+        ('wrong.c', 'int a;\n/* Used by\n * whoever calls. */\n'),
+        ('wrong.js', 'let a = "//"; // made anew\n'),
+        ('wrong.py', '"""Answers no."""\n'),
+        ('Makefile', '# kit\n'),
+        ('wrong.py', 'A = 1  # by lot\n'),
+        ('wrong.sh', '#!/bin/bash\necho a # the gate\n'),
         ('message.sh', 'fail "is right"\n'),
-        ('message.py', 'print(f"nobody was told of {fault}")\n'), ('message.html', '<p>tells</p>\n'),
-        ('message.js', 'throw new Error("handed over");\n')],
-    words.puzzles: [('wrong.rt', '/// Whether it fits.\nfn f() {}\n'), ('wrong.h', 'int a;\n\n/** What it is. */\n'),
-                    ('wrong.py', 'def f():\n    """Whether it fits."""\n')],
-    plain.long_sentences: [('wrong.md', 'It is short. A' + ' word' * 30 + '.\n'), ('wrong.md', '- `one`: a' + ' word' * 29 + '\n- two\n')],
+        ('message.py', 'print(f"nobody was told of {fault}")\n'),
+        ('message.html', '<p>tells</p>\n'),
+        ('message.js', 'throw new Error("handed over");\n'),
+    ],
+    words.puzzles: [
+        ('wrong.rt', '/// Whether it fits.\nfn f() {}\n'),
+        ('wrong.h', 'int a;\n\n/** What it is. */\n'),
+        ('wrong.py', 'def f():\n    """Whether it fits."""\n'),
+    ],
+    identifiers.wrong_names: [
+        ('wrong.py', 'def told():\n    pass\n'),
+        ('wrong.py', "print(f'{self.room}')\n"),
+        ('wrong.py', 'WANTED = 1\n'),
+        ('wrong.sh', '#!/bin/bash\nlocal words=("$@")\n'),
+        ('wrong.sh', '#!/bin/sh\necho "${made}"\n'),
+        ('wrong.c', 'int max_words; /* the words */\n'),
+        ('wrong.js', 'const hasRoom = `${a}`;\n'),
+        ('wrong.mjs', 'f(`${said.it}`);\n'),
+        ('wrong.d.ts', 'type KindOf = 1;\n'),
+    ],
+    plain.long_sentences: [
+        ('wrong.md', 'It is short. A' + ' word' * 30 + '.\n'),
+        ('wrong.md', '- `one`: a' + ' word' * 29 + '\n- two\n'),
+    ],
     unnamed: [('OfNoRow.antt', '')],
 }
 WRONG_MESSAGES = ('A' * 73 + '\n\nWhy.', "Merge branch 'main' of /work/main", 'Fix it\n\nSee (/home/a/b.c).')
@@ -131,23 +267,23 @@ WRONG_MESSAGES = ('A' * 73 + '\n\nWhy.', "Merge branch 'main' of /work/main", 'F
 
 def is_clean(tool, paths):
     for name, text in WRONG[tool]:
-        with tempfile.TemporaryDirectory() as room:
-            want(list(tool(write(os.path.join(room, name), text))), f'it does not detect {text!r}')
-    want(paths, 'no file')
+        with tempfile.TemporaryDirectory() as workdir:
+            check(list(tool(write(os.path.join(workdir, name), text))), f'it does not detect {text!r}')
+    check(paths, 'no file')
     lines = [line.replace(TOP + os.sep, '') for line in tool(*paths)]
-    want(not lines, '\n  '.join([f'{len(lines)} lines', *lines[:20]]))
+    check(not lines, '\n  '.join([f'{len(lines)} lines', *lines[:20]]))
     return f'{len(paths)} files'
 
 
 def commits_are_clean():
     for message in WRONG_MESSAGES:
-        want(list(commits.faults(message)), f'it does not detect {message!r}')
-    want(not list(commits.faults('Read /proc/self/mem and /usr/lib')), 'it refuses a path of every system')
+        check(list(commits.faults(message)), f'it does not detect {message!r}')
+    check(not list(commits.faults('Read /proc/self/mem and /usr/lib')), 'it refuses a path of every system')
     messages = commits.messages()
     if messages is None:
         return 'skipped: no history of git'
     wrong = [f'{commit[:12]}: {fault}' for commit, message in messages.items() for fault in commits.faults(message)]
-    want(not wrong, '\n  '.join(wrong))
+    check(not wrong, '\n  '.join(wrong))
     return f'{len(messages)} commits'
 
 
@@ -155,8 +291,8 @@ def empty_faults_count():
     """A fault without a text, as of a program that fails and prints nothing, counts."""
     report = Report()
     with contextlib.redirect_stdout(io.StringIO()):
-        report.attempt('a check', want, False, '')
-    want((report.passed, report.failed) == (0, 1), 'a fault without a text counts as passed')
+        report.attempt('a check', check, False, '')
+    check((report.passed, report.failed) == (0, 1), 'a fault without a text counts as passed')
 
 
 def failed_tools_count():
@@ -165,27 +301,44 @@ def failed_tools_count():
     with contextlib.redirect_stdout(printed):
         report.attempt('a check', must, ['sh', '-c', 'echo "a message"; exit 1'])
         report.attempt('the next check', list)
-    want((report.passed, report.failed) == (1, 1) and 'a message' in printed.getvalue(), printed.getvalue())
+    check((report.passed, report.failed) == (1, 1) and 'a message' in printed.getvalue(), printed.getvalue())
+
+
+def check_code(report, every):
+    python = of_kind(every, '.py', 'python3')
+    # The erased source has the layout of its source.
+    rust = [path for path in every if path.endswith('.rs') and '/src/erased/' not in path]
+    roots = [os.path.join(TOP, 'rust', *folder, 'src', 'lib.rs') for folder in ((), ('programs',))]
+    report.attempt('shellcheck', is_clean, shellcheck, of_kind(every, None, 'sh'))
+    report.attempt('pyflakes', is_clean, pyflakes, python)
+    report.attempt('black', is_clean, black, python)
+    report.attempt('mypy', is_clean, mypy, typed(python))
+    report.attempt('help of arguments', is_clean, arguments_without_help, typed(python))
+    report.attempt('rustfmt', is_clean, rustfmt, rust)
+    report.attempt('clippy', is_clean, clippy, roots)
+    report.attempt('node', is_clean, node, [path for path in every if path.endswith(('.js', '.mjs'))])
+
+
+def check_wording(report, every):
+    code = [path for path in sources(every) if path.endswith(CODE) or first_line(path)[:2] == '#!']
+    short = [os.path.join(TOP, name) for name in plain.SHORT_SENTENCES]
+    specs = [path for path in every if '/specs/' in path and not path.endswith('/Lib.antt')]
+    report.attempt('columns', is_clean, long_lines, code)
+    report.attempt('identifiers', is_clean, identifiers.wrong_names, code)
+    report.attempt('words of pages', is_clean, words.lines_with_words, pages(every))
+    report.attempt('words of comments and messages', is_clean, words.lines_with_words, sources(every))
+    report.attempt('beginnings of doc comments', is_clean, words.puzzles, documented(every))
+    report.attempt('sentences', is_clean, plain.long_sentences, short)
+    report.attempt('files of definitions', is_clean, unnamed, specs)
+    report.attempt('commits', commits_are_clean)
 
 
 def main():
     command.parser(__doc__).parse_args()
     install_packages(PACKAGES)
     report, every = Report(), list(files())
-    # The erased source has the layout of its source.
-    rust = [path for path in every if path.endswith('.rs') and '/src/erased/' not in path]
-    report.attempt('shellcheck', is_clean, shellcheck, of_kind(every, None, 'sh'))
-    report.attempt('pyflakes', is_clean, pyflakes, of_kind(every, '.py', 'python3'))
-    report.attempt('rustfmt', is_clean, rustfmt, rust)
-    report.attempt('clippy', is_clean, clippy, [os.path.join(TOP, 'rust', *folder, 'src', 'lib.rs') for folder in ((), ('programs',))])
-    report.attempt('node', is_clean, node, [path for path in every if path.endswith(('.js', '.mjs'))])
-    report.attempt('words of pages', is_clean, words.lines_with_words, pages(every))
-    report.attempt('words of comments and messages', is_clean, words.lines_with_words, sources(every))
-    report.attempt('beginnings of doc comments', is_clean, words.puzzles, documented(every))
-    report.attempt('sentences', is_clean, plain.long_sentences, [os.path.join(TOP, name) for name in plain.SHORT_SENTENCES])
-    report.attempt('commits', commits_are_clean)
-    report.attempt('files of definitions', is_clean, unnamed,
-                   [path for path in every if '/specs/' in path and not path.endswith('/Lib.antt')])
+    check_code(report, every)
+    check_wording(report, every)
     report.attempt('faults without a text', empty_faults_count)
     report.attempt('checks whose tool fails', failed_tools_count)
     return report.end()

@@ -14,17 +14,15 @@ import contextlib
 import functools
 import os
 import subprocess
-import sys
 import tempfile
 
-import command
-from report import Fault, Report
-from tools import TOP, clean_copy, install_packages, must
+from checks.lib import command
+from checks.lib.report import Fault, Report
+from checks.lib.tools import clean_copy, install_packages, must
 
 from . import printed
 
-sys.path.append(os.path.join(TOP, 'release', 'parts'))
-from roots import CLONE, Root
+from checks.lib.roots import CLONE, Root
 
 # Sections that must fail: each is wrong in one way.
 PLANTED = {
@@ -39,9 +37,9 @@ PLANTED = {
 
 
 @contextlib.contextmanager
-def copy_of_machine(room):
+def copy_of_machine(workdir):
     """A root with this machine's files, in which all writes are discarded."""
-    upper, work, path = (os.path.join(room, name) for name in ('upper', 'work', 'root'))
+    upper, work, path = (os.path.join(workdir, name) for name in ('upper', 'work', 'root'))
     for folder in (upper, work, path):
         os.mkdir(folder)
     must(['mount', '-t', 'overlay', 'overlay', '-o', f'lowerdir=/,upperdir={upper},workdir={work}', path])
@@ -63,9 +61,11 @@ def is_installed(package):
     return done.stdout == 'install ok installed'
 
 
-def tell_list(pages):
+def print_list(pages):
     """Prints each block, and the number of each kind."""
-    blocks = [(it, block) for page in pages for it in printed.sections(page, suite_of_this_machine()) for block in it.blocks]
+    blocks = [
+        (it, block) for page in pages for it in printed.sections(page, suite_of_this_machine()) for block in it.blocks
+    ]
     for it, block in blocks:
         print(f'{it.page}:{block.line}: {it.heading}: {"not run: " + block.reason if block.reason else "run"}')
     left = sum(bool(block.reason) for _, block in blocks)
@@ -73,9 +73,9 @@ def tell_list(pages):
 
 
 @contextlib.contextmanager
-def shell_at_top(room):
+def shell_at_top(workdir):
     """A shell of a copy of the machine, at the top of a copy of the repository."""
-    with tempfile.TemporaryDirectory(dir=room) as place, copy_of_machine(place) as root:
+    with tempfile.TemporaryDirectory(dir=workdir) as place, copy_of_machine(place) as root:
         clean_copy(root.at(CLONE))
         yield functools.partial(root.run, folder=CLONE)
 
@@ -84,13 +84,13 @@ def runs_here(section):
     return printed.is_run(section) and all(map(is_installed, section.packages))
 
 
-def check_page(room, sections):
-    with shell_at_top(room) as shell:
+def check_page(workdir, sections):
+    with shell_at_top(workdir) as shell:
         printed.run(sections, shell)
     return f'{sum(not block.reason for it in sections for block in it.blocks)} blocks'
 
 
-def tell_left(sections):
+def print_left(sections):
     """Prints what is omitted, and the missing packages for it."""
     for it in sections:
         if printed.is_run(it) and not runs_here(it):
@@ -98,9 +98,9 @@ def tell_left(sections):
             print(f'left out  {it.page}: {it.heading or "the first"}: this machine has no {", ".join(missing)}')
 
 
-def check_planted(room):
+def check_planted(workdir):
     """Each planted section fails."""
-    with shell_at_top(room) as shell:
+    with shell_at_top(workdir) as shell:
         for name, text in PLANTED.items():
             try:
                 printed.run(printed.sections('a page', '', f'## Planted\n\n```sh\n{text}```\n'), shell)
@@ -113,22 +113,22 @@ def check_planted(room):
 def main():
     parser = command.parser(__doc__)
     parser.add_argument('--list', action='store_true', help='list the blocks, and run none')
-    parser.add_argument('pages', nargs='*', metavar='PAGE')
+    parser.add_argument('pages', nargs='*', metavar='PAGE', help='the pages whose commands are run')
     given = parser.parse_args()
     pages = given.pages or printed.PAGES
     if given.list:
-        tell_list(pages)
+        print_list(pages)
         return 0
     cargo = 'cargo-web' if suite_of_this_machine() == 'bookworm' else 'cargo'
     install_packages({'/usr/bin/cargo': cargo, 'gcc': 'gcc', '/usr/include/stdio.h': 'libc6-dev'})
     report = Report()
-    with tempfile.TemporaryDirectory(prefix='twox-pages-') as room:
+    with tempfile.TemporaryDirectory(prefix='twox-pages-') as workdir:
         for page in pages:
             sections = printed.sections(page, suite_of_this_machine()) if page != printed.RELEASES else []
             chosen = list(filter(runs_here, sections))
             if chosen:
-                report.attempt(page, check_page, room, chosen)
-            tell_left(sections)
-        report.attempt('planted commands are noticed', check_planted, room)
-    tell_list(pages)
+                report.attempt(page, check_page, workdir, chosen)
+            print_left(sections)
+        report.attempt('planted commands are noticed', check_planted, workdir)
+    print_list(pages)
     return report.end()

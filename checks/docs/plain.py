@@ -1,8 +1,8 @@
-"""Rules for pages: the length of sections and pages, the evidence in README.md, the README of folders, and blocks that are
-run, for checks/readme; the length of sentences, for checks/lint."""
+"""Rules for pages: the length of sections and pages, the evidence in README.md, the README of folders, and blocks that
+are run, for checks/readme; the length of sentences, for checks/lint."""
 import re
 
-from tools import text_of
+from checks.lib.tools import text_of
 
 from . import printed
 
@@ -17,8 +17,17 @@ MOST_LINES_OF_PLATE = 12
 COLUMNS = ['part', 'source proved', 'machine code verified', 'tested', 'you trust']
 PARTS = ['C library', 'C header', 'crate', 'programs by cargo', 'programs by `rt`', 'Python', 'Node']
 # The pages with short sentences.
-SHORT_SENTENCES = ('README.md', 'SECURITY.md', 'CONTRIBUTING.md', 'docs/C.md', 'docs/RUST.md', 'docs/PYTHON.md', 'web/README.md',
-                   *PLATES, *MOST_OF_PAGE)
+SHORT_SENTENCES = (
+    'README.md',
+    'SECURITY.md',
+    'CONTRIBUTING.md',
+    'docs/C.md',
+    'docs/RUST.md',
+    'docs/PYTHON.md',
+    'web/README.md',
+    *PLATES,
+    *MOST_OF_PAGE,
+)
 # The pages whose every block is run.
 ALL_RUN = ('docs/RECIPES.md',)
 FENCED = re.compile(r'^```.*?^```$', re.M | re.S)
@@ -81,10 +90,16 @@ def evidence_that_lacks(name, text):
     """README.md has a row of evidence for each part, without empty cells."""
     if name == 'README.md':
         found = re.search(rf'^\| {re.escape(" | ".join(COLUMNS))} \|\n\|[-|]*\n((?:\|.*\n)+)', text, re.M)
-        rows = [[cell.strip() for cell in line.strip('|').split('|')] for line in found[1].splitlines()] if found else []
+        rows = (
+            [[cell.strip() for cell in line.strip('|').split('|')] for line in found[1].splitlines()] if found else []
+        )
         if [row[0] for row in rows] != PARTS:
             yield f'{name} has evidence for {[row[0] for row in rows]}, not for {PARTS}'
-        yield from (f'{name}: the evidence for {row[0]} has an empty cell' for row in rows if len(row) != len(COLUMNS) or not all(row))
+        yield from (
+            f'{name}: the evidence for {row[0]} has an empty cell'
+            for row in rows
+            if len(row) != len(COLUMNS) or not all(row)
+        )
 
 
 def plates_that_lack(name, text):
@@ -98,7 +113,9 @@ def plates_that_lack(name, text):
 
 
 RULES = (long_sections, long_pages, blocks_not_run, evidence_that_lacks, plates_that_lack)
-EVIDENCE = '\n'.join([f'| {" | ".join(COLUMNS)} |', '|---|---|---|---|---|', *(f'| {part} | 1 | 2 | 3 | 4 |' for part in PARTS), ''])
+EVIDENCE = '\n'.join(
+    [f'| {" | ".join(COLUMNS)} |', '|---|---|---|---|---|', *(f'| {part} | 1 | 2 | 3 | 4 |' for part in PARTS), '']
+)
 PLATE = '# c/\n\n```sh\nmake\n```\n\n- **Trusts:** gcc.\n- **Takes:** 1 s.\n'
 # For each rule a page and a text that breaks it, and one that does not.
 PLANTED = {
@@ -125,5 +142,7 @@ def planted():
         yield 'blocks_not_run does not detect a block of another language'
     if not list(evidence_that_lacks('README.md', EVIDENCE.replace('| crate |', '| box |'))):
         yield 'evidence_that_lacks does not detect a missing part'
-    if not list(plates_that_lack('c/README.md', PLATE + 'a\n' * 20)) or not list(plates_that_lack('c/README.md', PLATE.replace('make\n', ''))):
+    if not list(plates_that_lack('c/README.md', PLATE + 'a\n' * 20)) or not list(
+        plates_that_lack('c/README.md', PLATE.replace('make\n', ''))
+    ):
         yield 'plates_that_lack does not detect a long plate, or one without a command'

@@ -9,30 +9,57 @@ Java lacks the interface -->."""
 import os
 import re
 import subprocess
-from collections import namedtuple
+from typing import NamedTuple, Optional
 
-from report import Fault, tail, want
-from tools import TOP, text_of
+from checks.lib.report import Fault, last_line, check
+from checks.lib.tools import TOP, text_of
 
 # The commands of RELEASES run in the folder of the archives, and those of every other page at the top of the
 # repository.
 RELEASES = 'docs/RELEASES.md'
-PAGES = ('README.md', 'python/README.md', 'rust/README.md', 'web/README.md', 'examples/README.md', *sorted(
-    os.path.join('docs', name) for name in os.listdir(os.path.join(TOP, 'docs')) if name.endswith('.md')))
+PAGES = (
+    'README.md',
+    'python/README.md',
+    'rust/README.md',
+    'web/README.md',
+    'examples/README.md',
+    *sorted(os.path.join('docs', name) for name in os.listdir(os.path.join(TOP, 'docs')) if name.endswith('.md')),
+)
 SUITES = {'12': 'bookworm', '13': 'trixie'}
 
-PARTS = re.compile(r'^(?P<heading>##+ .*)\n'
-                   r'|^(?:<!-- not run(?: on Debian (?P<without>\d+))?: (?P<reason>.*) -->\n)?```sh\n(?P<text>(?:.*\n)*?)```$'
-                   r'|\bDebian(?: (?P<release>\d+))?: `(?P<packages>[^`]+)`', re.M)
+PARTS = re.compile(
+    r'^(?P<heading>##+ .*)\n'
+    r'|^(?:<!-- not run(?: on Debian (?P<without>\d+))?: (?P<reason>.*) -->\n)?```sh\n(?P<text>(?:.*\n)*?)```$'
+    r'|\bDebian(?: (?P<release>\d+))?: `(?P<packages>[^`]+)`',
+    re.M,
+)
 SHOWN = re.compile(r'  +# (.+)$')
 MARK = 'the-status-of-a-printed-command'
 
-# A block as it is printed, the line above it, and why it can't be run, or None.
-Block = namedtuple('Block', 'line text reason')
-# The blocks below a heading, and the packages that they need.
-Section = namedtuple('Section', 'page heading blocks packages')
-# A command, its location, and its expected output or None.
-Command = namedtuple('Command', 'where text shown')
+
+class Block(NamedTuple):
+    """A block as it is printed, the number of the line above it, and why it can't be run, or None."""
+
+    line: int
+    text: str
+    reason: Optional[str]
+
+
+class Section(NamedTuple):
+    """The blocks below a heading, and the packages that they need."""
+
+    page: str
+    heading: str
+    blocks: list[Block]
+    packages: set[str]
+
+
+class Command(NamedTuple):
+    """A command, its location, and its expected output or None."""
+
+    where: str
+    text: str
+    shown: Optional[str]
 
 
 def sections(page, suite, text=None):
@@ -44,7 +71,7 @@ def sections(page, suite, text=None):
             found.append(Section(page, part['heading'].lstrip('# '), [], set(found[0].packages)))
         elif part['text'] is not None:
             reason = part['reason'] if SUITES.get(part['without'], suite) == suite else None
-            found[-1].blocks.append(Block(text[:part.start('text')].count('\n'), part['text'], reason))
+            found[-1].blocks.append(Block(text[: part.start('text')].count('\n'), part['text'], reason))
         elif SUITES.get(part['release'], suite) == suite:
             found[-1].packages.update(part['packages'].split())
     return [it for it in found if it.blocks]
@@ -78,13 +105,15 @@ def commands(section):
                 if text.strip() and not text.lstrip().startswith('#'):
                     yield Command(f'{section.page}:{number}: {line.strip()[:90]}', text, shown and shown[1].strip())
                 text = ''
-        want(not text.strip(), f'{section.page}:{block.line}: the shell waits for more')
+        check(not text.strip(), f'{section.page}:{block.line}: the shell waits for more')
 
 
 def script(typed):
     """A script of bash that runs the commands unchanged. It ends at the first that fails, and prints each one's
     status."""
-    lines = [f"status_of_printed() {{ local status=$?; printf '\\n{MARK} %s\\n' $status; [ $status = 0 ] || exit $status; }}"]
+    lines = [
+        f"status_of_printed() {{ local status=$?; printf '\\n{MARK} %s\\n' $status; [ $status = 0 ] || exit $status; }}"
+    ]
     for it in typed:
         lines += [it.text.rstrip('\n'), 'status_of_printed']
     return '\n'.join(lines) + '\n'
@@ -109,6 +138,6 @@ def run(sections_of_page, shell, installation=lambda packages: None):
     parts, statuses = re.split(rf'\n{MARK} \d+\n', out), re.findall(rf'\n{MARK} (\d+)\n', out)
     for number, it in enumerate(typed):
         status = statuses[number] if number < len(statuses) else 'none, since the shell ended'
-        want(status == '0', f'{it.where}: status {status}: {tail(parts[number])}')
-        want(not it.shown or is_printed(parts[number], it.shown), f'{it.where}: prints {tail(parts[number])!r}')
+        check(status == '0', f'{it.where}: status {status}: {last_line(parts[number])}')
+        check(not it.shown or is_printed(parts[number], it.shown), f'{it.where}: prints {last_line(parts[number])!r}')
     return ''.join(parts)

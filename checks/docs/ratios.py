@@ -1,15 +1,12 @@
 """The tables of speed in README.md, computed from bench/data, and the ratios in its sentences."""
-import os
 import re
 import statistics
-import sys
 
-from tools import TOP, text_of
+from checks.lib.tools import text_of
 
-sys.path.append(os.path.join(TOP, 'bench'))
-import measured
-import objects
-import page
+from bench import measured
+from bench import objects
+from bench import page
 
 PAGE, SECTION = 'README.md', '## Speed'
 RATIO = r'(?<![\d.])\d+\.\d\d(?!\d|\.\d)'
@@ -37,11 +34,13 @@ def numbers(cells, pattern=RATIO):
 
 
 def speeds():
-    """For each line of the table of speed: the product, the peer, the median or another mean, the lowest ratio, the file
-    of the data and the name of the measured code."""
+    """For each line of the table of speed: the product, the peer, the median or another mean, the lowest ratio, the
+    file of the data and the name of the measured code."""
     parts = libraries()
-    ratios = {**{name: [it.peers['c_shared'].median for it in parts[name]] for name in ('c', 'dispatch')},
-              **{name: list(map(page.best, parts[name])) for name in page.SETS}}
+    ratios = {
+        **{name: [it.peers['c_shared'].median for it in parts[name]] for name in ('c', 'dispatch')},
+        **{name: list(map(page.best, parts[name])) for name in page.SETS},
+    }
     middle = lambda values: f'{statistics.median(values):.2f}'
     yield 'C library', "Debian's `libxxhash`", middle(ratios['c']), ratios['c'], 'c', 'c'
     yield 'C library, AVX-512', 'its `.._dispatch`', middle(ratios['dispatch']), ratios['dispatch'], 'c', 'dispatch'
@@ -54,9 +53,13 @@ def speeds():
         _, mean, _, lowest = counts[f'plain, beside `{peer}`']
         yield 'crate', f'`{peer}`', f'{mean} (mean)', numbers([lowest]), 'cargo', 'cargo'
     by_cargo, by_rt = rows_of('cargo_programs')[1:], rows_of('xxhsum')
-    for title, values, data in (('`xxhsum` by cargo', numbers(row[2] for row in by_cargo), 'cargo_programs'),
-                                *((f'`xxhsum` by `rt`, {name}', numbers(row[at] for row in by_rt), 'xxhsum')
-                                  for at, name in enumerate(page.SETS, 2))):
+    for title, values, data in (
+        ('`xxhsum` by cargo', numbers(row[2] for row in by_cargo), 'cargo_programs'),
+        *(
+            (f'`xxhsum` by `rt`, {name}', numbers(row[at] for row in by_rt), 'xxhsum')
+            for at, name in enumerate(page.SETS, 2)
+        ),
+    ):
         yield title, "Debian's `xxhsum`", middle(values), values, data, data
     values = numbers(cell for row in rows_of('python')[1:] for cell in row[1:])
     yield 'Python', "Debian's python3-xxhash", 'not stored', values, 'python', 'python'
@@ -75,8 +78,15 @@ def table_of_speed():
 def table_of_hashes():
     """The times of one-shots, at x86-64-v3."""
     rows = {(it.name, it.size): it.speed for it in libraries()['x86-64-v3'] if it.form == 'oneshot'}
-    lines = [[title, f'{16 / rows[name, 16]:.1f} ns', *(f'{rows[name, size]:.0f} GB/s' for size in (page.KIB, page.MIB)), PAIRS[name]]
-             for name, title in NAMES.items()]
+    lines = [
+        [
+            title,
+            f'{16 / rows[name, 16]:.1f} ns',
+            *(f'{rows[name, size]:.0f} GB/s' for size in (page.KIB, page.MIB)),
+            PAIRS[name],
+        ]
+        for name, title in NAMES.items()
+    ]
     return '\n'.join(page.markdown(['hash', '16 bytes', '1 KiB', '1 MiB', 'equal pairs among 2^32 items'], lines))
 
 
@@ -121,6 +131,6 @@ def counts_that_differ(text=None):
     text = text_of(PAGE) if text is None else text
     rows = [page.best(it) for part, of in libraries().items() if part in page.SETS for it in of]
     calls, _, below, _ = {row[0]: row[1:] for row in rows_of('cargo_counts')}['plain, beside `twox-hash`']
-    for words in (f'{sum(it < 0.95 for it in rows)} of the {len(rows)} measurements', f'{below} of {calls} calls'):
-        if words not in text:
-            yield f'{PAGE} does not have: {words}'
+    for phrase in (f'{sum(it < 0.95 for it in rows)} of the {len(rows)} measurements', f'{below} of {calls} calls'):
+        if phrase not in text:
+            yield f'{PAGE} does not have: {phrase}'

@@ -4,22 +4,24 @@
 
 - CALLING.md quotes the code of crates/example and crates/calling, and docs/C.md a program in C;
 - links, also to headings, and the workflow's commands exist, and --help of the checks explains their options;
-- docs/SPEED.md agrees with its data; each table has its date, commit and processor, and says "Older than this version" if
-  the measured code has changed since or the commit is not in git's history;
-- docs/VERIFICATION.md and README.md have the runs that oracle/runs.tsv records, and the former the counts of oracle/mutate --record;
+- docs/SPEED.md agrees with its data; each table has its date, commit and processor, and says "Older than this version"
+  if the measured code has changed since or the commit is not in git's history;
+- docs/VERIFICATION.md and README.md have the runs that oracle/runs.tsv records, and the former the counts of
+  oracle/mutate --record;
 - README.md has the counts of checks/lines-to-believe and oracle/lines-to-trust, and CONTRIBUTING.md those of mutants;
 - the tables of speed in README.md are those of bench/data (checks/docs/ratios.py), and none is one of docs/SPEED.md;
-- docs/api.txt has every public name, and only names that exist, docs/CONTRACTS.md every clause and docs/MANUAL.md the manual pages;
+- docs/api.txt has every public name, and only names that exist, docs/CONTRACTS.md every clause and docs/MANUAL.md the
+  manual pages;
 - docs/C.md has the numbers of names, and an ordinary user can install where the pages say;
 - web/README.md has the sizes of its files and the ratios of bench/data;
 - the crate's manifest includes only what exists, and its page has its default features;
 - all versions are equal;
-- README.md has short sections; README.md, docs/FAQ.md and docs/RECIPES.md are short; every block of docs/RECIPES.md is run
-  (checks/docs/plain.py);
+- README.md has short sections; README.md, docs/FAQ.md and docs/RECIPES.md are short; every block of docs/RECIPES.md is
+  run (checks/docs/plain.py);
 - the pages have at most MOST_WORDS words.
 
-Each rule on lengths, blocks and dates must first detect a planted fault. --write writes the tables of speed into README.md
-first."""
+Each rule on lengths, blocks and dates must first detect a planted fault. --write writes the tables of speed into
+README.md first."""
 import collections
 import glob
 import os
@@ -27,9 +29,9 @@ import re
 import subprocess
 import tomllib
 
-import command
-from report import Report
-from tools import TOP, text_of, write
+from checks.lib import command
+from checks.lib.report import Report
+from checks.lib.tools import TOP, text_of, write
 
 from . import plain, ratios
 
@@ -48,7 +50,7 @@ VERSIONS = [
     ('docs/RELEASES.md', r'twox[-_]hash[-_](\d+\.\d+\.\d+)(?:[-+*]|\.tar|\.tgz)'),
     ('CHANGELOG.md', r'\A# [^#]*## (\d+\.\d+\.\d+)'),
     ('CITATION.cff', r'^version: (.*)'),
-    ('docs/C.md', r'twox-hash_(\d+\.\d+\.\d+)\+'),
+    ('debian/changelog', r'\Atwox-hash \((.*)\)'),
     ('crates/xxhsum_program/src/usage.rt', r'b" ([0-9.]*) of twox_hash'),
     ('crates/xxh_program/src/program/information.rt', r'b"xxh ([0-9.]*) of twox_hash'),
     ('rust/programs/Cargo.toml', r'^version = "(.*)"'),
@@ -63,21 +65,28 @@ RELEASES = [
 GENERATED = {'docs/SPEED.md', 'docs/CONTRACTS.md', 'docs/MANUAL.md', 'docs/EDITS.md'}
 MOST_WORDS = 17500
 WORKFLOW = '.github/workflows/checks.yml'
-INTERFACES = [('crates/twox_rust/src/lib.rt', r'fn twox_rust_interface_(\d+)'),
-              ('docs/RELEASES.md', r"and interface (\d+) of the crate's assembly")]
+INTERFACES = [
+    ('crates/twox_rust/src/lib.rt', r'fn twox_rust_interface_(\d+)'),
+    ('docs/RELEASES.md', r"and interface (\d+) of the crate's assembly"),
+]
 
 
 def pages():
-    listed = subprocess.run(['find', '.', '-name', '*.md', '-not', '-path', '*/out/*', '-not', '-path', '*/target/*'],
-                            cwd=TOP, capture_output=True, text=True, check=True)
+    listed = subprocess.run(
+        ['find', '.', '-name', '*.md', '-not', '-path', '*/out/*', '-not', '-path', '*/target/*'],
+        cwd=TOP,
+        capture_output=True,
+        text=True,
+        check=True,
+    )
     return sorted(os.path.normpath(path) for path in listed.stdout.splitlines())
 
 
 def quotes_that_differ():
     for page, source, start, end in QUOTES:
         code = text_of(source)
-        code = code[code.index(start):]
-        code = code[:code.index(end) + len(end)] if end else code
+        code = code[code.index(start) :]
+        code = code[: code.index(end) + len(end)] if end else code
         language = 'c' if source.endswith('.c') else 'rust'
         if f'```{language}\n{code.rstrip()}\n```' not in text_of(page):
             yield f'{page} does not quote {source} as it stands'
@@ -92,7 +101,9 @@ def anchors(page):
 def helps_that_explain_too_little():
     """--help of each check begins with the command's name, and explains each option."""
     programs = [f'{folder}/check' for folder in ('c', 'rust', 'rust/programs', 'python', 'web', 'release')]
-    programs += [f'oracle/{name}' for name in ('symbolic', 'machine-text', 'arm-text', 'modules', 'rust-object', 'mutate')]
+    programs += [
+        f'oracle/{name}' for name in ('symbolic', 'machine-text', 'arm-text', 'modules', 'rust-object', 'mutate')
+    ]
     for program in programs:
         done = subprocess.run([os.path.join(TOP, program), '--help'], capture_output=True, text=True, timeout=60)
         usage, _, rest = done.stdout.partition('\n\n')
@@ -133,7 +144,9 @@ def listed_names_without_definition():
         crate, *modules = path.removesuffix('::').split('::')
         sources = {file: text_of(file) for file in glob.glob(f'{TOP}/crates/{crate}/src/**/*.rt', recursive=True)}
         names = ['/'.join(modules)] if modules else ['lib', 'main']
-        module = ''.join(text for file, text in sources.items() if file.endswith(tuple(f'{crate}/src/{it}.rt' for it in names)))
+        module = ''.join(
+            text for file, text in sources.items() if file.endswith(tuple(f'{crate}/src/{it}.rt' for it in names))
+        )
         given = rf'\bpub (?!use)[^;{{=]*\b{kind} {name}\b|\bpub use [^;]*\b{name}\s*[;,}}]'
         exported = rf'\bpub (?:(?:unsafe )?extern "C" fn|static) {name}\b'
         if not re.search(given, module) and not re.search(exported, ''.join(sources.values())):
@@ -148,8 +161,11 @@ def numbers_of_c_that_differ():
     names = re.findall(r'^ *(XXH\w+);$', text_of('c/libxxhash.map'), re.M)
     own = [name for name in names if name == 'XXH_featureTest']
     shared = [name for name in names if not name.endswith('_dispatch') and name not in own]
-    for sentence in (f'the {len(names) - len(own)} names of release 0.8.1 and `XXH_featureTest` of 0.8.3',
-                     f"the {len(shared)} names of Debian's", *ratios.sentences_of_c()):
+    for sentence in (
+        f'the {len(names) - len(own)} names of release 0.8.1 and `XXH_featureTest` of 0.8.3',
+        f"the {len(shared)} names of Debian's",
+        *ratios.sentences_of_c(),
+    ):
         if sentence not in text_of('docs/C.md'):
             yield f'docs/C.md does not have {sentence}'
 
@@ -163,7 +179,10 @@ def prefixes_that_need_root():
 
 
 def sizes_of_web():
-    sizes = {name: os.path.getsize(os.path.join(TOP, 'web', name)) for name in ('twox_hash.wasm', 'twox_hash_simd.wasm', 'twox_hash.js')}
+    sizes = {
+        name: os.path.getsize(os.path.join(TOP, 'web', name))
+        for name in ('twox_hash.wasm', 'twox_hash_simd.wasm', 'twox_hash.js')
+    }
     return ', '.join(f'`{name}` {size:,}' for name, size in sizes.items())
 
 
@@ -189,8 +208,8 @@ def manifest_that_differs():
 
 def versions_that_differ():
     version = text_of('VERSION').strip()
-    for path, words in VERSIONS:
-        for found in re.findall(words, text_of(path), re.M) or ['none']:
+    for path, pattern in VERSIONS:
+        for found in re.findall(pattern, text_of(path), re.M) or ['none']:
             if found != version:
                 yield f'{path} has the version {found}, and VERSION {version}'
 
@@ -198,20 +217,27 @@ def versions_that_differ():
 def releases_that_differ():
     """The releases of xxhsum, and the number of the crate's interface, in the sources and on the pages."""
     for sides in (RELEASES, INTERFACES):
-        (source, said), (page, there) = ((path, re.findall(words, text_of(path))) for path, words in sides)
-        if not said or said != there:
-            yield f'{source} has {said}, and {page} {there}'
+        (source, found), (page, there) = ((path, re.findall(pattern, text_of(path))) for path, pattern in sides)
+        if not found or found != there:
+            yield f'{source} has {found}, and {page} {there}'
 
 
 def figures_that_differ():
-    drawn = subprocess.run([os.path.join(TOP, 'bench', 'page.py'), '--check'], capture_output=True, text=True)
-    if drawn.returncode:
-        yield drawn.stderr.strip()
+    done = subprocess.run([os.path.join(TOP, 'bench', 'page'), '--check'], capture_output=True, text=True)
+    if done.returncode:
+        yield done.stderr.strip()
     counted = subprocess.run([os.path.join(TOP, 'checks', 'lines-to-believe')], stdout=subprocess.PIPE, text=True)
     headline, program, run = counted.stdout.splitlines() if counted.returncode == 0 else ('', '', '')
-    trusted = subprocess.run([os.path.join(TOP, 'oracle', 'lines-to-trust')], stdout=subprocess.PIPE, text=True).stdout.strip()
-    for page, count in (('README.md', headline), ('docs/XXHSUM.md', program), ('docs/XXHSUM.md', run),
-                        ('docs/VERIFICATION.md', trusted), ('README.md', trusted)):
+    trusted = subprocess.run(
+        [os.path.join(TOP, 'oracle', 'lines-to-trust')], stdout=subprocess.PIPE, text=True
+    ).stdout.strip()
+    for page, count in (
+        ('README.md', headline),
+        ('docs/XXHSUM.md', program),
+        ('docs/XXHSUM.md', run),
+        ('docs/VERIFICATION.md', trusted),
+        ('README.md', trusted),
+    ):
         if not count or count not in text_of(page):
             yield f'{page} does not have what checks/lines-to-believe or oracle/lines-to-trust counts: {count}'
 
@@ -227,8 +253,8 @@ def table_of_runs():
 
 
 def runs_that_differ():
-    """docs/VERIFICATION.md has the runs of the verifier as oracle/runs.tsv records them, and README.md the ends of those
-    without options."""
+    """docs/VERIFICATION.md has the runs of the verifier as oracle/runs.tsv records them, and README.md the ends of
+    those without options."""
     if table_of_runs() not in text_of('docs/VERIFICATION.md'):
         yield f'docs/VERIFICATION.md does not have the table of oracle/runs.tsv:{table_of_runs()}'
     ends = dict(re.findall(r'^- `oracle/([\w-]+)`.*`(\d+ passed, 0 failed)`$', text_of('README.md'), re.M))
@@ -245,14 +271,16 @@ def tables_without_date(text):
 
 
 def commits_that_are_nowhere(text):
-    """Each measurement of a commit that is not in git's history is older than this version. Without git, as in CI's copy,
-    no commit is looked up."""
+    """Each measurement of a commit that is not in git's history is older than this version. Without git, as in CI's
+    copy, no commit is looked up."""
     if os.path.exists(os.path.join(TOP, '.git')):
         for line in re.findall(r'^Measured .*', text, re.M):
             for commit in re.findall(r'commit `?(\w{8,40})\b', line):
-                known = subprocess.run(['git', 'merge-base', '--is-ancestor', commit, 'HEAD'], cwd=TOP, capture_output=True)
+                known = subprocess.run(
+                    ['git', 'merge-base', '--is-ancestor', commit, 'HEAD'], cwd=TOP, capture_output=True
+                )
                 if known.returncode and 'Older than this version' not in line:
-                    yield f'docs/SPEED.md has the commit {commit}, which is not in the history, without "Older than this version"'
+                    yield f'docs/SPEED.md has the commit {commit} of no history, without "Older than this version"'
 
 
 def dates_that_differ():
@@ -266,10 +294,14 @@ def planted_dates():
     if not list(tables_without_date(f'{table}{line}.')) or list(tables_without_date(f'{table}{line}, on a machine.')):
         yield 'a table without a processor is not detected'
     is_cloned = os.path.exists(os.path.join(TOP, '.git'))
-    if bool(list(commits_that_are_nowhere(f'{line}, on a machine.'))) != is_cloned or list(commits_that_are_nowhere(f'{line}. Older than this version.')):
+    if bool(list(commits_that_are_nowhere(f'{line}, on a machine.'))) != is_cloned or list(
+        commits_that_are_nowhere(f'{line}. Older than this version.')
+    ):
         yield 'a commit that is not in the history is not detected'
     sums = {'web': ratios.objects.checksum('web')}
-    if ratios.page.age('web', sums) or 'Older than' not in ratios.page.age('web', {'web': '0' * 64}) + ratios.page.age('web', {'web': 'unknown'}):
+    if ratios.page.age('web', sums) or 'Older than' not in ratios.page.age('web', {'web': '0' * 64}) + ratios.page.age(
+        'web', {'web': 'unknown'}
+    ):
         yield 'measured code that has changed is not detected'
 
 
@@ -301,13 +333,20 @@ def pages_that_are_not_plain():
 
 
 def planted_tables():
-    """A README without the tables, with a ratio of no table or without the counts, and too many words are not accepted."""
+    """A README without the tables, with a ratio of no table or without the counts, and too many words are not
+    accepted."""
     known = f'{ratios.table_of_speed()}\n{ratios.table_of_hashes()}\n{ratios.SECTION}\n'
     if ratios.with_tables(known.replace('| crate |', '| box |')) != known:
         yield 'the tables of a README are not written'
-    if len(list(ratios.that_differ(''))) != 2 or list(ratios.that_differ(known)) or not list(ratios.that_differ(f'{known}It is 9.87.\n')):
+    if (
+        len(list(ratios.that_differ(''))) != 2
+        or list(ratios.that_differ(known))
+        or not list(ratios.that_differ(f'{known}It is 9.87.\n'))
+    ):
         yield 'a README without the tables of speed, or with another ratio, is accepted'
-    if not list(words_over_the_limit(['word ' * (MOST_WORDS + 1)])) or list(words_over_the_limit([known, 'word ' * (MOST_WORDS - 2)])):
+    if not list(words_over_the_limit(['word ' * (MOST_WORDS + 1)])) or list(
+        words_over_the_limit([known, 'word ' * (MOST_WORDS - 2)])
+    ):
         yield 'pages with too many words are accepted, or generated tables count'
     if len(list(ratios.counts_that_differ(''))) != 2:
         yield 'a README without the counts of measurements is accepted'
@@ -319,13 +358,16 @@ def ratios_that_differ():
 
 
 def mutants_that_differ():
-    """CONTRIBUTING has the number of mutants, so that a file of them can't be lost, and how many only a proof refuses."""
+    """CONTRIBUTING has the number of mutants, so that a file of them can't be lost, and how many only a proof
+    refuses."""
     files = glob.glob(os.path.join(TOP, 'crates', '*', 'mutants.edits'))
     count = sum(len(re.findall(r'^== ', text_of(path), re.M)) for path in files)
     reasons = re.findall(r'^\S+/\S+ \w+ (.*)', text_of('checks/mutants/refused.txt'), re.M)
     by_goal = reasons.count("by a clause's goal")
-    expected = (f'tries {count:,} mutants: of {len(reasons):,} on record, {by_goal:,} are refused because a clause no longer '
-                f'holds, {len(reasons) - by_goal:,} only because a written proof no longer fits')
+    expected = (
+        f'tries {count:,} mutants: of {len(reasons):,} on record, {by_goal:,} are refused because a clause no longer '
+        f'holds, {len(reasons) - by_goal:,} only because a written proof no longer fits'
+    )
     if expected not in text_of('CONTRIBUTING.md'):
         yield f'CONTRIBUTING.md does not have that checks/wrong-bodies {expected}'
 
@@ -335,10 +377,14 @@ def mutants_of_verifier_that_differ():
     names, numbers = (line.split('\t') for line in text_of('oracle/verifier_mutants/counts.tsv').splitlines())
     count = {name: int(number) for name, number in zip(names[2:], numbers[2:])}
     detected = sum(count[kind] for kind in ('value', 'processor', 'right', 'planted'))
-    expected = (f"{count['tested']:,} of its {count['mutants']:,} mutants: {detected:,} are detected ({count['value']:,} by tests of values, "
-                f"{count['processor']:,} beside the processor, {count['right']:,} because a committed source no longer passes, "
-                f"{count['planted']:,} by planted files), {count['reason']:,} have a reason, {count['unexplained']:,} are unexplained, "
-                f"of these {count['of decisions']:,} in comparisons and conditions")
+    expected = (
+        f"{count['tested']:,} of its {count['mutants']:,} mutants: {detected:,} are detected ({count['value']:,} by "
+        f"tests of values, "
+        f"{count['processor']:,} beside the processor, {count['right']:,} because a committed source no longer passes, "
+        f"{count['planted']:,} by planted files), {count['reason']:,} have a reason, {count['unexplained']:,} are "
+        f"unexplained, "
+        f"of these {count['of decisions']:,} in comparisons and conditions"
+    )
     if expected not in text_of('docs/VERIFICATION.md'):
         yield f'docs/VERIFICATION.md does not have that oracle/mutate tried {expected}'
 
@@ -348,10 +394,31 @@ def main():
     parser.add_argument('--write', action='store_true', help='write the tables of speed into README.md first')
     if parser.parse_args().write:
         write(os.path.join(TOP, ratios.PAGE), ratios.with_tables(text_of(ratios.PAGE)))
-    checks = (quotes_that_differ, helps_that_explain_too_little, links_that_lead_nowhere, names_that_differ, listed_names_without_definition, numbers_of_c_that_differ,
-              prefixes_that_need_root, numbers_of_web_that_differ, manifest_that_differs, versions_that_differ, releases_that_differ, figures_that_differ,
-              runs_that_differ, dates_that_differ, planted_dates, tables_that_repeat, words_over_the_limit, pages_that_are_not_plain,
-              plain.planted, ratios_that_differ, planted_tables, mutants_that_differ, mutants_of_verifier_that_differ)
+    checks = (
+        quotes_that_differ,
+        helps_that_explain_too_little,
+        links_that_lead_nowhere,
+        names_that_differ,
+        listed_names_without_definition,
+        numbers_of_c_that_differ,
+        prefixes_that_need_root,
+        numbers_of_web_that_differ,
+        manifest_that_differs,
+        versions_that_differ,
+        releases_that_differ,
+        figures_that_differ,
+        runs_that_differ,
+        dates_that_differ,
+        planted_dates,
+        tables_that_repeat,
+        words_over_the_limit,
+        pages_that_are_not_plain,
+        plain.planted,
+        ratios_that_differ,
+        planted_tables,
+        mutants_that_differ,
+        mutants_of_verifier_that_differ,
+    )
     report = Report()
     for faults in [list(check()) for check in checks]:
         print(*faults, sep='\n', end='\n' * bool(faults))

@@ -6,7 +6,7 @@ import os
 import re
 import tokenize
 
-from tools import TOP, text_of
+from checks.lib.tools import TOP, text_of
 
 LIST = 'checks/docs/words.txt'
 # Code in a page, and in a comment.
@@ -17,10 +17,30 @@ LIKE_C = ('.rt', '.rs', '.c', '.h', '.js', '.mjs', '.ts', '.go', '.java', '.cpp'
 LIKE_SHELL = ('', '.sh', '.in', '.cmake', '.toml', '.txt', '.yml', '.ld')
 # Files whose strings users read: help texts, messages and exceptions; and folders in them that only developers see.
 NOT_READ = re.compile(r'/(checks|tests|bench_c)/')
-MESSAGES = ('crates/xxhsum_*/src/*.rt', 'c/*', 'rust/build-library', 'rust/erase', 'rust/programs/src/bin/*', 'web/*', 'python/*.py',
-            'python/build', 'python/native/*', 'python/src/*', 'release/*', 'examples/*')
+MESSAGES = (
+    'crates/xxhsum_*/src/*.rt',
+    'c/*',
+    'rust/build-library',
+    'rust/eraser/erase.py',
+    'rust/programs/src/bin/*',
+    'web/*',
+    'python/*.py',
+    'python/build',
+    'python/native/*',
+    'python/src/*',
+    'release/*',
+    'examples/*',
+)
 # Files whose comments are documentation, in which "True if" is clearer than "Whether".
-DOCUMENTED = ('crates/*/src/*.rt', 'rust/src/*', 'rust/programs/src/*', 'c/include/*', 'web/*.js', 'web/*.ts', 'python/src/*')
+DOCUMENTED = (
+    'crates/*/src/*.rt',
+    'rust/src/*',
+    'rust/programs/src/*',
+    'c/include/*',
+    'web/*.js',
+    'web/*.ts',
+    'python/src/*',
+)
 PUZZLE = re.compile(r'(?:Whether|What)\b')
 
 
@@ -28,12 +48,18 @@ PUZZLE = re.compile(r'(?:Whether|What)\b')
 def lists():
     """The words, as a pattern for each place in which they are looked for, and the exceptions: (paths, words)."""
     parts = text_of(LIST).split('# Exceptions')
-    rows = [[[cell.strip() for cell in line.split('|')] for line in part.splitlines()[1:] if '|' in line and line[0] != '#']
-            for part in parts]
+    rows = [
+        [[cell.strip() for cell in line.split('|')] for line in part.splitlines()[1:] if '|' in line and line[0] != '#']
+        for part in parts
+    ]
     patterns = {}
     for scope in ('pages', 'comments'):
-        each = [re.escape(word) for words, _, where in rows[0] if where in (scope, 'both') for word in words.split(', ')]
-        patterns[scope] = re.compile(r'(?<![\w/-])(?:' + '|'.join(sorted(each, key=len, reverse=True)) + r')(?![\w/-])', re.I)
+        each = [
+            re.escape(word) for words, _, where in rows[0] if where in (scope, 'both') for word in words.split(', ')
+        ]
+        patterns[scope] = re.compile(
+            r'(?<![\w/-])(?:' + '|'.join(sorted(each, key=len, reverse=True)) + r')(?![\w/-])', re.I
+        )
     return patterns, [(path, set(words.split(', '))) for path, words, _ in rows[1]]
 
 
@@ -68,10 +94,20 @@ def of_lines(text, mark, blocks):
             start = re.match(r'\s*/\*', line)
             comment = comment or (line if start else '')
             is_inside = (is_inside or bool(start)) and '*/' not in line
-        found = None if comment else next((it for it in re.finditer(rf'(?:^|(?<=\s))(?:{mark})(?=[\s/!*]|$)', line)
-                                           if line[:it.start()].count('"') % 2 == 0), None)
-        code = '' if comment else line[:found.start()] if found else line
-        comments.append((number, comment or (line[found.start():] if found else '')))
+        found = (
+            None
+            if comment
+            else next(
+                (
+                    it
+                    for it in re.finditer(rf'(?:^|(?<=\s))(?:{mark})(?=[\s/!*]|$)', line)
+                    if line[: it.start()].count('"') % 2 == 0
+                ),
+                None,
+            )
+        )
+        code = '' if comment else line[: found.start()] if found else line
+        comments.append((number, comment or (line[found.start() :] if found else '')))
         strings += [(number, it[0]) for it in re.finditer(r'"(?:\\.|[^"\\])*"|\'[^\']*\s[^\']*\'', code)]
     return comments, strings
 
@@ -84,7 +120,17 @@ def parts_of(path, text):
     if ending == '.antt':
         return of_lines(text, '--', False)
     if ending == '.html':
-        return [], [(1, re.sub(r'<script.*?</script>|<style.*?</style>|<[^>]*>', lambda it: re.sub(r'[^\n]', ' ', it[0]), text, flags=re.S))]
+        return [], [
+            (
+                1,
+                re.sub(
+                    r'<script.*?</script>|<style.*?</style>|<[^>]*>',
+                    lambda it: re.sub(r'[^\n]', ' ', it[0]),
+                    text,
+                    flags=re.S,
+                ),
+            )
+        ]
     return of_lines(text, r'//|/\*', True) if ending in LIKE_C else of_lines(text, '#', False)
 
 
@@ -105,7 +151,11 @@ def lines_with_words(*paths):
             parts, scope = [(1, without_code(text))], 'pages'
         else:
             comments, strings = parts_of(path, text)
-            is_read = name.startswith('message') or not NOT_READ.search(name) and any(fnmatch.fnmatch(name, it) for it in MESSAGES)
+            is_read = (
+                name.startswith('message')
+                or not NOT_READ.search(name)
+                and any(fnmatch.fnmatch(name, it) for it in MESSAGES)
+            )
             strings = [(line, VALUE.sub(' ', it)) for line, it in strings] if is_read else []
             parts, scope = [(line, without_code(it)) for line, it in comments + strings], 'comments'
         for line, part in parts:

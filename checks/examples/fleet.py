@@ -22,6 +22,7 @@ temporary folder. It installs the library there, as `make -C c install` does, an
 XXHSUM is our program; without it `rt` builds it. It needs 3 GiB of space in TMPDIR. The last line is "N passed, M
 failed", and the status is 1 if one failed. CI does not run this."""
 import contextlib
+import json
 import logging
 import mmap
 import os
@@ -36,9 +37,19 @@ import tempfile
 import threading
 import time
 
-import command
-from report import Fault, Report, want
-from tools import TOP, flip_bit, free_port, install_packages, must, proved_program, short_reads, text_of, write
+from checks.lib import command
+from checks.lib.report import Fault, Report, check
+from checks.lib.tools import (
+    TOP,
+    flip_bit,
+    free_port,
+    install_packages,
+    must,
+    proved_program,
+    short_reads,
+    text_of,
+    write,
+)
 
 # Neither files nor bytes fill the last task, and some tasks are full of bytes.
 FILES, MEDIUM, LARGE, BLOCK = 100050, 12 << 20, 64 << 20, 1000003
@@ -47,8 +58,11 @@ BYTES = [byte for byte in range(1, 128) if byte != ord('/')]
 NOBODY = 65534
 # Without Dask's dashboard; what remains of it listens on loopback.
 QUIET = ('--no-dashboard', '--dashboard-address', '127.0.0.1:0')
-PACKAGES = {'dask-scheduler': 'python3-distributed', 'xxhsum': 'xxhash',
-            '/usr/lib/python3/dist-packages/xxhash/__init__.py': 'python3-xxhash'}
+PACKAGES = {
+    'dask-scheduler': 'python3-distributed',
+    'xxhsum': 'xxhash',
+    '/usr/lib/python3/dist-packages/xxhash/__init__.py': 'python3-xxhash',
+}
 
 
 def until(holds, fault):
@@ -61,6 +75,7 @@ def until(holds, fault):
 
 
 # ---- Input ----
+
 
 def write_tree(tree):
     """Files of 0 to 4,000 bytes in folders of 100, names of every byte, four files of 12 MiB, and ten large ones."""
@@ -83,14 +98,15 @@ def write_tree(tree):
 def lines_of_xxhsum(xxhsum, tree):
     """The manifest by one process of xxhsum, and its time."""
     began = time.monotonic()
-    words = "find . -type f -print0 | LC_ALL=C sort -z | xargs -0 \"$0\" -H2"
-    done = subprocess.run(['sh', '-c', words, xxhsum], cwd=tree, capture_output=True)
+    script = "find . -type f -print0 | LC_ALL=C sort -z | xargs -0 \"$0\" -H2"
+    done = subprocess.run(['sh', '-c', script, xxhsum], cwd=tree, capture_output=True)
     return done.stdout.splitlines(keepends=True), time.monotonic() - began
 
 
 def blocks_by_python(tree, name, block=BLOCK):
     """The lines of a file's blocks by python3-xxhash, which runs on Debian's library here."""
     import xxhash
+
     lines = []
     with open(os.path.join(tree, name), 'rb') as file:
         while piece := file.read(block):
@@ -100,11 +116,12 @@ def blocks_by_python(tree, name, block=BLOCK):
 
 # ---- The cluster ----
 
+
 class Cluster:
     """A scheduler and workers, in a folder that they may write to."""
 
-    def __init__(self, room, library):
-        self.room, self.library = room, library
+    def __init__(self, workdir, library):
+        self.workdir, self.library = workdir, library
         self.run_as = {'user': NOBODY, 'group': NOBODY, 'extra_groups': []} if os.geteuid() == 0 else {}
         port = str(free_port())
         self.address, self.processes, self.workers, self.preloaded = 'tcp://127.0.0.1:' + port, [], [], None
@@ -114,20 +131,39 @@ class Cluster:
     def environment(self, library):
         found = {name: value for name, value in os.environ.items() if not name.startswith('LD_')}
         loader = {'LD_LIBRARY_PATH': library, 'LD_PRELOAD': self.preloaded}
-        return {**found, 'HOME': self.room, **{name: value for name, value in loader.items() if value}}
+        return {**found, 'HOME': self.workdir, **{name: value for name, value in loader.items() if value}}
 
-    def start(self, *words, library=None):
-        log = open(os.path.join(self.room, f'log-{len(self.processes)}'), 'wb')
-        process = subprocess.Popen(words, cwd=self.room, env=self.environment(library), stdin=subprocess.DEVNULL,
-                                   stdout=log, stderr=log, **self.run_as)
+    def start(self, *args, library=None):
+        log = open(os.path.join(self.workdir, f'log-{len(self.processes)}'), 'wb')
+        process = subprocess.Popen(
+            args,
+            cwd=self.workdir,
+            env=self.environment(library),
+            stdin=subprocess.DEVNULL,
+            stdout=log,
+            stderr=log,
+            **self.run_as,
+        )
         self.processes.append(process)
         return process
 
     def add_workers(self, count, library=None):
         for _ in range(count):
-            self.workers.append(self.start('dask-worker', self.address, '--nthreads', '1', '--no-nanny', '--host',
-                                           '127.0.0.1', '--local-directory', self.room, *QUIET,
-                                           library=library or self.library))
+            self.workers.append(
+                self.start(
+                    'dask-worker',
+                    self.address,
+                    '--nthreads',
+                    '1',
+                    '--no-nanny',
+                    '--host',
+                    '127.0.0.1',
+                    '--local-directory',
+                    self.workdir,
+                    *QUIET,
+                    library=library or self.library,
+                )
+            )
 
     def remove_workers(self):
         for worker in self.workers:
@@ -136,18 +172,21 @@ class Cluster:
         self.workers = []
         until(lambda: self.asks(lambda dask_scheduler: len(dask_scheduler.workers)) == 0, 'a worker is left')
 
-    def asks(self, question, **words):
+    def asks(self, question, **args):
         """The scheduler's reply."""
         from distributed import Client
+
         with Client(self.address, timeout=10) as client:
-            return client.run_on_scheduler(question, **words)
+            return client.run_on_scheduler(question, **args)
 
     def kill_in_the_middle(self):
         """Kills a worker while it has tasks, and returns their number."""
+
         # A function of the module would be sent by its name, which the scheduler can't import.
         async def stop_in_the_middle(dask_scheduler, address, pid):
             """Stops a worker when it has tasks and at most two thirds of all are left. Returns how many it has."""
             import asyncio
+
             most, end = 0, time.monotonic() + 60
             while time.monotonic() < end:
                 tasks = dask_scheduler.tasks.values()
@@ -163,7 +202,7 @@ class Cluster:
         found = self.asks(lambda dask_scheduler: {it.pid: it.address for it in dask_scheduler.workers.values()})
         held = self.asks(stop_in_the_middle, address=found[worker.pid], pid=worker.pid)
         worker.kill()
-        want(held, 'no worker was killed in the middle')
+        check(held, 'no worker was killed in the middle')
         return held
 
     def has_workers(self, count):
@@ -180,22 +219,25 @@ class Cluster:
 
 # ---- Runs of the example ----
 
+
 class Fleet:
     """A tree with its expected results, and the example on a cluster."""
 
-    def __init__(self, room, library, xxhsum):
-        self.tree, self.folder, self.xxhsum = os.path.join(room, 'tree'), os.path.join(room, 'out'), xxhsum
+    def __init__(self, workdir, library, xxhsum):
+        self.tree, self.folder, self.xxhsum = os.path.join(workdir, 'tree'), os.path.join(workdir, 'out'), xxhsum
         write_tree(self.tree)
         self.lines, self.alone = lines_of_xxhsum(xxhsum, self.tree)
-        want(len(self.lines) == FILES + len(BYTES) + 14, f'xxhsum printed {len(self.lines)} lines')
+        check(len(self.lines) == FILES + len(BYTES) + 14, f'xxhsum printed {len(self.lines)} lines')
         self.blocks = {f'large-{number}.blocks': blocks_by_python(self.tree, f'large-{number}') for number in range(10)}
-        os.chmod(room, 0o755)
+        os.chmod(workdir, 0o755)
         for name in ('out', 'cluster'):
-            os.mkdir(os.path.join(room, name))
-            os.chmod(os.path.join(room, name), 0o777)
-        self.program = os.path.join(shutil.copytree(os.path.join(TOP, 'examples', 'fleet'), os.path.join(room, 'fleet')), 'fleet.py')
+            os.mkdir(os.path.join(workdir, name))
+            os.chmod(os.path.join(workdir, name), 0o777)
+        self.program = os.path.join(
+            shutil.copytree(os.path.join(TOP, 'examples', 'fleet'), os.path.join(workdir, 'fleet')), 'fleet.py'
+        )
         self.manifest, self.indexes = os.path.join(self.folder, 'manifest'), os.path.join(self.folder, 'indexes')
-        self.cluster = Cluster(os.path.join(room, 'cluster'), library)
+        self.cluster = Cluster(os.path.join(workdir, 'cluster'), library)
 
     def forget(self):
         """Nothing is there from an earlier run."""
@@ -209,19 +251,39 @@ class Fleet:
         """A run, from the beginning unless it continues an earlier one."""
         if not goes_on:
             self.forget()
-        words = [self.program, '--indexes', self.indexes, '--large', str(LARGE), '--block', str(BLOCK), '--library',
-                 self.cluster.library, *more, address or self.cluster.address, tree or self.tree, self.manifest]
-        return subprocess.Popen(words, env=self.cluster.environment(None), stdout=subprocess.PIPE,
-                                stderr=subprocess.PIPE, text=True, cwd=self.folder, **self.cluster.run_as)
+        args = [
+            self.program,
+            '--indexes',
+            self.indexes,
+            '--large',
+            str(LARGE),
+            '--block',
+            str(BLOCK),
+            '--library',
+            self.cluster.library,
+            *more,
+            address or self.cluster.address,
+            tree or self.tree,
+            self.manifest,
+        ]
+        return subprocess.Popen(
+            args,
+            env=self.cluster.environment(None),
+            stdout=subprocess.PIPE,
+            stderr=subprocess.PIPE,
+            text=True,
+            cwd=self.folder,
+            **self.cluster.run_as,
+        )
 
     def end(self, run, status=0):
         """The output of a finished run, and the lines with errors."""
         try:
-            out, told = run.communicate(timeout=300)
+            out, err = run.communicate(timeout=300)
         finally:
             run.kill()
-        want(run.returncode == status, f'status {run.returncode}: {told.strip()[-300:]}')
-        return out, told.splitlines()
+        check(run.returncode == status, f'status {run.returncode}: {err.strip()[-300:]}')
+        return out, err.splitlines()
 
     def printed(self):
         """The lines of the manifest."""
@@ -234,16 +296,16 @@ class Fleet:
     def has_all(self, without=()):
         """The manifest and the indexes are those of one run, except the lines of these names."""
         gone = {b'  ./' + os.fsencode(name) + b'\n' for name in without}
-        want(self.printed() == [line for line in self.lines if line[32:] not in gone], 'the manifest differs')
-        want(not os.path.exists(self.manifest + '.parts'), 'the folder of parts is left')
+        check(self.printed() == [line for line in self.lines if line[32:] not in gone], 'the manifest differs')
+        check(not os.path.exists(self.manifest + '.parts'), 'the folder of parts is left')
         self.has_indexes(self.blocks)
 
     def has_indexes(self, blocks):
         """These are the indexes, by their names, and no others."""
         found = sorted(name for name in os.listdir(self.indexes) if name.endswith('.blocks'))
-        want(found == sorted(blocks), f'there are other indexes: {set(found) ^ set(blocks)}')
+        check(found == sorted(blocks), f'there are other indexes: {set(found) ^ set(blocks)}')
         for name, lines in blocks.items():
-            want(text_of(os.path.join(self.indexes, name)) == lines, f'{name} differs')
+            check(text_of(os.path.join(self.indexes, name)) == lines, f'{name} differs')
 
     def with_workers(self, count):
         self.cluster.remove_workers()
@@ -256,8 +318,8 @@ def agrees(fleet, count):
     fleet.with_workers(count)
     printed = []
     for _ in range(3):
-        out, told = fleet.end(fleet.start())
-        want(not told, told[:1])
+        out, err = fleet.end(fleet.start())
+        check(not err, err[:1])
         fleet.has_all()
         printed.append(out.strip())
     return min(printed, key=lambda line: float(re.search(r'in ([0-9.]+) s', line)[1]))
@@ -265,47 +327,51 @@ def agrees(fleet, count):
 
 def xxhsum_accepts(fleet):
     """xxhsum -c accepts the list. With one byte changed, it reports that file."""
-    words = [fleet.xxhsum, '-c', '--quiet', fleet.manifest]
-    done = subprocess.run(words, cwd=fleet.tree, stdout=subprocess.PIPE)
-    want(done.returncode == 0, done.stdout.decode(errors='replace')[-300:])
+    args = [fleet.xxhsum, '-c', '--quiet', fleet.manifest]
+    done = subprocess.run(args, cwd=fleet.tree, stdout=subprocess.PIPE)
+    check(done.returncode == 0, done.stdout.decode(errors='replace')[-300:])
     path = os.path.join(fleet.tree, 'large-1')
     flip_bit(path)
-    done = subprocess.run(words, cwd=fleet.tree, stdout=subprocess.PIPE)
+    done = subprocess.run(args, cwd=fleet.tree, stdout=subprocess.PIPE)
     flip_bit(path)
     time.sleep(1.1)
-    want(done.returncode == 1 and b'./large-1: FAILED' in done.stdout, 'a changed byte is not noticed')
+    check(done.returncode == 1 and b'./large-1: FAILED' in done.stdout, 'a changed byte is not noticed')
     return f'{len(fleet.lines)} lines; a changed byte is noticed'
 
 
 def names_that_are_no_text(fleet):
     """Names that are not UTF-8, which Debian's xxhsum also prints."""
-    paths = [os.path.join(fleet.tree.encode(), b'names', bytes([byte])) for byte in (0x80, 0xff)]
+    paths = [os.path.join(fleet.tree.encode(), b'names', bytes([byte])) for byte in (0x80, 0xFF)]
     for path in paths:
         write(path, path)
-    done = subprocess.run(['xxhsum', '-q', '-H2', *(b'./names/' + path[-1:] for path in paths)], cwd=fleet.tree,
-                          stdout=subprocess.PIPE, stderr=subprocess.DEVNULL)
+    done = subprocess.run(
+        ['xxhsum', '-q', '-H2', *(b'./names/' + path[-1:] for path in paths)],
+        cwd=fleet.tree,
+        stdout=subprocess.PIPE,
+        stderr=subprocess.DEVNULL,
+    )
     fleet.end(fleet.start())
     for path in paths:
         os.remove(path)
     found = fleet.printed()
-    want(set(found) - set(fleet.lines) == set(done.stdout.splitlines(keepends=True)), 'their lines differ')
-    want(found == sorted(found, key=name_of_line), 'the order is not that of the names')
+    check(set(found) - set(fleet.lines) == set(done.stdout.splitlines(keepends=True)), 'their lines differ')
+    check(found == sorted(found, key=name_of_line), 'the order is not that of the names')
 
 
 def name_of_line(line):
     """The name in a line of a list, unescaped."""
     meant = {b'\\\\': b'\\', b'\\n': b'\n', b'\\r': b'\r'}
-    name = line[34 + line.startswith(b'\\'):-1]
+    name = line[34 + line.startswith(b'\\') : -1]
     return re.sub(rb'\\[\\nr]', lambda escape: meant[escape[0]], name) if line.startswith(b'\\') else name
 
 
 def short_reads_agree(fleet):
     """Each read of a worker or of the driver returns at most 1000 bytes."""
-    fleet.cluster.preloaded = short_reads(fleet.cluster.room)
+    fleet.cluster.preloaded = short_reads(fleet.cluster.workdir)
     fleet.with_workers(2)
-    _, told = fleet.end(fleet.start())
+    _, err = fleet.end(fleet.start())
     fleet.cluster.preloaded = None
-    want(not told, told[:1])
+    check(not err, err[:1])
     fleet.has_all()
 
 
@@ -314,8 +380,8 @@ def worker_dies(fleet):
     fleet.with_workers(2)
     run = fleet.start()
     held = fleet.cluster.kill_in_the_middle()
-    _, told = fleet.end(run)
-    want(not told, told[:1])
+    _, err = fleet.end(run)
+    check(not err, err[:1])
     fleet.has_all()
     return f'{held} of its tasks went to the other one'
 
@@ -324,10 +390,10 @@ def no_worker_is_left(fleet):
     fleet.with_workers(1)
     run = fleet.start('--patience', '3')
     fleet.cluster.kill_in_the_middle()
-    _, told = fleet.end(run, 1)
-    want(told == [f'fleet: no worker at {fleet.cluster.address} for 3 seconds'], told)
-    want(not os.path.exists(fleet.manifest), 'there is a manifest')
-    return told[0]
+    _, err = fleet.end(run, 1)
+    check(err == [f'fleet: no worker at {fleet.cluster.address} for 3 seconds'], err)
+    check(not os.path.exists(fleet.manifest), 'there is a manifest')
+    return err[0]
 
 
 def files_fail(fleet):
@@ -342,16 +408,15 @@ def files_fail(fleet):
     os.rename(os.path.join(fleet.tree, vanishing), os.path.join(fleet.folder, 'vanished'))
     os.chmod(os.path.join(fleet.tree, closed), 0)
     fleet.cluster.add_workers(2)
-    out, told = fleet.end(run, 1)
+    out, err = fleet.end(run, 1)
     os.rename(os.path.join(fleet.folder, 'vanished'), os.path.join(fleet.tree, vanishing))
     os.chmod(os.path.join(fleet.tree, closed), 0o644)
     os.chmod(os.path.join(fleet.tree, folder), 0o755)
-    faults = {vanishing: 'No such file or directory', closed: 'Permission denied',
-              folder: 'Permission denied'}
-    want(sorted(told) == sorted(f'fleet: {name}: {why}' for name, why in faults.items()), told)
+    faults = {vanishing: 'No such file or directory', closed: 'Permission denied', folder: 'Permission denied'}
+    check(sorted(err) == sorted(f'fleet: {name}: {why}' for name, why in faults.items()), err)
     inside = [os.path.join(folder, name) for name in os.listdir(os.path.join(fleet.tree, folder))]
     fleet.has_all([vanishing, closed, *inside])
-    want(out.endswith('3 failed\n') and not os.path.exists(fleet.manifest + '.parts'), out)
+    check(out.endswith('3 failed\n') and not os.path.exists(fleet.manifest + '.parts'), out)
     return 'each is named, and all others have their lines'
 
 
@@ -362,16 +427,16 @@ def driver_dies(fleet):
     for parts in (60, 180):
         run = fleet.start(goes_on=True)
         until(lambda: count_parts(fleet) >= parts or run.poll() is not None, 'it writes no parts')
-        want(run.poll() is None, 'it ended before it was killed')
+        check(run.poll() is None, 'it ended before it was killed')
         run.kill()
         run.communicate()
-        want(not os.path.exists(fleet.manifest), 'there is a manifest')
-    out, told = fleet.end(fleet.start(goes_on=True))
-    want(not told, told[:1])
+        check(not os.path.exists(fleet.manifest), 'there is a manifest')
+    out, err = fleet.end(fleet.start(goes_on=True))
+    check(not err, err[:1])
     fleet.has_all()
-    kept = int(re.search(r'(\d+) of them kept', out)[1])
-    want(kept > 20000, out)
-    return f'{kept} of {len(fleet.lines)} lines were there'
+    reused = int(re.search(r'(\d+) of them kept', out)[1])
+    check(reused > 20000, out)
+    return f'{reused} of {len(fleet.lines)} lines were there'
 
 
 def count_parts(fleet):
@@ -396,7 +461,7 @@ def since_an_older_one(fleet):
     os.rename(f'{changed}/file-556', f'{changed}/renamed')
     os.rename(f'{changed}/file-557', os.path.join(fleet.folder, 'removed'))
     time.sleep(1.1)
-    out, told = fleet.end(fleet.start('--since', older, goes_on=True))
+    out, err = fleet.end(fleet.start('--since', older, goes_on=True))
     lines, _ = lines_of_xxhsum(fleet.xxhsum, fleet.tree)
     found = fleet.printed()
     write(f'{changed}/file-555', data)
@@ -404,8 +469,8 @@ def since_an_older_one(fleet):
     os.rename(f'{changed}/renamed', f'{changed}/file-556')
     os.rename(os.path.join(fleet.folder, 'removed'), f'{changed}/file-557')
     time.sleep(1.1)
-    want(not told and found == lines, 'the manifest differs')
-    want(f', {len(lines) - 3} of them kept, 0 indexes' in out, out)
+    check(not err and found == lines, 'the manifest differs')
+    check(f', {len(lines) - 3} of them kept, 0 indexes' in out, out)
     return out.strip()
 
 
@@ -413,7 +478,7 @@ def indexes_are_of_their_files(fleet):
     """An index of other bytes, or of another size of blocks, is computed again, also if the file's line is kept. One
     of a file that has become small is removed."""
     fleet.end(fleet.start())
-    changed, shorter, kept = (os.path.join(fleet.tree, f'large-{number}') for number in (1, 2, 3))
+    changed, shorter, same = (os.path.join(fleet.tree, f'large-{number}') for number in (1, 2, 3))
     for path in (changed, shorter):
         shutil.copy(path, os.path.join(fleet.folder, os.path.basename(path)))
     with open(changed, 'r+b') as file:
@@ -424,47 +489,55 @@ def indexes_are_of_their_files(fleet):
     seen = []
     for block in (BLOCK, BLOCK + 7):
         names = [f'large-{number}' for number in range(10) if number != 2]
-        out, told = fleet.end(fleet.start('--since', fleet.manifest, '--block', str(block), goes_on=True))
-        want(not told, told[:1])
+        out, err = fleet.end(fleet.start('--since', fleet.manifest, '--block', str(block), goes_on=True))
+        check(not err, err[:1])
         fleet.has_indexes({f'{name}.blocks': blocks_by_python(fleet.tree, name, block) for name in names})
         seen.append(int(re.search(r', (\d+) indexes', out)[1]))
-    inode = os.stat(kept).st_ino
+    inode = os.stat(same).st_ino
     state = text_of(os.path.join(fleet.indexes, 'large-3.state'))
-    wanted = f'{BLOCK + 7} {LARGE + 3} {os.stat(kept).st_ctime_ns} {inode}\n'
-    want(state == wanted, 'the state beside an index is another')
+    expected = f'{BLOCK + 7} {LARGE + 3} {os.stat(same).st_ctime_ns} {inode}\n'
+    check(state == expected, 'the state beside an index is another')
     for path in (changed, shorter):
         shutil.copy(os.path.join(fleet.folder, os.path.basename(path)), path)
     time.sleep(1.1)
-    want(seen == [1, 9], f'{seen} indexes were made anew')
+    check(seen == [1, 9], f'{seen} indexes were built again')
 
 
 def indexes_that_are_cut(fleet):
     """An index that is empty, or has a line less or more, is computed again. All others are kept."""
     fleet.end(fleet.start())
-    for name, change in (('large-4', lambda length: 0), ('large-5', lambda length: length - 50), ('large-6', lambda length: length + 50)):
+    for name, change in (
+        ('large-4', lambda length: 0),
+        ('large-5', lambda length: length - 50),
+        ('large-6', lambda length: length + 50),
+    ):
         path = os.path.join(fleet.indexes, name + '.blocks')
         os.truncate(path, change(os.path.getsize(path)))
-    out, told = fleet.end(fleet.start('--since', fleet.manifest, goes_on=True))
-    want(not told and ', 3 indexes' in out, f'{told[:1]}{out}')
+    out, err = fleet.end(fleet.start('--since', fleet.manifest, goes_on=True))
+    check(not err and ', 3 indexes' in out, f'{err[:1]}{out}')
     fleet.has_all()
     return out.strip()
 
 
+# Prints what parts.py flushes, and what it renames, when it writes a file that has to last.
+CALLS_OF_WRITE = '''
+import json, os, sys
+import parts
+calls, fsync, replace = [], os.fsync, os.replace
+os.fsync = lambda number: calls.append(os.readlink(f"/proc/self/fd/{number}")) or fsync(number)
+os.replace = lambda *names: calls.append(names) or replace(*names)
+parts.write(sys.argv[1], [b"line\\n"], is_lasting=True)
+print(json.dumps(calls))
+'''
+
+
 def indexes_are_on_disk(fleet):
     """Files that a power loss must not truncate are flushed before they are renamed."""
-    sys.path.insert(0, os.path.dirname(fleet.program))
-    import parts
-    path, seen = os.path.join(fleet.folder, 'lasting'), []
-    real = os.fsync, os.replace
-    parts.os.fsync = lambda number: seen.append(os.readlink(f'/proc/self/fd/{number}')) or real[0](number)
-    parts.os.replace = lambda *names: seen.append(names) or real[1](*names)
-    try:
-        parts.write(path, [b'line\n'], is_lasting=True)
-    finally:
-        parts.os.fsync, parts.os.replace = real
-    want(seen == [path + '.part', (path + '.part', path)], seen)
+    path = os.path.join(fleet.folder, 'lasting')
+    calls = json.loads(must([sys.executable, '-B', '-c', CALLS_OF_WRITE, path], cwd=os.path.dirname(fleet.program)))
+    check(calls == [path + '.part', [path + '.part', path]], calls)
     written = re.findall(r'write\(self.index_of\(.*is_lasting=True', text_of(fleet.program))
-    want(len(written) == 2, 'an index is written in another way')
+    check(len(written) == 2, 'an index is written in another way')
 
 
 def through_a_mapping(fleet):
@@ -480,7 +553,7 @@ def through_a_mapping(fleet):
         bytes_of_file[5] = byte ^ 1
         is_moved = os.stat(path).st_ctime_ns != before
         fleet.end(fleet.start('--since', fleet.manifest, goes_on=True))
-        kept = fleet.line_of(name)
+        original = fleet.line_of(name)
         fleet.end(fleet.start('--since', fleet.manifest, '--anew', goes_on=True))
         found = fleet.line_of(name)
         lines, _ = lines_of_xxhsum(fleet.xxhsum, fleet.tree)
@@ -488,8 +561,8 @@ def through_a_mapping(fleet):
         bytes_of_file[5] = byte
     os.utime(path)
     time.sleep(1.1)
-    want([found] == [line for line in lines if line.endswith(name)], '--anew does not read it')
-    want(is_moved or kept != found, '--since has read it, and its time was as it was')
+    check([found] == [line for line in lines if line.endswith(name)], '--anew does not read it')
+    check(is_moved or original != found, '--since has read it, and its time was as it was')
     return 'its time moved here' if is_moved else 'its time was as it was'
 
 
@@ -499,11 +572,11 @@ def long_names(fleet):
     path = os.path.join(fleet.tree, name)
     shutil.copy(os.path.join(fleet.tree, 'large-1'), path)
     os.chmod(path, 0o644)
-    _, told = fleet.end(fleet.start(), 1)
+    _, err = fleet.end(fleet.start(), 1)
     lines, _ = lines_of_xxhsum(fleet.xxhsum, fleet.tree)
     os.remove(path)
-    want(told == [f'fleet: {name}: its index: File name too long'], told)
-    want(fleet.printed() == lines, 'the manifest differs')
+    check(err == [f'fleet: {name}: its index: File name too long'], err)
+    check(fleet.printed() == lines, 'the manifest differs')
     fleet.has_indexes(fleet.blocks)
 
 
@@ -517,29 +590,30 @@ def a_file_grows(fleet):
             while not is_over.is_set():
                 file.write(bytes(1000))
                 time.sleep(0.001)
+
     growing = threading.Thread(target=grow)
     growing.start()
     try:
-        _, told = fleet.end(fleet.start())
+        _, err = fleet.end(fleet.start())
     finally:
         is_over.set()
         growing.join()
     found = [line for line in fleet.printed() if line.endswith(b'  ./growing\n')]
-    want(not told and len(found) == 1, f'{len(found)} lines: {told}')
+    check(not err and len(found) == 1, f'{len(found)} lines: {err}')
     time.sleep(1.1)
     fleet.end(fleet.start('--since', fleet.manifest, goes_on=True))
     found = fleet.printed()
     lines, _ = lines_of_xxhsum(fleet.xxhsum, fleet.tree)
     os.remove(path)
-    want(found == lines, 'the next manifest differs')
+    check(found == lines, 'the next manifest differs')
 
 
 def a_second_run(fleet):
     fleet.cluster.remove_workers()
     first = fleet.start()
     fleet.cluster.has_tasks()
-    _, told = fleet.end(fleet.start(goes_on=True), 1)
-    want(told == [f'fleet: another run is at work in {fleet.manifest}.parts'], told)
+    _, err = fleet.end(fleet.start(goes_on=True), 1)
+    check(err == [f'fleet: another run is at work in {fleet.manifest}.parts'], err)
     fleet.with_workers(2)
     fleet.end(first)
     fleet.has_all()
@@ -558,7 +632,7 @@ def memory(fleet):
         os.chmod(fleet.folder, 0o777)
         found[count] = most_memory(fleet.start(tree=tree), fleet)
         shutil.rmtree(tree)
-    want(found[200000] - found[20000] < 20, f'{found} MB')
+    check(found[200000] - found[20000] < 20, f'{found} MB')
     return ', '.join(f'{count} files: {most} MB' for count, most in found.items())
 
 
@@ -576,53 +650,62 @@ def most_memory(run, fleet):
 def other_library_is_refused(fleet):
     fleet.cluster.remove_workers()
     fleet.cluster.add_workers(1, '/nowhere')
-    _, told = fleet.end(fleet.start(), 1)
-    want(len(told) == 1 and 'LD_LIBRARY_PATH=' + fleet.cluster.library in told[0], told)
-    want(not os.path.exists(fleet.manifest), 'there is a manifest')
-    return told[0]
+    _, err = fleet.end(fleet.start(), 1)
+    check(len(err) == 1 and 'LD_LIBRARY_PATH=' + fleet.cluster.library in err[0], err)
+    check(not os.path.exists(fleet.manifest), 'there is a manifest')
+    return err[0]
 
 
 def no_scheduler(fleet):
     with socket.socket() as unused:
         unused.bind(('127.0.0.1', 0))
-        _, told = fleet.end(fleet.start(address=f'tcp://127.0.0.1:{unused.getsockname()[1]}'), 1)
-    want(len(told) == 1 and 'Timed out trying to connect' in told[0], told)
-    return told[0]
+        _, err = fleet.end(fleet.start(address=f'tcp://127.0.0.1:{unused.getsockname()[1]}'), 1)
+    check(len(err) == 1 and 'Timed out trying to connect' in err[0], err)
+    return err[0]
 
 
-def check_all(report, room, program):
-    library = os.path.join(room, 'prefix', 'lib')
-    must(['make', '-s', '-C', os.path.join(TOP, 'c'), 'install', f'lib={room}/lib', f'PREFIX={room}/prefix'])
+def check_all(report, workdir, program):
+    library = os.path.join(workdir, 'prefix', 'lib')
+    must(['make', '-s', '-C', os.path.join(TOP, 'c'), 'install', f'lib={workdir}/lib', f'PREFIX={workdir}/prefix'])
     xxhsum = os.path.abspath(program) if program else proved_program('xxhsum')
-    fleet = Fleet(room, library, xxhsum)
-    report.row('one process of xxhsum', None, f'{len(fleet.lines)} files in {fleet.alone:.1f} s')
+    fleet = Fleet(workdir, library, xxhsum)
+    report.record('one process of xxhsum', None, f'{len(fleet.lines)} files in {fleet.alone:.1f} s')
     try:
         for count in (1, 2, 4):
             report.attempt(f'{count} workers', agrees, fleet, count)
-        for name, check in (('xxhsum -c', xxhsum_accepts), ('names that are no text', names_that_are_no_text),
-                            ('short reads', short_reads_agree),
-                            ('a worker is killed', worker_dies), ('the driver is killed twice', driver_dies),
-                            ('since an older manifest', since_an_older_one),
-                            ('indexes of changed files and other blocks', indexes_are_of_their_files),
-                            ('indexes that are cut', indexes_that_are_cut), ('indexes are on disk', indexes_are_on_disk),
-                            ('a file changed through a mapping', through_a_mapping),
-                            ('a name too long for an index', long_names), ('files that fail', files_fail),
-                            ('a file grows', a_file_grows), ('a second run', a_second_run), ('no worker is left', no_worker_is_left),
-                            ("a worker on Debian's library", other_library_is_refused), ('no scheduler', no_scheduler),
-                            ("the driver's memory", memory)):
-            report.attempt(name, check, fleet)
+        for name, test in (
+            ('xxhsum -c', xxhsum_accepts),
+            ('names that are no text', names_that_are_no_text),
+            ('short reads', short_reads_agree),
+            ('a worker is killed', worker_dies),
+            ('the driver is killed twice', driver_dies),
+            ('since an older manifest', since_an_older_one),
+            ('indexes of changed files and other blocks', indexes_are_of_their_files),
+            ('indexes that are cut', indexes_that_are_cut),
+            ('indexes are on disk', indexes_are_on_disk),
+            ('a file changed through a mapping', through_a_mapping),
+            ('a name too long for an index', long_names),
+            ('files that fail', files_fail),
+            ('a file grows', a_file_grows),
+            ('a second run', a_second_run),
+            ('no worker is left', no_worker_is_left),
+            ("a worker on Debian's library", other_library_is_refused),
+            ('no scheduler', no_scheduler),
+            ("the driver's memory", memory),
+        ):
+            report.attempt(name, test, fleet)
     finally:
         fleet.cluster.end()
 
 
 def main():
     parser = command.parser(__doc__)
-    parser.add_argument('xxhsum', nargs='?')
+    parser.add_argument('xxhsum', nargs='?', help='our program, which rt builds by default')
     program = parser.parse_args().xxhsum
     install_packages(PACKAGES)
     # Dask's messages about missing workers are no errors.
     logging.disable(logging.CRITICAL)
     report = Report()
-    with tempfile.TemporaryDirectory() as room:
-        check_all(report, room, program)
+    with tempfile.TemporaryDirectory() as workdir:
+        check_all(report, workdir, program)
     return report.end()

@@ -8,7 +8,7 @@ from tools import must, text_of, write
 TOOLS = 'aarch64-linux-gnu-'
 
 
-def debian_root(folder, *packages, architecture='arm64'):
+def debian_root(folder: str, *packages: str, architecture: str = 'arm64') -> str:
     """Debian's packages and everything that they need, unpacked below a folder. For arm64 the versions are those of the
     machine's own lists, to which its compilers belong; for another processor those of the release, since a further
     list may lack it."""
@@ -19,10 +19,10 @@ def debian_root(folder, *packages, architecture='arm64'):
     return root
 
 
-def musl_gcc(room):
+def musl_gcc(workdir: str) -> str:
     """A compiler for musl on 64-bit ARM: Debian's cross compiler, over Debian's musl for that processor."""
-    root = debian_root(os.path.join(room, 'musl'), 'musl-dev')
-    specs, path = os.path.join(room, 'musl-gcc.specs'), os.path.join(room, 'aarch64-linux-musl-gcc')
+    root = debian_root(os.path.join(workdir, 'musl'), 'musl-dev')
+    specs, path = os.path.join(workdir, 'musl-gcc.specs'), os.path.join(workdir, 'aarch64-linux-musl-gcc')
     text = text_of(os.path.join(root, 'usr/lib/aarch64-linux-musl/musl-gcc.specs'))
     write(specs, text.replace('/usr/', root + '/usr/'))
     return write(path, f'#!/bin/sh\nexec {TOOLS}gcc "$@" -specs {specs}\n', 0o755)

@@ -1,20 +1,12 @@
-"""The commands of checks/: each runs `main` of a module, whose docstring is the help."""
+"""The arguments of a command, whose help is the docstring of its module."""
 import argparse
-import importlib
-import os
-import sys
+from typing import Optional
 
 
-def run(module):
-    """Runs the `main` of a module in a folder of checks/, and ends with its status."""
-    sys.path.insert(1, os.path.dirname(os.path.abspath(__file__)))
-    sys.exit(importlib.import_module(module).main())
-
-
-def parser(doc, only=None, name=None):
+def parser(doc: Optional[str], only: Optional[str] = None, name: Optional[str] = None) -> argparse.ArgumentParser:
     """A parser of arguments with this help. `only` names what `--only WORD` selects, and `name` is that of the command
     if it isn't only its file's."""
-    made = argparse.ArgumentParser(name, description=doc, formatter_class=argparse.RawDescriptionHelpFormatter)
+    arguments = argparse.ArgumentParser(name, description=doc, formatter_class=argparse.RawDescriptionHelpFormatter)
     if only:
-        made.add_argument('--only', metavar='WORD', default='', help=f'the {only} whose name has the word')
-    return made
+        arguments.add_argument('--only', metavar='WORD', default='', help=f'the {only} whose name has the word')
+    return arguments

@@ -1,5 +1,6 @@
 /* Preloaded into a program, clips each read of a regular file to 1000 bytes, as POSIX permits and network file systems
- * do. It reaches programs that call `read` by the dynamic loader: not the C library's own `fread`, Go or static ones. */
+ * do. It reaches programs that call `read` by the dynamic loader: not the C library's own `fread`, Go or static
+ * ones. */
 #define _GNU_SOURCE
 #include <dlfcn.h>
 #include <sys/stat.h>

@@ -6,9 +6,10 @@ import socket
 import subprocess
 import sys
 import time
+from typing import Any, Optional, Sequence, TypeVar, Union
 
-from report import want
-
+# A path, as text or as bytes.
+Path = TypeVar('Path', str, bytes)
 TOP = os.path.dirname(os.path.dirname(os.path.dirname(os.path.abspath(__file__))))
 # So that apt-get's messages are in English.
 QUIET = {**os.environ, 'DEBIAN_FRONTEND': 'noninteractive', 'LC_ALL': 'C.UTF-8'}
@@ -16,18 +17,18 @@ QUIET = {**os.environ, 'DEBIAN_FRONTEND': 'noninteractive', 'LC_ALL': 'C.UTF-8'}
 PATIENCE = 900
 
 
-def text_of(path):
+def text_of(path: str) -> str:
     """The text of a file, by its path from the top of the repository."""
     with open(os.path.join(TOP, path), encoding='utf-8') as file:
         return file.read()
 
 
-def bytes_of(path):
+def bytes_of(path: str) -> bytes:
     with open(os.path.join(TOP, path), 'rb') as file:
         return file.read()
 
 
-def write(path, data, mode=None):
+def write(path: Path, data: Union[str, bytes], mode: Optional[int] = None) -> Path:
     """Writes a file of bytes or text, in a folder that is created if it is missing. Returns the path."""
     if folder := os.path.dirname(path):
         os.makedirs(folder, exist_ok=True)
@@ -38,66 +39,73 @@ def write(path, data, mode=None):
     return path
 
 
-def replace_once(path, old, new):
+def replace_once(path: str, old: str, new: str) -> None:
     """Replaces a text of a file, which must have it once."""
     text = text_of(path)
-    want(text.count(old) == 1, f'{path} has {old!r} {text.count(old)} times')
+    if text.count(old) != 1:
+        sys.exit(f'{path} has {old!r} {text.count(old)} times')
     write(path, text.replace(old, new))
 
 
-def flip_bit(path, at=0):
+def flip_bit(path: str, at: int = 0) -> None:
     """Changes one bit of the byte at a place of a file. A second call reverts it."""
     with open(path, 'r+b') as file:
         file.seek(at)
-        byte, = file.read(1)
+        (byte,) = file.read(1)
         file.seek(at)
         file.write(bytes([byte ^ 1]))
 
 
-def free_port():
+def free_port() -> int:
     with socket.socket() as probe:
         probe.bind(('127.0.0.1', 0))
         return probe.getsockname()[1]
 
 
-def ran(words, **more):
+def ran(command: Sequence[Any], **more: Any) -> subprocess.CompletedProcess[str]:
     """Runs a tool to its end. Its messages are in its output."""
-    return subprocess.run(words, stdout=subprocess.PIPE, stderr=subprocess.STDOUT, text=True, errors='replace', **more)
+    return subprocess.run(
+        command, stdout=subprocess.PIPE, stderr=subprocess.STDOUT, text=True, errors='replace', **more
+    )
 
 
-def must(words, **more):
+def must(command: Sequence[Any], **more: Any) -> str:
     """Runs a tool of the check itself, which must succeed."""
-    done = ran(words, **more)
+    done = ran(command, **more)
     if done.returncode:
-        sys.exit(f'{os.path.relpath(sys.argv[0], TOP)}: {" ".join(words)}:\n{done.stdout[-2000:]}')
+        sys.exit(f'{os.path.relpath(sys.argv[0], TOP)}: {" ".join(command)}:\n{done.stdout[-2000:]}')
     return done.stdout
 
 
-def four_hashes(file):
+def four_hashes(file: str) -> str:
     """The lines that each example prints, by Debian's xxhsum."""
     flags = {'32': '-H0', '64': '-H1', '3-64': '-H3', '3-128': '-H2'}
-    hashes = {kind: must(['xxhsum', flag, '-'], stdin=open(file, 'rb')).split() for kind, flag in flags.items()}
-    return ''.join(f'{kind} {words[0] if kind != "3-64" else words[-1]}\n' for kind, words in hashes.items())
+    hashes = {
+        algorithm: must(['xxhsum', flag, '-'], stdin=open(file, 'rb')).split() for algorithm, flag in flags.items()
+    }
+    return ''.join(
+        f'{algorithm} {fields[0] if algorithm != "3-64" else fields[-1]}\n' for algorithm, fields in hashes.items()
+    )
 
 
-def short_reads(folder):
+def short_reads(folder: str) -> str:
     """A library that clips the reads of programs which preload it."""
     path = os.path.join(folder, 'short_reads.so')
     must(['gcc', '-O2', '-shared', '-fPIC', os.path.join(TOP, 'checks', 'lib', 'short_reads.c'), '-o', path, '-ldl'])
     return path
 
 
-def missing_packages(packages):
+def missing_packages(packages: dict[str, str]) -> set[str]:
     """The packages whose command or file is missing."""
     return {package for name, package in packages.items() if not (shutil.which(name) or os.path.exists(name))}
 
 
-def install_packages(packages):
+def install_packages(packages: dict[str, str]) -> None:
     """Installs the missing ones."""
     install(missing_packages(packages))
 
 
-def install(packages):
+def install(packages: set[str]) -> None:
     """Installs packages. Concurrent checks take turns, and wait for other installations."""
     if packages:
         with open('/var/lock/twox-hash-packages', 'w') as turn:
@@ -106,7 +114,7 @@ def install(packages):
             apt_get('install', '-y', '--no-install-recommends', *sorted(packages))
 
 
-def apt_get(*args):
+def apt_get(*args: str) -> None:
     """Runs apt-get. It runs again while another process holds a lock (`update` can't wait for one), and after
     completing an installation that was killed."""
     deadline = time.monotonic() + PATIENCE
@@ -125,7 +133,7 @@ def apt_get(*args):
     sys.exit(f'{os.path.relpath(sys.argv[0], TOP)}: {" ".join(command)}:\n{done.stdout[-2000:]}')
 
 
-def proved_program(name, *flags):
+def proved_program(name: str, *flags: str) -> str:
     """A program of crates/, which rt proves and builds again. Run with no arguments, as here, it may return any
     status."""
     crate = os.path.join(TOP, 'crates', name)
@@ -138,12 +146,12 @@ def proved_program(name, *flags):
     return program
 
 
-def path_without(room, hidden):
+def path_without(workdir: str, hidden: str) -> str:
     """PATH without a command: a folder that contains it is replaced by one with links to everything else in it."""
     folders = []
     for number, folder in enumerate(os.environ['PATH'].split(':')):
         if os.path.lexists(os.path.join(folder, hidden)):
-            links = os.path.join(room, f'commands-without-{hidden}-{number}')
+            links = os.path.join(workdir, f'commands-without-{hidden}-{number}')
             os.mkdir(links)
             for name in os.listdir(folder):
                 if name != hidden:
@@ -153,14 +161,14 @@ def path_without(room, hidden):
     return ':'.join(folders)
 
 
-def hide_rt(room):
+def hide_rt(workdir: str) -> None:
     """Removes rt from PATH."""
-    os.environ['PATH'] = path_without(room, 'rt')
+    os.environ['PATH'] = path_without(workdir, 'rt')
     if shutil.which('rt'):
         sys.exit('rt is on PATH still')
 
 
-def clean_copy(folder):
+def clean_copy(folder: str) -> None:
     """Copies the repository without build output, and without the files that only rt reads: the files in git, or
     without git all."""
     if not os.path.exists(os.path.join(TOP, '.git')):

@@ -25,6 +25,6 @@ def public_functions(crate):
     for file in sorted(glob.glob(f"{crate.folder}/src/**/*.rt", recursive=True)):
         path, lines = os.path.relpath(file, crate.folder), kit.read(file).split("\n")
         for it in source.functions(path, lines):
-            clauses = [found[1] or "result" for found in map(CLAUSE.match, lines[it.head:it.first]) if found]
+            clauses = [found[1] or "result" for found in map(CLAUSE.match, lines[it.head : it.first]) if found]
             if clauses and re.match(r"\s*pub (?!\()", lines[it.head]):
                 yield path, it, clauses

@@ -25,8 +25,8 @@ def main(given, files):
         chosen = [edits.Edit(path, crate, names) for path in paths if f"{crate.name}/{edit_name(path)}" in weak]
         if chosen:
             found.update(tried(crate, chosen))
-    counts = {said: list(found.values()).count(said) for said in (SURVIVES, OPEN, UNKNOWN, NOTHING)}
-    print("; ".join(f"{count} {said}" for said, count in counts.items()))
+    counts = {outcome: list(found.values()).count(outcome) for outcome in (SURVIVES, OPEN, UNKNOWN, NOTHING)}
+    print("; ".join(f"{count} {outcome}" for outcome, count in counts.items()))
     print(f"{counts[OPEN]} passed, {len(found) - counts[OPEN]} failed")
     return 0 if found and counts[OPEN] == len(found) else 1
 
@@ -44,50 +44,66 @@ def tried(crate, chosen):
     """The results of a crate's edits, by name."""
     found = {f"{crate.name}/{it.name}": NOTHING for it in chosen if not it.function}
     waiting = [it for it in chosen if it.function]
-    with tempfile.TemporaryDirectory(prefix="wrong-bodies-hard-") as room:
-        kept = f"{room}/kept"
-        os.makedirs(kept)
+    with tempfile.TemporaryDirectory(prefix="wrong-bodies-hard-") as workdir:
+        stored = f"{workdir}/kept"
+        os.makedirs(stored)
         functions = list(dict.fromkeys(it.function for it in waiting))
-        kit.check(crate, {}, kept, functions)
-        proved = proved_without_answers(crate, functions, {}, kept)
+        kit.check(crate, {}, stored, functions)
+        proved = proved_without_answers(crate, functions, {}, stored)
         while waiting:
             batch = list({it.function: it for it in reversed(waiting)}.values())
             waiting = [it for it in waiting if it not in batch]
-            said = said_of(crate, batch, kept)
-            found.update({f"{crate.name}/{it.name}": UNKNOWN if said[it] == OPEN and not proved.get(it.function) else said[it]
-                          for it in batch})
-    for name, said in sorted(found.items()):
-        if said != OPEN:
-            print(f"{name}: {said}")
+            outcome = outcomes_of(crate, batch, stored)
+            found.update(
+                {
+                    f"{crate.name}/{it.name}": UNKNOWN
+                    if outcome[it] == OPEN and not proved.get(it.function)
+                    else outcome[it]
+                    for it in batch
+                }
+            )
+    for name, outcome in sorted(found.items()):
+        if outcome != OPEN:
+            print(f"{name}: {outcome}")
     print(f"{crate.name}: {len(found)} tried, {list(found.values()).count(SURVIVES)} {SURVIVES}", flush=True)
     return found
 
 
-def said_of(crate, batch, kept):
+def outcomes_of(crate, batch, stored):
     """The results of these edits, one of a function."""
-    proved = proved_without_answers(crate, [it.function for it in batch], {it.function: it for it in batch}, kept)
-    said = {True: SURVIVES, False: OPEN, None: NOTHING}
-    return {it: said[proved[it.function]] for it in batch}
+    proved = proved_without_answers(crate, [it.function for it in batch], {it.function: it for it in batch}, stored)
+    outcomes = {True: SURVIVES, False: OPEN, None: NOTHING}
+    return {it: outcomes[proved[it.function]] for it in batch}
 
 
-def proved_without_answers(crate, functions, changed, kept):
+def proved_without_answers(crate, functions, changed, stored):
     """True for each function that is proved without its answers, with its edit if it has one, False for others, None
     without a verdict: by one check, and if that has no verdict of all, by one of each."""
-    texts = {**edits.texts_with(crate, [changed[it] for it in functions if it in changed]),
-             **{path: NO_ANSWERS for it in functions for path in answers_of(crate, it)}}
-    with kit.no_file_written(), kit.copy_of(kept) as copy:
+    texts = {
+        **edits.texts_with(crate, [changed[it] for it in functions if it in changed]),
+        **{path: NO_ANSWERS for it in functions for path in answers_of(crate, it)},
+    }
+    with kit.no_file_written(), kit.copy_of(stored) as copy:
         status, lines = kit.check(crate, texts, copy, functions)
-    says = {it[2]: it[3] for it in map(kit.LINE.fullmatch, lines) if it}
-    if status in (0, 1) and all(it in says for it in functions):
-        return {it: says[it].startswith("proved") for it in functions}
+    statuses = {it[2]: it[3] for it in map(kit.LINE.fullmatch, lines) if it}
+    if status in (0, 1) and all(it in statuses for it in functions):
+        return {it: statuses[it].startswith("proved") for it in functions}
     if len(functions) == 1:
         return {functions[0]: None}
-    return {it: said for one in functions for it, said in proved_without_answers(crate, [one], changed, kept).items()}
+    return {
+        it: outcome
+        for one in functions
+        for it, outcome in proved_without_answers(crate, [one], changed, stored).items()
+    }
 
 
 def answers_of(crate, function):
     """The files of a function's proof answers, as the crate names them; those of a function that calls itself are
     after a `+`."""
     folder, name = os.path.split(edits.proof_folder(function).rstrip("/"))
-    found = [path for mark in ("", "+") for path in glob.glob(glob.escape(f"{crate.folder}/{folder}/{mark}{name}") + "/Answers.antt")]
+    found = [
+        path
+        for mark in ("", "+")
+        for path in glob.glob(glob.escape(f"{crate.folder}/{folder}/{mark}{name}") + "/Answers.antt")
+    ]
     return [os.path.relpath(path, crate.folder) for path in found]

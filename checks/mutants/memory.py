@@ -15,9 +15,11 @@ from . import kit, source
 HERE = os.path.dirname(os.path.abspath(__file__))
 FOLDER = os.path.join(os.environ.get("XDG_CACHE_HOME") or os.path.expanduser("~/.cache"), "twox_hash", "wrong-bodies")
 WRITTEN = os.path.join(HERE, "refused.txt")
-HEAD = "# Refused by `checks/wrong-bodies --write`: an edit, half of the sum of all that its refusal stands on, and why.\n"
+HEAD = (
+    "# Refused by `checks/wrong-bodies --write`: an edit, half of the sum of all that its refusal stands on, and why.\n"
+)
 # The part of the repository's list that is tried again.
-DRAWN = 0.1
+SAMPLED = 0.1
 # The modules that determine whether an edit is refused. Those that choose edits and print results don't.
 JUDGES = ("copies", "edits", "kit", "proofs", "source", "trial")
 
@@ -30,22 +32,22 @@ def half(its_sum):
 class Memory:
     """Earlier refusals, which a run with --anew doesn't use, and doesn't keep for planted edits."""
 
-    def __init__(self, is_anew=False, keeps=True):
-        self.is_anew, self.keeps, self.sums = is_anew, keeps, {}
-        self.written = {} if is_anew else drawn_out(refusals_written())
+    def __init__(self, is_fresh=False, keeps=True):
+        self.is_fresh, self.keeps, self.sums = is_fresh, keeps, {}
+        self.written = {} if is_fresh else without_sample(refusals_written())
 
     def recall(self, its_sum):
         """The message for the edit of this checksum when it was refused, or None."""
         path = os.path.join(FOLDER, its_sum)
-        if not self.is_anew and os.path.exists(path):
+        if not self.is_fresh and os.path.exists(path):
             return kit.read(path)
         return self.written.get(half(its_sum))
 
-    def keep(self, its_sum, said):
+    def keep(self, its_sum, reason):
         if self.keeps:
             os.makedirs(FOLDER, exist_ok=True)
             with tempfile.NamedTemporaryFile("w", dir=FOLDER, delete=False, encoding="utf-8") as file:
-                file.write(said)
+                file.write(reason)
             os.replace(file.name, os.path.join(FOLDER, its_sum))
 
     def sum_of(self, edit, crate):
@@ -53,7 +55,7 @@ class Memory:
         below, and of the one body that the edit changes with its proof answers, or if it changes no single one, of
         all bodies and proof answers of the crate. Comment lines are left out."""
         text = kit.read(f"{crate.folder}/{edit.path}").split("\n") if edit.function else []
-        own = code_of("\n".join(text[edit.body.head:edit.body.last + 1])) if edit.function else self.bodies(crate)
+        own = code_of("\n".join(text[edit.body.head : edit.body.last + 1])) if edit.function else self.bodies(crate)
         answers = self.answers(crate, edit.function.split("::")[-1] if edit.function else "")
         stated = map(self.stated, [crate, *crate.below()])
         return sum_of([self.machinery(), edit.name, kit.read(edit.file), own, answers, *stated])
@@ -67,17 +69,23 @@ class Memory:
 
     def answers(self, crate, function):
         """The content of the folders of a function's name, and of cycles; without a name in those of all."""
-        folders = {it: os.path.basename(os.path.dirname(it)) for it in files_of(crate, "proofs", "antt") if not is_lemmas(crate, it)}
+        folders = {
+            it: os.path.basename(os.path.dirname(it))
+            for it in files_of(crate, "proofs", "antt")
+            if not is_lemmas(crate, it)
+        }
         own = [it for it, folder in folders.items() if folder.startswith("+") or function in ("", folder)]
         return self.known(f"answers of {crate.name} {function}", lambda: map(code_in, own))
 
     def stated(self, crate):
         """The contracts, the definitions and the lemmas."""
+
         def texts():
             for path in files_of(crate, "src", "rt"):
                 yield code_of(source.without_bodies(os.path.relpath(path, crate.folder), kit.read(path)))
             yield from map(code_in, files_of(crate, "specs", "antt"))
             yield from (code_in(it) for it in files_of(crate, "proofs", "antt") if is_lemmas(crate, it))
+
         return self.known(f"statements of {crate.name}", texts)
 
     def known(self, name, texts):
@@ -102,10 +110,10 @@ def refusals_written():
     return dict(re.findall(r"^\S+ ([0-9a-f]{32}) (.+)$", kit.read(WRITTEN), re.M))
 
 
-def drawn_out(refusals):
+def without_sample(refusals):
     """The refusals except those that this run tries again."""
-    lot = random.SystemRandom()
-    return {its_sum: why for its_sum, why in refusals.items() if lot.random() >= DRAWN}
+    rng = random.SystemRandom()
+    return {its_sum: why for its_sum, why in refusals.items() if rng.random() >= SAMPLED}
 
 
 def write(rows):

@@ -18,34 +18,40 @@ WEAK = (BY_ANSWERS, BY_NAMES, kit.BY_LIMIT)
 
 def main(given):
     os.chdir(kit.TOP)
-    with tempfile.TemporaryDirectory(prefix="wrong-bodies-edits-") as room:
-        files = {it: found for it in chosen_crates(given) if (found := edits.files_of(it, room))}
+    with tempfile.TemporaryDirectory(prefix="wrong-bodies-edits-") as workdir:
+        files = {it: found for it in chosen_crates(given) if (found := edits.files_of(it, workdir))}
         if given.unaimed:
             return aims.main(files)
         if given.hard:
             return hard.main(given, files)
         proofs = Heard(given.jobs) if given.beside_ci else Built(files, given.jobs)
-        trials = try_all(files, proofs, given.jobs, lambda it: tell(it, given.v), memory.Memory(given.anew))
+        trials = try_all(files, proofs, given.jobs, lambda it: print_result(it, given.v), memory.Memory(given.anew))
     if given.write:
         memory.write(refusals(trials))
-    verdicts = [well for trial in trials for well, _ in trial.said.values()]
+    refused = [well for trial in trials for well, _ in trial.said.values()]
     used = resource.getrusage(resource.RUSAGE_CHILDREN)
-    remembered, said = sum(len(it.remembered) for it in trials), [said for it in trials for _, said in it.said.values()]
-    weak = "; ".join(f"{sum(words in it for it in said)} {words}" for words in WEAK)
-    print(f"{len(said)} wrong bodies, {remembered} of whose refusals were remembered; {weak}")
+    remembered, reasons = sum(len(it.remembered) for it in trials), [
+        reasons for it in trials for _, reasons in it.said.values()
+    ]
+    weak = "; ".join(f"{sum(phrase in it for it in reasons)} {phrase}" for phrase in WEAK)
+    print(f"{len(reasons)} wrong bodies, {remembered} of whose refusals were remembered; {weak}")
     print(f"{used.ru_utime + used.ru_stime:.0f} seconds of processor time")
-    print(f"{verdicts.count(True)} passed, {verdicts.count(False)} failed")
-    return 0 if all(verdicts) else 1
+    print(f"{refused.count(True)} passed, {refused.count(False)} failed")
+    return 0 if all(refused) else 1
 
 
 def refusals(trials):
     """(edit, its checksum, reason) of each that was refused."""
-    return [(f"{trial.crate.name}/{edit.name.removesuffix('.edit')}", trial.sums[edit], reason(said))
-            for trial in trials for edit, (well, said) in trial.said.items() if well]
+    return [
+        (f"{trial.crate.name}/{edit.name.removesuffix('.edit')}", trial.sums[edit], weakness(why))
+        for trial in trials
+        for edit, (well, why) in trial.said.items()
+        if well
+    ]
 
 
-def reason(said):
-    return next((words for words in WEAK if words in said), "by a clause's goal")
+def weakness(text):
+    return next((phrase for phrase in WEAK if phrase in text), "by a clause's goal")
 
 
 def chosen_crates(given):
@@ -57,32 +63,35 @@ def chosen_crates(given):
     return [it for it in chosen if not given.since or has_changed(it, given.since)]
 
 
-def tell(trial, is_told_all):
+def print_result(trial, is_verbose):
     """Prints the results of a crate's edits."""
-    told = sorted(trial.said.items(), key=lambda of: of[0].name)
-    for edit, (well, said) in told:
-        if is_told_all or not well:
-            print(f"{trial.crate.name}/{edit.name}: {'refused' if well else 'FAILED'}: {said[:300]}")
-    refused = [well for _, (well, _) in told].count(True)
-    weak = {words: [edit.name for edit, (_, said) in told if words in said] for words in WEAK}
+    verdicts = sorted(trial.said.items(), key=lambda of: of[0].name)
+    for edit, (well, why) in verdicts:
+        if is_verbose or not well:
+            print(f"{trial.crate.name}/{edit.name}: {'refused' if well else 'FAILED'}: {why[:300]}")
+    refused = [well for _, (well, _) in verdicts].count(True)
+    weak = {phrase: [edit.name for edit, (_, why) in verdicts if phrase in why] for phrase in WEAK}
     count = refused - sum(map(len, weak.values()))
     print(
-        f"{trial.crate.name}: {refused} of {len(told)} refused, {count} of them by a clause's goal, {len(trial.remembered)} "
+        f"{trial.crate.name}: {refused} of {len(verdicts)} refused, {count} of them by a clause's goal, "
+        f"{len(trial.remembered)} "
         f"remembered, in {len(trial.checks)} checks of {trial.seconds():.0f} s",
-        *(f"  {words}: {len(names)}: {', '.join(names)}" for words, names in weak.items() if names),
-        *(f"  {took:.0f} s: {what[:200]}" for took, what in trial.checks if is_told_all),
+        *(f"  {phrase}: {len(names)}: {', '.join(names)}" for phrase, names in weak.items() if names),
+        *(f"  {took:.0f} s: {what[:200]}" for took, what in trial.checks if is_verbose),
         sep="\n",
         flush=True,
     )
 
 
-def try_all(files, proofs, jobs, tell_end, remembered):
+def try_all(files, proofs, jobs, print_end, remembered):
     """Tries the edits of each crate that is proved, with as many concurrent checks as fit. Of those that are ready,
     a crate's first check comes before all others, since its edits wait for it; then those of crates that took the
     longest, so that none is left for the end."""
-    with tempfile.TemporaryDirectory(prefix="wrong-bodies-") as room, concurrent.futures.ThreadPoolExecutor(jobs) as pool:
+    with tempfile.TemporaryDirectory(prefix="wrong-bodies-") as workdir, concurrent.futures.ThreadPoolExecutor(
+        jobs
+    ) as pool:
         ordered = sorted(files, key=lambda it: -it.count(rb"\n"))
-        trials = [Trial(it, f"{room}/{it.name}", files[it], proofs.stands_for(it), remembered) for it in ordered]
+        trials = [Trial(it, f"{workdir}/{it.name}", files[it], proofs.stands_for(it), remembered) for it in ordered]
         waiting, ready, running = list(trials), [], {}
         while waiting or ready or running or not proofs.is_ended:
             is_last = proofs.is_ended
@@ -100,10 +109,10 @@ def try_all(files, proofs, jobs, tell_end, remembered):
                 at_work = [*running.values(), *(it for it, _ in ready)].count(trial)
                 ready += [(trial, it) for it in next_checks(trial, at_work)]
                 if trial.is_ended:
-                    tell_end(trial)
+                    print_end(trial)
             if not running:
                 time.sleep(1)
-            tell_progress(trials)
+            print_progress(trials)
     return trials
 
 
@@ -120,11 +129,16 @@ def next_checks(trial, at_work):
     return started or ([] if at_work else [trial.end])
 
 
-def tell_progress(trials):
+def print_progress(trials):
     if sys.stderr.isatty():
-        said = [well for it in trials for well, _ in it.said.values()]
+        verdicts = [well for it in trials for well, _ in it.said.values()]
         whole = sum(len(it.files) for it in trials)
-        print(f"\r{len(said)} of {whole} tried, {said.count(False)} not refused ", end="", file=sys.stderr, flush=True)
+        print(
+            f"\r{len(verdicts)} of {whole} tried, {verdicts.count(False)} not refused ",
+            end="",
+            file=sys.stderr,
+            flush=True,
+        )
 
 
 def has_changed(crate, since):
@@ -148,8 +162,8 @@ def has_other_contracts(library, since):
     return False
 
 
-def git(*words, is_needed=True):
-    ran = subprocess.run(["git", *words], cwd=kit.TOP, capture_output=True, text=True)
+def git(*args, is_needed=True):
+    ran = subprocess.run(["git", *args], cwd=kit.TOP, capture_output=True, text=True)
     if ran.returncode and is_needed:
-        sys.exit(f"wrong-bodies: git {words[0]}: {ran.stderr.strip()}")
+        sys.exit(f"wrong-bodies: git {args[0]}: {ran.stderr.strip()}")
     return ran.stdout if not ran.returncode else ""

@@ -13,8 +13,12 @@ from .trial import BY_ANSWERS, BY_NAMES
 
 PLANTED = os.path.join(os.path.dirname(os.path.abspath(__file__)), "planted")
 REFUSED = "refused, as it must be"
-SAYS = {"refused by a name alone": BY_NAMES, "refused by an answer alone": BY_ANSWERS, "not refused": "NOT REFUSED",
-        "bad edit": "BAD EDIT"}
+MESSAGES = {
+    "refused by a name alone": BY_NAMES,
+    "refused by an answer alone": BY_ANSWERS,
+    "not refused": "NOT REFUSED",
+    "bad edit": "BAD EDIT",
+}
 # A function whose brace is on the line of `fn`, and one with clauses between.
 FUNCTIONS = """fn first(a: u64) -> u64 {
     a + 1
@@ -30,34 +34,44 @@ fn second(a: u64) -> u64
 
 def main(jobs, chosen):
     crates, names = kit.crates(), sorted(file.removesuffix(".edits") for file in os.listdir(PLANTED))
-    with tempfile.TemporaryDirectory() as room:
-        files = {crates[name]: sorted(edits.written(f"{PLANTED}/{name}.edits", f"{room}/{name}"))
-                 for name in names if name in chosen or not chosen}
+    with tempfile.TemporaryDirectory() as workdir:
+        files = {
+            crates[name]: sorted(edits.written(f"{PLANTED}/{name}.edits", f"{workdir}/{name}"))
+            for name in names
+            if name in chosen or not chosen
+        }
         passed, failed = tried(files, jobs)
     lost = places_lost()
-    print(*(f"an edit of a copy of {name} lands elsewhere" for name in lost), f"{passed + 2 - len(lost)} passed, "
-          f"{failed + len(lost)} failed", sep="\n")
+    print(
+        *(f"an edit of a copy of {name} lands elsewhere" for name in lost),
+        f"{passed + 2 - len(lost)} passed, " f"{failed + len(lost)} failed",
+        sep="\n",
+    )
     return 1 if failed or lost else 0
 
 
-def verdict(refused, said):
+def verdict(refused, reason):
     """The verdict on an edit."""
-    return next((name for name, words in SAYS.items() if words in said), "refused" if refused else said[:100])
+    return next((name for name, texts in MESSAGES.items() if texts in reason), "refused" if refused else reason[:100])
 
 
 def tried(files, jobs):
     """Tries the edits of each crate, and prints those with another verdict than expected: how many passed and
     failed."""
     passed = failed = in_batches = 0
-    for trial in run.try_all(files, proofs.Built(files, jobs), jobs, lambda it: None, Memory(is_anew=True, keeps=False)):
-        for edit, (refused, said) in trial.said.items():
+    for trial in run.try_all(
+        files, proofs.Built(files, jobs), jobs, lambda it: None, Memory(is_fresh=True, keeps=False)
+    ):
+        for edit, (refused, reason) in trial.said.items():
             expected = re.search(r"^expected: (.*)$", kit.read(edit.file), re.M)[1].split(" or ")
-            found = verdict(refused, said)
+            found = verdict(refused, reason)
             # A refusal of a batch has its function's own words; everything else has rt's words.
-            in_batches += found == "refused" and REFUSED not in said
+            in_batches += found == "refused" and REFUSED not in reason
             passed, failed = passed + (found in expected), failed + (found not in expected)
             if found not in expected:
-                print(f"{trial.crate.name}/{edit.name}: expected: {' or '.join(expected)}; found: {found}: {said[:300]}")
+                print(
+                    f"{trial.crate.name}/{edit.name}: expected: {' or '.join(expected)}; found: {found}: {reason[:300]}"
+                )
     if not in_batches:
         print("no planted edit was refused in a batch")
     return passed, failed + (not in_batches)
@@ -67,10 +81,10 @@ def places_lost():
     """The functions in whose copies an edit changes another place than it should."""
     lost = []
     for number, it in enumerate(source.functions("src/lib.rt", FUNCTIONS.rstrip("\n").split("\n")), 1):
-        with tempfile.TemporaryDirectory() as room:
-            kit.write(f"{room}/lib.rt", FUNCTIONS)
+        with tempfile.TemporaryDirectory() as workdir:
+            kit.write(f"{workdir}/lib.rt", FUNCTIONS)
             edit = types.SimpleNamespace(body=it, path="lib.rt", function=f"crate::{it.name}")
-            _, _, by = copies.add_copy(room, edit, 1)
-            at, text = FUNCTIONS.index(f"+ {number}") + by, kit.read(f"{room}/lib.rt")
-        lost += [it.name] if text[at:at + 3] != f"+ {number}" else []
+            _, _, by = copies.add_copy(workdir, edit, 1)
+            at, text = FUNCTIONS.index(f"+ {number}") + by, kit.read(f"{workdir}/lib.rt")
+        lost += [it.name] if text[at : at + 3] != f"+ {number}" else []
     return lost

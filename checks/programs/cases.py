@@ -14,7 +14,7 @@ NO_ERROR_TEXT = ('out', 'status')
 
 class Case(NamedTuple):
     name: str
-    words: tuple = ()
+    args: tuple = ()
     given: bytes = b''
     files: dict = {}
     compared: tuple = ALL
@@ -23,7 +23,7 @@ class Case(NamedTuple):
     # A line of sh to run instead of the arguments. It finds the program as "$X".
     shell: str = ''
     # The expected result of ours if it intentionally differs from both originals, which are not run then.
-    wanted: Optional[dict] = None
+    expected: Optional[dict] = None
     # If the originals only print `Wrong parameters`: the argument that ours names after that, by default the first.
     wrong: str = ''
 
@@ -33,9 +33,9 @@ def one_line(text):
     return marked(text) + b'\n'
 
 
-def fails(told, out=b''):
+def fails(message, out=b''):
     """Ours reports these lines, and ends with 1."""
-    return ours(out, b''.join(map(one_line, told)), 1)
+    return ours(out, b''.join(map(one_line, message)), 1)
 
 
 def ours(out, err=b'', status=0):
@@ -89,9 +89,13 @@ def one_unread(out):
 
 
 def audited(*lines, err=b''):
-    """An audit prints these lines, and how many there are of each class. It ends with 0 if no file has changed."""
-    numbers = {word: sum(b': ' + {b'copied': b'copy'}.get(word, word) in line for line in lines)
-               for word in (b'same', b'changed', b'moved', b'copied', b'new', b'missing')}
+    """An audit prints these lines, and how many there are of each class. It ends with 0 if no file has changed. The
+    first `: ` of a line ends its name."""
+    args = [line.split(b': ', 1)[1] for line in lines]
+    numbers = {
+        word: sum(text.startswith({b'copied': b'copy'}.get(word, word)) for text in args)
+        for word in (b'same', b'changed', b'moved', b'copied', b'new', b'missing', b'unreadable')
+    }
     counts = b', '.join(b'%d %s' % (number, word) for word, number in numbers.items())
     is_well = not err and numbers[b'same'] == len(lines)
     return ours(b''.join(line + b'\n' for line in (*lines, counts)), err, 0 if is_well else 1)
@@ -103,8 +107,47 @@ def gen(count):
 
 
 # Lengths at which some hash takes another path, or a buffer is full.
-LENGTHS = (1, 3, 4, 8, 9, 15, 16, 17, 31, 32, 33, 63, 64, 65, 128, 129, 240, 241, 255, 256, 257, 511, 512, 513, 1023,
-           1024, 1025, 1088, 4095, 4096, 4097, 65535, 65536, 65537, 131071, 131072, 131073, 262144, 300001)
+LENGTHS = (
+    1,
+    3,
+    4,
+    8,
+    9,
+    15,
+    16,
+    17,
+    31,
+    32,
+    33,
+    63,
+    64,
+    65,
+    128,
+    129,
+    240,
+    241,
+    255,
+    256,
+    257,
+    511,
+    512,
+    513,
+    1023,
+    1024,
+    1025,
+    1088,
+    4095,
+    4096,
+    4097,
+    65535,
+    65536,
+    65537,
+    131071,
+    131072,
+    131073,
+    262144,
+    300001,
+)
 SIZED = {f'length-{count:06}': gen(count) for count in LENGTHS}
 
 # The files of every case, besides the folder d and the links of `lay_out` in checks/xxhsum.
@@ -161,15 +204,21 @@ def names():
         Case('a carriage return in a name', ('return\r',)),
         Case('a space first in a name', (' space',)),
         Case('brackets and a star in names', ('(p)', '*star')),
-        Case('a name that is not UTF-8', (b'\xff\xfe', 'a'),
-             wanted=ours(X64 + b'  a\n', b"Error: Could not open '\xff\xfe': The name is not UTF-8. \n", 1)),
+        Case(
+            'a name that is not UTF-8',
+            (b'\xff\xfe', 'a'),
+            expected=ours(X64 + b'  a\n', b"Error: Could not open '\xff\xfe': The name is not UTF-8. \n", 1),
+        ),
         Case('a name beyond ASCII', ('é',)),
         Case('devices', ('/dev/null', '/proc/self/gone')),
         Case('a file named stdin', ('stdin',), given=b'world', files={'stdin': HELLO}),
         Case('no file named stdin', ('stdin',), given=b'world'),
-        Case('a read that fails', (FAILING,), wanted=ours(b'', NOT_READ, 1)),
-        Case('reads that fail, among others', ('a', FAILING, FAILING, 'gone', 'a'),
-             wanted=ours(GOOD * 2, NOT_READ * 2 + GONE, 1)),
+        Case('a read that fails', (FAILING,), expected=ours(b'', NOT_READ, 1)),
+        Case(
+            'reads that fail, among others',
+            ('a', FAILING, FAILING, 'gone', 'a'),
+            expected=ours(GOOD * 2, NOT_READ * 2 + GONE, 1),
+        ),
         Case('2,000 names', ('a', 'e') * 1000),
         Case('100,000 short names', ('a',) * 100000),
         Case('12,000 arguments', ('-q',) * 11998 + ('gone', 'a')),
@@ -181,16 +230,22 @@ def names():
     ]
 
 
-def kinds():
+def algorithms():
     """The digest that is computed."""
     cases = [Case(f'-H{number}', (f'-H{number}', 'a', 'e')) for number in ('0', '1', '2', '3', '32', '64', '128')]
     cases += [Case(f'every length, -H{number}', (f'-H{number}', *SIZED), files=SIZED) for number in '0123']
-    cases += [Case(f'-H{number}, a number that is none', (f'-H{number}', 'a'))
-              for number in ('4', '5', '31', '129', 'x', '-1', '+1', ' 1', '0x1', '1K', '4294967289', '4194303K', '4095M')]
-    cases += [Case(f'-H{number}, a number too large', (f'-H{number}', 'a'))
-              for number in ('99999999999', '4294967290', '0004294967290', '4194304K', '4096M', '18446744073709551616')]
-    cases += [Case(f'-H{number}, a number with more', (f'-H{number}', 'a'))
-              for number in ('', '064', '0K', '0Ki', '0KiB', '0KB', '0MiB', '0iB', '0BK', '2q', '2H0', '0qw')]
+    cases += [
+        Case(f'-H{number}, a number that is none', (f'-H{number}', 'a'))
+        for number in ('4', '5', '31', '129', 'x', '-1', '+1', ' 1', '0x1', '1K', '4294967289', '4194303K', '4095M')
+    ]
+    cases += [
+        Case(f'-H{number}, a number too large', (f'-H{number}', 'a'))
+        for number in ('99999999999', '4294967290', '0004294967290', '4194304K', '4096M', '18446744073709551616')
+    ]
+    cases += [
+        Case(f'-H{number}, a number with more', (f'-H{number}', 'a'))
+        for number in ('', '064', '0K', '0Ki', '0KiB', '0KB', '0MiB', '0iB', '0BK', '2q', '2H0', '0qw')
+    ]
     return cases + [
         Case('the last -H counts', ('-H0', '-H2', 'a')),
         Case('the last -H counts in one word', ('-H0H1', 'a')),
@@ -203,8 +258,10 @@ def lines():
     """The form of a printed line."""
     cases = [Case(f'a tagged line, -H{number}', ('--tag', f'-H{number}', 'a', 'e')) for number in '0123']
     cases += [Case(f'little endian, -H{number}', ('--little-endian', f'-H{number}', 'a', 'e')) for number in '0123']
-    cases += [Case(f'little endian and tagged, -H{number}', ('--tag', '--little-endian', f'-H{number}', 'a'))
-              for number in '0123']
+    cases += [
+        Case(f'little endian and tagged, -H{number}', ('--tag', '--little-endian', f'-H{number}', 'a'))
+        for number in '0123'
+    ]
     return cases + [
         Case('tagged lines of odd names', ('--tag', 'line\nfeed', '(p)', 'back\\slash', 'gone', 'd')),
         Case('XXH3 of odd names', ('-H3', 'line\nfeed', '(p)', ' space')),
@@ -213,18 +270,56 @@ def lines():
 
 def options():
     """The arguments before the names."""
-    bad = ('-x', '-l', '-t', '-v', '-Q', '-C', '-q-', '-q,', '-c=1', '-é', '--', '--nope', '--tag=1', '--Tag', '--ta',
-           '--warning', '--checks', '--chec', '--little', '--ignore-missing', '--ignore', '--zer', '--binary', '---', '-- ',
-           '--q')
+    bad = (
+        '-x',
+        '-l',
+        '-t',
+        '-v',
+        '-Q',
+        '-C',
+        '-q-',
+        '-q,',
+        '-c=1',
+        '-é',
+        '--',
+        '--nope',
+        '--tag=1',
+        '--Tag',
+        '--ta',
+        '--warning',
+        '--checks',
+        '--chec',
+        '--little',
+        '--ignore-missing',
+        '--ignore',
+        '--zer',
+        '--binary',
+        '---',
+        '-- ',
+        '--q',
+    )
     cases = [Case(f'the word {word}', (word, 'a')) for word in bad]
     silent = ('-q', '--quiet', '-w', '--warn', '--status', '--strict', '-i5', '-i', '-B64KiB', '-B', '-i5B5', '-i3H0')
     cases += [Case(f'the word {word}, which changes no digest', (word, 'a', 'gone')) for word in silent]
     # The originals write these to standard error.
-    told = ('-V', '--version', '-h', '--help', '-qV', '-Vx', '-hx', '-cV', '-H0h')
-    cases += [Case(f'the word {word}, which only tells', (word,), shell=f'"$X" {word} a | wc -l | grep -cvx 0', wanted=ours(b'1\n'))
-              for word in told]
-    cases += [Case(f'the word {word} to a full disk', shell=f'"$X" {word} >/dev/full',
-                   wanted=fails([b'Error: a failure occurred writing the output.'])) for word in ('-V', '--help')]
+    informing = ('-V', '--version', '-h', '--help', '-qV', '-Vx', '-hx', '-cV', '-H0h')
+    cases += [
+        Case(
+            f'the word {word}, which only tells',
+            (word,),
+            shell=f'"$X" {word} a | wc -l | grep -cvx 0',
+            expected=ours(b'1\n'),
+        )
+        for word in informing
+    ]
+    cases += [
+        Case(
+            f'the word {word} to a full disk',
+            shell=f'"$X" {word} >/dev/full',
+            expected=fails([b'Error: a failure occurred writing the output.']),
+        )
+        for word in ('-V', '--help')
+    ]
     return cases + [
         Case('options after a name are names', ('a', '-H0', '--tag')),
         Case('names after --', ('--', '-x', '-H0')),
@@ -236,12 +331,14 @@ def options():
         Case('a bad option before the version', ('-Z', '-V')),
         Case('a bad option behind good ones', ('-q', '--tag', '-H0x', 'a'), wrong='-H0x'),
         Case('a bad option with a line feed', ('-x\na: OK', 'a')),
-        Case('the version before a bad option', shell='"$X" -V -Z | wc -l', wanted=ours(b'1\n')),
+        Case('the version before a bad option', shell='"$X" -V -Z | wc -l', expected=ours(b'1\n')),
         Case('a number too large before a bad option', ('-i99999999999', '-Z')),
         Case('a bad option after a file', ('a', '--nope')),
         Case('an option that is not UTF-8', (b'-\xff', 'a')),
-        *(Case(f'the benchmark, {word}', (word, 'a'), wanted=fails([b'xxhsum: this xxhsum has no benchmark']))
-          for word in ('-b', '-b3', '--bench-all', '--benchmark-all')),
+        *(
+            Case(f'the benchmark, {word}', (word, 'a'), expected=fails([b'xxhsum: this xxhsum has no benchmark']))
+            for word in ('-b', '-b3', '--bench-all', '--benchmark-all')
+        ),
     ]
 
 
@@ -255,12 +352,21 @@ def input_alone():
         Case('options after -', ('-', '-H0', '--tag'), given=HELLO),
         # The originals ignore standard input if there is a name before it, or open a file of the name `-`: ours never
         # leaves requested input unread, and reports that.
-        *(Case(name, words, given=b'world', files={'-': HELLO}, wanted=fails([BESIDE_NAMES])) for name, words in (
-            ('a name after -', ('-', 'a')), ('- after a name', ('a', '-')), ('- after --', ('--', '-')),
-            ('- between names', ('-H0', 'a', '-', 'a')), ('names after - and --', ('-', '--', 'a')),
-            ('- before a list', ('-c', '-', 'good')), ('- after a list', ('-c', 'good', '-')),
-            ('- before a list of names', ('--files-from', '-', 'a')), ('- among names of an audit', ('--audit', 'good', '-')),
-            ('- before an audit', ('--audit', '-', 'good')))),
+        *(
+            Case(name, args, given=b'world', files={'-': HELLO}, expected=fails([BESIDE_NAMES]))
+            for name, args in (
+                ('a name after -', ('-', 'a')),
+                ('- after a name', ('a', '-')),
+                ('- after --', ('--', '-')),
+                ('- between names', ('-H0', 'a', '-', 'a')),
+                ('names after - and --', ('-', '--', 'a')),
+                ('- before a list', ('-c', '-', 'good')),
+                ('- after a list', ('-c', 'good', '-')),
+                ('- before a list of names', ('--files-from', '-', 'a')),
+                ('- among names of an audit', ('--audit', 'good', '-')),
+                ('- before an audit', ('--audit', '-', 'good')),
+            )
+        ),
         Case('a file of the name -', ('./-',), given=b'world', files={'-': HELLO}),
         Case('input, tagged', ('--tag',), given=HELLO),
         Case('input, little endian', ('--little-endian', '-H0'), given=HELLO),
@@ -268,8 +374,8 @@ def input_alone():
         Case('input, XXH3', ('-H3',), given=HELLO),
         Case('a megabyte of input', ('-H2',), given=b'0123456789abcdef' * 65536),
         Case('input that comes in pieces', shell='(printf hel; sleep 0.1; printf lo) | "$X" -H0'),
-        Case('a folder as input', shell='"$X" <d', wanted=fails([UNREAD_INPUT % IS_FOLDER])),
-        Case('closed input', shell='"$X" <&-', wanted=fails([UNREAD_INPUT % IS_CLOSED])),
+        Case('a folder as input', shell='"$X" <d', expected=fails([UNREAD_INPUT % IS_FOLDER])),
+        Case('closed input', shell='"$X" <&-', expected=fails([UNREAD_INPUT % IS_CLOSED])),
         Case('a file while input is closed', shell='"$X" a <&-'),
         Case('a folder as input, and a file', shell='"$X" a <d'),
     ]
@@ -277,21 +383,33 @@ def input_alone():
 
 def program_names():
     """The program by its other names."""
-    names = ('xxh32sum', 'xxh64sum', 'xxh128sum', 'xxh3sum', 'my-xxh32sum', 'xxh32sum.real', 'XXH32SUM',
-             'xxh128sumxxh32sum')
+    names = (
+        'xxh32sum',
+        'xxh64sum',
+        'xxh128sum',
+        'xxh3sum',
+        'my-xxh32sum',
+        'xxh32sum.real',
+        'XXH32SUM',
+        'xxh128sumxxh32sum',
+    )
     return [Case(f'called {name}', ('a', 'gone'), called=name) for name in names] + [
         Case('called xxh32sum, another kind', ('-H2', 'a'), called='xxh32sum'),
         Case('called xxh32sum, a list', ('-c', 'good', 'junk'), called='xxh32sum'),
         Case('called xxh128sum, a bad option', ('--nope',), called='xxh128sum'),
-        Case('called by a name with a line feed', ('-b',), called='a\nxxhsum', wanted=fails([
-            b'a\nxxhsum: this xxhsum has no benchmark'])),
+        Case(
+            'called by a name with a line feed',
+            ('-b',),
+            called='a\nxxhsum',
+            expected=fails([b'a\nxxhsum: this xxhsum has no benchmark']),
+        ),
         Case('called xxh128sum, tagged', ('--tag', 'a'), called='xxh128sum'),
     ]
 
 
-def of_list(name, text, *options, given=b'', wanted=None):
+def of_list(name, text, *options, given=b'', expected=None):
     """A case that checks the list L with this text."""
-    return Case(name, (*(options or ('-c',)), 'L'), given=given, files={'L': text}, wanted=wanted)
+    return Case(name, (*(options or ('-c',)), 'L'), given=given, files={'L': text}, expected=expected)
 
 
 def verdicts():
@@ -299,11 +417,22 @@ def verdicts():
     mixed = b'junk\n' + WRONG + b'  a\n' + X64 + b'  gone\n' + GOOD
     two_of_each = b'x\ny\n' + (WRONG + b'  a\n') * 2 + X64 + b'  gone\n' + X64 + b'  away\n' + GOOD * 2
     cases = []
-    for words in (('-c',), ('-cw',), ('-cq',), ('-c', '--status'), ('-c', '--strict'), ('-cqw', '--strict'),
-                  ('-c', '--status', '-w', '--strict'), ('-c', '--little-endian'), ('-H0', '--tag', '-c')):
-        told = ' '.join(words)
-        cases += [of_list(f'a good list, {told}', GOOD + X32 + b'  a\n', *words),
-                  of_list(f'a list of all kinds, {told}', mixed, *words)]
+    for args in (
+        ('-c',),
+        ('-cw',),
+        ('-cq',),
+        ('-c', '--status'),
+        ('-c', '--strict'),
+        ('-cqw', '--strict'),
+        ('-c', '--status', '-w', '--strict'),
+        ('-c', '--little-endian'),
+        ('-H0', '--tag', '-c'),
+    ):
+        title = ' '.join(args)
+        cases += [
+            of_list(f'a good list, {title}', GOOD + X32 + b'  a\n', *args),
+            of_list(f'a list of all kinds, {title}', mixed, *args),
+        ]
     return cases + [
         of_list('two of each', two_of_each, '-cw'),
         of_list('--check in full', GOOD, '--check'),
@@ -312,11 +441,17 @@ def verdicts():
         of_list('a missing file alone', X64 + b'  gone\n'),
         of_list('a missing file, quiet', X64 + b'  gone\n', '-cq'),
         of_list('a missing file, status', X64 + b'  gone\n', '-c', '--status'),
-        of_list('a folder in a list', GOOD + X64 + b'  d\n' + GOOD,
-                wanted=one_unread(b'a: OK\n' + unread(b'L:2', b'd', IS_FOLDER) + GOOD_OUT)),
-        of_list('a folder in a list, status', X64 + b'  d\n' + GOOD, '-c', '--status', wanted=refused()),
-        of_list('a read that fails in a list', X64 + b'  ' + FAILING.encode() + b'\n' + GOOD,
-                wanted=one_unread(unread(b'L:1', FAILING.encode()) + GOOD_OUT)),
+        of_list(
+            'a folder in a list',
+            GOOD + X64 + b'  d\n' + GOOD,
+            expected=one_unread(b'a: OK\n' + unread(b'L:2', b'd', IS_FOLDER) + GOOD_OUT),
+        ),
+        of_list('a folder in a list, status', X64 + b'  d\n' + GOOD, '-c', '--status', expected=refused()),
+        of_list(
+            'a read that fails in a list',
+            X64 + b'  ' + FAILING.encode() + b'\n' + GOOD,
+            expected=one_unread(unread(b'L:1', FAILING.encode()) + GOOD_OUT),
+        ),
         of_list('an empty list', b''),
         of_list('an empty list, status', b'', '-c', '--status'),
         of_list('blank lines alone', b'\n\n'),
@@ -325,7 +460,9 @@ def verdicts():
         of_list('a blank line among others', b'\n' + GOOD, '-cw', '--strict'),
         of_list('a comment', b'# made today\n' + GOOD, '-cw'),
         of_list('comments alone', b'# made today\n#\n', '-cw'),
-        of_list('a comment behind a space, and one within a line', b' # a\n' + GOOD[:-1] + b' # made today\n' + GOOD, '-cw'),
+        of_list(
+            'a comment behind a space, and one within a line', b' # a\n' + GOOD[:-1] + b' # made today\n' + GOOD, '-cw'
+        ),
     ]
 
 
@@ -335,10 +472,16 @@ def plain_lines():
         of_list('three lengths of digits', X32 + b'  a\n' + GOOD + X128 + b'  a\n'),
         of_list('no line feed at the end', X64 + b'  a'),
         # The originals parse a carriage return as a part of the line.
-        of_list('carriage returns', X64 + b'  a\r\n' + EMPTY + b'  e\r\n# no\r\n\r\n' + X64 + b'  a\r', '-cw',
-                wanted=ours(b'a: OK\ne: OK\na: OK\n1 line is improperly formatted\n',
-                            b'L:4: Error: Improperly formatted checksum line.\n')),
-        of_list('two carriage returns', X64 + b'  return\r\r\n', '-cw', wanted=ours(one_line(b'return\r: OK'))),
+        of_list(
+            'carriage returns',
+            X64 + b'  a\r\n' + EMPTY + b'  e\r\n# no\r\n\r\n' + X64 + b'  a\r',
+            '-cw',
+            expected=ours(
+                b'a: OK\ne: OK\na: OK\n1 line is improperly formatted\n',
+                b'L:4: Error: Improperly formatted checksum line.\n',
+            ),
+        ),
+        of_list('two carriage returns', X64 + b'  return\r\r\n', '-cw', expected=ours(one_line(b'return\r: OK'))),
         of_list('capital digits', X64.upper() + b'  a\n' + X64[:8].upper() + X64[8:] + b'  a\n'),
         of_list('a star, a letter, a NUL before the name', X64 + b' *a\n' + X64 + b' xa\n' + X64 + b' \0a\n', '-cw'),
         of_list('one space before the name', X64 + b' a\n', '-cw'),
@@ -346,19 +489,44 @@ def plain_lines():
         of_list('no name', X64 + b'\n' + X64 + b' \n' + X64 + b'  \n', '-cw'),
         of_list('a tab in place of a space', X64 + b'\ta\n' + X64 + b' \ta\n', '-cw'),
         of_list('a space or a tab first', b' ' + GOOD + b'\t' + GOOD, '-cw'),
-        of_list('digits of other lengths', X64[1:] + b'  a\n' + X64 + b'0  a\n' + X32 + b'0  a\n' + X128 + b'00  a\n', '-cw'),
+        of_list(
+            'digits of other lengths', X64[1:] + b'  a\n' + X64 + b'0  a\n' + X32 + b'0  a\n' + X128 + b'00  a\n', '-cw'
+        ),
         of_list('no digits', b'  a\n   a\n', '-cw'),
-        of_list('letters that are no digits', b'g' + X64[1:] + b'  a\n' + X64[:-1] + b'g  a\n' + b':' + GOOD[1:], '-cw'),
+        of_list(
+            'letters that are no digits', b'g' + X64[1:] + b'  a\n' + X64[:-1] + b'g  a\n' + b':' + GOOD[1:], '-cw'
+        ),
         of_list('digits of another kind', X3 + b'  a\n' + X64_LE + b'  a\n', '-cw'),
-        of_list('little endian digits', X64_LE + b'  a\n' + X32_LE + b'  a\n' + X128_LE + b'  a\n' + GOOD,
-                '-c', '--little-endian'),
+        of_list(
+            'little endian digits',
+            X64_LE + b'  a\n' + X32_LE + b'  a\n' + X128_LE + b'  a\n' + GOOD,
+            '-c',
+            '--little-endian',
+        ),
         of_list('a NUL after the digits', X64 + b'\0  a\n', '-cw'),
         of_list('a NUL in the name', X64 + b'  a\0b\n' + GOOD, '-cw'),
-        of_list('odd names', b''.join(X64 + b'  ' + name + b'\n' for name in (
-            b'back\\slash', b'(p)', b'*star', b'-x', b'b c', b'link', b'linked-folder/inner', b'broken'))),
+        of_list(
+            'odd names',
+            b''.join(
+                X64 + b'  ' + name + b'\n'
+                for name in (
+                    b'back\\slash',
+                    b'(p)',
+                    b'*star',
+                    b'-x',
+                    b'b c',
+                    b'link',
+                    b'linked-folder/inner',
+                    b'broken',
+                )
+            ),
+        ),
         of_list('a bracket after one space', X64 + b' (p)\n' + X64 + b' (a) = ' + X64 + b'\n', '-cw'),
         of_list('a bracket after two spaces', X64 + b'  (p)\n', '-cw'),
-        of_list('a name of 255 bytes, and one that is too long', X64 + b'  ' + b'n' * 255 + b'\n' + X64 + b'  ' + b'x' * 5000 + b'\n'),
+        of_list(
+            'a name of 255 bytes, and one that is too long',
+            X64 + b'  ' + b'n' * 255 + b'\n' + X64 + b'  ' + b'x' * 5000 + b'\n',
+        ),
         of_list('the prefix of later versions', b'XXH3_' + X3 + b'  a\n' + b'xxh3_' + X3 + b'  a\n', '-cw'),
         of_list('a byte order mark', b'\xef\xbb\xbf' + GOOD, '-cw'),
         of_list('a thousand lines', GOOD * 1000),
@@ -378,8 +546,11 @@ def not_opened(count):
 def over_long(*lines, out=GOOD_OUT * 2):
     """The messages for a list with lines of these numbers longer than 32,767 bytes."""
     count = b'1 line is' if len(lines) == 1 else b'%d lines are' % len(lines)
-    return {'out': out and out + count + b' improperly formatted\n', 'status': 1,
-            'err': b''.join(b'L:%d: Error: Line too long.\n' % line for line in lines)}
+    return {
+        'out': out and out + count + b' improperly formatted\n',
+        'status': 1,
+        'err': b''.join(b'L:%d: Error: Line too long.\n' % line for line in lines),
+    }
 
 
 def long_lines():
@@ -388,32 +559,67 @@ def long_lines():
     return [
         of_list('a line of 32766 bytes', line_of(32766) + GOOD),
         # The limit of the originals for a line that ends with a newline is one byte less.
-        of_list('a line of 32767 bytes', GOOD + line_of(32767) + GOOD,
-                wanted=one_unread(GOOD_OUT + not_opened(32749) + GOOD_OUT)),
-        of_list('a line of 32768 bytes', GOOD + line_of(32768) + GOOD, wanted=over_long(2)),
-        of_list('a line of 100000 bytes', GOOD + line_of(100000) + GOOD, '-cw', wanted=over_long(2)),
+        of_list(
+            'a line of 32767 bytes',
+            GOOD + line_of(32767) + GOOD,
+            expected=one_unread(GOOD_OUT + not_opened(32749) + GOOD_OUT),
+        ),
+        of_list('a line of 32768 bytes', GOOD + line_of(32768) + GOOD, expected=over_long(2)),
+        of_list('a line of 100000 bytes', GOOD + line_of(100000) + GOOD, '-cw', expected=over_long(2)),
         of_list('a line of 40000 bytes, status', GOOD + b'x' * 40000 + b'\n' + GOOD, '-c', '--status'),
         of_list('a last line of 32766 bytes', GOOD + line_of(32766, b'')),
         of_list('a last line of 32767 bytes', GOOD + line_of(32767, b'')),
-        of_list('a last line of 32768 bytes', GOOD * 2 + line_of(32768, b''), wanted=over_long(3)),
-        of_list('a last line of 100000 bytes', GOOD * 2 + line_of(100000, b''), wanted=over_long(3)),
-        of_list('lines that fill the buffer', b''.join(GOOD + line_of(count) for count in (65516, 65535, 65536, 131072)) + GOOD,
-                wanted=over_long(2, 4, 6, 8, out=GOOD_OUT * 5)),
-        of_list('a long line with a NUL before its end', GOOD + X64 + b'  a\0' + b'x' * 32748 + b'\n' + GOOD, wanted=over_long(2)),
-        of_list('a long line with a carriage return at its end', GOOD + line_of(32767, b'\r\n') + GOOD, wanted=over_long(2)),
-        of_list('a line of 32766 bytes and a carriage return', GOOD + line_of(32766, b'\r\n') + GOOD,
-                wanted=one_unread(GOOD_OUT + not_opened(32748) + GOOD_OUT)),
-        of_list('lines within a long one', GOOD + inside + b'\n' + GOOD, wanted=over_long(2)),
-        of_list('lines within a long last one', GOOD * 2 + inside, wanted=over_long(3)),
-        of_list('a long comment', GOOD + b'#' + b'x' * 32767 + b'\n' + GOOD, wanted=over_long(2)),
-        of_list('a comment of 32767 bytes', b'#' + b'x' * 32766 + b'\n' + GOOD, wanted=ours(GOOD_OUT)),
-        of_list('two long lines, strict', GOOD + line_of(40000) * 2 + b'junk\n' + GOOD, '-cw', '--strict',
-                wanted=fails([b'L:2: Error: Line too long.', b'L:3: Error: Line too long.',
-                              b'L:4: Error: Improperly formatted checksum line.'],
-                             GOOD_OUT * 2 + b'3 lines are improperly formatted\n')),
-        of_list('long lines alone', line_of(40000) * 2, wanted=fails([
-            b'L:1: Error: Line too long.', b'L:2: Error: Line too long.',
-            b'L: no properly formatted xxHash checksum lines found'])),
+        of_list('a last line of 32768 bytes', GOOD * 2 + line_of(32768, b''), expected=over_long(3)),
+        of_list('a last line of 100000 bytes', GOOD * 2 + line_of(100000, b''), expected=over_long(3)),
+        of_list(
+            'lines that fill the buffer',
+            b''.join(GOOD + line_of(count) for count in (65516, 65535, 65536, 131072)) + GOOD,
+            expected=over_long(2, 4, 6, 8, out=GOOD_OUT * 5),
+        ),
+        of_list(
+            'a long line with a NUL before its end',
+            GOOD + X64 + b'  a\0' + b'x' * 32748 + b'\n' + GOOD,
+            expected=over_long(2),
+        ),
+        of_list(
+            'a long line with a carriage return at its end',
+            GOOD + line_of(32767, b'\r\n') + GOOD,
+            expected=over_long(2),
+        ),
+        of_list(
+            'a line of 32766 bytes and a carriage return',
+            GOOD + line_of(32766, b'\r\n') + GOOD,
+            expected=one_unread(GOOD_OUT + not_opened(32748) + GOOD_OUT),
+        ),
+        of_list('lines within a long one', GOOD + inside + b'\n' + GOOD, expected=over_long(2)),
+        of_list('lines within a long last one', GOOD * 2 + inside, expected=over_long(3)),
+        of_list('a long comment', GOOD + b'#' + b'x' * 32767 + b'\n' + GOOD, expected=over_long(2)),
+        of_list('a comment of 32767 bytes', b'#' + b'x' * 32766 + b'\n' + GOOD, expected=ours(GOOD_OUT)),
+        of_list(
+            'two long lines, strict',
+            GOOD + line_of(40000) * 2 + b'junk\n' + GOOD,
+            '-cw',
+            '--strict',
+            expected=fails(
+                [
+                    b'L:2: Error: Line too long.',
+                    b'L:3: Error: Line too long.',
+                    b'L:4: Error: Improperly formatted checksum line.',
+                ],
+                GOOD_OUT * 2 + b'3 lines are improperly formatted\n',
+            ),
+        ),
+        of_list(
+            'long lines alone',
+            line_of(40000) * 2,
+            expected=fails(
+                [
+                    b'L:1: Error: Line too long.',
+                    b'L:2: Error: Line too long.',
+                    b'L: no properly formatted xxHash checksum lines found',
+                ]
+            ),
+        ),
     ]
 
 
@@ -422,28 +628,67 @@ def tagged_lines():
     tags = ((b'XXH32', X32), (b'XXH64', X64), (b'XXH128', X128), (b'XXH3', X3))
     turned = ((b'XXH32_LE', X32_LE), (b'XXH64_LE', X64_LE), (b'XXH128_LE', X128_LE), (b'XXH3_LE', X3_LE))
 
-    def tagged(*rows):
-        return b''.join(tag + b' (a) = ' + digits + b'\n' for tag, digits in rows)
+    def tagged(*cases):
+        return b''.join(tag + b' (a) = ' + digits + b'\n' for tag, digits in cases)
 
     return [
         of_list('tagged lines', tagged(*tags)),
         of_list('tagged lines, turned', tagged(*turned)),
         of_list('tagged lines, --little-endian', tagged(*tags, *turned), '-c', '--little-endian'),
         of_list('wrong tagged lines', tagged((b'XXH64', X64_LE), (b'XXH3', X64), (b'XXH3_LE', X3), (b'XXH64', X3))),
-        of_list('tags with digits of another length',
-                tagged((b'XXH32', X64), (b'XXH64', X32), (b'XXH128', X64), (b'XXH3', X128)), '-cw'),
-        of_list('other tags', tagged((b'FOO', X64), (b'FOO', X32), (b'xXXH3', X64), (b'XXH', X64), (b'xxh3', X64)), '-cw'),
-        of_list('tags that go on', tagged((b'XXH3x', X3), (b'XXH32x', X32), (b'XXH128x', X128), (b'x_LEx', X64_LE)), '-cw'),
-        of_list('tags whose _LE stands elsewhere', tagged((b'_LEXXH32', X64_LE), (b'XXH32_L', X32), (b'XXH64__LE', X64_LE))),
+        of_list(
+            'tags with digits of another length',
+            tagged((b'XXH32', X64), (b'XXH64', X32), (b'XXH128', X64), (b'XXH3', X128)),
+            '-cw',
+        ),
+        of_list(
+            'other tags', tagged((b'FOO', X64), (b'FOO', X32), (b'xXXH3', X64), (b'XXH', X64), (b'xxh3', X64)), '-cw'
+        ),
+        of_list(
+            'tags that go on', tagged((b'XXH3x', X3), (b'XXH32x', X32), (b'XXH128x', X128), (b'x_LEx', X64_LE)), '-cw'
+        ),
+        of_list(
+            'tags whose _LE stands elsewhere', tagged((b'_LEXXH32', X64_LE), (b'XXH32_L', X32), (b'XXH64__LE', X64_LE))
+        ),
         of_list('capital digits after a tag', tagged((b'XXH64', X64.upper()), (b'XXH3', X3.upper()))),
-        of_list('spaces elsewhere', b''.join(line % X64 for line in (
-            b'XXH64  (a) = %s\n', b'XXH64 (a)  = %s\n', b'XXH64 (a)= %s\n', b'XXH64 (a) =%s\n', b'XXH64(a) = %s\n',
-            b'XXH64 (a) = %s \n', b'XXH64 (a) =  %s\n', b' XXH64 (a) = %s\n')), '-cw'),
-        of_list('names with brackets and spaces', b''.join(line % X64 for line in (
-            b'XXH64 ((p)) = %s\n', b'XXH64 (b c) = %s\n', b'XXH64 () = %s\n', b'XXH64 (a) (b) = %s\n',
-            b'XXH64 (a) = b) = %s\n'))),
-        of_list('tagged lines cut short', b'X (\nX ()\nX () =\nX () = \n (a) = %s\n(a) = %s\nXXH64 (a = %s\n' % (X64, X64, X64), '-cw'),
-        of_list('tagged lines with carriage returns', b'XXH64 (a) = ' + X64 + b'\r\n', '-cw', wanted=ours(b'a: OK\n')),
+        of_list(
+            'spaces elsewhere',
+            b''.join(
+                line % X64
+                for line in (
+                    b'XXH64  (a) = %s\n',
+                    b'XXH64 (a)  = %s\n',
+                    b'XXH64 (a)= %s\n',
+                    b'XXH64 (a) =%s\n',
+                    b'XXH64(a) = %s\n',
+                    b'XXH64 (a) = %s \n',
+                    b'XXH64 (a) =  %s\n',
+                    b' XXH64 (a) = %s\n',
+                )
+            ),
+            '-cw',
+        ),
+        of_list(
+            'names with brackets and spaces',
+            b''.join(
+                line % X64
+                for line in (
+                    b'XXH64 ((p)) = %s\n',
+                    b'XXH64 (b c) = %s\n',
+                    b'XXH64 () = %s\n',
+                    b'XXH64 (a) (b) = %s\n',
+                    b'XXH64 (a) = b) = %s\n',
+                )
+            ),
+        ),
+        of_list(
+            'tagged lines cut short',
+            b'X (\nX ()\nX () =\nX () = \n (a) = %s\n(a) = %s\nXXH64 (a = %s\n' % (X64, X64, X64),
+            '-cw',
+        ),
+        of_list(
+            'tagged lines with carriage returns', b'XXH64 (a) = ' + X64 + b'\r\n', '-cw', expected=ours(b'a: OK\n')
+        ),
         of_list('a tagged line and no line feed', b'XXH64 (a) = ' + X64),
         of_list('both shapes', tagged(*tags) + GOOD),
     ]
@@ -456,7 +701,9 @@ def missing_files():
         of_list('a missing file is ignored', gone + GOOD + gone, *missing),
         of_list('a missing file is ignored, --ignore-missing first', gone + GOOD, '--ignore-missing', '-c'),
         of_list('a missing file is ignored, beside a wrong line', gone + WRONG + b'  a\n' + GOOD, *missing),
-        of_list('a missing file is ignored, beside an improper line', b'junk\n' + gone + GOOD, *missing, '-w', '--strict'),
+        of_list(
+            'a missing file is ignored, beside an improper line', b'junk\n' + gone + GOOD, *missing, '-w', '--strict'
+        ),
         of_list('a missing file is ignored, quiet', gone + GOOD, *missing, '-q'),
         of_list('a missing file is ignored, status', gone + GOOD, *missing, '--status'),
         of_list('a broken link is ignored', X64 + b'  broken\n' + GOOD, *missing),
@@ -468,18 +715,31 @@ def missing_files():
         of_list('nothing is missing', GOOD, *missing),
         of_list('no proper line, --ignore-missing', b'junk\n', *missing, '-w'),
         of_list('an empty list, --ignore-missing', b'', *missing),
-        of_list('a line that is too long, --ignore-missing', gone + b'x' * 40000 + b'\n' + GOOD, *missing,
-                wanted=over_long(2, out=GOOD_OUT)),
+        of_list(
+            'a line that is too long, --ignore-missing',
+            gone + b'x' * 40000 + b'\n' + GOOD,
+            *missing,
+            expected=over_long(2, out=GOOD_OUT),
+        ),
         Case('several lists, --ignore-missing', (*missing, 'L', 'good', 'wrong'), files={'L': gone}),
         Case('a missing list, --ignore-missing', (*missing, 'gone', 'good')),
         Case('a list from input, --ignore-missing', missing, given=gone),
         Case('names, --ignore-missing', ('--ignore-missing', 'gone', 'a')),
-        *(of_list(f'{name} is not missing', X64 + b'  ' + file + b'\n' + GOOD, *missing,
-                  wanted=one_unread(unread(b'L:1', file, why) + GOOD_OUT)) for name, file, why in (
-            ('a file below no folder', b'a/b', b'Not a directory'), ('a folder in a list', b'd', IS_FOLDER),
-            ('a name that is not UTF-8', b'\xff\xfe', b'The name is not UTF-8'),
-            ('a link to itself', b'loop', b'Too many levels of symbolic links'),
-            ('a read that fails', FAILING.encode(), IO_ERROR))),
+        *(
+            of_list(
+                f'{name} is not missing',
+                X64 + b'  ' + file + b'\n' + GOOD,
+                *missing,
+                expected=one_unread(unread(b'L:1', file, why) + GOOD_OUT),
+            )
+            for name, file, why in (
+                ('a file below no folder', b'a/b', b'Not a directory'),
+                ('a folder in a list', b'd', IS_FOLDER),
+                ('a name that is not UTF-8', b'\xff\xfe', b'The name is not UTF-8'),
+                ('a link to itself', b'loop', b'Too many levels of symbolic links'),
+                ('a read that fails', FAILING.encode(), IO_ERROR),
+            )
+        ),
     ]
 
 
@@ -488,28 +748,44 @@ def lines_with_nuls():
     odd = ('back\\slash', 'line\nfeed', 'return\r')
 
     def beside(name, option, bare, form):
-        return Case(name, shell=f'for X in "$X" sha256sum; do "$X" {option} a "b c" *slash line* return* e | sed -z "{bare}" '
-                    '>"${X##*/}.z"; done; cmp xxhsum.z sha256sum.z && cat xxhsum.z',
-                    wanted=ours(b''.join(form % word.encode() for word in ('a', 'b c', *odd, 'e'))))
+        return Case(
+            name,
+            shell=f'for X in "$X" sha256sum; do "$X" {option} a "b c" *slash line* return* e | sed -z "{bare}" '
+            '>"${X##*/}.z"; done; cmp xxhsum.z sha256sum.z && cat xxhsum.z',
+            expected=ours(b''.join(form % word.encode() for word in ('a', 'b c', *odd, 'e'))),
+        )
 
     def raw(digits, *names):
         return b''.join(digits + b'  ' + name.encode() + b'\0' for name in names)
 
     return [
         beside('lines that NULs end, as sha256sum has them', '-z', 's/^[0-9a-f]*//', b'  %s\0'),
-        beside('tagged lines that NULs end, as sha256sum has them', '-z --tag', 's/^[A-Z0-9]* //; s/[0-9a-f]*$//',
-               b'(%s) = \0'),
-        Case('-z of odd names', ('-z', *odd), wanted=ours(raw(X64, *odd))),
-        Case('--zero and -H3', ('--zero', '-H3', *odd), wanted=ours(raw(b'XXH3_' + X3, *odd))),
-        Case('-z among other letters', ('-qzH0', *odd), wanted=ours(raw(X32, *odd))),
-        Case('-z and -H2, little endian', ('-z', '-H2', '--little-endian', 'a'), wanted=ours(raw(X128_LE, 'a'))),
-        Case('-z of the input', ('-z', '--tag'), given=HELLO, wanted=ours(b'XXH64 (stdin) = ' + X64 + b'\0')),
-        Case('-z of names that NULs end', ('-z', '--files0-from', '-'), given=b'a\0line\nfeed\0',
-             wanted=ours(raw(X64, 'a', 'line\nfeed'))),
-        Case('-z and a missing file', ('-z', 'gone', 'a'), wanted=ours(raw(X64, 'a'), GONE, 1)),
-        *(Case(name, words, wanted=fails([b"Wrong parameters: '-z' with '-c' or '--audit'"])) for name, words in (
-            ('-z with -c', ('-z', '-c', 'good')), ('-c with --zero', ('-c', '--zero', 'good')),
-            ('-z with --audit', ('-z', '--audit', 'good', 'a')))),
+        beside(
+            'tagged lines that NULs end, as sha256sum has them',
+            '-z --tag',
+            's/^[A-Z0-9]* //; s/[0-9a-f]*$//',
+            b'(%s) = \0',
+        ),
+        Case('-z of odd names', ('-z', *odd), expected=ours(raw(X64, *odd))),
+        Case('--zero and -H3', ('--zero', '-H3', *odd), expected=ours(raw(b'XXH3_' + X3, *odd))),
+        Case('-z among other letters', ('-qzH0', *odd), expected=ours(raw(X32, *odd))),
+        Case('-z and -H2, little endian', ('-z', '-H2', '--little-endian', 'a'), expected=ours(raw(X128_LE, 'a'))),
+        Case('-z of the input', ('-z', '--tag'), given=HELLO, expected=ours(b'XXH64 (stdin) = ' + X64 + b'\0')),
+        Case(
+            '-z of names that NULs end',
+            ('-z', '--files0-from', '-'),
+            given=b'a\0line\nfeed\0',
+            expected=ours(raw(X64, 'a', 'line\nfeed')),
+        ),
+        Case('-z and a missing file', ('-z', 'gone', 'a'), expected=ours(raw(X64, 'a'), GONE, 1)),
+        *(
+            Case(name, args, expected=fails([b"Wrong parameters: '-z' with '-c' or '--audit'"]))
+            for name, args in (
+                ('-z with -c', ('-z', '-c', 'good')),
+                ('-c with --zero', ('-c', '--zero', 'good')),
+                ('-z with --audit', ('-z', '--audit', 'good', 'a')),
+            )
+        ),
     ]
 
 
@@ -522,9 +798,12 @@ def several_lists():
         Case('a missing list', ('-c', 'gone', 'good')),
         Case('a missing list alone', ('-c', 'gone')),
         Case('a missing list, status', ('-c', '--status', 'gone')),
-        Case('a folder as a list', ('-c', 'd', 'good'), wanted=fails([UNREAD_LIST % (b'd', IS_FOLDER)], GOOD_OUT)),
-        Case('a list of which each read fails', ('-c', FAILING, 'good'),
-             wanted=fails([UNREAD_LIST % (FAILING.encode(), IO_ERROR)], GOOD_OUT)),
+        Case('a folder as a list', ('-c', 'd', 'good'), expected=fails([UNREAD_LIST % (b'd', IS_FOLDER)], GOOD_OUT)),
+        Case(
+            'a list of which each read fails',
+            ('-c', FAILING, 'good'),
+            expected=fails([UNREAD_LIST % (FAILING.encode(), IO_ERROR)], GOOD_OUT),
+        ),
         Case('options after a list are lists', ('-c', 'good', '-q')),
         Case('lists after --', ('-c', '--', 'good', '-x')),
         Case('the last of two options', ('-q', '-c', 'wrong')),
@@ -534,13 +813,21 @@ def several_lists():
         Case('an empty list from input', ('-c',)),
         Case('a list named stdin', ('-c', 'stdin'), given=WRONG + b'  a\n', files={'stdin': GOOD}),
         Case('- in a list is a file', ('-c',), given=X64 + b'  -\n', files={'-': HELLO}),
-        Case('stdin in a list from input', ('-c',), given=GOOD + X64 + b'  stdin\n' + GOOD,
-             wanted=one_unread(b'a: OK\n' + no_stdin(b'stdin:2') + GOOD_OUT)),
-        of_list('stdin in a list', X64 + b'  stdin\n', given=HELLO, wanted=one_unread(no_stdin(b'L:1'))),
-        of_list('stdin in a list, twice', X64 + b'  stdin\n' + EMPTY + b'  stdin\n', given=HELLO,
-                wanted=ours(no_stdin(b'L:1') + no_stdin(b'L:2') + b'2 listed files could not be read\n', b'', 1)),
-        Case('a folder as input of lists', shell='"$X" -c <d', wanted=fails([UNREAD_LIST % (b'stdin', IS_FOLDER)])),
-        Case('closed input of lists', shell='"$X" -c <&-', wanted=fails([UNREAD_LIST % (b'stdin', IS_CLOSED)])),
+        Case(
+            'stdin in a list from input',
+            ('-c',),
+            given=GOOD + X64 + b'  stdin\n' + GOOD,
+            expected=one_unread(b'a: OK\n' + no_stdin(b'stdin:2') + GOOD_OUT),
+        ),
+        of_list('stdin in a list', X64 + b'  stdin\n', given=HELLO, expected=one_unread(no_stdin(b'L:1'))),
+        of_list(
+            'stdin in a list, twice',
+            X64 + b'  stdin\n' + EMPTY + b'  stdin\n',
+            given=HELLO,
+            expected=ours(no_stdin(b'L:1') + no_stdin(b'L:2') + b'2 listed files could not be read\n', b'', 1),
+        ),
+        Case('a folder as input of lists', shell='"$X" -c <d', expected=fails([UNREAD_LIST % (b'stdin', IS_FOLDER)])),
+        Case('closed input of lists', shell='"$X" -c <&-', expected=fails([UNREAD_LIST % (b'stdin', IS_CLOSED)])),
         Case('a pipe as a list', shell=f'mkfifo p; printf "{X64.decode()}  a\\n" >p & "$X" -c p'),
     ]
 
@@ -548,11 +835,11 @@ def several_lists():
 def ends():
     """A full disk and closed streams. The original doesn't report that its output is lost; ours must."""
     return [
-        Case('a full disk', shell='"$X" a >/dev/full', wanted=refused()),
-        Case('a full disk, many lines', ('a',) * 3, shell='"$X" a a a >/dev/full', wanted=refused()),
-        Case('a full disk, a list', shell='"$X" -c good >/dev/full', wanted=refused()),
-        Case('closed output', shell='"$X" a >&-', wanted=refused()),
-        Case('closed output, a list', shell='"$X" -c good >&-', wanted=refused()),
+        Case('a full disk', shell='"$X" a >/dev/full', expected=refused()),
+        Case('a full disk, many lines', ('a',) * 3, shell='"$X" a a a >/dev/full', expected=refused()),
+        Case('a full disk, a list', shell='"$X" -c good >/dev/full', expected=refused()),
+        Case('closed output', shell='"$X" a >&-', expected=refused()),
+        Case('closed output, a list', shell='"$X" -c good >&-', expected=refused()),
         Case('closed error', shell='"$X" a gone 2>&-', compared=NO_ERROR_TEXT),
         Case('a full disk for errors', shell='"$X" a gone 2>/dev/full', compared=NO_ERROR_TEXT),
     ]
@@ -562,122 +849,303 @@ def trees():
     """Lists of names, and audits, which neither original has."""
     listed = {'listed': b'a\nb c\n(p)\n', 'more': b'e\n*star'}
     lines = X64 + b'  a\n' + WRONG + b'  *star\n' + EMPTY + b'  e\n' + X64 + b'  old\n' + X64_LE + b'  lost\n'
-    changed = audited(b'*star: changed', b'a: same', b'e: same', b'(p): moved from old', b'lost: missing', b'b c: new')
+    changed = audited(b'*star: changed', b'a: same', b'e: same', b'(p): moved from old', b'b c: new', b'lost: missing')
 
-    def audit(name, words, listed, wanted, **files):
-        return Case(name, ('--audit', 'lines', *words), files={'lines': listed, **files}, wanted=wanted)
+    def audit(name, args, listed, expected, **files):
+        return Case(name, ('--audit', 'lines', *args), files={'lines': listed, **files}, expected=expected)
 
     return [
         Case('names of a file', ('--files-from', 'listed'), files=listed),
         Case('names of a file, by the other word', ('--filelist', '-H0', 'listed'), files=listed),
         Case('names of two files', ('--files-from', '--tag', 'listed', 'more'), files=listed),
         Case('names of the input', ('--files-from',), given=b'a\ne\n'),
-        Case('names with carriage returns', ('--files-from', 'listed'), files={'listed': b'return\r\na\r\n'},
-             wanted=fails([b"Error: Could not open 'a\r': No such file or directory. "],
-                          b'\\' + X64 + b'  return\\r\n')),
+        Case(
+            'names with carriage returns',
+            ('--files-from', 'listed'),
+            files={'listed': b'return\r\na\r\n'},
+            expected=fails(
+                [b"Error: Could not open 'a\r': No such file or directory. "], b'\\' + X64 + b'  return\\r\n'
+            ),
+        ),
         audit('an audit of a list with carriage returns', ('a',), X64 + b'  a\r\n', audited(b'a: same')),
-        Case('names that NULs end', ('--files0-from', 'ended'), files={'ended': b'a\0line\nfeed\0e'},
-             wanted=ours(X64 + b'  a\n\\' + X64 + b'  line\\nfeed\n' + EMPTY + b'  e\n')),
-        Case('an audit of names of the input, by -', ('--audit', '--files0-from', '-', 'good'), given=b'a\0',
-             wanted=audited(b'a: same')),
-        Case('names that NULs end, of the input', ('--files0-from', '-'), given=b'a\0e\0',
-             wanted=ours(GOOD + EMPTY + b'  e\n')),
+        Case(
+            'names that NULs end',
+            ('--files0-from', 'ended'),
+            files={'ended': b'a\0line\nfeed\0e'},
+            expected=ours(X64 + b'  a\n\\' + X64 + b'  line\\nfeed\n' + EMPTY + b'  e\n'),
+        ),
+        Case(
+            'an audit of names of the input, by -',
+            ('--audit', '--files0-from', '-', 'good'),
+            given=b'a\0',
+            expected=audited(b'a: same'),
+        ),
+        Case(
+            'names that NULs end, of the input',
+            ('--files0-from', '-'),
+            given=b'a\0e\0',
+            expected=ours(GOOD + EMPTY + b'  e\n'),
+        ),
         audit('an audit', ('a', 'e', 'b c', '(p)', '*star'), lines, changed),
-        Case('an audit of names of the input', ('--audit', '--files0-from', 'lines'), files={'lines': lines},
-             given=b'*star\0b c\0a\0(p)\0e', wanted=changed),
-        Case('an audit of what stayed', ('--audit', '-H0', 'good', 'a'), wanted=audited(b'a: same')),
-        audit('an audit of copies', ('z', 'a', 'y', 'k', '(p)'), GOOD + X64 + b'  (p)\n',
-              audited(b'(p): same', b'a: same', b'y: copy of (p)', b'z: copy of (p)', b'k: new'),
-              y=HELLO, z=HELLO, k=b''),
-        audit('an audit of a copy beside a moved file', ('a', 'y', 'z'), GOOD + X64 + b'  old\n',
-              audited(b'a: same', b'y: moved from old', b'z: copy of a'), y=HELLO, z=HELLO),
-        audit('an audit of the bytes of a file before and after it changed', ('a', 'y', 'k'), EMPTY + b'  a\n',
-              audited(b'a: changed', b'y: new', b'k: new'), y=HELLO, k=b''),
-        audit('an audit of a copy by another algorithm', ('(p)', 'a', 'z'), b'XXH3_' + X3_LE + b'  (p)\n' + GOOD,
-              audited(b'(p): changed', b'a: same', b'z: new'), z=HELLO),
-        audit('an audit of names with ./', ('./a', 'e', './z', '././y'), GOOD + EMPTY + b'  ././e\n',
-              audited(b'./a: same', b'e: same', b'././y: copy of ./a', b'./z: copy of ./a'), y=HELLO, z=HELLO),
-        audit('an audit of a line with ./ that is missing', ('z',), X64 + b'  ./old\n', audited(b'z: moved from ./old'),
-              z=HELLO),
-        audit('an audit of lines that differ by ./', ('a',), GOOD + X64 + b'  ./a\n',
-              fails([b"lines: duplicate name './a'."])),
+        Case(
+            'an audit of names of the input',
+            ('--audit', '--files0-from', 'lines'),
+            files={'lines': lines},
+            given=b'*star\0b c\0a\0(p)\0e',
+            expected=changed,
+        ),
+        Case('an audit of what stayed', ('--audit', '-H0', 'good', 'a'), expected=audited(b'a: same')),
+        audit(
+            'an audit of copies',
+            ('z', 'a', 'y', 'k', '(p)'),
+            GOOD + X64 + b'  (p)\n',
+            audited(b'(p): same', b'a: same', b'k: new', b'y: copy of (p)', b'z: copy of (p)'),
+            y=HELLO,
+            z=HELLO,
+            k=b'',
+        ),
+        audit(
+            'an audit of a copy beside a moved file',
+            ('a', 'y', 'z'),
+            GOOD + X64 + b'  old\n',
+            audited(b'a: same', b'y: moved from old', b'z: copy of a'),
+            y=HELLO,
+            z=HELLO,
+        ),
+        audit(
+            'an audit of the bytes of a file before and after it changed',
+            ('a', 'y', 'k'),
+            EMPTY + b'  a\n',
+            audited(b'a: changed', b'k: new', b'y: new'),
+            y=HELLO,
+            k=b'',
+        ),
+        audit(
+            'an audit of a copy by another algorithm',
+            ('(p)', 'a', 'z'),
+            b'XXH3_' + X3_LE + b'  (p)\n' + GOOD,
+            audited(b'(p): changed', b'a: same', b'z: new'),
+            z=HELLO,
+        ),
+        audit(
+            'an audit of names with ./',
+            ('./a', 'e', './z', '././y'),
+            GOOD + EMPTY + b'  ././e\n',
+            audited(b'./a: same', b'e: same', b'././y: copy of ./a', b'./z: copy of ./a'),
+            y=HELLO,
+            z=HELLO,
+        ),
+        audit(
+            'an audit of a line with ./ that is missing',
+            ('z',),
+            X64 + b'  ./old\n',
+            audited(b'z: moved from ./old'),
+            z=HELLO,
+        ),
+        audit(
+            'an audit of lines that differ by ./',
+            ('a',),
+            GOOD + X64 + b'  ./a\n',
+            fails([b"lines: duplicate name './a'."]),
+        ),
         audit('an audit of names that differ by ./', ('a', '././a'), GOOD, fails([b"Error: duplicate name '././a'."])),
-        audit('an audit of names that differ by ./ inside', ('d/inner', 'd/./inner'), X64 + b'  d/inner\n',
-              audited(b'd/inner: same', b'd/./inner: copy of d/inner')),
+        audit(
+            'an audit of names that differ by ./ inside',
+            ('d/inner', 'd/./inner'),
+            X64 + b'  d/inner\n',
+            audited(b'd/inner: same', b'd/./inner: copy of d/inner'),
+        ),
         audit('an audit of two kinds', ('a',), X128 + b'  old\n', audited(b'a: moved from old')),
-        audit('an audit of a name that is not there', ('a', 'gone'), GOOD, audited(b'a: same', err=GONE)),
+        audit(
+            'an audit of a name that is not there',
+            ('a', 'gone'),
+            GOOD,
+            audited(b'a: same', b'gone: unreadable', err=GONE),
+        ),
+        audit(
+            'an audit of a listed name that is not there',
+            ('a', 'gone'),
+            GOOD + X64 + b'  gone\n',
+            audited(b'a: same', b'gone: unreadable', err=GONE),
+        ),
+        audit(
+            'an audit of a folder among the names',
+            ('a', 'd'),
+            GOOD,
+            audited(b'a: same', b'd: unreadable', err=b'xxhsum: d: Is a directory \n'),
+        ),
+        audit(
+            'an audit of names with a colon and a space',
+            ('x: y', 'x: moved from y', 'p:q', 'r :s', 't: '),
+            (
+                X64
+                + b'  y: same\n'
+                + EMPTY
+                + b'  x: moved from y\n'
+                + EMPTY
+                + b'  p:q\n'
+                + EMPTY
+                + b'  r :s\n'
+                + EMPTY
+                + b'  t: \n'
+            ),
+            audited(
+                b'p:q: same',
+                b'r :s: same',
+                b'\\t:\\ : same',
+                b'\\x:\\ moved from y: same',
+                b'\\x:\\ y: moved from y: same',
+            ),
+            **{'x: y': HELLO, 'x: moved from y': b'', 'p:q': b'', 'r :s': b'', 't: ': b''},
+        ),
         audit('an audit of a line that stands twice', ('a',), GOOD * 2, fails([b"lines: duplicate name 'a'."])),
         audit('an audit of a name that stands twice', ('a', 'a'), GOOD, fails([b"Error: duplicate name 'a'."])),
         audit('an audit of a list that breaks off', ('a',), GOOD + X64, IMPROPER),
-        audit('an audit of a list with a line of 32768 bytes', ('a',), GOOD + line_of(32768) + GOOD,
-              fails([b'lines:2: Error: Line too long.'])),
+        audit(
+            'an audit of a list with a line of 32768 bytes',
+            ('a',),
+            GOOD + line_of(32768) + GOOD,
+            fails([b'lines:2: Error: Line too long.']),
+        ),
         audit('an audit of a list with a last line of 32767 bytes', ('a',), GOOD + line_of(32767, b'\r')[1:], IMPROPER),
-        Case('an audit without a list', ('--audit',), wanted=fails([b'Error: --audit needs a list.'])),
-        Case('an audit to a full disk', files={'lines': GOOD}, shell='"$X" --audit lines a >/dev/full', wanted=refused()),
+        Case('an audit without a list', ('--audit',), expected=fails([b'Error: --audit needs a list.'])),
+        Case(
+            'an audit to a full disk',
+            files={'lines': GOOD},
+            shell='"$X" --audit lines a >/dev/full',
+            expected=refused(),
+        ),
     ]
 
 
 def small_stacks():
     """The stack that docs/XXHSUM.md promises."""
-    rows = {'a file': ('a', GOOD), 'a list': ('-c good', GOOD_OUT), 'names': ('--files-from named', GOOD),
-            'a folder': ('-r d', X64 + b'  d/inner\n'), 'an audit': ('--audit good a', audited(b'a: same')['out']),
-            'an audit of a folder': ('-r --audit inner d', audited(b'd/inner: same')['out']), 'input': ('- <a', X64 + b'  stdin\n')}
-    return [Case(f'a small stack, {name}', shell=f'ulimit -s 320; "$X" {words}', wanted=ours(out),
-                 files={'named': b'a\n', 'inner': X64 + b'  d/inner\n'}) for name, (words, out) in rows.items()]
+    cases = {
+        'a file': ('a', GOOD),
+        'a list': ('-c good', GOOD_OUT),
+        'names': ('--files-from named', GOOD),
+        'a folder': ('-r d', X64 + b'  d/inner\n'),
+        'an audit': ('--audit good a', audited(b'a: same')['out']),
+        'an audit of a folder': ('-r --audit inner d', audited(b'd/inner: same')['out']),
+        'input': ('- <a', X64 + b'  stdin\n'),
+    }
+    return [
+        Case(
+            f'a small stack, {name}',
+            shell=f'ulimit -s 320; "$X" {args}',
+            expected=ours(out),
+            files={'named': b'a\n', 'inner': X64 + b'  d/inner\n'},
+        )
+        for name, (args, out) in cases.items()
+    ]
 
 
 def folders():
     """The files below directories, which neither original reads."""
-    tree = ('mkdir -p t/b/deep t/b.x t/none; cp a t/a; cp e t/B; cp a t/b/z; cp e t/b/deep/q; cp a t/b.x/c; ln -s ../a t/b/file; '
-            'ln -s ../../d t/b/folder; ln -s .. t/b/up; mkfifo t/pipe; ')
+    tree = (
+        'mkdir -p t/b/deep t/b.x t/none; cp a t/a; cp e t/B; cp a t/b/z; cp e t/b/deep/q; cp a t/b.x/c; ln -s ../a '
+        't/b/file; '
+        'ln -s ../../d t/b/folder; ln -s .. t/b/up; mkfifo t/pipe; '
+    )
     # Root in the tests can read all directories, unless it drops that capability.
     bound = '[ "$(id -u)" = 0 ] && run="setpriv --bounding-set=-dac_override,-dac_read_search"; chmod 0 t/b; '
-    rows = [(EMPTY, b'B'), (X64, b'a'), (EMPTY, b'b/deep/q'), (X64, b'b/z'), (X64, b'b.x/c')]
-    found = b''.join(digits + b'  t/' + name + b'\n' for digits, name in rows)
+    cases = [(EMPTY, b'B'), (X64, b'a'), (EMPTY, b'b/deep/q'), (X64, b'b/z'), (X64, b'b.x/c')]
+    found = b''.join(digits + b'  t/' + name + b'\n' for digits, name in cases)
     closed = b"Error: Could not open 't/b': Permission denied. "
     beside = fails([b"Wrong parameters: '-r' with '-c' or lists of names"])
     alone = fails([b"Wrong parameters: '-r' without a FILE"])
 
     return [
-        Case('-r of a tree', shell=tree + '"$X" -r t', wanted=ours(found)),
-        Case('-r as find and sort have it', shell=tree + 'rm t/b.x/c; "$X" -r t >ours; find t -type f -print0 | LC_ALL=C sort -z | '
-             '"$X" --files0-from >theirs; cmp ours theirs', wanted=ours(b'')),
-        Case('-r of a name that ends with a slash', ('-r', 'd/'), wanted=ours(X64 + b'  d/inner\n')),
-        Case('--recursive of names in the order in which they came', ('--recursive', 'e', 'd', 'a'), wanted=ours(
-            EMPTY + b'  e\n' + X64 + b'  d/inner\n' + X64 + b'  a\n')),
-        Case('-r among other letters', ('-rzH0', 'd'), wanted=ours(X32 + b'  d/inner\0')),
-        Case('-r of links that are named', ('-r', 'linked-folder', 'link'), wanted=ours(
-            X64 + b'  linked-folder/inner\n' + X64 + b'  link\n')),
-        Case('-r of links that lead nowhere', ('-r', 'broken', 'd'), wanted=fails([
-            b"Error: Could not open 'broken': No such file or directory. "], X64 + b'  d/inner\n')),
-        Case('-r of an empty folder', shell='mkdir t; "$X" -r t', wanted=ours(b'')),
-        Case('-r of a name that is not UTF-8', shell='mkdir t; cp a t; cp a "$(printf "t/\\377")"; "$X" -r t', wanted=fails([
-            b"Error: Could not open 't/\xff': The name is not UTF-8. "], X64 + b'  t/a\n')),
-        Case('-r of many names', shell='mkdir t; seq 3000 | sed "s#^#t/#" | xargs touch; "$X" -r t | wc -l', wanted=ours(b'3000\n')),
-        Case('-r of names of 230 to 255 bytes', shell='mkdir t; for count in $(seq 230 255); do cp a "t/$(printf "%0${count}d" 0)"; '
-             'done; "$X" -r t', wanted=ours(b''.join(X64 + b'  t/' + b'0' * count + b'\n' for count in range(230, 256)))),
-        Case('-r of deep folders', shell='mkdir -p "$(printf "t%.0s/" $(seq 900))"; cp a "$(printf "t%.0s/" $(seq 900))"; '
-             '"$X" -r t | cut -c1-16', wanted=ours(X64 + b'\n')),
-        Case('-r of a folder that can not be read', shell=tree + bound + '$run "$X" -r t; status=$?; chmod 700 t/b; exit $status',
-             wanted=fails([closed], b''.join(line for line in found.splitlines(keepends=True) if b't/b/' not in line))),
-        Case('-r to a full disk', shell='"$X" -r d >/dev/full', wanted=refused()),
-        Case('an audit of a folder', shell=tree + '"$X" -r t >list; "$X" --audit -r list t',
-             wanted=audited(*(b't/' + name + b': same' for name in sorted(name for _, name in rows)))),
-        Case('an audit of a folder that has changed', shell=tree + '"$X" -rH3 t >list; mv t/b/deep/q t/q; rm t/B; echo >>t/a; '
-             '"$X" --audit -qr list t', wanted=fails([], b't/a: changed\nt/q: moved from t/B\nt/b/deep/q: missing\n'
-             b'2 same, 1 changed, 1 moved, 0 copied, 0 new, 1 missing\n')),
-        Case('an audit of a folder that can not be read', shell=tree + bound + '"$X" -r t/a >list; $run "$X" --audit -r list t; '
-             'status=$?; chmod 700 t/b; exit $status', wanted=fails([closed])),
-        Case('-r without a name', ('-r',), wanted=alone),
-        Case('-r of the input', ('-r', '-'), wanted=alone),
-        Case('an audit of no folder', ('-r', '--audit', 'good'), wanted=alone),
-        Case('-r with -c', ('-r', '-c', 'good'), wanted=beside),
-        Case('-r with names of a file', ('--files-from', '-r', 'good'), wanted=beside),
-        Case('-r with names that NULs end', ('--files0-from', '-r', 'good'), wanted=beside),
+        Case('-r of a tree', shell=tree + '"$X" -r t', expected=ours(found)),
+        Case(
+            '-r as find and sort have it',
+            shell=tree + 'rm t/b.x/c; "$X" -r t >ours; find t -type f -print0 | LC_ALL=C sort -z | '
+            '"$X" --files0-from >theirs; cmp ours theirs',
+            expected=ours(b''),
+        ),
+        Case('-r of a name that ends with a slash', ('-r', 'd/'), expected=ours(X64 + b'  d/inner\n')),
+        Case(
+            '--recursive of names in the order in which they came',
+            ('--recursive', 'e', 'd', 'a'),
+            expected=ours(EMPTY + b'  e\n' + X64 + b'  d/inner\n' + X64 + b'  a\n'),
+        ),
+        Case('-r among other letters', ('-rzH0', 'd'), expected=ours(X32 + b'  d/inner\0')),
+        Case(
+            '-r of links that are named',
+            ('-r', 'linked-folder', 'link'),
+            expected=ours(X64 + b'  linked-folder/inner\n' + X64 + b'  link\n'),
+        ),
+        Case(
+            '-r of links that lead nowhere',
+            ('-r', 'broken', 'd'),
+            expected=fails([b"Error: Could not open 'broken': No such file or directory. "], X64 + b'  d/inner\n'),
+        ),
+        Case('-r of an empty folder', shell='mkdir t; "$X" -r t', expected=ours(b'')),
+        Case(
+            '-r of a name that is not UTF-8',
+            shell='mkdir t; cp a t; cp a "$(printf "t/\\377")"; "$X" -r t',
+            expected=fails([b"Error: Could not open 't/\xff': The name is not UTF-8. "], X64 + b'  t/a\n'),
+        ),
+        Case(
+            '-r of many names',
+            shell='mkdir t; seq 3000 | sed "s#^#t/#" | xargs touch; "$X" -r t | wc -l',
+            expected=ours(b'3000\n'),
+        ),
+        Case(
+            '-r of names of 230 to 255 bytes',
+            shell='mkdir t; for count in $(seq 230 255); do cp a "t/$(printf "%0${count}d" 0)"; ' 'done; "$X" -r t',
+            expected=ours(b''.join(X64 + b'  t/' + b'0' * count + b'\n' for count in range(230, 256))),
+        ),
+        Case(
+            '-r of deep folders',
+            shell='mkdir -p "$(printf "t%.0s/" $(seq 900))"; cp a "$(printf "t%.0s/" $(seq 900))"; '
+            '"$X" -r t | cut -c1-16',
+            expected=ours(X64 + b'\n'),
+        ),
+        Case(
+            '-r of a folder that can not be read',
+            shell=tree + bound + '$run "$X" -r t; status=$?; chmod 700 t/b; exit $status',
+            expected=fails([closed], b''.join(line for line in found.splitlines(keepends=True) if b't/b/' not in line)),
+        ),
+        Case('-r to a full disk', shell='"$X" -r d >/dev/full', expected=refused()),
+        Case(
+            'an audit of a folder',
+            shell=tree + '"$X" -r t >list; "$X" --audit -r list t',
+            expected=audited(*(b't/' + name + b': same' for name in sorted(name for _, name in cases))),
+        ),
+        Case(
+            'an audit of a folder that has changed',
+            shell=tree + '"$X" -rH3 t >list; mv t/b/deep/q t/q; rm t/B; echo >>t/a; ' '"$X" --audit -qr list t',
+            expected=fails(
+                [],
+                b't/a: changed\nt/b/deep/q: missing\nt/q: moved from t/B\n'
+                b'2 same, 1 changed, 1 moved, 0 copied, 0 new, 1 missing, 0 unreadable\n',
+            ),
+        ),
+        Case(
+            'an audit of a folder that can not be read',
+            shell=tree + '"$X" -r t >list; ' + bound + '$run "$X" --audit -r list t; '
+            'status=$?; chmod 700 t/b; exit $status',
+            expected=audited(
+                b't/B: same',
+                b't/a: same',
+                b't/b.x/c: same',
+                b't/b: unreadable',
+                b't/b/deep/q: unreadable',
+                b't/b/z: unreadable',
+                err=closed + b'\n',
+            ),
+        ),
+        Case('-r without a name', ('-r',), expected=alone),
+        Case('-r of the input', ('-r', '-'), expected=alone),
+        Case('an audit of no folder', ('-r', '--audit', 'good'), expected=alone),
+        Case('-r with -c', ('-r', '-c', 'good'), expected=beside),
+        Case('-r with names of a file', ('--files-from', '-r', 'good'), expected=beside),
+        Case('-r with names that NULs end', ('--files0-from', '-r', 'good'), expected=beside),
     ]
 
 
-def told_names():
+def named():
     """Names that would end a line, in messages other than digests: one line, as in lists. The originals print them
     unchanged, so that the author of a list or of a file's name can forge a line."""
     odd = b'gone\na: OK'
@@ -685,46 +1153,118 @@ def told_names():
     missing = b'No such file or directory'
     unopened = b"Error: Could not open '" + odd + b"': " + missing
 
-    def in_folder(line, **wanted):
-        return {'shell': f'mkdir "$(printf "x\\ny")"; printf "junk\\n" >"$(printf "l\\nL")"; {line}', 'wanted': wanted}
+    def in_folder(line, **expected):
+        return {
+            'shell': f'mkdir "$(printf "x\\ny")"; printf "junk\\n" >"$(printf "l\\nL")"; {line}',
+            'expected': expected,
+        }
 
     listed = b"L:1: Could not open or read '" + odd + b"': " + missing + b'.'
     return [
-        of_list('a list that forges a line', escaped + GOOD, wanted=one_unread(one_line(listed) + GOOD_OUT)),
-        of_list('a wrong line of an odd name', b'\\' + WRONG + b'  line\\nfeed\n',
-                wanted=ours(one_line(b'line\nfeed: FAILED') + b'1 computed checksum did NOT match\n', b'', 1)),
-        Case('a missing file of an odd name', (odd, 'back\\gone'), wanted=fails([
-            unopened + b'. ', b"Error: Could not open 'back\\gone': " + missing + b'. '])),
-        Case('a missing file of an odd name, -z', ('-z', odd), wanted=fails([unopened + b'. '])),
-        Case('a missing list of an odd name', ('-c', odd), wanted=fails([unopened])),
+        of_list('a list that forges a line', escaped + GOOD, expected=one_unread(one_line(listed) + GOOD_OUT)),
+        of_list(
+            'a wrong line of an odd name',
+            b'\\' + WRONG + b'  line\\nfeed\n',
+            expected=ours(one_line(b'line\nfeed: FAILED') + b'1 computed checksum did NOT match\n', b'', 1),
+        ),
+        Case(
+            'a missing file of an odd name',
+            (odd, 'back\\gone'),
+            expected=fails([unopened + b'. ', b"Error: Could not open 'back\\gone': " + missing + b'. ']),
+        ),
+        Case('a missing file of an odd name, -z', ('-z', odd), expected=fails([unopened + b'. '])),
+        Case('a missing list of an odd name', ('-c', odd), expected=fails([unopened])),
         Case('a folder of an odd name', **in_folder('"$X" x*y', **fails([b'xxhsum: x\ny: Is a directory ']))),
-        Case('a list of an odd name', **in_folder('"$X" -cw l*L', **fails([
-            b'l\nL:1: Error: Improperly formatted checksum line.',
-            b'l\nL: no properly formatted xxHash checksum lines found']))),
-        Case('a list of an odd name, --ignore-missing', **in_folder(
-            f'printf "{X64.decode()}  gone\\n" >"$(printf "l\\nL")"; "$X" -c --ignore-missing l*L',
-            out=one_line(b'l\nL: no file was verified'), err=b'', status=1)),
-        Case('a missing list of names of an odd name', ('--files-from', odd), wanted=fails([unopened + b'.'])),
-        Case('an audit of a list of an odd name', **in_folder('"$X" --audit l*L a', **fails([
-            b'l\nL:1: Error: Improperly formatted checksum line.']))),
-        Case('an audit of an odd name that stands twice', ('--audit', 'good', 'line\nfeed', 'line\nfeed'), wanted=fails([
-            b"Error: duplicate name 'line\nfeed'."])),
-        Case('an audit of a line of an odd name that stands twice', ('--audit', 'L', 'a'), files={'L': escaped * 2},
-             wanted=fails([b"L: duplicate name '" + odd + b"'."])),
-        Case('an audit of odd names', ('--audit', 'L', 'line\nfeed'), files={'L': escaped},
-             wanted=audited(one_line(b'line\nfeed: moved from ' + odd)[:-1])),
+        Case(
+            'a list of an odd name',
+            **in_folder(
+                '"$X" -cw l*L',
+                **fails(
+                    [
+                        b'l\nL:1: Error: Improperly formatted checksum line.',
+                        b'l\nL: no properly formatted xxHash checksum lines found',
+                    ]
+                ),
+            ),
+        ),
+        Case(
+            'a list of an odd name, --ignore-missing',
+            **in_folder(
+                f'printf "{X64.decode()}  gone\\n" >"$(printf "l\\nL")"; "$X" -c --ignore-missing l*L',
+                out=one_line(b'l\nL: no file was verified'),
+                err=b'',
+                status=1,
+            ),
+        ),
+        Case('a missing list of names of an odd name', ('--files-from', odd), expected=fails([unopened + b'.'])),
+        Case(
+            'an audit of a list of an odd name',
+            **in_folder('"$X" --audit l*L a', **fails([b'l\nL:1: Error: Improperly formatted checksum line.'])),
+        ),
+        Case(
+            'an audit of an odd name that stands twice',
+            ('--audit', 'good', 'line\nfeed', 'line\nfeed'),
+            expected=fails([b"Error: duplicate name 'line\nfeed'."]),
+        ),
+        Case(
+            'an audit of a line of an odd name that stands twice',
+            ('--audit', 'L', 'a'),
+            files={'L': escaped * 2},
+            expected=fails([b"L: duplicate name '" + odd + b"'."]),
+        ),
+        Case(
+            'an audit of odd names',
+            ('--audit', 'L', 'line\nfeed'),
+            files={'L': escaped},
+            expected=audited(one_line(b'line\nfeed: moved from ' + odd)[:-1]),
+        ),
     ]
 
 
-CASES = (names() + kinds() + lines() + options() + input_alone() + program_names() + verdicts() + plain_lines() + long_lines()
-         + tagged_lines() + missing_files() + lines_with_nuls() + several_lists() + ends() + trees() + small_stacks() + folders() + told_names())
+CASES = (
+    names()
+    + algorithms()
+    + lines()
+    + options()
+    + input_alone()
+    + program_names()
+    + verdicts()
+    + plain_lines()
+    + long_lines()
+    + tagged_lines()
+    + missing_files()
+    + lines_with_nuls()
+    + several_lists()
+    + ends()
+    + trees()
+    + small_stacks()
+    + folders()
+    + named()
+)
 
 # The cases in which one of the originals differs from ours, for the reasons in docs/XXHSUM.md: 0.8.1 has no escapes,
 # comments and XXH3 without a tag, and has fewer options.
 OLDER_DIFFERS = {
-    'a backslash in a name', 'a line feed in a name', 'a carriage return in a name', '-H3', 'every length, -H3',
-    'little endian, -H3', 'tagged lines of odd names', 'XXH3 of odd names', 'input, XXH3', 'called xxh3sum', 'a comment',
-    'comments alone', 'odd names', 'the prefix of later versions', 'the word --binary', 'names of a file',
-    'names of a file, by the other word', 'names of two files', 'names of the input', 'the word --ignore-missing',
-    *(case.name for case in missing_files() if not case.wanted)}
+    'a backslash in a name',
+    'a line feed in a name',
+    'a carriage return in a name',
+    '-H3',
+    'every length, -H3',
+    'little endian, -H3',
+    'tagged lines of odd names',
+    'XXH3 of odd names',
+    'input, XXH3',
+    'called xxh3sum',
+    'a comment',
+    'comments alone',
+    'odd names',
+    'the prefix of later versions',
+    'the word --binary',
+    'names of a file',
+    'names of a file, by the other word',
+    'names of two files',
+    'names of the input',
+    'the word --ignore-missing',
+    *(case.name for case in missing_files() if not case.expected),
+}
 NEWER_DIFFERS = {'called xxh32sum, a list'}

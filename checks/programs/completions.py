@@ -4,8 +4,8 @@ import os
 import re
 import subprocess
 
-from report import Fault, want
-from tools import TOP, text_of, write
+from checks.lib.report import Fault, check
+from checks.lib.tools import TOP, text_of, write
 
 NAMES = ('xxhsum', 'xxh32sum', 'xxh64sum', 'xxh128sum', 'xxh3sum')
 FOLDER = 'docs/completions'
@@ -23,10 +23,10 @@ def help_of(program):
 def options_of(text):
     """The options of a help: for each its names, and its description. A line that begins with more spaces continues."""
     lines = re.sub(r'\n {10,}', '  ', text).splitlines()
-    rows = [re.split(r' {2,}', line.strip(), maxsplit=1) for line in lines if line.startswith('  -')]
-    options = [(names.split(', '), ' '.join(about.split())) for names, about in rows]
+    found = [re.split(r' {2,}', line.strip(), maxsplit=1) for line in lines if line.startswith('  -')]
+    options = [(names.split(', '), ' '.join(about.split())) for names, about in found]
     algorithms = [([name], about) for name, about in ALGORITHMS.items()]
-    return [row for names, about in options for row in (algorithms if names == [ALGORITHM] else [(names, about)])]
+    return [option for names, about in options for option in (algorithms if names == [ALGORITHM] else [(names, about)])]
 
 
 def quoted(text):
@@ -35,13 +35,13 @@ def quoted(text):
 
 
 def for_bash(options):
-    words = ' '.join(name for names, _ in options for name in names)
+    args = ' '.join(name for names, _ in options for name in names)
     return f'''# Completions of xxhsum for bash. {WRITTEN}
 _xxhsum() {{
     local word=${{COMP_WORDS[COMP_CWORD]}}
     COMPREPLY=()
     if [[ $word == -* && " ${{COMP_WORDS[*]:0:COMP_CWORD}} " != *' -- '* ]]; then
-        mapfile -t COMPREPLY < <(compgen -W '{words}' -- "$word")
+        mapfile -t COMPREPLY < <(compgen -W '{args}' -- "$word")
     fi
 }}
 complete -o default -F _xxhsum {' '.join(NAMES)}
@@ -55,8 +55,11 @@ def for_zsh(options):
         about = about.replace('[', '\\[').replace(']', '\\]')
         group = f'({" ".join(names)})' if len(names) > 1 else ''
         specs += [quoted(f'{group}{name}[{about}]') for name in names]
-    return f'#compdef {" ".join(NAMES)}\n# Completions of xxhsum for zsh. {WRITTEN}\n_arguments -s -S \\\n' + \
-        ''.join(f'    {spec} \\\n' for spec in specs) + "    '*:file:_files'\n"
+    return (
+        f'#compdef {" ".join(NAMES)}\n# Completions of xxhsum for zsh. {WRITTEN}\n_arguments -s -S \\\n'
+        + ''.join(f'    {spec} \\\n' for spec in specs)
+        + "    '*:file:_files'\n"
+    )
 
 
 def fish_switch(name):
@@ -98,40 +101,44 @@ NO_OPTIONS = {
 }
 
 
-def offered(words, path):
-    done = subprocess.run([*words, path], stdout=subprocess.PIPE, stderr=subprocess.PIPE, text=True, check=False)
-    want(not done.stderr, f'{words[0]} prints {done.stderr.strip()[:200]}')
+def offered(args, path):
+    done = subprocess.run([*args, path], stdout=subprocess.PIPE, stderr=subprocess.PIPE, text=True, check=False)
+    check(not done.stderr, f'{args[0]} prints {done.stderr.strip()[:200]}')
     return {line.split('\t')[0] for line in done.stdout.splitlines()} - {''}
 
 
 def check_file(shell, text):
-    want(text_of(f'{FOLDER}/{FILES[shell]}') == WRITERS[shell](options_of(text)),
-         f'{FOLDER}/{FILES[shell]} is not what the help gives: run checks/xxhsum --completions PROGRAM')
+    check(
+        text_of(f'{FOLDER}/{FILES[shell]}') == WRITERS[shell](options_of(text)),
+        f'{FOLDER}/{FILES[shell]} is not what the help gives: run checks/xxhsum --completions PROGRAM',
+    )
 
 
 def check_shell(shell, text):
     path = os.path.join(TOP, FOLDER, FILES[shell])
     expected = {name for names, _ in options_of(text) for name in names}
     found = offered(OFFERS[shell], path)
-    want(found == expected, f'{shell} offers other options: {", ".join(sorted(found ^ expected))}')
+    check(found == expected, f'{shell} offers other options: {", ".join(sorted(found ^ expected))}')
     if shell in NO_OPTIONS:
-        want(not offered(NO_OPTIONS[shell], path), f'{shell} offers options after --')
+        check(not offered(NO_OPTIONS[shell], path), f'{shell} offers options after --')
     return f'{len(found)} options'
 
 
-def is_detected(check, shell, text):
+def is_detected(test, shell, text):
     try:
-        check(shell, text)
+        test(shell, text)
     except Fault:
         return
-    want(False, 'it was not detected')
+    check(False, 'it was not detected')
 
 
 def over_completions(program, report):
     """Tests the files, and that each test detects an option more and one less."""
     text = help_of(program)
-    planted = {'an option more': text.replace('  -c, ', '  --planted           planted\n  -c, '),
-               'an option less': re.sub(r'\n {2}-w, .*', '', text)}
+    planted = {
+        'an option more': text.replace('  -c, ', '  --planted           planted\n  -c, '),
+        'an option less': re.sub(r'\n {2}-w, .*', '', text),
+    }
     for shell in FILES:
         report.attempt(f'completions for {shell}, as the help has them', check_file, shell, text)
         report.attempt(f'completions by {shell}', check_shell, shell, text)

@@ -16,9 +16,9 @@ import subprocess
 import tempfile
 import time
 
-import command
-from report import Fault, Report, want
-from tools import TOP, ran, write
+from checks.lib import command
+from checks.lib.report import Fault, Report, check
+from checks.lib.tools import TOP, ran, write
 
 from .cases import FILES
 from .runs import HASHES, found, is_utf8, marked
@@ -28,39 +28,40 @@ from .terminals import EMPTY_ROW, ONE_ROW, ROW_END, run
 SEED = 20261124
 SHAPES = [[], ['--tag'], ['--little-endian']]
 CHECKED = [[], ['--strict'], ['--warn'], ['--quiet'], ['--status'], ['--little-endian']]
-MIB = 2 ** 20
+MIB = 2**20
 # A line of a check about a name of the list.
 MESSAGE = re.compile(rb"^stdin:\d+: Could not open or read '.*': .*$", re.M)
 
 
-def same(programs, words, given=b''):
+def same(programs, args, given=b''):
     """The result of both programs with these arguments, which must be the same: ours also escapes names in messages."""
-    theirs, ours = (found(it, words, given) for it in programs)
+    theirs, ours = (found(it, args, given) for it in programs)
     if (MESSAGE.sub(lambda line: marked(line[0]), theirs[0]), *theirs[1:]) != ours:
-        raise Fault(f'{words!r} of {given[:300]!r}\n  theirs {theirs!r:.600}\n  ours   {ours!r:.600}')
+        raise Fault(f'{args!r} of {given[:300]!r}\n  theirs {theirs!r:.600}\n  ours   {ours!r:.600}')
     return theirs
 
 
 # ---- lists
 
+
 def printed(program, names):
     """Lines of these files in each form."""
     lines = []
-    for kind in HASHES:
+    for algorithm in HASHES:
         for shape in SHAPES:
-            lines += found(program, [kind, *shape, *names])[0].splitlines(keepends=True)
+            lines += found(program, [algorithm, *shape, *names])[0].splitlines(keepends=True)
     return lines
 
 
-def damaged(line, draw):
+def damaged(line, rng):
     """The line with a byte changed, removed or added, or truncated, or unchanged."""
-    place = draw.randrange(len(line) + 1)
-    byte = bytes([draw.choice(b' *()=\\\t\r0aFgxX_\xff') if draw.random() < 0.8 else draw.randrange(256)])
-    how = draw.randrange(8)
+    place = rng.randrange(len(line) + 1)
+    byte = bytes([rng.choice(b' *()=\\\t\r0aFgxX_\xff') if rng.random() < 0.8 else rng.randrange(256)])
+    how = rng.randrange(8)
     if how == 0:
-        return line[:place] + byte + line[place + 1:]
+        return line[:place] + byte + line[place + 1 :]
     if how == 1:
-        return line[:place] + line[place + 1:]
+        return line[:place] + line[place + 1 :]
     if how == 2:
         return line[:place] + byte + line[place:]
     if how == 3:
@@ -74,17 +75,17 @@ def is_odd(text):
 
 
 def random_lists(programs, count):
-    draw = random.Random(SEED)
+    rng = random.Random(SEED)
     # A damaged line can begin its name inside a character of several bytes, so names have none.
     lines = printed(programs[0], sorted(name for name in os.listdir('.') if name.isascii() and os.path.isfile(name)))
-    drawn = 0
-    while drawn < count:
-        text = b''.join(damaged(draw.choice(lines), draw) for _ in range(draw.randrange(1, 9)))
+    tried = 0
+    while tried < count:
+        text = b''.join(damaged(rng.choice(lines), rng) for _ in range(rng.randrange(1, 9)))
         # Ours drops a carriage return at the end of a line.
         if is_odd(text) or b'\0' in text or b'\r\n' in text + b'\n':
             continue
-        same(programs, ['-c', *draw.choice(CHECKED)], text)
-        drawn += 1
+        same(programs, ['-c', *rng.choice(CHECKED)], text)
+        tried += 1
     return f'{count} lists'
 
 
@@ -92,10 +93,12 @@ def lists_of_each_other(programs):
     names = [name for name in os.listdir('.') if os.path.isfile(name)]
     count = 0
     for maker in programs:
-        for kind in HASHES:
+        for algorithm in HASHES:
             for shape in ([], ['--tag']):
-                out, err, status = same(programs, ['-c'], found(maker, [kind, *shape, *names])[0])
-                want(not status and out.count(b': OK\n') == len(names), f'{kind} {shape}: {out!r:.300} {err!r:.300}')
+                out, err, status = same(programs, ['-c'], found(maker, [algorithm, *shape, *names])[0])
+                check(
+                    not status and out.count(b': OK\n') == len(names), f'{algorithm} {shape}: {out!r:.300} {err!r:.300}'
+                )
                 count += 1
     return f'{count} lists of {len(names)} files'
 
@@ -103,19 +106,20 @@ def lists_of_each_other(programs):
 def lines_of_the_table(programs):
     """The lines of checks/lines.json, as parsed by ours."""
     done = ran([os.path.join(TOP, 'checks', 'xxhsum-lines'), programs[1]])
-    want(not done.returncode, done.stdout[-2000:])
+    check(not done.returncode, done.stdout[-2000:])
     return done.stdout.splitlines()[-1]
 
 
 # ---- files
+
 
 def names_of_each_byte(programs):
     bytes_of_names = [bytes([it]) for it in range(1, 128) if it != ord('/')] + ['\u00e9'.encode(), '\u20ac'.encode()]
     names = [b'n' + it + b'm' for it in bytes_of_names]
     for name in names:
         write(name, name)
-    for words in ([], ['--tag'], ['-H3']):
-        same(programs, ['-c'], same(programs, [*words, *names])[0])
+    for args in ([], ['--tag'], ['-H3']):
+        same(programs, ['-c'], same(programs, [*args, *names])[0])
     return f'{len(names)} names'
 
 
@@ -126,7 +130,7 @@ def refused_names(programs):
         write(name, b'some bytes')
         _, err, status = found(programs[1], [name])
         is_refused = status == 1 and b"Could not open '" + name + b"': The name is not UTF-8. \n" in err
-        want(is_refused, f'{name!r}: {status} {err!r}')
+        check(is_refused, f'{name!r}: {status} {err!r}')
         os.remove(name)
     return '128 names'
 
@@ -143,13 +147,14 @@ def long_pipe(programs, gib):
     block = random.Random(SEED).randbytes(MIB)
     lines = []
     for program in programs:
-        with subprocess.Popen([program, '-H2', '-'], stdin=subprocess.PIPE, stdout=subprocess.PIPE,
-                              stderr=subprocess.DEVNULL) as done:
+        with subprocess.Popen(
+            [program, '-H2', '-'], stdin=subprocess.PIPE, stdout=subprocess.PIPE, stderr=subprocess.DEVNULL
+        ) as done:
             for _ in range(1024 * gib):
                 done.stdin.write(block)
             done.stdin.close()
             lines.append(done.stdout.read())
-    want(lines[0] == lines[1] != b'', repr(lines))
+    check(lines[0] == lines[1] != b'', repr(lines))
     return f'{gib} GiB'
 
 
@@ -163,12 +168,13 @@ def shrinking_file(programs):
             os.truncate('shrinks', 4096)
             out = done.stdout.read()
         is_one_line = out.endswith(b'  shrinks\n') and out.count(b'\n') == 1
-        want(done.returncode == 0 and is_one_line, f'{done.returncode} {out!r}')
+        check(done.returncode == 0 and is_one_line, f'{done.returncode} {out!r}')
     os.remove('shrinks')
     return '5 times'
 
 
 # ---- terminals
+
 
 def progress(programs):
     """Ours shows each 64 MiB of a file or of standard input, and clears the line; with -q or --status, for a short
@@ -178,22 +184,31 @@ def progress(programs):
             file.truncate(length)
     write('list', found(programs[0], ['long'])[0])
     shown = b''.join(EMPTY_ROW + ONE_ROW + b'%d MiB' % count + ROW_END for count in (64, 128, 192)) + EMPTY_ROW
-    rows = [(['long'], shown), (['short', 'long'], shown), (['-c', 'list'], shown), (['-'], shown), (['short'], b''),
-            (['-q', 'long'], b''), (['--status', 'long'], b''), (['-c', '-q', 'list'], b''), (['-q', '-'], b'')]
-    for words, wanted in rows:
-        (out, _, status), (ours, sent, our_status) = (run(program, words, given='long') for program in programs)
+    tests = [
+        (['long'], shown),
+        (['short', 'long'], shown),
+        (['-c', 'list'], shown),
+        (['-'], shown),
+        (['short'], b''),
+        (['-q', 'long'], b''),
+        (['--status', 'long'], b''),
+        (['-c', '-q', 'list'], b''),
+        (['-q', '-'], b''),
+    ]
+    for args, expected in tests:
+        (out, _, status), (ours, sent, our_status) = (run(program, args, given='long') for program in programs)
         sent = re.sub(rb', \d+ MiB/s(, \d+ s left)?', b'', sent)
-        want((ours, sent, our_status) == (out, wanted, status), f'{words}: {ours!r:.300} {sent!r:.300} {our_status}')
-        same(programs, words[:-1] + ['long' if words[-1] == '-' else words[-1]])
-    return f'{len(rows)} commands'
+        check((ours, sent, our_status) == (out, expected, status), f'{args}: {ours!r:.300} {sent!r:.300} {our_status}')
+        same(programs, args[:-1] + ['long' if args[-1] == '-' else args[-1]])
+    return f'{len(tests)} commands'
 
 
 def main():
     parser = command.parser(__doc__, 'parts')
     parser.add_argument('programs', nargs=2, metavar='PROGRAM', help='the original, and ours')
-    parser.add_argument('--lists', type=int, default=10000)
-    parser.add_argument('--files', type=int, default=100000)
-    parser.add_argument('--gib', type=int, default=5)
+    parser.add_argument('--lists', type=int, default=10000, help='random lists')
+    parser.add_argument('--files', type=int, default=100000, help='small files')
+    parser.add_argument('--gib', type=int, default=5, help='the length of the pipe')
     given = parser.parse_args()
     parts = {
         'lists that one makes and the other checks': (lists_of_each_other,),
@@ -207,16 +222,16 @@ def main():
         'progress on a terminal': (progress,),
     }
     report = Report()
-    with tempfile.TemporaryDirectory() as room:
+    with tempfile.TemporaryDirectory() as workdir:
         # A program's name is in its lines, so both have the same one.
-        programs = [f'{room}/{folder}/xxhsum' for folder in ('theirs', 'ours')]
+        programs = [f'{workdir}/{folder}/xxhsum' for folder in ('theirs', 'ours')]
         for link, program in zip(programs, given.programs):
             os.mkdir(os.path.dirname(link))
             os.symlink(os.path.abspath(program), link)
         for name, (part, *more) in parts.items():
             if given.only in name:
-                os.mkdir(f'{room}/{name}')
-                with contextlib.chdir(f'{room}/{name}'):
+                os.mkdir(f'{workdir}/{name}')
+                with contextlib.chdir(f'{workdir}/{name}'):
                     write_files()
                     report.attempt(name, part, programs, *more)
     return report.end()
@@ -225,7 +240,7 @@ def main():
 def write_files():
     """Writes the files of the table that a list can name."""
     for file_name, text in FILES.items():
-        file_name = file_name if isinstance(file_name, bytes) else file_name.encode()
+        file_name = file_name.encode() if isinstance(file_name, str) else file_name
         # No list can contain a name with a newline, and one with a hyphen in front would be an option.
         if not is_odd(file_name) and not set(b'/\n\r') & set(file_name) and file_name[:1] != b'-':
             write(file_name, text)

@@ -15,9 +15,9 @@ import os
 import subprocess
 import tempfile
 
-import command
-from report import Report
-from tools import text_of, write
+from checks.lib import command
+from checks.lib.report import Report
+from checks.lib.tools import text_of, write
 
 from .runs import marked
 
@@ -26,15 +26,15 @@ CONTENT = b'some bytes'
 OTHER = b'XXH64 (other) = 55cfd3deadcabb2a\n'
 
 
-def said(row, is_older):
+def meaning(case, is_older):
     """The meaning of a test case: a name, or the word for a line without one."""
-    older = row.get('older') if is_older else None
+    older = case.get('older') if is_older else None
     if older is None:
-        return row.get('is'), row.get('name')
+        return case.get('is'), case.get('name')
     return (None, older['name']) if isinstance(older, dict) else (older, None)
 
 
-def wanted(word, name, is_older):
+def expected(word, name, is_older):
     """Standard output, standard error, and the status of a strict check of the line and of the other one."""
     good, bad = b'other: OK\n', b'L:1: Error: Improperly formatted checksum line.\n'
     if word == 'a comment':
@@ -47,45 +47,50 @@ def wanted(word, name, is_older):
     return (name if is_older else marked(name)) + b': OK\n' + good, b'', 0
 
 
-def found(program, row, name):
+def found(program, case, name):
     """The result of the program for the test case's line and the other one."""
-    with tempfile.TemporaryDirectory() as room:
+    with tempfile.TemporaryDirectory() as workdir:
         for file_name in (b'other', name):
             if file_name:
-                write(os.path.join(room.encode(), file_name), CONTENT)
-        write(f'{room}/L', row['line'].encode() + b'\n' + OTHER)
-        little = ['--little-endian'] if row.get('little') else []
-        done = subprocess.run([program, *little, '-c', '--strict', '-w', 'L'], cwd=room, stdin=subprocess.DEVNULL,
-                              capture_output=True, check=False)
+                write(os.path.join(workdir.encode(), file_name), CONTENT)
+        write(f'{workdir}/L', case['line'].encode() + b'\n' + OTHER)
+        little = ['--little-endian'] if case.get('little') else []
+        done = subprocess.run(
+            [program, *little, '-c', '--strict', '-w', 'L'],
+            cwd=workdir,
+            stdin=subprocess.DEVNULL,
+            capture_output=True,
+            check=False,
+        )
     return done.stdout, done.stderr, done.returncode
 
 
-def is_as_said(program, row, is_older):
-    word, name = said(row, is_older)
+def is_as_recorded(program, case, is_older):
+    word, name = meaning(case, is_older)
     name = None if name is None else name.encode()
-    out, err, status = found(program, row, name)
-    return (out, err, status) == wanted(word, name, is_older), (out, err, status)
+    out, err, status = found(program, case, name)
+    return (out, err, status) == expected(word, name, is_older), (out, err, status)
 
 
-def changed(row, is_older):
+def changed(case, is_older):
     """The test case with another meaning."""
-    word, name = said(row, is_older)
+    word, name = meaning(case, is_older)
     other = {'name': name + 'x'} if word is None else {'is': 'nothing' if word == 'a comment' else 'a comment'}
-    return {'line': row['line'], 'little': row.get('little'), **other}
+    return {'line': case['line'], 'little': case.get('little'), **other}
 
 
 def main():
     parser = command.parser(__doc__)
     parser.add_argument('--older', action='store_true', help='what 0.8.1 takes a line for')
-    parser.add_argument('program')
+    parser.add_argument('program', help='the program that reads the lines')
     given = parser.parse_args()
     program = os.path.abspath(given.program)
-    rows = json.loads(text_of('checks/lines.json'))
+    cases = json.loads(text_of('checks/lines.json'))
     report = Report()
-    for row in rows:
-        is_same, answer = is_as_said(program, row, given.older)
+    for case in cases:
+        is_same, answer = is_as_recorded(program, case, given.older)
         fault = None if is_same else f'it was taken for {answer!r}'
-        if is_as_said(program, changed(row, given.older), given.older)[0]:
+        if is_as_recorded(program, changed(case, given.older), given.older)[0]:
             fault = 'it passed with another meaning'
-        report.row(repr(row['line']), fault)
+        report.record(repr(case['line']), fault)
     return report.end()

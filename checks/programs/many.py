@@ -4,17 +4,17 @@
 
 A tree of 150,000 names, of which one directory has 120,000; names of every shape, as find and sort print them; an audit
 of 70,000 equal files; a list of names that comes in 150,000 reads; 130,000 arguments. All files are empty, and the
-expected output is derived from the digest of no bytes. Wrong programs are planted, which must be detected. The last line
-is "N passed, M failed". It takes some 20 seconds of processor time for each program, and no space except that of the
-names."""
+expected output is derived from the digest of no bytes. Wrong programs are planted, which must be detected. The last
+line is "N passed, M failed". It takes some 20 seconds of processor time for each program, and no space except that of
+the names."""
 import contextlib
 import os
 import subprocess
 import tempfile
 
-import command
-from report import Fault, Report, want
-from tools import write
+from checks.lib import command
+from checks.lib.report import Fault, Report, check
+from checks.lib.tools import write
 
 from .runs import found, plant
 
@@ -26,9 +26,43 @@ READS = 150_000
 ARGUMENTS = 130_000
 SECONDS = 120
 # Names that a program may take for options, for directories that it leaves out, or for the end of a name.
-SHAPES = ['.a', '..a', '...', '....', '.git/config', '.hidden/inner', '..hidden/.inner', '-', '--', '-r', '-d/-inner', ' ', '  ',
-          ' a', 'a ', 'a b', '*', '?', '[a]', '~', '$HOME', '{}', '\\n', 'a\n', '\na', '\n\n', 'a\r\n', 'é', 'e\u0301', '\u0080',
-          '\u2028', '\ufeff', '\ufffd', '😀', '\U0010ffff']
+SHAPES = [
+    '.a',
+    '..a',
+    '...',
+    '....',
+    '.git/config',
+    '.hidden/inner',
+    '..hidden/.inner',
+    '-',
+    '--',
+    '-r',
+    '-d/-inner',
+    ' ',
+    '  ',
+    ' a',
+    'a ',
+    'a b',
+    '*',
+    '?',
+    '[a]',
+    '~',
+    '$HOME',
+    '{}',
+    '\\n',
+    'a\n',
+    '\na',
+    '\n\n',
+    'a\r\n',
+    'é',
+    'e\u0301',
+    '\u0080',
+    '\u2028',
+    '\ufeff',
+    '\ufffd',
+    '😀',
+    '\U0010ffff',
+]
 # The longest name that a directory may have, in bytes.
 LONGEST_NAME = 255
 # Programs that do one thing wrong with the real one, which is $REAL, and the test that must detect it.
@@ -63,15 +97,15 @@ def lines(names, end=b'\n'):
     return b''.join(b'%s  %s%s' % (EMPTY, name, end) for name in names)
 
 
-def wanted(result, out):
+def check_output(result, out):
     """The run printed this and no message, and succeeded."""
-    want(result[1] == b'', f'it reports {result[1][:300]!r}')
-    want(result[2] == 0, f'its status is {result[2]}')
-    want(result[0] == out, f'it prints {result[0].count(10)} lines, and {out.count(10)} others are wanted')
+    check(result[1] == b'', f'it reports {result[1][:300]!r}')
+    check(result[2] == 0, f'its status is {result[2]}')
+    check(result[0] == out, f'it prints {result[0].count(10)} lines, and {out.count(10)} others are expected')
 
 
 def many_names(program, names):
-    wanted(found(program, ['-r', 'tree'], seconds=SECONDS), lines(names))
+    check_output(found(program, ['-r', 'tree'], seconds=SECONDS), lines(names))
     return f'{len(names):,} names'
 
 
@@ -85,23 +119,28 @@ def shaped_names():
 
 def shapes_of_names(program, _names):
     """The tree that `find` lists, in the order of `sort`. NULs end the lines, so no name is escaped."""
-    made = [b'shapes/' + name for name in shaped_names()]
-    for name in made if not os.path.exists('shapes') else ():
+    built = [b'shapes/' + name for name in shaped_names()]
+    for name in built if not os.path.exists('shapes') else ():
         os.makedirs(os.path.dirname(name), exist_ok=True)
         make_empty(name)
-    listed = subprocess.run('find shapes -type f -print0 | sort -z', shell=True, stdout=subprocess.PIPE, check=True,
-                            env={**os.environ, 'LC_ALL': 'C'}).stdout
-    want(listed == b''.join(name + b'\0' for name in sorted(made)), 'find lists other names')
-    wanted(found(program, ['-rz', 'shapes'], seconds=SECONDS), lines(sorted(made), b'\0'))
-    return f'{len(made):,} names'
+    listed = subprocess.run(
+        'find shapes -type f -print0 | sort -z',
+        shell=True,
+        stdout=subprocess.PIPE,
+        check=True,
+        env={**os.environ, 'LC_ALL': 'C'},
+    ).stdout
+    check(listed == b''.join(name + b'\0' for name in sorted(built)), 'find lists other names')
+    check_output(found(program, ['-rz', 'shapes'], seconds=SECONDS), lines(sorted(built), b'\0'))
+    return f'{len(built):,} names'
 
 
 def audit_of_equal_files(program, names):
     chosen = names[:AUDITED]
     write('list', lines(chosen))
-    counts = b'%d same, 0 changed, 0 moved, 0 copied, 0 new, 0 missing\n' % len(chosen)
+    counts = b'%d same, 0 changed, 0 moved, 0 copied, 0 new, 0 missing, 0 unreadable\n' % len(chosen)
     done = found(program, ['--audit', '--files0-from', 'list'], b'\0'.join(chosen), SECONDS)
-    wanted(done, b''.join(b'%s: same\n' % name for name in chosen) + counts)
+    check_output(done, b''.join(b'%s: same\n' % name for name in chosen) + counts)
     return f'{len(chosen):,} files'
 
 
@@ -115,34 +154,38 @@ def many_reads(program, names):
         os.close(ours)
         try:
             for at in range(len(text)):
-                os.write(theirs, text[at:at + 1])
+                os.write(theirs, text[at : at + 1])
         except BrokenPipeError:
             pass
         os.close(theirs)
         status = run.wait(SECONDS)
         out.seek(0)
         err.seek(0)
-        wanted((out.read(), err.read(), status), lines([name] * text.count(b'\0')))
+        check_output((out.read(), err.read(), status), lines([name] * text.count(b'\0')))
     return f'{len(text):,} reads'
 
 
 def many_arguments(program, _names):
     make_empty('e') if not os.path.exists('e') else None
-    wanted(found(program, ['e'] * ARGUMENTS, seconds=SECONDS), lines([b'e'] * ARGUMENTS))
+    check_output(found(program, ['e'] * ARGUMENTS, seconds=SECONDS), lines([b'e'] * ARGUMENTS))
     return f'{ARGUMENTS:,} arguments'
 
 
-ROWS = {'a tree of many names': many_names, 'names of every shape': shapes_of_names,
-        'an audit of many equal files': audit_of_equal_files, 'a list in many reads': many_reads,
-        'many arguments': many_arguments}
+CASES = {
+    'a tree of many names': many_names,
+    'names of every shape': shapes_of_names,
+    'an audit of many equal files': audit_of_equal_files,
+    'a list in many reads': many_reads,
+    'many arguments': many_arguments,
+}
 
 
-def is_detected(script, row, program, names):
+def is_detected(script, case, program, names):
     """A test fails with a planted program."""
-    with tempfile.TemporaryDirectory() as room:
-        plant(f'{room}/xxhsum', program, script)
+    with tempfile.TemporaryDirectory() as workdir:
+        plant(f'{workdir}/xxhsum', program, script)
         try:
-            ROWS[row](f'{room}/xxhsum', names)
+            CASES[case](f'{workdir}/xxhsum', names)
         except (Fault, subprocess.TimeoutExpired):
             return 'detected'
     raise AssertionError('it is not detected')
@@ -150,16 +193,16 @@ def is_detected(script, row, program, names):
 
 def main():
     parser = command.parser(__doc__, 'rows')
-    parser.add_argument('programs', nargs='+')
+    parser.add_argument('programs', nargs='+', help='the programs to test')
     given = parser.parse_args()
     programs = [os.path.abspath(program) for program in given.programs]
     report, names = Report(), tree_names()
-    with tempfile.TemporaryDirectory() as room, contextlib.chdir(room):
+    with tempfile.TemporaryDirectory() as workdir, contextlib.chdir(workdir):
         make_tree(names)
         for program in programs:
-            for name, row in ROWS.items():
+            for name, case in CASES.items():
                 if given.only in name:
-                    report.attempt(f'{os.path.basename(program)}, {name}', row, program, names)
-        for title, (script, row) in PLANTED.items() if not given.only else ():
-            report.attempt(f'planted, {title}', is_detected, script, row, programs[0], names)
+                    report.attempt(f'{os.path.basename(program)}, {name}', case, program, names)
+        for title, (script, case) in PLANTED.items() if not given.only else ():
+            report.attempt(f'planted, {title}', is_detected, script, case, programs[0], names)
     return report.end()

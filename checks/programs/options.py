@@ -1,9 +1,9 @@
-"""The options of `xxhsum` in its help, its page, its manual page and the cases: the manual page and the cases have those
-of the help, the page some of them."""
+"""The options of `xxhsum` in its help, its page, its manual page and the cases: the manual page and the cases have
+those of the help, the page some of them."""
 import re
 import subprocess
 
-from tools import text_of
+from checks.lib.tools import text_of
 
 from .cases import CASES
 
@@ -19,8 +19,12 @@ def section(path, begins, ends):
 def of_help(program):
     """The first words of the lines of the help, the algorithm's without its number."""
     text = subprocess.run([program, '--help'], stdout=subprocess.PIPE, text=True, check=True).stdout
-    return {word for line in text.splitlines() if line.startswith('  -')
-            for word in re.findall(r'(?:^|, )(--?[\w-]+)', line[2:].split('  ')[0].replace('#', ''))}
+    return {
+        word
+        for line in text.splitlines()
+        if line.startswith('  -')
+        for word in re.findall(r'(?:^|, )(--?[\w-]+)', line[2:].split('  ')[0].replace('#', ''))
+    }
 
 
 def of_page():
@@ -31,32 +35,41 @@ def of_page():
 
 def of_manual():
     heads = re.findall(r'^\.TP\n\.BR? (.*)$', section('xxhsum.1', '.SH OPTIONS\n', '\n.SH '), re.M)
-    words = {word for head in heads for word in re.findall(r'--?[\w-]*', head.replace('\\', ''))}
-    return {re.sub(r'^-H\d+$', '-H', word) for word in words} - MARKS
+    options = {word for head in heads for word in re.findall(r'--?[\w-]*', head.replace('\\', ''))}
+    return {re.sub(r'^-H\d+$', '-H', word) for word in options} - MARKS
 
 
 def of_cases():
     """The options of the cases' arguments, letter by letter."""
-    words = {word for case in CASES for word in case.words if isinstance(word, str) and word.startswith('-')}
-    return words | {f'-{letter}' for word in words if re.fullmatch(r'-\w+', word) for letter in word[1:]}
+    options = {word for case in CASES for word in case.args if isinstance(word, str) and word.startswith('-')}
+    return options | {f'-{letter}' for word in options if re.fullmatch(r'-\w+', word) for letter in word[1:]}
 
 
 def differences(of_program):
     """The places whose options differ from the program's, and the differences."""
     of_the_page = of_page()
-    for place, found in (('docs/XXHSUM.md', of_the_page and of_the_page | of_program), ('docs/xxhsum.1', of_manual()),
-                         ('the cases', of_cases() & of_program)):
+    for place, found in (
+        ('docs/XXHSUM.md', of_the_page and of_the_page | of_program),
+        ('docs/xxhsum.1', of_manual()),
+        ('the cases', of_cases() & of_program),
+    ):
         if found != of_program:
             yield place, sorted(found ^ of_program)
 
 
 def over_pages(program, report):
-    """Compares the three with the help, and with helps that have one option more or one less, which each must detect."""
+    """Compares the three with the help, and with helps that have one option more or one less, which each must
+    detect."""
     asked = of_help(program)
     wrong = dict(differences(asked))
-    for place, words in wrong.items():
-        print(f'{program}: the options of {place} are not those of the help: {", ".join(words)}')
-    noticed = {place for planted in (asked | {'--planted'}, asked - {'--recursive'}) for place, _ in differences(planted)}
-    print(f'the options of the help: {len(asked)}, which {3 - len(wrong)} of 3 places have; {len(noticed)} detect one more or one less')
+    for place, options in wrong.items():
+        print(f'{program}: the options of {place} are not those of the help: {", ".join(options)}')
+    noticed = {
+        place for planted in (asked | {'--planted'}, asked - {'--recursive'}) for place, _ in differences(planted)
+    }
+    print(
+        f'the options of the help: {len(asked)}, which {3 - len(wrong)} of 3 places have; {len(noticed)} detect one '
+        f'more or one less'
+    )
     passed = (3 - len(wrong)) + len(noticed)
     report.count(passed, 6 - passed)

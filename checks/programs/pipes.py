@@ -9,7 +9,7 @@ import signal
 import subprocess
 import tempfile
 
-from tools import write
+from checks.lib.tools import write
 
 from .runs import DISK_SIZE, SETTINGS, into_full_pipe, no_small_disk, on_small_disk, without_waiting
 
@@ -24,8 +24,10 @@ PROCESSES = 8
 def writes_of(programs, folder):
     """The writes of these runs into one pipe, in order, and the statuses. The runs overlap."""
     ours, theirs = os.pipe2(os.O_DIRECT)
-    runs = [subprocess.Popen(words, stdin=subprocess.DEVNULL, stdout=theirs, stderr=theirs, cwd=folder, env=SETTINGS)
-            for words in programs]
+    runs = [
+        subprocess.Popen(args, stdin=subprocess.DEVNULL, stdout=theirs, stderr=theirs, cwd=folder, env=SETTINGS)
+        for args in programs
+    ]
     os.close(theirs)
     parts = []
     while part := os.read(ours, 2 * MOST):
@@ -91,33 +93,36 @@ def before_messages(program, folder):
     names = names_in(folder, 3)
     parts, (status,) = writes_of([[program, names[0], 'gone', names[1], '.', names[2]]], folder)
     ends = [line.split()[-1] if line[:1] in b'0123456789abcdef' else line[:6] for line in b''.join(parts).splitlines()]
-    wanted = [names[0].encode(), b'Error:', names[1].encode(), b'xxhsum', names[2].encode()]
-    return None if status == 1 and ends == wanted else f'status {status}, {ends}'
+    expected = [names[0].encode(), b'Error:', names[1].encode(), b'xxhsum', names[2].encode()]
+    return None if status == 1 and ends == expected else f'status {status}, {ends}'
 
 
 def before_messages_of_lists(program, folder):
     """The same for messages about lines of a list, and about a list that can't be opened."""
-    name, = names_in(folder, 1)
+    (name,) = names_in(folder, 1)
     line = subprocess.run([program, name], capture_output=True, cwd=folder, env=SETTINGS, check=True).stdout
     write(os.path.join(folder, 'list'), line + b'junk\n' + line + b'x' * 40000 + b'\n')
     parts, _status = writes_of([[program, '-cw', 'list', 'gone', 'list']], folder)
     lines = b''.join(parts).splitlines()
-    said = [line.endswith(b': OK') and 'OK' or (line.startswith((b'list:', b'Error:')) and 'message') or 'count' for line in lines]
+    labels = [
+        line.endswith(b': OK') and 'OK' or (line.startswith((b'list:', b'Error:')) and 'message') or 'count'
+        for line in lines
+    ]
     one_list = ['OK', 'message', 'OK', 'message', 'count']
-    return None if said == [*one_list, 'message', *one_list] else f'{said}'
+    return None if labels == [*one_list, 'message', *one_list] else f'{labels}'
 
 
 def before_messages_of_empty_lists(program, folder):
     """The same for the message that a list has no well-formed line."""
-    name, = names_in(folder, 1)
+    (name,) = names_in(folder, 1)
     line = subprocess.run([program, name], capture_output=True, cwd=folder, env=SETTINGS, check=True).stdout
     for listed, text in (('list', line), ('none', b'junk\n')):
         write(os.path.join(folder, listed), text)
     parts, _status = writes_of([[program, '-c', 'list', 'none', 'list']], folder)
     ok = name.encode() + b': OK'
-    wanted = [ok, b'none: no properly formatted xxHash checksum lines found', ok]
+    expected = [ok, b'none: no properly formatted xxHash checksum lines found', ok]
     found = b''.join(parts).splitlines()
-    return None if found == wanted else f'{found}'
+    return None if found == expected else f'{found}'
 
 
 def whole_messages(program, folder):
@@ -126,13 +131,19 @@ def whole_messages(program, folder):
     parts, (status,) = writes_of([[program, *gone]], folder)
     if status != 1 or len(parts) != len(gone):
         return f'status {status}, {len(parts)} writes of {len(gone)} messages'
-    return None if all(part.endswith(b'\n') and part.count(b'\n') == 1 for part in parts) else 'a message stands in two writes'
+    return (
+        None
+        if all(part.endswith(b'\n') and part.count(b'\n') == 1 for part in parts)
+        else 'a message stands in two writes'
+    )
 
 
 def messages_into_one_pipe(program, folder):
     """Messages and lines of several runs into one pipe stay whole."""
     names = [word for name in names_in(folder, 200) for word in (name, f'{name}-gone', f'{name}\ngone')]
-    done = subprocess.run([program, *names], stdout=subprocess.PIPE, stderr=subprocess.STDOUT, cwd=folder, env=SETTINGS, check=False)
+    done = subprocess.run(
+        [program, *names], stdout=subprocess.PIPE, stderr=subprocess.STDOUT, cwd=folder, env=SETTINGS, check=False
+    )
     lines = done.stdout.splitlines()
     parts, statuses = writes_of([[program, *names]] * PROCESSES, folder)
     found = b''.join(parts).splitlines()
@@ -170,8 +181,16 @@ def limited_file(program, folder):
 
     whole = subprocess.run([program, *names], capture_output=True, cwd=folder, env=SETTINGS, check=True).stdout
     with tempfile.TemporaryFile() as out:
-        done = subprocess.run([program, *names], stdout=out, stderr=subprocess.PIPE, cwd=folder, env=SETTINGS, check=False,
-                              preexec_fn=limited, restore_signals=False)
+        done = subprocess.run(
+            [program, *names],
+            stdout=out,
+            stderr=subprocess.PIPE,
+            cwd=folder,
+            env=SETTINGS,
+            check=False,
+            preexec_fn=limited,
+            restore_signals=False,
+        )
         out.seek(0)
         written = out.read()
     if not MOST < limit < len(whole) < 2 * MOST:
@@ -189,8 +208,8 @@ def lost(found, whole, is_right):
     return None
 
 
-def output_of(program, words, folder):
-    return subprocess.run([program, *words], capture_output=True, cwd=folder, env=SETTINGS, check=True).stdout
+def output_of(program, args, folder):
+    return subprocess.run([program, *args], capture_output=True, cwd=folder, env=SETTINGS, check=True).stdout
 
 
 def full_disk(program, folder):
@@ -204,27 +223,37 @@ def full_pipe(program, folder):
     """A write that would block fails, and the loss is reported. The pipe has whole lines."""
     names = names_in(folder, 200) * 6
     whole = output_of(program, names, folder)
-    return lost(into_full_pipe(program, names, folder), whole, lambda out: MOST < len(out) < len(whole) and out.endswith(b'\n'))
+    return lost(
+        into_full_pipe(program, names, folder), whole, lambda out: MOST < len(out) < len(whole) and out.endswith(b'\n')
+    )
 
 
 def input_that_waits(program, folder):
-    """A read that would block fails, and is not the end of the input. With all bytes there, and no writer, none does."""
+    """A read that would block fails, and is not the end of the input. With all bytes there, and no writer, none
+    does."""
     ours, theirs = os.pipe()
     os.write(theirs, b'hello')
     runs = []
     for _ in range(2):
-        runs.append(subprocess.run([program], stdin=without_waiting(ours), capture_output=True, cwd=folder, env=SETTINGS, check=False))
+        runs.append(
+            subprocess.run(
+                [program], stdin=without_waiting(ours), capture_output=True, cwd=folder, env=SETTINGS, check=False
+            )
+        )
         if len(runs) == 1:
             os.write(theirs, b'hello')
             os.close(theirs)
     os.close(ours)
     found = [(run.stdout, run.stderr, run.returncode) for run in runs]
-    wanted = [(b'', b"Error: Could not read 'stdin': Resource temporarily unavailable.\n", 1), (b'26c7827d889f6da3  stdin\n', b'', 0)]
-    return None if found == wanted else f'{found}'
+    expected = [
+        (b'', b"Error: Could not read 'stdin': Resource temporarily unavailable.\n", 1),
+        (b'26c7827d889f6da3  stdin\n', b'', 0),
+    ]
+    return None if found == expected else f'{found}'
 
 
 NEEDS_DISK = 'a disk of 64 KiB'
-ROWS = {
+CASES = {
     'a file that may not grow': limited_file,
     NEEDS_DISK: full_disk,
     'a pipe that is full': full_pipe,
@@ -242,12 +271,12 @@ ROWS = {
 }
 
 
-def fault_of(program, row):
+def fault_of(program, case):
     with tempfile.TemporaryDirectory() as folder:
-        return row(program, folder)
+        return case(program, folder)
 
 
-def rows_on_pipes(program, names=tuple(ROWS)):
+def cases_on_pipes(program, names=tuple(CASES)):
     """The tests, each with its error. That of a disk is left out, with the reason, if none can be mounted."""
     with tempfile.TemporaryDirectory() as folder:
         why = no_small_disk(folder)
@@ -255,18 +284,36 @@ def rows_on_pipes(program, names=tuple(ROWS)):
         print(f'skipped  {NEEDS_DISK}: {why}')
         names = [name for name in names if name != NEEDS_DISK]
     with concurrent.futures.ThreadPoolExecutor(2) as pool:
-        yield from zip(names, pool.map(lambda name: fault_of(program, ROWS[name]), names))
+        yield from zip(names, pool.map(lambda name: fault_of(program, CASES[name]), names))
 
 
 # Programs that write incorrectly, and the tests that must detect it.
 PLANTED_ON_PIPES = {
-    'lines that are cut anywhere': ('"$REAL" "$@" | dd bs=1000 2>/dev/null', ('whole lines', 'several runs into one pipe')),
-    'messages in parts': ('exec 3>&1; "$REAL" "$@" 2>&1 >&3 | sed "s/^Error: /&\\x00/" | tr "\\000" "\\n" | while IFS= read -r line; '
-                          'do printf "%s" "$line"; [ "$line" = "Error: " ] || printf "\\n"; done >&2', ('whole messages',)),
-    'a write for each line': ('"$REAL" "$@" | while IFS= read -r line; do printf "%s\\n" "$line"; done', ('whole lines',)),
-    'lost output with no message': ('"$REAL" "$@" 2>/dev/null; exit 0',
-                                    ('a file that may not grow', NEEDS_DISK, 'a pipe that is full')),
+    'lines that are cut anywhere': (
+        # The pause lets every run write its first part before any writes its second.
+        '"$REAL" "$@" | { dd bs=1000 count=1 2>/dev/null; sleep 1; cat; }',
+        ('whole lines', 'several runs into one pipe'),
+    ),
+    'messages in parts': (
+        'exec 3>&1; "$REAL" "$@" 2>&1 >&3 | sed "s/^Error: /&\\x00/" | tr "\\000" "\\n" | while IFS= read -r line; '
+        'do printf "%s" "$line"; [ "$line" = "Error: " ] || printf "\\n"; done >&2',
+        ('whole messages',),
+    ),
+    'a write for each line': (
+        '"$REAL" "$@" | while IFS= read -r line; do printf "%s\\n" "$line"; done',
+        ('whole lines',),
+    ),
+    'lost output with no message': (
+        '"$REAL" "$@" 2>/dev/null; exit 0',
+        ('a file that may not grow', NEEDS_DISK, 'a pipe that is full'),
+    ),
     'input that ends where a read would wait': ('cat 2>/dev/null | "$REAL" "$@"', ('input that waits',)),
-    'messages first': ('"$REAL" "$@" >"$0.out"; status=$?; cat "$0.out"; exit $status',
-                       ('output before messages', 'output before messages about lists', 'output before messages about lists with no line')),
+    'messages first': (
+        '"$REAL" "$@" >"$0.out"; status=$?; cat "$0.out"; exit $status',
+        (
+            'output before messages',
+            'output before messages about lists',
+            'output before messages about lists with no line',
+        ),
+    ),
 }

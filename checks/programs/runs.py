@@ -3,7 +3,7 @@ import fcntl
 import os
 import subprocess
 
-from tools import write
+from checks.lib.tools import write
 
 # Messages of the system are in English.
 SETTINGS = {**os.environ, 'LC_ALL': 'C'}
@@ -11,9 +11,9 @@ SETTINGS = {**os.environ, 'LC_ALL': 'C'}
 HASHES = ('-H0', '-H1', '-H2', '-H3')
 
 
-def found(program, words, given=b'', seconds=None):
+def found(program, args, given=b'', seconds=None):
     """The output, the errors and the status of a run with this standard input."""
-    done = subprocess.run([program, *words], input=given, capture_output=True, timeout=seconds, check=False)
+    done = subprocess.run([program, *args], input=given, capture_output=True, timeout=seconds, check=False)
     return done.stdout, done.stderr, done.returncode
 
 
@@ -38,24 +38,40 @@ def is_utf8(text):
 
 # Runs a line of sh with a disk of this many bytes at $DISK, which nothing outside of the run sees.
 DISK_SIZE = 65536
-ON_DISK = ('unshare', '--user', '--map-root-user', '--mount', 'sh', '-c',
-           f'mount -t tmpfs -o size={DISK_SIZE} none "$DISK" && eval "$1"', 'sh')
+ON_DISK = (
+    'unshare',
+    '--user',
+    '--map-root-user',
+    '--mount',
+    'sh',
+    '-c',
+    f'mount -t tmpfs -o size={DISK_SIZE} none "$DISK" && eval "$1"',
+    'sh',
+)
 
 
-def on_small_disk(program, words, folder, given=b''):
+def on_small_disk(program, args, folder, given=b''):
     """A run whose output is a file on a disk of 64 KiB: what the file has, the errors and the status."""
     disk, copy = os.path.join(folder, 'disk'), os.path.join(folder, 'copy')
     os.makedirs(disk, exist_ok=True)
     line = 'shift; "$@" >"$DISK/out"; status=$?; cat "$DISK/out" >"$COPY"; exit $status'
-    done = subprocess.run([*ON_DISK, line, program, *words], input=given, stderr=subprocess.PIPE, cwd=folder, check=False,
-                          env={**SETTINGS, 'DISK': disk, 'COPY': copy})
+    done = subprocess.run(
+        [*ON_DISK, line, program, *args],
+        input=given,
+        stderr=subprocess.PIPE,
+        cwd=folder,
+        check=False,
+        env={**SETTINGS, 'DISK': disk, 'COPY': copy},
+    )
     with open(copy, 'rb') as file:
         return file.read(), done.stderr, done.returncode
 
 
 def no_small_disk(folder):
     """Why no disk can be mounted, or nothing."""
-    done = subprocess.run([*ON_DISK, 'true'], stderr=subprocess.PIPE, text=True, env={**SETTINGS, 'DISK': folder}, check=False)
+    done = subprocess.run(
+        [*ON_DISK, 'true'], stderr=subprocess.PIPE, text=True, env={**SETTINGS, 'DISK': folder}, check=False
+    )
     return done.stderr.strip() if done.returncode else ''
 
 
@@ -65,11 +81,18 @@ def without_waiting(file):
     return file
 
 
-def into_full_pipe(program, words, folder, given=b''):
+def into_full_pipe(program, args, folder, given=b''):
     """A run into a pipe that doesn't wait and that nobody reads: what the pipe has, the errors and the status."""
     ours, theirs = os.pipe()
-    done = subprocess.run([program, *words], input=given, stdout=without_waiting(theirs), stderr=subprocess.PIPE, cwd=folder,
-                          env=SETTINGS, check=False)
+    done = subprocess.run(
+        [program, *args],
+        input=given,
+        stdout=without_waiting(theirs),
+        stderr=subprocess.PIPE,
+        cwd=folder,
+        env=SETTINGS,
+        check=False,
+    )
     os.close(theirs)
     with open(ours, 'rb') as file:
         return file.read(), done.stderr, done.returncode

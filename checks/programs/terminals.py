@@ -15,7 +15,7 @@ import tempfile
 import threading
 import time
 
-from tools import TOP, must, write
+from checks.lib.tools import TOP, must, write
 
 from . import runs
 
@@ -86,14 +86,21 @@ class Ends:
         return text
 
 
-def run(program, words, terminals=('err',), given=os.devnull, settings=SETTINGS):
+def run(program, args, terminals=('err',), given=os.devnull, settings=SETTINGS):
     """The output and errors of the program, and its status, with these streams on terminals. Its input is this file,
     or a terminal without input."""
     ends = {name: Ends(name in terminals) for name in ('out', 'err')}
     keyboard = pty.openpty() if 'in' in terminals else (os.open(given, os.O_RDONLY),)
     try:
-        status = subprocess.run([program, *words], stdin=keyboard[-1], stdout=ends['out'].theirs,
-                                stderr=ends['err'].theirs, env=settings, timeout=SECONDS, check=False).returncode
+        status = subprocess.run(
+            [program, *args],
+            stdin=keyboard[-1],
+            stdout=ends['out'].theirs,
+            stderr=ends['err'].theirs,
+            env=settings,
+            timeout=SECONDS,
+            check=False,
+        ).returncode
     except subprocess.TimeoutExpired:
         status = f'not ended after {SECONDS} s'
     finally:
@@ -103,6 +110,7 @@ def run(program, words, terminals=('err',), given=os.devnull, settings=SETTINGS)
 
 
 # ---- progress
+
 
 class Rows:
     """A terminal of this many columns: the rows that it shows, as far as the output of `xxhsum` controls them."""
@@ -125,7 +133,7 @@ class Rows:
             if sequence == b'\r':
                 self.column = 0
             elif sequence == b'\x1b[K':
-                del self.rows[-1][self.column:]
+                del self.rows[-1][self.column :]
             elif sequence in (b'\x1b[?7l', b'\x1b[?7h'):
                 self.wraps = sequence.endswith(b'h')
             else:
@@ -140,24 +148,25 @@ def rows_left(sent, columns):
     return '' if rows == [''] and terminal.wraps else f'at {columns} columns {rows!r} is left'
 
 
-def shows(program, words, wanted, given, settings):
+def shows(program, args, expected, given, settings):
     """The error in the progress of a run whose standard error is a terminal: in the output, in what is left on a
     terminal of any width, or in the output and the status compared with those of a run without."""
-    out, sent, status = run(program, words, given=given, settings=settings)
-    silent = run(program, words, terminals=(), given=given)
-    if sent != wanted:
-        return f'wanted {wanted!r}, found {sent!r}'
+    out, sent, status = run(program, args, given=given, settings=settings)
+    silent = run(program, args, terminals=(), given=given)
+    if sent != expected:
+        return f'expected {expected!r}, found {sent!r}'
     if (out, b'', status) != silent:
         return f'found {(out, status)!r}, and with no terminal {silent!r}'
     return ''.join(rows_left(sent, columns) for columns in WIDTHS)
 
 
-def shown_until(program, words, is_enough, settings):
+def shown_until(program, args, is_enough, settings):
     """The output of a run to a terminal; the run is ended as soon as that is enough."""
     ours, theirs = pty.openpty()
     sent = b''
-    process = subprocess.Popen([program, *words], stdin=subprocess.DEVNULL, stdout=subprocess.DEVNULL, stderr=theirs,
-                               env=settings)
+    process = subprocess.Popen(
+        [program, *args], stdin=subprocess.DEVNULL, stdout=subprocess.DEVNULL, stderr=theirs, env=settings
+    )
     os.close(theirs)
     limit = threading.Timer(SECONDS, process.kill)
     limit.start()
@@ -179,19 +188,19 @@ def settled_line(sent):
 
 def begins_with(program, size, lines, settings):
     """The error in the first lines of progress of a file of this size."""
-    wanted = b''.join(lines)
+    expected = b''.join(lines)
     with tempfile.NamedTemporaryFile() as file:
         file.truncate(size)
-        sent = shown_until(program, ['-H3', file.name], lambda sent: len(sent) >= len(wanted), settings)
-    return '' if sent.startswith(wanted) else f'wanted {wanted!r}, found {sent!r}'
+        sent = shown_until(program, ['-H3', file.name], lambda sent: len(sent) >= len(expected), settings)
+    return '' if sent.startswith(expected) else f'expected {expected!r}, found {sent!r}'
 
 
-def shows_of(program, size, wanted, settings):
+def shows_of(program, size, expected, settings):
     """The error in the progress of a file of this size, which is read to its end."""
     with tempfile.NamedTemporaryFile() as file:
         file.truncate(size)
         _, sent, _ = run(program, ['-H3', file.name], settings=settings)
-    return '' if sent == wanted else f'wanted {wanted!r}, found {sent!r}'
+    return '' if sent == expected else f'expected {expected!r}, found {sent!r}'
 
 
 def keeps_time(program):
@@ -221,8 +230,14 @@ def clears_at(program, number, settings):
     ours, theirs = pty.openpty()
     with tempfile.NamedTemporaryFile() as file:
         file.truncate(VAST)
-        process = subprocess.Popen([program, '-H3', file.name], stdin=subprocess.DEVNULL, stdout=subprocess.DEVNULL,
-                                   stderr=theirs, env=settings, preexec_fn=lambda: signal.signal(number, signal.SIG_DFL))
+        process = subprocess.Popen(
+            [program, '-H3', file.name],
+            stdin=subprocess.DEVNULL,
+            stdout=subprocess.DEVNULL,
+            stderr=theirs,
+            env=settings,
+            preexec_fn=lambda: signal.signal(number, signal.SIG_DFL),
+        )
         os.close(theirs)
         sent = b''
         while ROW_END not in sent:
@@ -237,14 +252,15 @@ def clears_at(program, number, settings):
 
 # ---- which of the streams are terminals
 
-def does(program, words, terminals, given, wanted, settings=SETTINGS):
+
+def does(program, args, terminals, given, expected, settings=SETTINGS):
     """The error in the output, the errors and the status of a run with these streams on terminals. For a usage error
     the first line is compared."""
-    out, err, status = run(program, words, terminals, given, settings)
+    out, err, status = run(program, args, terminals, given, settings)
     if err.startswith(b'Wrong parameters'):
         err = err.split(b'\n')[0] + b'\n'
     had = (out.replace(b'\r\n', b'\n'), err.replace(b'\r\n', b'\n'), status)
-    return '' if had == wanted else f'wanted {wanted!r}, found {had!r}'
+    return '' if had == expected else f'expected {expected!r}, found {had!r}'
 
 
 # ---- control characters
@@ -261,25 +277,36 @@ def visible(name):
     return re.sub(rb'[^\x20-\x7e]', lambda byte: b'\\x%02x' % byte[0][0], name)
 
 
-def painting_rows(program, room):
+def painting_cases(program, workdir):
     """Messages on standard error, checks and audits on standard output, with names that control a terminal: made
     visible on a terminal, and unchanged elsewhere."""
-    names = [os.fsencode(room) + b'/' + name for name in PAINTING]
+    names = [os.fsencode(workdir) + b'/' + name for name in PAINTING]
     gone = [name + b'-gone' for name in names]
     for name in names:
         write(name, b'hello')
-    lines = write(os.path.join(room, 'painting'), b''.join(b'26c7827d889f6da3  %s\n' % name for name in names))
-    counts = b'%d same, 0 changed, 0 moved, 0 copied, 0 new, 0 missing\n' % len(names)
+    lines = write(os.path.join(workdir, 'painting'), b''.join(b'26c7827d889f6da3  %s\n' % name for name in names))
+    counts = b'%d same, 0 changed, 0 moved, 0 copied, 0 new, 0 missing, 0 unreadable\n' % len(names)
     for terminals in ((), ('out',), ('err',), ('out', 'err')):
         on_out, on_err = (visible if stream in terminals else bytes for stream in ('out', 'err'))
         where = ', '.join(terminals) or 'none'
-        messages = b''.join(b"Error: Could not open '%s': No such file or directory. \n" % on_err(name) for name in gone)
+        messages = b''.join(
+            b"Error: Could not open '%s': No such file or directory. \n" % on_err(name) for name in gone
+        )
         checked = b''.join(on_out(name) + b': OK\n' for name in names)
         audited = b''.join(on_out(name) + b': same\n' for name in sorted(names))
-        for title, words, wanted in (('messages', gone, (b'', messages, 1)), ('a check', ['-c', lines], (checked, b'', 0)),
-                                     ('an audit', ['--audit', lines, *names], (audited + counts, b'', 0))):
+        for title, args, expected in (
+            ('messages', gone, (b'', messages, 1)),
+            ('a check', ['-c', lines], (checked, b'', 0)),
+            ('an audit', ['--audit', lines, *names], (audited + counts, b'', 0)),
+        ):
             yield f'control characters in {title}, terminals: {where}', (
-                does, program, words, terminals, os.devnull, wanted)
+                does,
+                program,
+                args,
+                terminals,
+                os.devnull,
+                expected,
+            )
 
 
 def combinations_over(program, long, settings):
@@ -287,9 +314,16 @@ def combinations_over(program, long, settings):
     out, _, status = run(program, ['-H3', long], ())
     for chosen in itertools.product((False, True), repeat=3):
         terminals = tuple(itertools.compress(('in', 'out', 'err'), chosen))
-        wanted = (out, OF_FILE if 'err' in terminals else NOTHING, status)
+        expected = (out, OF_FILE if 'err' in terminals else NOTHING, status)
         yield f'progress of a file, terminals: {", ".join(terminals) or "none"}', (
-            does, program, ['-H3', long], terminals, os.devnull, wanted, settings)
+            does,
+            program,
+            ['-H3', long],
+            terminals,
+            os.devnull,
+            expected,
+            settings,
+        )
 
 
 def rows_over(program, short, long, lists, settings):
@@ -307,20 +341,42 @@ def rows_over(program, short, long, lists, settings):
         'progress of the names in a list': (shows, program, ['-H3', '--files-from', names], OF_FILE, short),
         'progress of an audit': (shows, program, ['--audit', digests, long], OF_FILE, short),
         'progress of an audit below a folder': (shows, program, ['-r', '--audit', digests, folder], OF_FILE, short),
-        'progress of an audit of the names in a list': (shows, program, ['--audit', '--files-from', digests, names],
-                                                        OF_FILE, short),
+        'progress of an audit of the names in a list': (
+            shows,
+            program,
+            ['--audit', '--files-from', digests, names],
+            OF_FILE,
+            short,
+        ),
         'no progress below a folder under -q': (shows, program, ['-qrH3', folder], NOTHING, short),
         'no progress of an audit under -q': (shows, program, ['-q', '--audit', digests, long], NOTHING, short),
-        'no progress of an audit under --status': (shows, program, ['--status', '--audit', digests, long], NOTHING, short),
+        'no progress of an audit under --status': (
+            shows,
+            program,
+            ['--status', '--audit', digests, long],
+            NOTHING,
+            short,
+        ),
         'no progress under -q': (shows, program, ['-q', '-'], NOTHING, long),
         'no progress of a file under -q': (shows, program, ['-qH3', long], NOTHING, short),
         'no progress under --status': (shows, program, ['--status', '-'], NOTHING, long),
         'no progress of a short file': (shows, program, [short], NOTHING, short),
         'the rate and the time left': (keeps_time, program),
         'the rate and the time left of more than a tebibyte': (begins_with, program, tebibyte, first, settings),
-        'the rate by a clock that fails': (begins_with, program, LONG, [line_of_progress(STEP, LONG, RATE_OF_NO_TIME)], failing),
-        'the rate by a clock that goes back': (begins_with, program, LONG, [line_of_progress(STEP, LONG, RATE_OF_NO_TIME)],
-                                               {**settings, 'CLOCK_GOES_BACK': '1'}),
+        'the rate by a clock that fails': (
+            begins_with,
+            program,
+            LONG,
+            [line_of_progress(STEP, LONG, RATE_OF_NO_TIME)],
+            failing,
+        ),
+        'the rate by a clock that goes back': (
+            begins_with,
+            program,
+            LONG,
+            [line_of_progress(STEP, LONG, RATE_OF_NO_TIME)],
+            {**settings, 'CLOCK_GOES_BACK': '1'},
+        ),
         'no progress on a dumb terminal': (shows_of, program, STEP, NOTHING, {**settings, 'TERM': 'dumb'}),
         'SIGINT clears the line of progress': (clears_at, program, signal.SIGINT, SETTINGS),
         'SIGTERM clears the line of progress': (clears_at, program, signal.SIGTERM, SETTINGS),
@@ -332,21 +388,25 @@ def rows_over(program, short, long, lists, settings):
         'a file as input, and the output is a terminal': (does, program, [], ('out',), short, of_short),
         'a file as input, and both are terminals': (does, program, [], ('out', 'err'), short, of_short),
         **dict(combinations_over(program, long, settings)),
-        **dict(painting_rows(program, os.path.dirname(short))),
+        **dict(painting_cases(program, os.path.dirname(short))),
     }
 
 
-def rows_on_terminals(program, names=None):
+def cases_on_terminals(program, names=None):
     """The tests, or those of these names: each by its name, with its error, or nothing."""
-    with tempfile.TemporaryDirectory() as room:
-        os.mkdir(os.path.join(room, 'folder'))
-        long = os.path.join(room, 'folder', 'long')
+    with tempfile.TemporaryDirectory() as workdir:
+        os.mkdir(os.path.join(workdir, 'folder'))
+        long = os.path.join(workdir, 'folder', 'long')
         with open(long, 'wb') as file:
             file.truncate(LONG)
-        short, names_list, digests = (os.path.join(room, name) for name in ('short', 'names', 'digests'))
-        for path, text in ((short, 'hello'), (names_list, f'{long}\n'), (digests, f'XXH3 ({long}) = 0123456789abcdef\n')):
+        short, names_list, digests = (os.path.join(workdir, name) for name in ('short', 'names', 'digests'))
+        for path, text in (
+            (short, 'hello'),
+            (names_list, f'{long}\n'),
+            (digests, f'XXH3 ({long}) = 0123456789abcdef\n'),
+        ):
             write(path, text)
-        settings = known_clock(room)
+        settings = known_clock(workdir)
         for name, (check, *given) in rows_over(program, short, long, (names_list, digests), settings).items():
             if names is None or name in names:
                 yield name, check(*given, settings) if check is shows else check(*given)
@@ -354,19 +414,46 @@ def rows_on_terminals(program, names=None):
 
 # Programs that do one thing wrong with the real one, and the tests that must detect it.
 PLANTED_ON_TERMINALS = {
-    'a line that nobody wants': ('echo seen >&2; exec "$REAL" "$@"', {
-        'no progress under -q', 'no progress of a file under -q', 'no progress under --status',
-        'no progress of a short file', 'no progress below a folder under -q', 'no progress of an audit under -q',
-        'no progress of an audit under --status', 'progress of a file, terminals: in, out'}),
-    'no line at all': ('exec "$REAL" "$@" 2>/dev/null', {
-        'progress of input', 'progress of a file', 'progress below a folder', 'progress of the names in a list',
-        'progress of an audit', 'progress of an audit below a folder', 'progress of an audit of the names in a list'}),
-    'a line that comes late': ('"$REAL" "$@"; status=$?; sleep 0.3; echo late >&2; exit $status', {
-        'no progress under -q', 'no progress of a file under -q', 'no progress under --status'}),
+    'a line that nobody wants': (
+        'echo seen >&2; exec "$REAL" "$@"',
+        {
+            'no progress under -q',
+            'no progress of a file under -q',
+            'no progress under --status',
+            'no progress of a short file',
+            'no progress below a folder under -q',
+            'no progress of an audit under -q',
+            'no progress of an audit under --status',
+            'progress of a file, terminals: in, out',
+        },
+    ),
+    'no line at all': (
+        'exec "$REAL" "$@" 2>/dev/null',
+        {
+            'progress of input',
+            'progress of a file',
+            'progress below a folder',
+            'progress of the names in a list',
+            'progress of an audit',
+            'progress of an audit below a folder',
+            'progress of an audit of the names in a list',
+        },
+    ),
+    'a line that comes late': (
+        '"$REAL" "$@"; status=$?; sleep 0.3; echo late >&2; exit $status',
+        {'no progress under -q', 'no progress of a file under -q', 'no progress under --status'},
+    ),
     'a rate that no machine has': ('printf "2048 MiB, 4000000000 MiB/s, 0 s left" >&2', {'the rate and the time left'}),
-    'a clock that is not asked': ('unset LD_PRELOAD; exec "$REAL" "$@"', {
-        'progress of a file', 'progress of input', 'the rate and the time left of more than a tebibyte'}),
-    'names that paint': ('exec 3>&1; "$REAL" "$@" 2>&1 >&3 | cat >&2', {'control characters in messages, terminals: err'}),
-    'no progress where the output is a terminal': ('[ -t 1 ] && exec 2>/dev/null; exec "$REAL" "$@"', {
-        'progress of a file, terminals: out, err', 'progress of a file, terminals: in, out, err'}),
+    'a clock that is not asked': (
+        'unset LD_PRELOAD; exec "$REAL" "$@"',
+        {'progress of a file', 'progress of input', 'the rate and the time left of more than a tebibyte'},
+    ),
+    'names that paint': (
+        'exec 3>&1; "$REAL" "$@" 2>&1 >&3 | cat >&2',
+        {'control characters in messages, terminals: err'},
+    ),
+    'no progress where the output is a terminal': (
+        '[ -t 1 ] && exec 2>/dev/null; exec "$REAL" "$@"',
+        {'progress of a file, terminals: out, err', 'progress of a file, terminals: in, out, err'},
+    ),
 }

@@ -3,7 +3,7 @@ definitions that contracts cite."""
 import os
 import re
 
-from rattle import CRATES, LISTED, modules_of, text_of, trait_of, type_of
+from docs.api.rattle import CRATES, LISTED, modules_of, text_of, trait_of, type_of
 
 # The crates whose functions state the guarantees beside those that others call.
 STATED = ('theorems', 'xxhsum_theorems')
@@ -33,8 +33,11 @@ def functions(module):
         elif item.kind == 'impl':
             of_trait = re.match(r'\w*', trait_of(item).split('::')[-1])[0]
             owner = f'<{type_of(item)} as {of_trait}>' if of_trait else type_of(item)
-            yield from ((f'{owner}::{inner.name}', inner) for inner in item.inner
-                        if inner.kind == 'fn' and (inner.is_public or of_trait))
+            yield from (
+                (f'{owner}::{inner.name}', inner)
+                for inner in item.inner
+                if inner.kind == 'fn' and (inner.is_public or of_trait)
+            )
 
 
 def table(head, rows):
@@ -67,4 +70,9 @@ def definitions():
 
 def text():
     parts = [line for name in (*STATED, *LISTED) for line in of_crate(name)]
-    return '\n'.join([HEAD, *parts, '## Files of definitions', '', *table(('crate', 'file', 'definitions'), definitions())]).rstrip('\n') + '\n'
+    return (
+        '\n'.join(
+            [HEAD, *parts, '## Files of definitions', '', *table(('crate', 'file', 'definitions'), definitions())]
+        ).rstrip('\n')
+        + '\n'
+    )

@@ -2,7 +2,7 @@
 import os
 import re
 
-from rattle import TOP, text_of, trait_of
+from docs.api.rattle import TOP, text_of, trait_of
 
 
 def lines_of_type(crate, path):
@@ -46,17 +46,17 @@ def lines_of_c():
         calls = re.findall(r'^([A-Za-z][\w *]*?\bXXH\w*\([^;{]*\));', text, re.M)
         names = re.findall(r'^#define (XXH\w+)(?: |$)', text, re.M) + re.findall(r'(XXH\w+);(?=\n)', text)
         names += re.findall(r'^ +(XXH_\w+) = ', text, re.M)
-        names = {name for name in names if 'TWOX_HASH' not in name and name not in INTERNAL_MACROS}
-        names.update(re.findall(r'^(?:#define|extern) (TWOX_HASH_\w+|const [\w ]+)', text, re.M))
-        yield from sorted(names | {re.sub(r'\s+', ' ', call) for call in calls})
+        public = {name for name in names if 'TWOX_HASH' not in name and name not in INTERNAL_MACROS}
+        public.update(re.findall(r'^(?:#define|extern) (TWOX_HASH_\w+|const [\w ]+)', text, re.M))
+        yield from sorted(public | {re.sub(r'\s+', ' ', call) for call in calls})
 
 
 def lines_of_javascript():
     """The exports of each file of types."""
     for name in sorted(os.listdir(os.path.join(TOP, 'web'))):
         if name.endswith('.d.ts'):
-            kinds = 'function|class|const|interface|type'
-            found = re.findall(rf'^export ((?:{kinds}) (?:[^{{;=\n]|=>)*)', text_of('web', name), re.M)
+            item_kinds = 'function|class|const|interface|type'
+            found = re.findall(rf'^export ((?:{item_kinds}) (?:[^{{;=\n]|=>)*)', text_of('web', name), re.M)
             yield from (f'{name}: {line.strip()}' for line in found)
 
 

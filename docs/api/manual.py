@@ -2,7 +2,7 @@
 import re
 import shlex
 
-from rattle import text_of
+from docs.api.rattle import text_of
 
 PAGES = ('xxhsum.1', 'xxh.1')
 HEAD = '# Manual pages\n\nWritten from [xxhsum.1](xxhsum.1) and [xxh.1](xxh.1) by `docs/api/make`.\n'
@@ -25,29 +25,29 @@ def fonts(text):
     return plain(text).replace('|', r'\|')
 
 
-def parts_of(words):
+def parts_of(tokens):
     """The arguments of a request, of which those in quotes may have spaces."""
-    return shlex.split(words.replace('\\', '\\\\').replace("'", "\\'"))
+    return shlex.split(tokens.replace('\\', '\\\\').replace("'", "\\'"))
 
 
-def styled(request, words):
+def styled(request, tokens):
     """A line in a font, or in two that alternate from word to word."""
     if request in ('B', 'I'):
-        text = ' '.join(parts_of(words))
+        text = ' '.join(parts_of(tokens))
         return code(text) if request == 'B' else f'*{plain(text)}*'
     shown = {'B': code, 'I': lambda text: f'*{plain(text).strip()}*', 'R': fonts}
-    return ''.join(shown[request[number % 2]](text) for number, text in enumerate(parts_of(words)))
+    return ''.join(shown[request[number % 2]](text) for number, text in enumerate(parts_of(tokens)))
 
 
 def markdown_of(lines):
     """A manual page as Markdown."""
     out, is_term, is_example = [], False, False
     for line in lines:
-        request, _, words = line[1:].partition(' ') if line.startswith('.') else ('', '', line)
+        request, _, tokens = line[1:].partition(' ') if line.startswith('.') else ('', '', line)
         if request == 'TH':
-            out.append(f'\n## {parts_of(words)[0].lower()}({parts_of(words)[1]})\n')
+            out.append(f'\n## {parts_of(tokens)[0].lower()}({parts_of(tokens)[1]})\n')
         elif request == 'SH':
-            out.append(f'\n**{words}**\n')
+            out.append(f'\n**{tokens}**\n')
         elif request == 'PP':
             out.append('')
             out.append('')
@@ -59,7 +59,7 @@ def markdown_of(lines):
         elif request == 'TP':
             is_term = True
         else:
-            text = plain(line) if is_example else styled(request, words) if request else fonts(words)
+            text = plain(line) if is_example else styled(request, tokens) if request else fonts(tokens)
             out.append(f'- {text}:' if is_term else text)
             is_term = False
     return '\n'.join(out)

@@ -5,11 +5,29 @@ import re
 TOP = os.path.dirname(os.path.dirname(os.path.dirname(os.path.abspath(__file__))))
 CRATES = os.path.join(TOP, 'crates')
 # The crates that others call. Those of tests, evidence and benchmarks are left out.
-LISTED = ('twox_words', 'twox_plain', 'twox_core', 'twox_hash', 'xxh_io', 'xxh_program', 'xxhsum_line', 'xxhsum_options',
-          'xxhsum_audit', 'xxhsum_fs', 'xxhsum_output', 'xxhsum_program', 'xxhsum_app', 'twox_exports', 'twox_c', 'twox_web',
-          'twox_rust')
-ITEM = re.compile(r'(?P<pub>pub )?(?:const |unsafe |extern "C" )*'
-                  r'(?P<kind>fn|struct|enum|trait|const|static|type|mod|use|impl)\b\s*(?P<name>\w*)')
+LISTED = (
+    'twox_words',
+    'twox_plain',
+    'twox_core',
+    'twox_hash',
+    'xxh_io',
+    'xxh_program',
+    'xxhsum_line',
+    'xxhsum_options',
+    'xxhsum_audit',
+    'xxhsum_fs',
+    'xxhsum_output',
+    'xxhsum_program',
+    'xxhsum_app',
+    'twox_exports',
+    'twox_c',
+    'twox_web',
+    'twox_rust',
+)
+ITEM = re.compile(
+    r'(?P<pub>pub )?(?:const |unsafe |extern "C" )*'
+    r'(?P<kind>fn|struct|enum|trait|const|static|type|mod|use|impl)\b\s*(?P<name>\w*)'
+)
 CLAUSE = re.compile(r'(requires|ensures)\b')
 
 
@@ -67,9 +85,9 @@ def read_items(lines, indent=0):
             at += 1
             continue
         end = header_end(lines, at)
-        item = Item(match['kind'], match['name'], match['pub'] is not None, lines[at:end + 1])
+        item = Item(match['kind'], match['name'], match['pub'] is not None, lines[at : end + 1])
         behind = closing(lines, at, end)
-        body = lines[end + 1:behind - 1]
+        body = lines[end + 1 : behind - 1]
         if item.kind in ('impl', 'trait'):
             item.inner = read_items(body, indent + 4)
         elif item.kind in ('struct', 'enum'):

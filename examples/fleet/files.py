@@ -18,6 +18,7 @@ SETTLED_NANOSECONDS = 1_000_000_000
 
 class Entry(NamedTuple):
     """A regular file: its name below the tree, its state, and its digest once there is one."""
+
     name: bytes
     length: int
     changed: int
@@ -93,7 +94,7 @@ def listing(tree, folder, fail):
 
 
 def name_below(tree, found):
-    return found.path[len(os.path.join(os.fsencode(tree), b'')):]
+    return found.path[len(os.path.join(os.fsencode(tree), b'')) :]
 
 
 def state_of(name, found):

@@ -46,15 +46,19 @@ class WrongLibrary(Exception):
 
 # ---- The worker's code. It is pickled by value, and uses no other file of this folder. ----
 
+
 def hashing(library):
     """The module xxhash, which must use the libxxhash of this folder."""
     import xxhash
+
     with open('/proc/self/maps') as maps:
         loaded = {line.split(maxsplit=5)[5].strip() for line in maps if '/libxxhash.so' in line}
     wrong = sorted(path for path in loaded if not path.startswith(os.path.join(library, '')))
     if wrong or not loaded:
-        raise WrongLibrary(f'{os.uname().nodename} hashes by {wrong[0] if wrong else "code of its own"}: start its '
-                           f'worker with LD_LIBRARY_PATH={library}')
+        raise WrongLibrary(
+            f'{os.uname().nodename} hashes by {wrong[0] if wrong else "code of its own"}: start its '
+            f'worker with LD_LIBRARY_PATH={library}'
+        )
     return xxhash
 
 
@@ -83,6 +87,7 @@ def fingerprints(library, tree, names, block):
 
 # ---- The driver's code ----
 
+
 class Task:
     """Files that one call hashes, up to a number of files and bytes. A file with an index is a task of its own, with
     a block size."""
@@ -101,16 +106,16 @@ class Task:
 class Run:
     """One run: its progress, and what failed."""
 
-    def __init__(self, words, parts):
-        self.words, self.parts = words, parts
-        self.hashed = self.kept = self.bytes = self.indexes = self.failed = 0
+    def __init__(self, args, parts):
+        self.args, self.parts = args, parts
+        self.hashed = self.reused = self.bytes = self.indexes = self.failed = 0
         self.began = self.shown = time.monotonic()
 
     def fail(self, name, why):
         self.failed += 1
         self.clear()
-        said = name.decode(errors='backslashreplace').replace('\n', '\\n').replace('\r', '\\r')
-        print(f'fleet: {said}: {why}', file=sys.stderr)
+        shown = name.decode(errors='backslashreplace').replace('\n', '\\n').replace('\r', '\\r')
+        print(f'fleet: {shown}: {why}', file=sys.stderr)
 
     def tasks(self):
         """The tasks, in the order of the files' names, while the tree is walked."""
@@ -131,32 +136,32 @@ class Run:
     def changed(self):
         """The files that must be read. Those that haven't changed since an earlier run are kept."""
         known = Known(self.parts.before())
-        for entry in walk(self.words.tree, self.fail):
+        for entry in walk(self.args.tree, self.fail):
             older = known.of(entry.name)
             if older and entry.is_as(older) and self.has_index(entry):
                 self.parts.keep(older)
-                self.kept += 1
+                self.reused += 1
             else:
                 yield entry
 
     def block_of(self, entry):
         """The block size of a file that gets an index, or 0."""
-        return self.words.block if self.words.indexes and entry.length >= self.words.large else 0
+        return self.args.block if self.args.indexes and entry.length >= self.args.large else 0
 
     def index_of(self, entry, end='.blocks'):
-        return os.path.join(self.words.indexes, os.fsdecode(entry.name) + end)
+        return os.path.join(self.args.indexes, os.fsdecode(entry.name) + end)
 
     def state_of_index(self, entry):
         """The content of the state file of an index: the block size, and the file's state."""
-        return b'%d %d %d %d\n' % (self.words.block, entry.length, entry.changed, entry.inode)
+        return b'%d %d %d %d\n' % (self.args.block, entry.length, entry.changed, entry.inode)
 
     def has_index(self, entry):
         """True if the file has the correct index: of its bytes and of blocks of this size, or none."""
-        if not self.words.indexes:
+        if not self.args.indexes:
             return True
         if not self.block_of(entry):
             return not os.path.isfile(self.index_of(entry))
-        length = INDEX_LINE * -(-entry.length // self.words.block)
+        length = INDEX_LINE * -(-entry.length // self.args.block)
         try:
             with open(self.index_of(entry, '.state'), 'rb') as file:
                 return file.read() == self.state_of_index(entry) and os.path.getsize(self.index_of(entry)) == length
@@ -197,7 +202,7 @@ class Run:
 
     def taken(self, entry, block, digest, lines, length):
         """The entry with its digest. Its index is written before its line."""
-        if self.words.indexes:
+        if self.args.indexes:
             self.renew_index(entry, lines if block else None)
         self.hashed, self.bytes = self.hashed + 1, self.bytes + length
         return entry._replace(digest=digest)
@@ -206,20 +211,21 @@ class Run:
         """Submits tasks to Dask, a limited number at a time, and takes their results. Dask gives those of a lost
         worker to another one."""
         from distributed import as_completed
+
         coming, waiting, seen = self.tasks(), {}, time.monotonic()
         ended = as_completed([], with_results=True, raise_errors=False)
         while self.hand_out(client, coming, waiting, ended) or waiting:
             for future, answer in ended.next_batch(block=False):
                 if client.status != 'running' or future.cancelled():
-                    sys.exit(f'fleet: the scheduler {self.words.scheduler} is gone')
+                    sys.exit(f'fleet: the scheduler {self.args.scheduler} is gone')
                 if isinstance(answer, list) or future.status == 'error':
                     self.take(waiting.pop(future), answer)
                 else:  # The worker with the result is gone: Dask runs it on another one.
                     ended.add(future)
             if client.scheduler_info()['workers']:
                 seen = time.monotonic()
-            elif time.monotonic() - seen > self.words.patience:
-                sys.exit(f'fleet: no worker at {self.words.scheduler} for {self.words.patience} seconds')
+            elif time.monotonic() - seen > self.args.patience:
+                sys.exit(f'fleet: no worker at {self.args.scheduler} for {self.args.patience} seconds')
             self.show()
             time.sleep(0.01)
         self.clear()
@@ -229,8 +235,8 @@ class Run:
         workers = client.scheduler_info()['workers'].values()
         most, before = max(AT_LEAST, FOR_A_THREAD * sum(it['nthreads'] for it in workers)), len(waiting)
         while len(waiting) < most and (task := next(coming, None)):
-            words = self.words.library, self.words.tree, [it.name for it in task.entries], task.block
-            future = client.submit(fingerprints, *words, pure=False)
+            args = self.args.library, self.args.tree, [it.name for it in task.entries], task.block
+            future = client.submit(fingerprints, *args, pure=False)
             waiting[future] = task
             ended.add(future)
         return len(waiting) > before
@@ -243,55 +249,68 @@ class Run:
         """Shows the progress, on a terminal, twice a second."""
         if sys.stderr.isatty() and time.monotonic() - self.shown > 0.5:
             self.shown = time.monotonic()
-            print(f'\r{self.hashed} files hashed, {self.kept} kept; {self.rates()} \x1b[K', end='', file=sys.stderr, flush=True)
+            print(
+                f'\r{self.hashed} files hashed, {self.reused} kept; {self.rates()} \x1b[K',
+                end='',
+                file=sys.stderr,
+                flush=True,
+            )
 
     def clear(self):
         if sys.stderr.isatty():
             print('\r\x1b[K', end='', file=sys.stderr)
 
     def summary(self):
-        return (f'{self.hashed + self.kept} files, {self.kept} of them kept, {self.indexes} indexes, {self.bytes} bytes in '
-                f'{time.monotonic() - self.began:.1f} s: {self.rates()}; {self.failed} failed')
+        return (
+            f'{self.hashed + self.reused} files, {self.reused} of them kept, {self.indexes} indexes, {self.bytes} '
+            f'bytes in '
+            f'{time.monotonic() - self.began:.1f} s: {self.rates()}; {self.failed} failed'
+        )
 
 
-def read_words():
-    words = argparse.ArgumentParser(prog='fleet.py', description=__doc__, formatter_class=argparse.RawDescriptionHelpFormatter)
-    words.add_argument('scheduler', help='where it listens, as tcp://host:8786')
-    words.add_argument('tree')
-    words.add_argument('manifest')
-    words.add_argument('--since', metavar='OLDER', help='the manifest of an earlier run over the tree, beside its OLDER.files')
-    words.add_argument('--anew', action='store_true', help='reads every file, also those that an earlier run has read')
-    words.add_argument('--indexes', metavar='FOLDER')
-    words.add_argument('--large', type=int, default=64 << 20, help='the bytes from which a file has an index')
-    words.add_argument('--block', type=int, default=1 << 20, help='the bytes of a block')
-    words.add_argument('--library', default='/usr/lib/twox-hash/lib', help="the folder of the workers' libxxhash.so.0")
-    words.add_argument('--patience', type=int, default=60, help='the seconds that it waits while there is no worker')
-    chosen = words.parse_args()
+def read_args():
+    args = argparse.ArgumentParser(
+        prog='fleet.py', description=__doc__, formatter_class=argparse.RawDescriptionHelpFormatter
+    )
+    args.add_argument('scheduler', help='where it listens, as tcp://host:8786')
+    args.add_argument('tree', help='the folder whose files are hashed')
+    args.add_argument('manifest', help='the list that is written')
+    args.add_argument(
+        '--since', metavar='OLDER', help='the manifest of an earlier run over the tree, beside its OLDER.files'
+    )
+    args.add_argument('--anew', action='store_true', help='reads every file, also those that an earlier run has read')
+    args.add_argument('--indexes', metavar='FOLDER', help='also write the digests of blocks of large files here')
+    args.add_argument('--large', type=int, default=64 << 20, help='the bytes from which a file has an index')
+    args.add_argument('--block', type=int, default=1 << 20, help='the bytes of a block')
+    args.add_argument('--library', default='/usr/lib/twox-hash/lib', help="the folder of the workers' libxxhash.so.0")
+    args.add_argument('--patience', type=int, default=60, help='the seconds that it waits while there is no worker')
+    chosen = args.parse_args()
     chosen.tree, chosen.manifest = os.path.abspath(chosen.tree), os.path.abspath(chosen.manifest)
     for name in (chosen.manifest, chosen.indexes and os.path.abspath(chosen.indexes)):
         if name and os.path.commonpath([chosen.tree, name]) == chosen.tree:
-            words.error(f'{name} lies in the tree')
+            args.error(f'{name} lies in the tree')
     if not os.path.isdir(chosen.tree):
-        words.error(f'{chosen.tree} is no folder')
+        args.error(f'{chosen.tree} is no folder')
     if chosen.since and not os.path.isfile(chosen.since + '.files'):
-        words.error(f'there is no {chosen.since}.files')
+        args.error(f'there is no {chosen.since}.files')
     if chosen.block < 1:
-        words.error('a block has at least one byte')
+        args.error('a block has at least one byte')
     return chosen
 
 
 def main():
     from distributed import Client
-    words = read_words()
+
+    args = read_args()
     # Dask's messages about lost workers are no errors of this run.
     logging.disable(logging.CRITICAL)
     try:
-        run = Run(words, Parts(words.manifest, words.tree, words.since, words.anew))
-        with Client(words.scheduler, timeout=10) as client:
+        run = Run(args, Parts(args.manifest, args.tree, args.since, args.anew))
+        with Client(args.scheduler, timeout=10) as client:
             run.hash_all(client)
         run.parts.join()
     except BlockingIOError:
-        sys.exit(f'fleet: another run is at work in {words.manifest}.parts')
+        sys.exit(f'fleet: another run is at work in {args.manifest}.parts')
     except (OSError, ValueError) as fault:
         sys.exit(f'fleet: {fault}')
     print(run.summary())

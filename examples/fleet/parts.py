@@ -16,9 +16,9 @@ from files import newest, records_of
 
 
 class Parts:
-    def __init__(self, manifest, tree, since, is_anew=False):
+    def __init__(self, manifest, tree, since, is_fresh=False):
         """Begins a run, or continues one. `since` is the manifest of an earlier run, whose records are also used. If
-        it `is_anew`, no earlier record is used."""
+        it `is_fresh`, no earlier record is used."""
         self.manifest, self.folder = manifest, manifest + '.parts'
         self.is_resumed = os.path.isdir(self.folder)
         os.makedirs(self.folder, exist_ok=True)
@@ -26,11 +26,11 @@ class Parts:
         fcntl.flock(self.lock, fcntl.LOCK_EX | fcntl.LOCK_NB)
         self.hold_to(tree)
         earlier = [records_of(since + '.files')] if since else []
-        known = [] if is_anew else [*earlier, records_of(self.path('before')), self.in_parts()]
+        known = [] if is_fresh else [*earlier, records_of(self.path('before')), self.in_parts()]
         write(self.path('before'), (it.record() for it in newest(*known)))
         for number in self.numbers():
             os.remove(self.path(number))
-        self.kept = open(self.path('kept'), 'wb')
+        self.reused = open(self.path('kept'), 'wb')
 
     def path(self, name):
         return os.path.join(self.folder, str(name))
@@ -57,7 +57,7 @@ class Parts:
 
     def keep(self, entry):
         """An entry of an earlier run whose file hasn't changed."""
-        self.kept.write(entry.record())
+        self.reused.write(entry.record())
 
     def add(self, number, entries):
         """The results of the task of this number."""
@@ -66,7 +66,7 @@ class Parts:
 
     def join(self):
         """Writes the manifest, and the records, of everything that was kept and added."""
-        self.kept.close()
+        self.reused.close()
         found = newest(records_of(self.path('kept')), self.in_parts())
         files = self.manifest + '.files'
         with open(self.manifest + '.part', 'wb') as lines, open(files + '.part', 'wb') as records:

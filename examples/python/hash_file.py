@@ -13,21 +13,23 @@ CHUNK_BYTES = 65536
 
 class Hash128(ctypes.Structure):
     """A 128-bit hash as two halves."""
+
     _fields_ = [('low64', ctypes.c_uint64), ('high64', ctypes.c_uint64)]
 
 
 class Hasher:
-    """A stream of one hash. `kind` is the type of its state, `name` the calls' prefix, `seed` the type of a seed for
+    """A stream of one hash. `state` is the type of its state, `name` the calls' prefix, `seed` the type of a seed for
     reset, if it takes one."""
 
-    def __init__(self, library, kind, name, result, seed=None):
-        self._free = self._call(library, kind + '_freeState', ctypes.c_int, ctypes.c_void_p)
-        self._update = self._call(library, name + '_update', ctypes.c_int,
-                                  ctypes.c_void_p, ctypes.c_char_p, ctypes.c_size_t)
+    def __init__(self, library, state, name, result, seed=None):
+        self._free = self._call(library, state + '_freeState', ctypes.c_int, ctypes.c_void_p)
+        self._update = self._call(
+            library, name + '_update', ctypes.c_int, ctypes.c_void_p, ctypes.c_char_p, ctypes.c_size_t
+        )
         self._digest = self._call(library, name + '_digest', result, ctypes.c_void_p)
         seeds = [seed] if seed else []
         reset = self._call(library, name + '_reset', ctypes.c_int, ctypes.c_void_p, *seeds)
-        self._state = self._call(library, kind + '_createState', ctypes.c_void_p)()
+        self._state = self._call(library, state + '_createState', ctypes.c_void_p)()
         if not self._state:
             raise MemoryError
         reset(self._state, *[0 for _ in seeds])

@@ -6,6 +6,6 @@ from dask.base import tokenize
 
 print(xxhash.__name__)
 for length in (0, 1, 7, 100, 1000, 100000):
-    for kind in ('u1', 'f8', 'S7', 'M8[s]'):
-        values = numpy.arange(length).astype(kind)
-        print(length, kind, dask.hashing.hash_buffer_hex(values.view('i1')), tokenize(values), tokenize(values[::2]))
+    for dtype in ('u1', 'f8', 'S7', 'M8[s]'):
+        values = numpy.arange(length).astype(dtype)
+        print(length, dtype, dask.hashing.hash_buffer_hex(values.view('i1')), tokenize(values), tokenize(values[::2]))

@@ -1,9 +1,7 @@
-"""Runs the search of dupeGuru for files of equal contents: find_duplicates.py DUPEGURU FOLDER. Prints each group's
-files, and their digests by the module xxhash."""
+"""Runs the search of dupeGuru for files of equal contents: find_duplicates.py FOLDER, with dupeGuru on
+PYTHONPATH. Prints each group's files, and their digests by the module xxhash."""
 import pathlib
 import sys
-
-sys.path.insert(0, sys.argv[1])
 
 from core import fs
 from core.directories import Directories
@@ -12,7 +10,7 @@ from core.se.scanner import ScannerSE
 
 
 def main():
-    folder = pathlib.Path(sys.argv[2])
+    folder = pathlib.Path(sys.argv[1])
     fs.filesdb.connect(':memory:')
     directories = Directories()
     directories.add_path(folder)

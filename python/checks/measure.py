@@ -17,9 +17,11 @@ TURN = 0.004
 
 def at_once(form):
     """A function over an input."""
-    def made(module, name, data):
+
+    def constructor(module, name, data):
         return getattr(module, f'{name}_{form}'), data, 'call(data)'
-    return made
+
+    return constructor
 
 
 def of_an_object(module, name, data):
@@ -31,13 +33,18 @@ def update(module, name, data):
     return getattr(module, name)().update, data, 'call(data)'
 
 
-CALLS = {'`_digest`': at_once('digest'), '`_hexdigest`': at_once('hexdigest'), '`_intdigest`': at_once('intdigest'),
-         'object, `hexdigest`': of_an_object, '`update`': update}
+CALLS = {
+    '`_digest`': at_once('digest'),
+    '`_hexdigest`': at_once('hexdigest'),
+    '`_intdigest`': at_once('intdigest'),
+    'object, `hexdigest`': of_an_object,
+    '`update`': update,
+}
 
 
-def turn(call, data, words, times):
+def turn(call, data, statement, times):
     """The nanoseconds of a call, over a turn of this many."""
-    return timeit.Timer(words, globals={'call': call, 'data': data}).timeit(times) / times * 1e9
+    return timeit.Timer(statement, globals={'call': call, 'data': data}).timeit(times) / times * 1e9
 
 
 class Row:
@@ -73,12 +80,17 @@ def of_many(rounds):
     """The nanoseconds of a row of 16 bytes among 10,000: by `many` into a buffer, by `many` as a list, and by the
     original's function in a loop."""
     rows, into = bytes(range(160)) * 1000, bytearray(80000)
-    pieces = [rows[at:at + 16] for at in range(0, len(rows), 16)]
-    ways = (lambda: ours.many(rows, width=16, into=into), lambda: ours.many(pieces),
-            lambda: [theirs.xxh3_64_digest(piece) for piece in pieces])
+    pieces = [rows[at : at + 16] for at in range(0, len(rows), 16)]
+    ways = (
+        lambda: ours.many(rows, width=16, into=into),
+        lambda: ours.many(pieces),
+        lambda: [theirs.xxh3_64_digest(piece) for piece in pieces],
+    )
     best = [min(turn(way, None, 'call()', 1) for _ in range(rounds)) / len(pieces) for way in ways]
-    return f'`many` of 10,000 rows of 16 bytes: {best[0]:.1f} ns a row into a buffer, {best[1]:.0f} ns as a list; ' \
-           f'the original in a loop {best[2]:.0f} ns.'
+    return (
+        f'`many` of 10,000 rows of 16 bytes: {best[0]:.1f} ns a row into a buffer, {best[1]:.0f} ns as a list; '
+        f'the original in a loop {best[2]:.0f} ns.'
+    )
 
 
 def processor():
@@ -100,8 +112,10 @@ def main():
     print_ranges(rows)
     print()
     print(of_many(rounds))
-    print(f'{datetime.date.today()}, {processor()}, {ours.instruction_set}, CPython {platform.python_version()}, '
-          f'python3-xxhash over libxxhash {theirs.XXHASH_VERSION}.')
+    print(
+        f'{datetime.date.today()}, {processor()}, {ours.instruction_set}, CPython {platform.python_version()}, '
+        f'python3-xxhash over libxxhash {theirs.XXHASH_VERSION}.'
+    )
 
 
 main()

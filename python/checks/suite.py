@@ -4,9 +4,9 @@ import os
 import re
 import shutil
 
-from report import Fault, tail, want
-from tools import text_of, write
-from room import DEBUG, PYTHON, PYTHON_FOLDER, copied, must, packed, run, site
+from checks.lib.report import Fault, last_line, check
+from checks.lib.tools import text_of, write
+from python.checks.environment import DEBUG, PYTHON, PYTHON_FOLDER, copied, must, packed, run, site
 
 VALGRIND = ('/usr/bin/valgrind', '-q', '--error-exitcode=9', PYTHON)
 ALL = ('values', 'interface', 'objects', 'files', 'many', 'threads', 'leaks')
@@ -14,8 +14,8 @@ ALL = ('values', 'interface', 'objects', 'files', 'many', 'threads', 'leaks')
 
 def tests(path, *names, python=(PYTHON,), **more):
     """Runs tests, all without names, over the build in a folder."""
-    words = [*python, '-B', '-W', 'error', '-m', 'unittest', *(f'tests.test_{name}' for name in names or ALL)]
-    return run(words, PYTHON_FOLDER, PYTHONPATH=path, **more)
+    command = [*python, '-B', '-W', 'error', '-m', 'unittest', *(f'tests.test_{name}' for name in names or ALL)]
+    return run(command, PYTHON_FOLDER, PYTHONPATH=path, **more)
 
 
 def pass_all(path, *names, **more):
@@ -33,15 +33,18 @@ def first_failure(output):
     if report:
         return report[1]
     name = re.search(r'^(?:FAIL|ERROR): (\S+)', output, re.M)
-    why = re.search(r'^(?:\w+\.)*(?:\w*(?:Error|Exception|Fault))\b.*', output[name.end():], re.M) if name else None
-    return f'{name[1]}: {why[0][:200] if why else "failed"}' if name else tail(output)
+    why = re.search(r'^(?:\w+\.)*(?:\w*(?:Error|Exception|Fault))\b.*', output[name.end() :], re.M) if name else None
+    return f'{name[1]}: {why[0][:200] if why else "failed"}' if name else last_line(output)
 
 
 def of_set(built, instructions):
     """The tests pass with one instruction set."""
-    found = must([PYTHON, '-c', 'import twox_hash; print(twox_hash.instruction_set)'], PYTHONPATH=built.site,
-                 TWOX_HASH_INSTRUCTIONS=instructions)
-    want(found.strip() == instructions, f'{found.strip()} runs in place of {instructions}')
+    found = must(
+        [PYTHON, '-c', 'import twox_hash; print(twox_hash.instruction_set)'],
+        PYTHONPATH=built.site,
+        TWOX_HASH_INSTRUCTIONS=instructions,
+    )
+    check(found.strip() == instructions, f'{found.strip()} runs in place of {instructions}')
     return pass_all(built.site, TWOX_HASH_INSTRUCTIONS=instructions)
 
 
@@ -57,36 +60,40 @@ def leaks_under_valgrind(built):
 
 def of_debug_build(built):
     """The tests pass with a build by Debian's debug Python, which tests its own rules and counts references."""
-    wheel = packed(copied(os.path.join(built.room, 'debug')), DEBUG)[1]
+    wheel = packed(copied(os.path.join(built.workdir, 'debug')), DEBUG)[1]
     counts = must([DEBUG, '-c', 'import sys; print(sys.gettotalrefcount() > 0)'])
-    want(counts.strip() == 'True', f'{DEBUG} counts no references')
-    return pass_all(site(built.room, 'debug', wheel), python=(DEBUG,), TWOX_HASH_OBJECTS='100000')
+    check(counts.strip() == 'True', f'{DEBUG} counts no references')
+    return pass_all(site(built.workdir, 'debug', wheel), python=(DEBUG,), TWOX_HASH_OBJECTS='100000')
 
 
 def of_clang(built):
     """The tests of values pass when compiled by clang."""
-    wheel = packed(copied(os.path.join(built.room, 'clang')), CC='clang')[1]
-    return pass_all(site(built.room, 'clang', wheel), 'values', 'objects')
+    wheel = packed(copied(os.path.join(built.workdir, 'clang')), CC='clang')[1]
+    return pass_all(site(built.workdir, 'clang', wheel), 'values', 'objects')
 
 
 def of_source(built):
-    """The tests pass over the code of xxhash.h. The build states once that it isn't proved, and the wheel claims no proof."""
-    folder = copied(os.path.join(built.room, 'source'))
-    said = must([os.path.join(folder, 'build'), PYTHON], TWOX_HASH_SOURCE='1')
-    want(said.count('compiled from xxhash.h, which is not proved: TWOX_HASH_SOURCE=1\n') == 1, tail(said))
-    path = site(built.room, 'source', glob.glob(os.path.join(folder, 'out', '*.whl'))[0])
+    """The tests pass over the code of xxhash.h. The build states once that it isn't proved, and the wheel claims no
+    proof."""
+    folder = copied(os.path.join(built.workdir, 'source'))
+    output = must([os.path.join(folder, 'build'), PYTHON], TWOX_HASH_SOURCE='1')
+    check(output.count('compiled from xxhash.h, which is not proved: TWOX_HASH_SOURCE=1\n') == 1, last_line(output))
+    path = site(built.workdir, 'source', glob.glob(os.path.join(folder, 'out', '*.whl'))[0])
     found = must([PYTHON, '-c', 'import twox_hash; print(twox_hash.instruction_set)'], PYTHONPATH=path)
-    want(found == 'source\n', f'{found.strip()} runs')
-    about, = glob.glob(os.path.join(path, '*.dist-info', 'METADATA'))
-    said = [line for line in text_of(about).splitlines() if line.startswith(('Summary: ', 'Keywords: '))]
-    want('compiled from C' in said[0] and not any(word in line for line in said for word in ('proved', 'verified')), said)
+    check(found == 'source\n', f'{found.strip()} runs')
+    (about,) = glob.glob(os.path.join(path, '*.dist-info', 'METADATA'))
+    output = [line for line in text_of(about).splitlines() if line.startswith(('Summary: ', 'Keywords: '))]
+    check(
+        'compiled from C' in output[0] and not any(word in line for line in output for word in ('proved', 'verified')),
+        output,
+    )
     return pass_all(path)
 
 
 def in_another_python(built, path, python):
     """The tests pass in another Python. The package replaces the original there: of the values only the reference
     library's table is left, and of the interface nothing."""
-    folder = os.path.join(built.room, 'stand-in')
+    folder = os.path.join(built.workdir, 'stand-in')
     write(os.path.join(folder, 'xxhash.py'), 'import sys\n\nimport twox_hash\n\nsys.modules["xxhash"] = twox_hash\n')
     names = [name for name in ALL if name != 'interface']
     return pass_all(f'{path}:{folder}', *names, python=(python,), TWOX_HASH_OBJECTS='200000')
@@ -95,20 +102,28 @@ def in_another_python(built, path, python):
 def of_another_python(built, python):
     """The tests pass in another Python, with its own build."""
     name = os.path.abspath(python).strip('/').replace('/', '-')
-    return in_another_python(built, site(built.room, name, packed(copied(os.path.join(built.room, name)), python)[1]), python)
+    return in_another_python(
+        built, site(built.workdir, name, packed(copied(os.path.join(built.workdir, name)), python)[1]), python
+    )
 
 
 def of_limited_interface(built, pythons):
     """The tests pass with the wheel of the limited interface, in this Python and in others that it supports."""
-    path = site(built.room, 'limited', packed(copied(os.path.join(built.room, 'limited')), '--limited')[1])
+    path = site(built.workdir, 'limited', packed(copied(os.path.join(built.workdir, 'limited')), '--limited')[1])
     found = must([PYTHON, '-c', 'import twox_hash; print(twox_hash._native.__file__)'], PYTHONPATH=path).strip()
-    want(found.endswith('_native.abi3.so'), f'{found} runs')
-    later = [python for python in pythons if run([python, '-c', 'import sys; sys.exit(sys.version_info < (3, 11))']).returncode == 0]
-    return ', '.join([pass_all(path, TWOX_HASH_OBJECTS='200000'), *(in_another_python(built, path, it) for it in later)])
+    check(found.endswith('_native.abi3.so'), f'{found} runs')
+    later = [
+        python
+        for python in pythons
+        if run([python, '-c', 'import sys; sys.exit(sys.version_info < (3, 11))']).returncode == 0
+    ]
+    return ', '.join(
+        [pass_all(path, TWOX_HASH_OBJECTS='200000'), *(in_another_python(built, path, it) for it in later)]
+    )
 
 
 def with_xxh(built, xxh):
     """States are passed to the program xxh and back."""
     found = shutil.which(xxh)
-    want(found, f'there is no program {xxh}')
+    check(found, f'there is no program {xxh}')
     return pass_all(built.site, 'objects', XXH=os.path.abspath(found))

@@ -1,26 +1,52 @@
 """The package for other processors under qemu, in Debian's Python for each."""
 import os
-from collections import namedtuple
+from typing import NamedTuple
 
-from arm_roots import debian_root
-from builds import text_is_proved
-from planted import noticed
-from report import want
-from room import copied, packed, run, site
-from suite import pass_all, tests
-from tools import replace_once
+from checks.lib.arm_roots import debian_root
+from python.checks.builds import text_is_proved
+from python.checks.planted import noticed
+from checks.lib.report import check
+from python.checks.environment import copied, packed, run, site
+from python.checks.suite import pass_all, tests
+from checks.lib.tools import replace_once
 
-# By Debian's name: the compiler's prefix, the emulator, the machine as Python and the wheel name it, and the calls.
-Target = namedtuple('Target', 'architecture tools emulator machine calls')
-TARGETS = {'aarch64': Target('arm64', 'aarch64-linux-gnu-', 'qemu-aarch64', 'aarch64', 'aarch64'),
-           'i386': Target('i386', 'i686-linux-gnu-', 'qemu-i386', 'i686', 'source'),
-           's390x': Target('s390x', 's390x-linux-gnu-', 'qemu-s390x', 's390x', 'source')}
+
+class Target(NamedTuple):
+    """A processor by Debian's name: the compiler's prefix, the emulator, the machine as Python and the wheel name it,
+    and the calls."""
+
+    architecture: str
+    tools: str
+    emulator: str
+    machine: str
+    calls: str
+
+
+TARGETS = {
+    'aarch64': Target('arm64', 'aarch64-linux-gnu-', 'qemu-aarch64', 'aarch64', 'aarch64'),
+    'i386': Target('i386', 'i686-linux-gnu-', 'qemu-i386', 'i686', 'source'),
+    's390x': Target('s390x', 's390x-linux-gnu-', 'qemu-s390x', 's390x', 'source'),
+}
 # Mistakes that these processors show: the file, the text that is there once, its replacement, the tests.
-FAULTS = {'s390x': [('bytes are swapped on each processor', 'python/native/values.c', 'if (IS_LITTLE_ENDIAN) word', 'word',
-                     'values'),
-                    ('a saved state in one byte order', 'python/src/twox_hash/_states.py', "'=5QI4xQ32s'", "'<5QI4xQ32s'",
-                     'objects')],
-          'i386': [('a mark of 32 bits', 'python/native/source.c', '.mark = mark,', '.mark = (size_t)mark,', 'objects')]}
+FAULTS = {
+    's390x': [
+        (
+            'bytes are swapped on each processor',
+            'python/native/values.c',
+            'if (IS_LITTLE_ENDIAN) word',
+            'word',
+            'values',
+        ),
+        (
+            'a saved state in one byte order',
+            'python/src/twox_hash/_states.py',
+            "'=5QI4xQ32s'",
+            "'<5QI4xQ32s'",
+            'objects',
+        ),
+    ],
+    'i386': [('a mark of 32 bits', 'python/native/source.c', '.mark = mark,', '.mark = (size_t)mark,', 'objects')],
+}
 # Fewer objects are made, since each step takes ten times as long.
 FEWER = {'TWOX_HASH_OBJECTS': '10000', 'timeout': 7200}
 
@@ -28,36 +54,46 @@ FEWER = {'TWOX_HASH_OBJECTS': '10000', 'timeout': 7200}
 def packages(target):
     """The packages that build for a target and run its programs, by a file of each."""
     folder = target.tools[:-1]
-    return {f'/usr/bin/{target.tools}gcc': f'gcc-{folder}', f'/usr/bin/{target.emulator}': 'qemu-user',
-            f'/usr/{folder}/include/stdio.h': f'libc6-dev-{target.architecture}-cross'}
+    return {
+        f'/usr/bin/{target.tools}gcc': f'gcc-{folder}',
+        f'/usr/bin/{target.emulator}': 'qemu-user',
+        f'/usr/{folder}/include/stdio.h': f'libc6-dev-{target.architecture}-cross',
+    }
 
 
 class Emulated:
     """A target with Debian's Python for it, and builds by Debian's cross compiler."""
 
-    def __init__(self, target, room):
-        self.target, self.room = target, room
-        self.root = debian_root(os.path.join(room, 'debian'), 'libc6', 'python3-xxhash', 'libpython3.11-dev',
-                                architecture=target.architecture)
+    def __init__(self, target, workdir):
+        self.target, self.workdir = target, workdir
+        self.root = debian_root(
+            os.path.join(workdir, 'debian'),
+            'libc6',
+            'python3-xxhash',
+            'libpython3.11-dev',
+            architecture=target.architecture,
+        )
         self.python = (f'/usr/bin/{target.emulator}', '-L', self.root, f'{self.root}/usr/bin/python3.11')
 
     def built(self, name, *change):
         """The wheel's files, with a change of the sources."""
-        clone = os.path.join(self.room, name)
+        clone = os.path.join(self.workdir, name)
         folder = copied(clone)
         if change:
             replace_once(os.path.join(clone, change[0]), *change[1:])
         wheel = packed(folder, CC=f'{self.target.tools}gcc', CFLAGS=f'-idirafter {self.root}/usr/include')[1]
-        want(wheel.endswith(f'linux_{self.target.machine}.whl'), f'the wheel is {wheel}')
-        return site(self.room, name, wheel)
+        check(wheel.endswith(f'linux_{self.target.machine}.whl'), f'the wheel is {wheel}')
+        return site(self.workdir, name, wheel)
 
 
 def tests_pass(emulated):
     """Compared with Debian's python3-xxhash for the processor."""
     path = emulated.built('plain')
-    done = run([*emulated.python, '-c', 'import platform, twox_hash; print(platform.machine(), twox_hash.instruction_set)'],
-               PYTHONPATH=path)
-    want(done.stdout.split() == [emulated.target.machine, emulated.target.calls], done.stdout[-200:])
+    done = run(
+        [*emulated.python, '-c', 'import platform, twox_hash; print(platform.machine(), twox_hash.instruction_set)'],
+        PYTHONPATH=path,
+    )
+    check(done.stdout.split() == [emulated.target.machine, emulated.target.calls], done.stdout[-200:])
     return pass_all(path, python=emulated.python, **FEWER)
 
 
@@ -66,12 +102,17 @@ def notices(emulated, number, path, text, other, name):
     return noticed(tests(built, name, python=emulated.python, **FEWER))
 
 
-def check_all(report, name, room):
+def check_all(report, name, workdir):
     target = TARGETS[name]
     if target.calls != 'source':
-        report.attempt('what the assembler makes of the text, beside what was proved', text_is_proved, room,
-                       target.machine, target.tools)
-    emulated = Emulated(target, room)
+        report.attempt(
+            'what the assembler makes of the text, beside what was proved',
+            text_is_proved,
+            workdir,
+            target.machine,
+            target.tools,
+        )
+    emulated = Emulated(target, workdir)
     report.attempt(f'the tests on {name} under qemu', tests_pass, emulated)
     for number, (what, *plan) in enumerate(FAULTS.get(name, [])):
         report.attempt(f'noticed: {what}', notices, emulated, number, *plan)

@@ -2,9 +2,9 @@
 import os
 import re
 
-from report import tail, want
-from tools import write
-from room import PYTHON, must, run
+from checks.lib.report import last_line, check
+from checks.lib.tools import write
+from python.checks.environment import PYTHON, must, run
 
 MYPY = [PYTHON, '-m', 'mypy', '--strict', '--cache-dir=/dev/null']
 RIGHT = '''
@@ -26,38 +26,65 @@ filled: bytearray = xxhash.many(b'somerows', 'xxh32', width=4, into=bytearray(8)
 names: list[str] = sorted(xxhash.algorithms_available) + [xxhash.VERSION, xxhash.XXHASH_VERSION, hasher.name]
 sizes: list[int] = [hasher.seed, hasher.digest_size, hasher.digestsize, hasher.block_size, *xxhash.VERSION_TUPLE]
 '''
-WRONG = ["xxhash.xxh64_digest(5)", "xxhash.xxh64_digest()", "xxhash.xxh64_digest(b'a', 'seed')",
-         "xxhash.xxh64_digest(b'a', secret=bytes(200))", "xxhash.xxh3_64(data=b'a')",
-         "xxhash.xxh3_64(b'a', 1, bytes(200))",
-         "xxhash.xxh64().update(5)", "xxhash.xxh64().seed = 5", "number: int = xxhash.xxh64().digest()",
-         "hasher: xxhash.xxh64 = xxhash.xxh32().copy()", "xxhash.many(5)", "class Mine(xxhash.xxh64): ...",
-         "rows: list[str] = xxhash.many([b'a'])", "xxhash.file_digest(b'a', 5)"]
+WRONG = [
+    "xxhash.xxh64_digest(5)",
+    "xxhash.xxh64_digest()",
+    "xxhash.xxh64_digest(b'a', 'seed')",
+    "xxhash.xxh64_digest(b'a', secret=bytes(200))",
+    "xxhash.xxh3_64(data=b'a')",
+    "xxhash.xxh3_64(b'a', 1, bytes(200))",
+    "xxhash.xxh64().update(5)",
+    "xxhash.xxh64().seed = 5",
+    "number: int = xxhash.xxh64().digest()",
+    "hasher: xxhash.xxh64 = xxhash.xxh32().copy()",
+    "xxhash.many(5)",
+    "class Mine(xxhash.xxh64): ...",
+    "rows: list[str] = xxhash.many([b'a'])",
+    "xxhash.file_digest(b'a', 5)",
+]
 
 
 def program(built, name, text):
-    return write(os.path.join(built.room, f'{name}.py'), text)
+    return write(os.path.join(built.workdir, f'{name}.py'), text)
 
 
 def stub_is_the_module(built):
     """Each name of the stub is a name of the extension, with its arguments, and none is missing."""
-    done = run([PYTHON, '-m', 'mypy.stubtest', 'twox_hash._native', 'twox_hash._types', 'twox_hash._states',
-                'twox_hash.version'], built.room, PYTHONPATH=built.site, MYPYPATH=built.site)
-    want(done.returncode == 0 and 'no issues' in done.stdout, done.stdout[:300])
+    done = run(
+        [
+            PYTHON,
+            '-m',
+            'mypy.stubtest',
+            'twox_hash._native',
+            'twox_hash._types',
+            'twox_hash._states',
+            'twox_hash.version',
+        ],
+        built.workdir,
+        PYTHONPATH=built.site,
+        MYPYPATH=built.site,
+    )
+    check(done.returncode == 0 and 'no issues' in done.stdout, done.stdout[:300])
 
 
 def users_program(built):
-    done = run([*MYPY, program(built, 'right', RIGHT)], built.room, MYPYPATH=built.site)
-    want(done.returncode == 0, done.stdout[:300])
+    done = run([*MYPY, program(built, 'right', RIGHT)], built.workdir, MYPYPATH=built.site)
+    check(done.returncode == 0, done.stdout[:300])
     lines = [f'{line}\n' for line in WRONG]
-    wrong = run([*MYPY, program(built, 'wrong', 'import twox_hash as xxhash\n' + ''.join(lines))], built.room,
-                MYPYPATH=built.site)
+    wrong = run(
+        [*MYPY, program(built, 'wrong', 'import twox_hash as xxhash\n' + ''.join(lines))],
+        built.workdir,
+        MYPYPATH=built.site,
+    )
     noticed = set(map(int, re.findall(r'wrong\.py:(\d+): error', wrong.stdout)))
     left = [line for number, line in enumerate(WRONG, 2) if number not in noticed]
-    want(not left, f'not noticed: {left}')
+    check(not left, f'not noticed: {left}')
     return f'{len(WRONG)} wrong lines are noticed'
 
 
 def check_all(report, built):
-    report.attempt('mypy --strict on the package', lambda: tail(must([*MYPY, os.path.join(built.site, 'twox_hash')])))
+    report.attempt(
+        'mypy --strict on the package', lambda: last_line(must([*MYPY, os.path.join(built.site, 'twox_hash')]))
+    )
     report.attempt('the stub beside the extension', stub_is_the_module, built)
     report.attempt('mypy --strict on a program that uses it', users_program, built)

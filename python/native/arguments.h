@@ -4,7 +4,7 @@
 
 #include "python.h"
 
-#include "kinds.h"
+#include "algorithms.h"
 
 /* The bytes of an object, which don't move until close_bytes. */
 struct bytes {
@@ -30,14 +30,15 @@ struct arguments {
     struct key key;
 };
 
-/* Parses the arguments of `name(input, seed=0, *, secret=None)`; only kinds with a secret have the last one. Without
- * a name they are those of a constructor, which may omit the input. Returns 0 with an exception set if they are
+/* Parses the arguments of `name(input, seed=0, *, secret=None)`; only algorithms with a secret have the last one.
+ * Without a name they are those of a constructor, which may omit the input. Returns 0 with an exception set if they are
  * invalid; otherwise close_arguments must be called. */
-int open_arguments(struct arguments *arguments, const struct kind *kind, const char *name, PyObject *const *args,
-                   Py_ssize_t count, PyObject *names);
+int open_arguments(struct arguments *arguments, const struct algorithm *algorithm, const char *name,
+                   PyObject *const *args, Py_ssize_t count, PyObject *names);
 
 /* Does the same for a constructor whose arguments are a tuple, and a dictionary or null. */
-int open_arguments_of_tuple(struct arguments *arguments, const struct kind *kind, PyObject *args, PyObject *keywords);
+int open_arguments_of_tuple(struct arguments *arguments, const struct algorithm *algorithm, PyObject *args,
+                            PyObject *keywords);
 
 void close_arguments(struct arguments *arguments);
 

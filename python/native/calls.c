@@ -46,8 +46,8 @@ EACH_CALL(DECLARED)
 static int has_v2(void)
 {
     unsigned a, b, c, d;
-    const unsigned wanted = bit_SSE3 | bit_SSSE3 | bit_CMPXCHG16B | bit_SSE4_1 | bit_SSE4_2 | bit_POPCNT;
-    return __get_cpuid(1, &a, &b, &c, &d) && (c & wanted) == wanted;
+    const unsigned needed = bit_SSE3 | bit_SSSE3 | bit_CMPXCHG16B | bit_SSE4_1 | bit_SSE4_2 | bit_POPCNT;
+    return __get_cpuid(1, &a, &b, &c, &d) && (c & needed) == needed;
 }
 
 /* True if the system saves a thread's registers of 256 bits, and those of 512 and the masks. */
@@ -63,18 +63,18 @@ static int keeps(unsigned registers)
 static int has_v3(void)
 {
     unsigned a, b, c, d;
-    const unsigned wanted = bit_FMA | bit_MOVBE | bit_OSXSAVE | bit_AVX | bit_F16C;
-    const unsigned wanted_too = bit_BMI | bit_AVX2 | bit_BMI2;
-    if (!has_v2() || !__get_cpuid(1, &a, &b, &c, &d) || (c & wanted) != wanted || !keeps(OF_256_BITS)) return 0;
-    if (!__get_cpuid_count(7, 0, &a, &b, &c, &d) || (b & wanted_too) != wanted_too) return 0;
+    const unsigned needed = bit_FMA | bit_MOVBE | bit_OSXSAVE | bit_AVX | bit_F16C;
+    const unsigned needed_of_leaf_7 = bit_BMI | bit_AVX2 | bit_BMI2;
+    if (!has_v2() || !__get_cpuid(1, &a, &b, &c, &d) || (c & needed) != needed || !keeps(OF_256_BITS)) return 0;
+    if (!__get_cpuid_count(7, 0, &a, &b, &c, &d) || (b & needed_of_leaf_7) != needed_of_leaf_7) return 0;
     return __get_cpuid(0x80000001, &a, &b, &c, &d) && (c & bit_LZCNT);
 }
 
 static int has_v4(void)
 {
     unsigned a, b, c, d;
-    const unsigned wanted = bit_AVX512F | bit_AVX512BW | bit_AVX512CD | bit_AVX512DQ | bit_AVX512VL;
-    return has_v3() && keeps(OF_512_BITS) && __get_cpuid_count(7, 0, &a, &b, &c, &d) && (b & wanted) == wanted;
+    const unsigned needed = bit_AVX512F | bit_AVX512BW | bit_AVX512CD | bit_AVX512DQ | bit_AVX512VL;
+    return has_v3() && keeps(OF_512_BITS) && __get_cpuid_count(7, 0, &a, &b, &c, &d) && (b & needed) == needed;
 }
 
 /* The best one first. */
@@ -96,25 +96,25 @@ static const struct set sets[] = {{is_always, {EACH_CALL(IN_ARM).instructions = 
 #error "there is proved code for Linux on x86-64 and on 64-bit ARM: elsewhere, define TWOX_HASH_SOURCE"
 #endif
 
-static const char *choose(const char *wanted)
+static const char *choose(const char *chosen)
 {
-    const char *fault = wanted ? "there is no such instruction set" : "this processor lacks x86-64-v2";
+    const char *fault = chosen ? "there is no such instruction set" : "this processor lacks x86-64-v2";
     for (size_t i = 0; i < sizeof(sets) / sizeof(*sets); i++) {
-        if (wanted && strcmp(wanted, sets[i].calls.instructions)) continue;
+        if (chosen && strcmp(chosen, sets[i].calls.instructions)) continue;
         if (sets[i].is_there()) {
             calls = sets[i].calls;
             return NULL;
         }
-        if (wanted) fault = "this processor lacks it";
+        if (chosen) fault = "this processor lacks it";
     }
     return fault;
 }
 
-const char *choose_calls(const char *wanted)
+const char *choose_calls(const char *chosen)
 {
     pthread_mutex_lock(&choice);
-    const char *fault = !calls.instructions ? choose(wanted)
-                        : wanted && strcmp(wanted, calls.instructions) ? "this process uses another one" : NULL;
+    const char *fault = !calls.instructions ? choose(chosen)
+                        : chosen && strcmp(chosen, calls.instructions) ? "this process uses another one" : NULL;
     pthread_mutex_unlock(&choice);
     return fault;
 }

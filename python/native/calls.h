@@ -43,8 +43,8 @@ struct calls {
 /* The calls in use. choose_calls fills it before any call. */
 extern struct calls calls;
 
-/* Selects the processor's best instruction set, or `wanted` if that isn't null: once in a process. Returns null, or
+/* Selects the processor's best instruction set, or `chosen` if that isn't null: once in a process. Returns null, or
  * the error: the processor lacks the instruction set, its name is unknown, or another one was selected before. */
-const char *choose_calls(const char *wanted);
+const char *choose_calls(const char *chosen);
 
 #endif

@@ -26,7 +26,7 @@ static void take_long(struct hasher *hasher, const void *start, size_t length)
 {
     Py_BEGIN_ALLOW_THREADS
     PyThread_acquire_lock(hasher->lock, WAIT_LOCK);
-    hasher->kind->take(hasher->state, start, length);
+    hasher->algorithm->take(hasher->state, start, length);
     PyThread_release_lock(hasher->lock);
     Py_END_ALLOW_THREADS
 }
@@ -40,34 +40,34 @@ static void take(struct hasher *hasher, const void *start, size_t length)
         return;
     }
     enter(hasher);
-    hasher->kind->take(hasher->state, start, length);
+    hasher->algorithm->take(hasher->state, start, length);
     leave(hasher);
 }
 
 static void start(struct hasher *hasher, const struct key *key)
 {
     enter(hasher);
-    hasher->kind->start(hasher->state, key);
+    hasher->algorithm->start(hasher->state, key);
     leave(hasher);
 }
 
 /* ---- Construction and destruction ---- */
 
 /* Allocates an object whose state is not written yet. */
-static struct hasher *unwritten(PyTypeObject *type, const struct kind *kind)
+static struct hasher *unwritten(PyTypeObject *type, const struct algorithm *algorithm)
 {
     struct hasher *hasher = PyObject_New(struct hasher, type);
     if (!hasher) return NULL;
-    hasher->kind = kind;
+    hasher->algorithm = algorithm;
     hasher->lock = NULL;
     return hasher;
 }
 
 /* Creates an object before __init__: one of no bytes, with the seed 0. */
-static PyObject *new_of(PyTypeObject *type, const struct kind *kind)
+static PyObject *new_of(PyTypeObject *type, const struct algorithm *algorithm)
 {
-    struct hasher *hasher = unwritten(type, kind);
-    if (hasher) kind->start(hasher->state, &(struct key){0});
+    struct hasher *hasher = unwritten(type, algorithm);
+    if (hasher) algorithm->start(hasher->state, &(struct key){0});
     return (PyObject *)hasher;
 }
 
@@ -87,7 +87,7 @@ static int begin(struct hasher *hasher, const struct arguments *arguments)
 static int hasher_init(struct hasher *hasher, PyObject *args, PyObject *keywords)
 {
     struct arguments arguments;
-    if (!open_arguments_of_tuple(&arguments, hasher->kind, args, keywords)) return -1;
+    if (!open_arguments_of_tuple(&arguments, hasher->algorithm, args, keywords)) return -1;
     const int begun = begin(hasher, &arguments);
     close_arguments(&arguments);
     return begun ? 0 : -1;
@@ -96,22 +96,22 @@ static int hasher_init(struct hasher *hasher, PyObject *args, PyObject *keywords
 /* A call of a type creates and initializes an object at once, if a type has a slot for that: the limited interface
  * calls new, and then init. */
 #ifdef Py_LIMITED_API
-#define FAST_CALL(kind)
-#define SET_FAST_CALL(type, kind)
+#define FAST_CALL(algorithm)
+#define SET_FAST_CALL(type, algorithm)
 #else
-#define FAST_CALL(kind) \
-    static PyObject *kind##_call(PyObject *type, PyObject *const *args, size_t count, PyObject *names) \
+#define FAST_CALL(algorithm) \
+    static PyObject *algorithm##_call(PyObject *type, PyObject *const *args, size_t count, PyObject *names) \
     { \
-        return begun_of((PyTypeObject *)type, &kind##_kind, args, count, names); \
+        return begun_of((PyTypeObject *)type, &algorithm##_algorithm, args, count, names); \
     }
-#define SET_FAST_CALL(type, kind) (type)->tp_vectorcall = kind##_call
+#define SET_FAST_CALL(type, algorithm) (type)->tp_vectorcall = algorithm##_call
 
-static PyObject *begun_of(PyTypeObject *type, const struct kind *kind, PyObject *const *args, size_t count,
+static PyObject *begun_of(PyTypeObject *type, const struct algorithm *algorithm, PyObject *const *args, size_t count,
                           PyObject *names)
 {
     struct arguments arguments;
-    if (!open_arguments(&arguments, kind, NULL, args, PyVectorcall_NARGS(count), names)) return NULL;
-    struct hasher *hasher = unwritten(type, kind);
+    if (!open_arguments(&arguments, algorithm, NULL, args, PyVectorcall_NARGS(count), names)) return NULL;
+    struct hasher *hasher = unwritten(type, algorithm);
     if (hasher && !begin(hasher, &arguments)) Py_CLEAR(hasher);
     close_arguments(&arguments);
     return (PyObject *)hasher;
@@ -140,7 +140,7 @@ static PyObject *hasher_update(struct hasher *hasher, PyObject *input)
 static hash_value finished(struct hasher *hasher)
 {
     enter(hasher);
-    const hash_value value = hasher->kind->finish(hasher->state);
+    const hash_value value = hasher->algorithm->finish(hasher->state);
     leave(hasher);
     return value;
 }
@@ -148,28 +148,28 @@ static hash_value finished(struct hasher *hasher)
 static PyObject *hasher_digest(struct hasher *hasher, PyObject *none)
 {
     (void)none;
-    return as_digest(hasher->kind, finished(hasher));
+    return as_digest(hasher->algorithm, finished(hasher));
 }
 
 static PyObject *hasher_hexdigest(struct hasher *hasher, PyObject *none)
 {
     (void)none;
-    return as_hexdigest(hasher->kind, finished(hasher));
+    return as_hexdigest(hasher->algorithm, finished(hasher));
 }
 
 static PyObject *hasher_intdigest(struct hasher *hasher, PyObject *none)
 {
     (void)none;
-    return as_intdigest(hasher->kind, finished(hasher));
+    return as_intdigest(hasher->algorithm, finished(hasher));
 }
 
 static PyObject *hasher_copy(struct hasher *hasher, PyObject *none)
 {
-    struct hasher *copy = unwritten(type_of(hasher), hasher->kind);
+    struct hasher *copy = unwritten(type_of(hasher), hasher->algorithm);
     (void)none;
     if (!copy) return NULL;
     enter(hasher);
-    memcpy(copy->state, hasher->state, hasher->kind->state_bytes);
+    memcpy(copy->state, hasher->state, hasher->algorithm->state_bytes);
     leave(hasher);
     return (PyObject *)copy;
 }
@@ -179,10 +179,10 @@ static PyObject *hasher_reset(struct hasher *hasher, PyObject *none)
     unsigned char secret[GREATEST_SECRET];
     (void)none;
     enter(hasher);
-    struct key key = hasher->kind->key_of(hasher->state);
+    struct key key = hasher->algorithm->key_of(hasher->state);
     /* A constructor refuses a secret in the state that it writes. */
     if (key.secret) key.secret = memcpy(secret, key.secret, key.secret_length);
-    hasher->kind->start(hasher->state, &key);
+    hasher->algorithm->start(hasher->state, &key);
     leave(hasher);
     Py_RETURN_NONE;
 }
@@ -191,7 +191,7 @@ static PyObject *hasher_seed(struct hasher *hasher, void *none)
 {
     (void)none;
     enter(hasher);
-    const uint64_t seed = hasher->kind->key_of(hasher->state).seed;
+    const uint64_t seed = hasher->algorithm->key_of(hasher->state).seed;
     leave(hasher);
     return PyLong_FromUnsignedLongLong(seed);
 }
@@ -199,19 +199,19 @@ static PyObject *hasher_seed(struct hasher *hasher, void *none)
 static PyObject *hasher_name(struct hasher *hasher, void *none)
 {
     (void)none;
-    return PyUnicode_FromString(hasher->kind->name);
+    return PyUnicode_FromString(hasher->algorithm->name);
 }
 
 static PyObject *hasher_digest_size(struct hasher *hasher, void *none)
 {
     (void)none;
-    return PyLong_FromLong(hasher->kind->digest_bytes);
+    return PyLong_FromLong(hasher->algorithm->digest_bytes);
 }
 
 static PyObject *hasher_block_size(struct hasher *hasher, void *none)
 {
     (void)none;
-    return PyLong_FromLong(hasher->kind->block_bytes);
+    return PyLong_FromLong(hasher->algorithm->block_bytes);
 }
 
 /* ---- The types ---- */
@@ -257,7 +257,8 @@ static PyGetSetDef attributes[] = {
 
 #define INPUT_AND_SEED \
     "A hash of bytes so far. `input` are the first ones: a bytes-like object whose buffer is contiguous, or a str,\n" \
-    "which is hashed as UTF-8. `seed` is an integer, also a negative one, of which the lowest bits are used, as many\n" \
+    "which is hashed as UTF-8. `seed` is an integer, also a negative one, of which the lowest bits are used, as " \
+    "many\n" \
     "as the hash's own seed has.\n\n"
 
 #define NO_SECRET \
@@ -268,31 +269,31 @@ static PyGetSetDef attributes[] = {
     "bytes of input, and only the secret above; without one, the secret does at every length.\n\n" NO_SECRET \
     " ValueError: the secret has\nanother length."
 
-#define TYPE(kind, bytes, signature, more) \
-    static PyObject *kind##_new(PyTypeObject *type, PyObject *args, PyObject *keywords) \
+#define TYPE(algorithm, bytes, signature, more) \
+    static PyObject *algorithm##_new(PyTypeObject *type, PyObject *args, PyObject *keywords) \
     { \
         (void)args, (void)keywords; \
-        return new_of(type, &kind##_kind); \
+        return new_of(type, &algorithm##_algorithm); \
     } \
-    FAST_CALL(kind) \
-    static PyType_Slot kind##_slots[] = { \
-        {Py_tp_new, (void *)kind##_new}, \
+    FAST_CALL(algorithm) \
+    static PyType_Slot algorithm##_slots[] = { \
+        {Py_tp_new, (void *)algorithm##_new}, \
         {Py_tp_init, (void *)hasher_init}, \
         {Py_tp_dealloc, (void *)hasher_dealloc}, \
         {Py_tp_methods, methods}, \
         {Py_tp_getset, attributes}, \
-        {Py_tp_doc, #kind signature "\n--\n\n" INPUT_AND_SEED more}, \
+        {Py_tp_doc, #algorithm signature "\n--\n\n" INPUT_AND_SEED more}, \
         {0}, \
     }; \
-    static PyType_Spec kind##_spec = { \
-        .name = "twox_hash." #kind, .basicsize = sizeof(struct hasher) + (bytes), \
-        .flags = Py_TPFLAGS_DEFAULT | Py_TPFLAGS_IMMUTABLETYPE, .slots = kind##_slots, \
+    static PyType_Spec algorithm##_spec = { \
+        .name = "twox_hash." #algorithm, .basicsize = sizeof(struct hasher) + (bytes), \
+        .flags = Py_TPFLAGS_DEFAULT | Py_TPFLAGS_IMMUTABLETYPE, .slots = algorithm##_slots, \
     }; \
-    static int add_##kind(PyObject *module) \
+    static int add_##algorithm(PyObject *module) \
     { \
-        PyTypeObject *type = (PyTypeObject *)PyType_FromModuleAndSpec(module, &kind##_spec, NULL); \
+        PyTypeObject *type = (PyTypeObject *)PyType_FromModuleAndSpec(module, &algorithm##_spec, NULL); \
         if (!type) return 0; \
-        SET_FAST_CALL(type, kind); \
+        SET_FAST_CALL(type, algorithm); \
         const int is_added = !PyModule_AddType(module, type); \
         Py_DECREF(type); \
         return is_added; \

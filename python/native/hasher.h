@@ -4,12 +4,12 @@
 
 #include "python.h"
 
-#include "kinds.h"
+#include "algorithms.h"
 
 /* An object. Everything that it was given is in its state, including its seed and its secret. */
 struct hasher {
     PyObject_HEAD
-    const struct kind *kind;
+    const struct algorithm *algorithm;
     PyThread_type_lock lock; /* null until a thread releases the GIL while it uses the state */
     uint64_t state[];
 };

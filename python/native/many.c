@@ -6,8 +6,8 @@
 #include "values.h"
 
 /* The destination of digests, one after another: memory of the call's own, or the caller's buffer. */
-struct room {
-    const struct kind *kind;
+struct destination {
+    const struct algorithm *algorithm;
     unsigned char *start; /* of the digests */
     size_t digests, bytes;
     int has_numbers; /* they are written as native integers */
@@ -16,84 +16,85 @@ struct room {
     Py_buffer view;
 };
 
-static void close_room(struct room *room)
+static void close_destination(struct destination *destination)
 {
-    if (room->has_view) PyBuffer_Release(&room->view);
-    if (room->is_own) PyMem_Free(room->start);
+    if (destination->has_view) PyBuffer_Release(&destination->view);
+    if (destination->is_own) PyMem_Free(destination->start);
 }
 
 /* Opens the caller's buffer, unless it is None. */
-static int open_into(struct room *room, PyObject *into)
+static int open_into(struct destination *destination, PyObject *into)
 {
     if (into == Py_None) return 1;
-    if (PyObject_GetBuffer(into, &room->view, PyBUF_WRITABLE)) return 0;
-    room->has_view = 1;
-    room->start = room->view.buf;
-    if ((size_t)room->view.len == room->bytes) return 1;
-    PyErr_Format(PyExc_ValueError, "into has %zd bytes, not those of %zu digests of %d bytes", room->view.len,
-                 room->digests, room->kind->digest_bytes);
+    if (PyObject_GetBuffer(into, &destination->view, PyBUF_WRITABLE)) return 0;
+    destination->has_view = 1;
+    destination->start = destination->view.buf;
+    if ((size_t)destination->view.len == destination->bytes) return 1;
+    PyErr_Format(PyExc_ValueError, "into has %zd bytes, not those of %zu digests of %d bytes", destination->view.len,
+                 destination->digests, destination->algorithm->digest_bytes);
     return 0;
 }
 
 /* Allocates space for this many digests. With `may_fail` they go into memory of the call's own first, so that an
  * invalid row leaves the caller's buffer unchanged. Returns 0 with an exception set if there is none. */
-static int open_room(struct room *room, const struct kind *kind, size_t digests, PyObject *const *into, int may_fail)
+static int open_destination(struct destination *destination, const struct algorithm *algorithm, size_t digests,
+                            PyObject *const *into, int may_fail)
 {
-    *room = (struct room){.kind = kind, .digests = digests, .has_numbers = into[1] == Py_True};
-    if (digests > PY_SSIZE_T_MAX / kind->digest_bytes) {
+    *destination = (struct destination){.algorithm = algorithm, .digests = digests, .has_numbers = into[1] == Py_True};
+    if (digests > PY_SSIZE_T_MAX / algorithm->digest_bytes) {
         PyErr_Format(PyExc_OverflowError, "%zu digests of %d bytes are more than a buffer can have", digests,
-                     kind->digest_bytes);
+                     algorithm->digest_bytes);
         return 0;
     }
-    room->bytes = digests * kind->digest_bytes;
-    if (open_into(room, into[0])) {
-        if (room->has_view && !may_fail) return 1;
-        room->start = PyMem_Malloc(room->bytes);
-        room->is_own = room->start != NULL;
-        if (room->is_own) return 1;
+    destination->bytes = digests * algorithm->digest_bytes;
+    if (open_into(destination, into[0])) {
+        if (destination->has_view && !may_fail) return 1;
+        destination->start = PyMem_Malloc(destination->bytes);
+        destination->is_own = destination->start != NULL;
+        if (destination->is_own) return 1;
         PyErr_NoMemory();
     }
-    close_room(room);
+    close_destination(destination);
     return 0;
 }
 
-static void put(const struct room *room, size_t i, hash_value value)
+static void put(const struct destination *destination, size_t i, hash_value value)
 {
-    unsigned char *place = room->start + i * room->kind->digest_bytes;
-    if (room->has_numbers)
-        write_number(place, room->kind, value);
+    unsigned char *place = destination->start + i * destination->algorithm->digest_bytes;
+    if (destination->has_numbers)
+        write_number(place, destination->algorithm, value);
     else
-        write_digest(place, room->kind, value);
+        write_digest(place, destination->algorithm, value);
 }
 
 /* True if the caller's buffer overlaps a row. */
-static int is_over(const struct room *room, const unsigned char *row, size_t length)
+static int is_over(const struct destination *destination, const unsigned char *row, size_t length)
 {
-    const uintptr_t start = (uintptr_t)row, into = (uintptr_t)room->view.buf;
-    return room->has_view && length && start < into + room->bytes && into < start + length;
+    const uintptr_t start = (uintptr_t)row, into = (uintptr_t)destination->view.buf;
+    return destination->has_view && length && start < into + destination->bytes && into < start + length;
 }
 
-static PyObject *list_of(const struct room *room)
+static PyObject *list_of(const struct destination *destination)
 {
-    const size_t bytes = room->kind->digest_bytes;
-    PyObject *list = PyList_New((Py_ssize_t)room->digests);
-    for (size_t i = 0; list && i < room->digests; i++) {
-        PyObject *digest = PyBytes_FromStringAndSize((const char *)room->start + i * bytes, (Py_ssize_t)bytes);
+    const size_t bytes = destination->algorithm->digest_bytes;
+    PyObject *list = PyList_New((Py_ssize_t)destination->digests);
+    for (size_t i = 0; list && i < destination->digests; i++) {
+        PyObject *digest = PyBytes_FromStringAndSize((const char *)destination->start + i * bytes, (Py_ssize_t)bytes);
         if (!digest || PyList_SetItem(list, (Py_ssize_t)i, digest)) Py_CLEAR(list);
     }
     return list;
 }
 
 /* Returns the result of a call after all digests are written, or null if they aren't. */
-static PyObject *end(struct room *room, int is_done)
+static PyObject *end(struct destination *destination, int is_done)
 {
     PyObject *answer = NULL;
-    if (is_done && room->has_view) {
-        if (room->is_own) memcpy(room->view.buf, room->start, room->bytes);
+    if (is_done && destination->has_view) {
+        if (destination->is_own) memcpy(destination->view.buf, destination->start, destination->bytes);
         answer = Py_NewRef(Py_None);
     } else if (is_done)
-        answer = list_of(room);
-    close_room(room);
+        answer = list_of(destination);
+    close_destination(destination);
     return answer;
 }
 
@@ -110,16 +111,16 @@ static void name_row(size_t row)
 }
 
 /* Hashes a row of a tuple. */
-static int hash_object(const struct room *room, const struct key *key, size_t i, PyObject *object)
+static int hash_object(const struct destination *destination, const struct key *key, size_t i, PyObject *object)
 {
     struct bytes row;
     if (!open_bytes(&row, object)) {
         name_row(i);
         return 0;
     }
-    const int is_right = !is_over(room, row.start, row.length);
+    const int is_right = !is_over(destination, row.start, row.length);
     if (is_right)
-        put(room, i, hash_of(room->kind, row.start, row.length, key));
+        put(destination, i, hash_of(destination->algorithm, row.start, row.length, key));
     else
         PyErr_Format(PyExc_ValueError, "into overlaps row %zu", i);
     close_bytes(&row);
@@ -128,14 +129,14 @@ static int hash_object(const struct room *room, const struct key *key, size_t i,
 
 PyObject *hasher_many(struct hasher *hasher, PyObject *const *args, Py_ssize_t count)
 {
-    const struct key key = hasher->kind->key_of(hasher->state);
-    struct room room;
+    const struct key key = hasher->algorithm->key_of(hasher->state);
+    struct destination destination;
     if (count != 3 || !PyTuple_Check(args[0])) return PyErr_Format(PyExc_TypeError, "_many(rows, into, numbers)");
-    if (!open_room(&room, hasher->kind, (size_t)PyTuple_Size(args[0]), args + 1, 1)) return NULL;
+    if (!open_destination(&destination, hasher->algorithm, (size_t)PyTuple_Size(args[0]), args + 1, 1)) return NULL;
     int is_done = 1;
-    for (size_t i = 0; is_done && i < room.digests; i++)
-        is_done = hash_object(&room, &key, i, PyTuple_GetItem(args[0], (Py_ssize_t)i));
-    return end(&room, is_done);
+    for (size_t i = 0; is_done && i < destination.digests; i++)
+        is_done = hash_object(&destination, &key, i, PyTuple_GetItem(args[0], (Py_ssize_t)i));
+    return end(&destination, is_done);
 }
 
 /* The rows of a buffer. */
@@ -144,30 +145,30 @@ struct rows {
     size_t count, width, bytes;
 };
 
-static void hash_rows(const struct room *room, const struct key *key, const struct rows *rows)
+static void hash_rows(const struct destination *destination, const struct key *key, const struct rows *rows)
 {
     for (size_t i = 0; i < rows->count; i++)
-        put(room, i, room->kind->hash(rows->start + i * rows->width, rows->width, key));
+        put(destination, i, destination->algorithm->hash(rows->start + i * rows->width, rows->width, key));
 }
 
 /* Hashes the rows, with the GIL released if they are long together. */
 static PyObject *digests_of_rows(const struct hasher *hasher, const struct rows *rows, PyObject *const *into)
 {
-    const struct key key = hasher->kind->key_of(hasher->state);
-    struct room room;
-    if (!open_room(&room, hasher->kind, rows->count, into, 0)) return NULL;
-    if (is_over(&room, rows->start, rows->bytes)) {
+    const struct key key = hasher->algorithm->key_of(hasher->state);
+    struct destination destination;
+    if (!open_destination(&destination, hasher->algorithm, rows->count, into, 0)) return NULL;
+    if (is_over(&destination, rows->start, rows->bytes)) {
         PyErr_SetString(PyExc_ValueError, "into overlaps the rows");
-        return end(&room, 0);
+        return end(&destination, 0);
     }
     if (rows->bytes < LONG_INPUT)
-        hash_rows(&room, &key, rows);
+        hash_rows(&destination, &key, rows);
     else {
         Py_BEGIN_ALLOW_THREADS
-        hash_rows(&room, &key, rows);
+        hash_rows(&destination, &key, rows);
         Py_END_ALLOW_THREADS
     }
-    return end(&room, 1);
+    return end(&destination, 1);
 }
 
 PyObject *hasher_many_of_width(struct hasher *hasher, PyObject *const *args, Py_ssize_t count)

@@ -9,10 +9,10 @@
 /* Chooses the instruction set of the calls. TWOX_HASH_INSTRUCTIONS may select one, for benchmarks and tests. */
 static int choose(void)
 {
-    const char *wanted = getenv("TWOX_HASH_INSTRUCTIONS");
-    const char *fault = choose_calls(wanted && *wanted ? wanted : NULL);
+    const char *chosen = getenv("TWOX_HASH_INSTRUCTIONS");
+    const char *fault = choose_calls(chosen && *chosen ? chosen : NULL);
     if (!fault) return 1;
-    PyErr_Format(PyExc_ImportError, "twox_hash: %s%s%s", wanted ? wanted : "", wanted ? ": " : "", fault);
+    PyErr_Format(PyExc_ImportError, "twox_hash: %s%s%s", chosen ? chosen : "", chosen ? ": " : "", fault);
     return 0;
 }
 

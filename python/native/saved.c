@@ -38,7 +38,8 @@ PyObject *hasher_memory(struct hasher *hasher, PyObject *none)
 {
     (void)none;
     enter(hasher);
-    PyObject *memory = PyBytes_FromStringAndSize((const char *)hasher->state, (Py_ssize_t)hasher->kind->state_bytes);
+    PyObject *memory = PyBytes_FromStringAndSize((const char *)hasher->state,
+                                                 (Py_ssize_t)hasher->algorithm->state_bytes);
     leave(hasher);
     return memory;
 }
@@ -48,17 +49,17 @@ PyObject *hasher_set_memory(struct hasher *hasher, PyObject *memory)
     char *bytes;
     Py_ssize_t length;
     if (PyBytes_AsStringAndSize(memory, &bytes, &length)) return NULL;
-    if ((size_t)length != hasher->kind->state_bytes) {
+    if ((size_t)length != hasher->algorithm->state_bytes) {
         PyErr_SetString(PyExc_ValueError, "a state has another length");
         return NULL;
     }
-    const struct key key = hasher->kind->key_of(bytes);
+    const struct key key = hasher->algorithm->key_of(bytes);
     if (key.secret && (key.secret_length < LEAST_SECRET || key.secret_length > GREATEST_SECRET)) {
         PyErr_SetString(PyExc_ValueError, "the secret has another length");
         return NULL;
     }
     enter(hasher);
-    memcpy(hasher->state, bytes, hasher->kind->state_bytes);
+    memcpy(hasher->state, bytes, hasher->algorithm->state_bytes);
     leave(hasher);
     Py_RETURN_NONE;
 }

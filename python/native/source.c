@@ -46,7 +46,7 @@ static int open_32(XXH32_state_t *state, const struct xxh32_state *saved)
     memcpy(&total, saved->total_length, sizeof total);
     *state = (XXH32_state_t){.total = (uint32_t)total, .is_large = total >= sizeof saved->buffer,
                              .accumulators = {saved->v1, saved->v2, saved->v3, saved->v4},
-                             .buffered = saved->marked_waiting - MARK_32};
+                             .buffered = saved->marked_usage - MARK_32};
     memcpy(state->buffer, saved->buffer, sizeof saved->buffer);
     return state->buffered < sizeof saved->buffer;
 }
@@ -63,7 +63,7 @@ static int open_64(XXH64_state_t *state, const struct xxh64_state *saved)
 {
     *state = (XXH64_state_t){.total = saved->total_length,
                              .accumulators = {saved->v1, saved->v2, saved->v3, saved->v4},
-                             .buffered = saved->marked_waiting - MARK_64};
+                             .buffered = saved->marked_usage - MARK_64};
     memcpy(state->buffer, saved->buffer, sizeof saved->buffer);
     return state->buffered < sizeof saved->buffer;
 }
@@ -80,7 +80,7 @@ static void add_length_64(struct xxh64_state *saved, size_t length)
         saved->v2 = state->accumulators[1]; \
         saved->v3 = state->accumulators[2]; \
         saved->v4 = state->accumulators[3]; \
-        saved->marked_waiting = MARK_##bits + state->buffered; \
+        saved->marked_usage = MARK_##bits + state->buffered; \
         memcpy(saved->buffer, state->buffer, state->buffered); \
     } \
     XXH_errorcode source_XXH##bits##_reset(XXH##bits##_state_t *memory, XXH##bits##_hash_t seed) \

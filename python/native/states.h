@@ -9,7 +9,7 @@
 #include "xxhash.h"
 
 struct xxh32_state {
-    uint32_t v1, seed, v2, marked_waiting, v3;
+    uint32_t v1, seed, v2, marked_usage, v3;
     uint32_t total_length[2]; /* one number of 64 bits */
     uint32_t v4;
     unsigned char buffer[16];
@@ -17,7 +17,7 @@ struct xxh32_state {
 
 struct xxh64_state {
     uint64_t v1, seed, v2, total_length, v3;
-    uint32_t marked_waiting, unused;
+    uint32_t marked_usage, unused;
     uint64_t v4;
     unsigned char buffer[32];
 };

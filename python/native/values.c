@@ -18,29 +18,29 @@ static inline void write_half_word(void *bytes, uint32_t half)
     memcpy(bytes, &half, sizeof half);
 }
 
-void write_digest(void *digest, const struct kind *kind, hash_value value)
+void write_digest(void *digest, const struct algorithm *algorithm, hash_value value)
 {
-    if (kind->digest_bytes == 4) {
+    if (algorithm->digest_bytes == 4) {
         write_half_word(digest, (uint32_t)value.low64);
         return;
     }
-    write_word((char *)digest + kind->digest_bytes - 8, value.low64);
-    if (kind->digest_bytes == 16) write_word(digest, value.high64);
+    write_word((char *)digest + algorithm->digest_bytes - 8, value.low64);
+    if (algorithm->digest_bytes == 16) write_word(digest, value.high64);
 }
 
-void write_number(void *number, const struct kind *kind, hash_value value)
+void write_number(void *number, const struct algorithm *algorithm, hash_value value)
 {
     const uint32_t half = (uint32_t)value.low64;
-    if (kind->digest_bytes == 4)
+    if (algorithm->digest_bytes == 4)
         memcpy(number, &half, sizeof half);
     else
         memcpy(number, &value.low64, sizeof value.low64);
 }
 
-PyObject *as_digest(const struct kind *kind, hash_value value)
+PyObject *as_digest(const struct algorithm *algorithm, hash_value value)
 {
-    PyObject *digest = PyBytes_FromStringAndSize(NULL, kind->digest_bytes);
-    if (digest) write_digest(PyBytes_AS_STRING(digest), kind, value);
+    PyObject *digest = PyBytes_FromStringAndSize(NULL, algorithm->digest_bytes);
+    if (digest) write_digest(PyBytes_AS_STRING(digest), algorithm, value);
     return digest;
 }
 
@@ -59,39 +59,39 @@ static inline char *write_digits(char *digits, uint32_t number)
 }
 
 /* Writes all hexadecimal digits of a value. */
-static inline void write_hexdigest(char *digits, const struct kind *kind, hash_value value)
+static inline void write_hexdigest(char *digits, const struct algorithm *algorithm, hash_value value)
 {
-    if (kind->digest_bytes == 16) {
+    if (algorithm->digest_bytes == 16) {
         digits = write_digits(digits, value.high64 >> 32);
         digits = write_digits(digits, (uint32_t)value.high64);
     }
-    if (kind->digest_bytes >= 8) digits = write_digits(digits, value.low64 >> 32);
+    if (algorithm->digest_bytes >= 8) digits = write_digits(digits, value.low64 >> 32);
     write_digits(digits, (uint32_t)value.low64);
 }
 
-PyObject *as_hexdigest(const struct kind *kind, hash_value value)
+PyObject *as_hexdigest(const struct algorithm *algorithm, hash_value value)
 {
 #ifdef Py_LIMITED_API
     char digits[32];
-    write_hexdigest(digits, kind, value);
-    return PyUnicode_FromStringAndSize(digits, 2 * kind->digest_bytes);
+    write_hexdigest(digits, algorithm, value);
+    return PyUnicode_FromStringAndSize(digits, 2 * algorithm->digest_bytes);
 #else
-    PyObject *text = PyUnicode_New(2 * kind->digest_bytes, 127);
-    if (text) write_hexdigest((char *)PyUnicode_1BYTE_DATA(text), kind, value);
+    PyObject *text = PyUnicode_New(2 * algorithm->digest_bytes, 127);
+    if (text) write_hexdigest((char *)PyUnicode_1BYTE_DATA(text), algorithm, value);
     return text;
 #endif
 }
 
-PyObject *as_intdigest(const struct kind *kind, hash_value value)
+PyObject *as_intdigest(const struct algorithm *algorithm, hash_value value)
 {
-    if (kind->digest_bytes <= 8) return PyLong_FromUnsignedLongLong(value.low64);
+    if (algorithm->digest_bytes <= 8) return PyLong_FromUnsignedLongLong(value.low64);
 #ifdef Py_LIMITED_API
     char digits[33] = {0};
-    write_hexdigest(digits, kind, value);
+    write_hexdigest(digits, algorithm, value);
     return PyLong_FromString(digits, NULL, 16);
 #else
     unsigned char digest[16];
-    write_digest(digest, kind, value);
+    write_digest(digest, algorithm, value);
 #if PY_VERSION_HEX >= 0x030D0000
     return PyLong_FromUnsignedNativeBytes(digest, sizeof digest, Py_ASNATIVEBYTES_BIG_ENDIAN);
 #else

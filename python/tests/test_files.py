@@ -25,30 +25,33 @@ class Files(unittest.TestCase):
             file.write(data)
         return path
 
-    def test_every_kind_of_path_and_file(self):
+    def test_every_type_of_path_and_file(self):
         for length in LENGTHS:
             data = bytes_of(length)
             path = self.file(data)
             for name in NAMES:
-                want = getattr(theirs, name)(data).hexdigest()
+                expected = getattr(theirs, name)(data).hexdigest()
                 for algorithm in (name, getattr(ours, name)):
                     for file in (path, os.fsencode(path), pathlib.Path(path)):
-                        self.assertEqual(ours.file_digest(file, algorithm).hexdigest(), want)
+                        self.assertEqual(ours.file_digest(file, algorithm).hexdigest(), expected)
                 for buffering in (0, -1):
                     with open(path, 'rb', buffering=buffering) as file:
-                        self.assertEqual(ours.file_digest(file, name).hexdigest(), want)
+                        self.assertEqual(ours.file_digest(file, name).hexdigest(), expected)
                         self.assertFalse(file.closed)
-                self.assertEqual(ours.file_digest(io.BytesIO(data), name).hexdigest(), want)
+                self.assertEqual(ours.file_digest(io.BytesIO(data), name).hexdigest(), expected)
 
     def test_the_default_and_the_keys(self):
         data = bytes_of(300000)
         path, secret = self.file(data), bytes_of(192)
         self.assertEqual(ours.file_digest(path).digest(), ours.xxh3_64_digest(data))
         self.assertEqual(ours.file_digest(path, algorithm='xxh64', seed=-7).digest(), theirs.xxh64_digest(data, -7))
-        self.assertEqual(ours.file_digest(path, 'xxh128', secret=secret).digest(),
-                         ours.xxh128_digest(data, secret=secret))
-        self.assertEqual(ours.file_digest(path, 'xxh3_64', seed=4, secret=secret).digest(),
-                         ours.xxh3_64_digest(data, 4, secret=secret))
+        self.assertEqual(
+            ours.file_digest(path, 'xxh128', secret=secret).digest(), ours.xxh128_digest(data, secret=secret)
+        )
+        self.assertEqual(
+            ours.file_digest(path, 'xxh3_64', seed=4, secret=secret).digest(),
+            ours.xxh3_64_digest(data, 4, secret=secret),
+        )
 
     def test_from_a_files_place_to_its_end(self):
         data = bytes_of(300000)
@@ -65,8 +68,9 @@ class Files(unittest.TestCase):
     def test_a_pipe_a_socket_and_an_archive(self):
         data = bytes_of(500000)
         reader, writer = os.pipe()
-        thread = threading.Thread(target=lambda: [os.write(writer, data[:70000]), os.write(writer, data[70000:]),
-                                                  os.close(writer)])
+        thread = threading.Thread(
+            target=lambda: [os.write(writer, data[:70000]), os.write(writer, data[70000:]), os.close(writer)]
+        )
         thread.start()
         with open(reader, 'rb', buffering=0) as file:
             self.assertEqual(ours.file_digest(file).digest(), ours.xxh3_64_digest(data))
@@ -89,6 +93,7 @@ class Files(unittest.TestCase):
 
             def read(self, size):
                 return next(self.pieces, b'')
+
         self.assertEqual(ours.file_digest(Reader([b'ab', b'c'])).digest(), ours.xxh3_64_digest(b'abc'))
         with self.assertRaises(BlockingIOError):
             ours.file_digest(Reader([b'ab', None]))
@@ -103,9 +108,15 @@ class Files(unittest.TestCase):
     def test_errors(self):
         path = self.file(b'abc')
         for wrong, error in (
-                (os.path.join(self.folder, 'none'), FileNotFoundError), (self.folder, IsADirectoryError),
-                (os.path.join(path, 'below'), NotADirectoryError), ('a\0b', ValueError), (5, TypeError),
-                (None, TypeError), (io.StringIO('abc'), TypeError), (io.StringIO(''), TypeError)):
+            (os.path.join(self.folder, 'none'), FileNotFoundError),
+            (self.folder, IsADirectoryError),
+            (os.path.join(path, 'below'), NotADirectoryError),
+            ('a\0b', ValueError),
+            (5, TypeError),
+            (None, TypeError),
+            (io.StringIO('abc'), TypeError),
+            (io.StringIO(''), TypeError),
+        ):
             with self.assertRaises(error):
                 ours.file_digest(wrong)
         with open(path) as file, self.assertRaises(TypeError):
@@ -116,10 +127,16 @@ class Files(unittest.TestCase):
             pass
         with self.assertRaises(ValueError):
             ours.file_digest(file)
-        for arguments, error in (({'algorithm': 'sha1'}, ValueError), ({'algorithm': 'XXH64'}, ValueError),
-                                 ({'algorithm': int}, TypeError), ({'algorithm': None}, TypeError),
-                                 ({'secret': b'short'}, ValueError), ({'seed': 1.5}, TypeError),
-                                 ({'algorithm': 'xxh32', 'secret': bytes(200)}, TypeError), ({'foo': 1}, TypeError)):
+        for arguments, error in (
+            ({'algorithm': 'sha1'}, ValueError),
+            ({'algorithm': 'XXH64'}, ValueError),
+            ({'algorithm': int}, TypeError),
+            ({'algorithm': None}, TypeError),
+            ({'secret': b'short'}, ValueError),
+            ({'seed': 1.5}, TypeError),
+            ({'algorithm': 'xxh32', 'secret': bytes(200)}, TypeError),
+            ({'foo': 1}, TypeError),
+        ):
             with self.assertRaises(error):
                 ours.file_digest(path, **arguments)
 
@@ -136,17 +153,19 @@ class Files(unittest.TestCase):
         path = self.file(bytes_of(600000))
 
         class Shorter(io.FileIO):
-            def readinto(self, room):
-                length = super().readinto(room)
+            def readinto(self, buffer):
+                length = super().readinto(buffer)
                 os.truncate(path, 1000)
                 return length
+
         with Shorter(path) as file:
-            self.assertEqual(ours.file_digest(file).digest(), ours.xxh3_64_digest(bytes_of(600000)[:1 << 18]))
+            self.assertEqual(ours.file_digest(file).digest(), ours.xxh3_64_digest(bytes_of(600000)[: 1 << 18]))
 
     def test_a_reader_that_fails(self):
         class Failing(io.RawIOBase):
-            def readinto(self, room):
+            def readinto(self, buffer):
                 raise OSError(5, 'it fails')
+
         with self.assertRaisesRegex(OSError, 'it fails'):
             ours.file_digest(Failing())
 
@@ -156,8 +175,9 @@ class Files(unittest.TestCase):
             answers = iter((answer, 0))
 
             class Lying(io.RawIOBase):
-                def readinto(self, room):
+                def readinto(self, buffer):
                     return next(answers)
+
             with self.assertRaisesRegex(OSError, 'readinto'):
                 ours.file_digest(Lying())
 

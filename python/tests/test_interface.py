@@ -48,8 +48,21 @@ def mapped():
 
 
 # The names in the expressions below.
-NAMED = {'VIEW': VIEW, 'Index': Index, 'Int': Int, 'Broken': Broken, 'Text': Text, 'Bytes': Bytes, 'released': released,
-         'mapped': mapped, 'array': array, 'ctypes': ctypes, 'io': io, 'pickle': pickle, 'weakref': weakref}
+NAMED = {
+    'VIEW': VIEW,
+    'Index': Index,
+    'Int': Int,
+    'Broken': Broken,
+    'Text': Text,
+    'Bytes': Bytes,
+    'released': released,
+    'mapped': mapped,
+    'array': array,
+    'ctypes': ctypes,
+    'io': io,
+    'pickle': pickle,
+    'weakref': weakref,
+}
 
 # Arguments of a call that hashes something: positional and keyword.
 ARGUMENTS = '''
@@ -217,18 +230,18 @@ type(module.xxh64_digest), module.xxh64_digest.__name__
 '''.strip().splitlines()
 
 # Python's own error text differs here, since the call is made in another way.
-OTHER_WORDS = {'h.update()', "h.update(b'a', b'b')"}
+OTHER_ARGUMENTS = {'h.update()', "h.update(b'a', b'b')"}
 
 
 class Interface(unittest.TestCase):
     def outcome(self, module, expression, **names):
         """The value of an expression with a module, or the type and text of its exception."""
         try:
-            words = expression.replace('MODULE', module.__name__)
-            return 'value', eval(words, {**NAMED, 'module': module, **names})
+            source = expression.replace('MODULE', module.__name__)
+            return 'value', eval(source, {**NAMED, 'module': module, **names})
         except Exception as error:
-            words = '' if expression in OTHER_WORDS else str(error).replace(module.__name__ + '.', '')
-            return type(error), words
+            source = '' if expression in OTHER_ARGUMENTS else str(error).replace(module.__name__ + '.', '')
+            return type(error), source
 
     def compare(self, expression, names=lambda module: {}):
         one, other = (self.outcome(module, expression, **names(module)) for module in (ours, theirs))
@@ -249,8 +262,10 @@ class Interface(unittest.TestCase):
 
     def test_objects(self):
         for name in NAMES:
+
             def names(module):
                 return {'h': getattr(module, name)(b'abc', 5), 'T': getattr(module, name)}
+
             for expression in OBJECT:
                 with self.subTest(hash=name, expression=expression):
                     self.compare(expression, names)
@@ -264,8 +279,8 @@ class Interface(unittest.TestCase):
         self.assertEqual(set(theirs.__all__) - set(ours.__all__), set())
         self.assertEqual([name for name in ours.__all__ if not hasattr(ours, name)], [])
         for name in NAMES:
-            kind, other = getattr(ours, name), getattr(theirs, name)
-            self.assertEqual([word for word in dir(other) if not hasattr(kind, word)], [])
+            algorithm, other = getattr(ours, name), getattr(theirs, name)
+            self.assertEqual([word for word in dir(other) if not hasattr(algorithm, word)], [])
 
     def test_a_refused_start_changes_nothing(self):
         for name in NAMES:
@@ -281,8 +296,8 @@ class Interface(unittest.TestCase):
     def test_a_state_that_never_began(self):
         """An object before __init__ is one of no bytes and the seed 0."""
         for name in NAMES:
-            kind = getattr(ours, name)
-            self.assertEqual(kind.__new__(kind).hexdigest(), kind().hexdigest())
+            algorithm = getattr(ours, name)
+            self.assertEqual(algorithm.__new__(algorithm).hexdigest(), algorithm().hexdigest())
 
     def test_documentation(self):
         for name in NAMES:

@@ -41,23 +41,26 @@ class Leaks(unittest.TestCase):
 
     def leaves_no_references(self, call):
         """A debug build of Python counts all references."""
+
         def count():
             before = sys.gettotalrefcount()
             for _ in range(100):
                 call()
             return sys.gettotalrefcount() - before
+
         count()
         self.assertLess(min(count() for _ in range(3)), 50)
 
     def test_a_million_objects(self):
         for name in NAMES:
-            kind, piece = getattr(ours, name), bytearray(b'a' * 100)
+            algorithm, piece = getattr(ours, name), bytearray(b'a' * 100)
 
             def call():
-                hasher = kind(piece, 3)
+                hasher = algorithm(piece, 3)
                 hasher.update(piece)
                 hasher.copy().hexdigest()
                 hasher.digest(), hasher.intdigest(), hasher.seed, hasher.name
+
             self.leaves_nothing(call, OBJECTS)
 
     def test_functions(self):
@@ -67,29 +70,32 @@ class Leaks(unittest.TestCase):
 
     def test_refusals(self):
         for name in NAMES:
-            kind, call, hasher = getattr(ours, name), getattr(ours, name + '_digest'), getattr(ours, name)()
+            algorithm, call, hasher = getattr(ours, name), getattr(ours, name + '_digest'), getattr(ours, name)()
             data = bytearray(b'a' * 100)
 
             def calls():
-                for function in (kind, call):
+                for function in (algorithm, call):
                     for args in ((VIEW[::2],), (data, 'x'), (data, 1, 2), (1,), ('\ud800',)):
                         refused(function, *args)
                     for keywords in ({'foo': 1}, {'input': data}, {'secret': b'short'}, {'secret': VIEW}):
                         refused(function, data, **keywords)
                 refused(hasher.update, VIEW[::2])
-                refused(kind.from_state, '{}')
-                refused(kind.from_state, hasher.state().replace('0', '1'))
+                refused(algorithm.from_state, '{}')
+                refused(algorithm.from_state, hasher.state().replace('0', '1'))
+
             self.leaves_nothing(calls, OBJECTS // 100)
             data += b'a'  # no buffer of it is held any more
 
     def test_secrets_and_states(self):
-        for kind in (ours.xxh3_64, ours.xxh3_128):
+        for algorithm in (ours.xxh3_64, ours.xxh3_128):
+
             def calls():
-                hasher = kind(b'abc', secret=SECRET)
+                hasher = algorithm(b'abc', secret=SECRET)
                 hasher.reset()
-                kind(b'a' * 300, 5, secret=bytearray(SECRET))
+                algorithm(b'a' * 300, 5, secret=bytearray(SECRET))
                 ours.xxh3_64_digest(b'abc', secret=memoryview(SECRET))
-                kind.from_state(hasher.state()).__reduce__()
+                algorithm.from_state(hasher.state()).__reduce__()
+
             self.leaves_nothing(calls, OBJECTS // 20)
 
     def test_long_inputs(self):
@@ -109,6 +115,7 @@ class Leaks(unittest.TestCase):
             refused(ours.many, data, width=16, into=VIEW)
             refused(ours.many, data, width=16, into=data)
             refused(ours.many, [data], into=into)
+
         self.leaves_nothing(calls, OBJECTS // 100)
         data += b'a'
         into += b'a'

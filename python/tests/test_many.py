@@ -15,7 +15,7 @@ class Matrix:
 
     def __init__(self, rows, width):
         self.data = bytes_of(rows * width, 7)
-        self.rows = [self.data[i * width:(i + 1) * width] for i in range(rows)]
+        self.rows = [self.data[i * width : (i + 1) * width] for i in range(rows)]
         self.view = memoryview(self.data).cast('B', (rows, width))
 
 
@@ -25,28 +25,30 @@ class Many(unittest.TestCase):
             digest = getattr(ours, name + '_digest')
             for rows, width in ((1, 1), (3, 16), (1000, 8), (100, 300), (5, 100000)):
                 matrix = Matrix(rows, width)
-                want = [digest(row) for row in matrix.rows]
-                self.assertEqual(ours.many(matrix.view, name), want)
-                self.assertEqual(ours.many(matrix.data, name, width=width), want)
-                self.assertEqual(ours.many(bytearray(matrix.data), getattr(ours, name), width=width), want)
-                self.assertEqual(ours.many(matrix.rows, name), want)
-                into = bytearray(b''.join(want)[::-1])
+                expected = [digest(row) for row in matrix.rows]
+                self.assertEqual(ours.many(matrix.view, name), expected)
+                self.assertEqual(ours.many(matrix.data, name, width=width), expected)
+                self.assertEqual(ours.many(bytearray(matrix.data), getattr(ours, name), width=width), expected)
+                self.assertEqual(ours.many(matrix.rows, name), expected)
+                into = bytearray(b''.join(expected)[::-1])
                 self.assertIs(ours.many(matrix.view, name, into=into), into)
-                self.assertEqual(into, b''.join(want))
+                self.assertEqual(into, b''.join(expected))
 
     def test_rows_of_many_lengths(self):
         rows = [bytes_of(length) for length in (*range(300), 70000, 200000)]
         for name in NAMES:
-            want = [getattr(ours, name + '_digest')(row) for row in rows]
+            expected = [getattr(ours, name + '_digest')(row) for row in rows]
             for given in (rows, tuple(rows), iter(rows), (bytearray(row) for row in rows), map(memoryview, rows)):
-                self.assertEqual(ours.many(given, name), want)
-            self.assertEqual(ours.many(rows, name, into=bytearray(len(want) * len(want[0]))), b''.join(want))
+                self.assertEqual(ours.many(given, name), expected)
+            self.assertEqual(
+                ours.many(rows, name, into=bytearray(len(expected) * len(expected[0]))), b''.join(expected)
+            )
 
     def test_items_of_several_bytes_are_rows(self):
-        words = array.array('Q', [1, 2, 1 << 60])
-        want = [ours.xxh3_64_digest(word.to_bytes(8, sys.byteorder)) for word in words]
-        self.assertEqual(ours.many(words), want)
-        self.assertEqual(ours.many((ctypes.c_uint64 * 3)(*words)), want)
+        numbers = array.array('Q', [1, 2, 1 << 60])
+        expected = [ours.xxh3_64_digest(word.to_bytes(8, sys.byteorder)) for word in numbers]
+        self.assertEqual(ours.many(numbers), expected)
+        self.assertEqual(ours.many((ctypes.c_uint64 * 3)(*numbers)), expected)
 
     def test_text_and_mixed_rows(self):
         rows = ['ä', b'b', bytearray(b'c')]
@@ -57,9 +59,9 @@ class Many(unittest.TestCase):
         for rows in (matrix.rows, [row[:20] for row in matrix.rows]):
             for name in NAMES:
                 for key in [{'seed': -3}] + [{'secret': SECRET}, {'secret': SECRET, 'seed': 4}] * (name in WITH_SECRET):
-                    want = [getattr(ours, name + '_digest')(row, **key) for row in rows]
-                    self.assertEqual(ours.many(rows, name, **key), want)
-                    self.assertEqual(ours.many(b''.join(rows), name, width=len(rows[0]), **key), want)
+                    expected = [getattr(ours, name + '_digest')(row, **key) for row in rows]
+                    self.assertEqual(ours.many(rows, name, **key), expected)
+                    self.assertEqual(ours.many(b''.join(rows), name, width=len(rows[0]), **key), expected)
 
     def test_no_rows_and_rows_of_no_bytes(self):
         self.assertEqual(ours.many([]), [])
@@ -104,11 +106,38 @@ class Many(unittest.TestCase):
     def test_errors(self):
         rows = Matrix(4, 8)
         for error, calls in (
-                (TypeError, ("'abc'", "[b'a'], width=1", '5', 'None', "[b'a', 5]", "[b'a', None]", "[b'a'], int",
-                             "[b'a'], into=5", "[b'a'], 'xxh64', secret=SECRET", "[b'a'], seed=None", "[b'a'], foo=1")),
-                (ValueError, ("b'abc'", 'bytearray(8), width=3', "b'abc', width=0", "b'abc', width=-3", "[b'a'], 'md5'",
-                              "[b'a'], into=bytearray(7)", 'rows.view, into=bytearray(31)', "[b'a'], secret=b'short'")),
-                (BufferError, ('rows.view[::2]', "[b'a'], into=bytes(8)")), (UnicodeEncodeError, (r"['\ud800']",))):
+            (
+                TypeError,
+                (
+                    "'abc'",
+                    "[b'a'], width=1",
+                    '5',
+                    'None',
+                    "[b'a', 5]",
+                    "[b'a', None]",
+                    "[b'a'], int",
+                    "[b'a'], into=5",
+                    "[b'a'], 'xxh64', secret=SECRET",
+                    "[b'a'], seed=None",
+                    "[b'a'], foo=1",
+                ),
+            ),
+            (
+                ValueError,
+                (
+                    "b'abc'",
+                    'bytearray(8), width=3',
+                    "b'abc', width=0",
+                    "b'abc', width=-3",
+                    "[b'a'], 'md5'",
+                    "[b'a'], into=bytearray(7)",
+                    'rows.view, into=bytearray(31)',
+                    "[b'a'], secret=b'short'",
+                ),
+            ),
+            (BufferError, ('rows.view[::2]', "[b'a'], into=bytes(8)")),
+            (UnicodeEncodeError, (r"['\ud800']",)),
+        ):
             for arguments in calls:
                 with self.subTest(call=arguments), self.assertRaises(error):
                     eval(f'ours.many({arguments})', {'ours': ours, 'rows': rows, 'SECRET': SECRET})
@@ -121,11 +150,11 @@ class Many(unittest.TestCase):
         with self.assertRaises(ValueError):
             ours.many(memoryview(memory)[:40], width=8, into=memoryview(memory)[39:79])
         ours.many(memoryview(memory)[:40], width=8, into=memoryview(memory)[40:])
-        rows = [memoryview(memory)[at:at + 8] for at in range(0, 40, 8)]
+        rows = [memoryview(memory)[at : at + 8] for at in range(0, 40, 8)]
         before = bytes(memory)
         for start in (0, 8, 39):
             with self.assertRaisesRegex(ValueError, 'into overlaps row'):
-                ours.many(rows, into=memoryview(memory)[start:start + 40])
+                ours.many(rows, into=memoryview(memory)[start : start + 40])
         self.assertEqual(memory, before)
         ours.many(rows, into=memoryview(memory)[40:])
         ours.many([memoryview(memory)[4:4], b'a'], into=memoryview(memory)[:16])
@@ -133,9 +162,13 @@ class Many(unittest.TestCase):
     def test_more_digests_than_memory_has(self):
         """Rows of no bytes are as many as their shape has. A process of its own makes the call, since it may crash."""
         sizes = sys.maxsize + 1
-        for count, name, into in ((sizes // 4, 'xxh64', bytearray(0)), (sizes // 2, 'xxh32', bytearray(0)),
-                                  (sizes // 8, 'xxh128', bytearray(0)), (sizes // 4 + 1, 'xxh64', bytearray(8)),
-                                  (sizes - 1, 'xxh64', None)):
+        for count, name, into in (
+            (sizes // 4, 'xxh64', bytearray(0)),
+            (sizes // 2, 'xxh32', bytearray(0)),
+            (sizes // 8, 'xxh128', bytearray(0)),
+            (sizes // 4 + 1, 'xxh64', bytearray(8)),
+            (sizes - 1, 'xxh64', None),
+        ):
             child = os.fork()
             if not child:
                 try:
@@ -183,11 +216,14 @@ class Many(unittest.TestCase):
         """Bytes and integers in the other byte order get the digests. Native ones of another size are refused."""
         other = ctypes.c_uint64.__ctype_be__ if sys.byteorder == 'little' else ctypes.c_uint64.__ctype_le__
         rows, digests = [b'one', b'two'], b''.join(ours.xxh3_128_digest(row) for row in (b'one', b'two'))
-        for into in ((ctypes.c_char * 32)(), (ctypes.c_ubyte * 16 * 2)(), (other * 4)(),
-                     (ctypes.c_double * 4)()):
+        for into in ((ctypes.c_char * 32)(), (ctypes.c_ubyte * 16 * 2)(), (other * 4)(), (ctypes.c_double * 4)()):
             self.assertEqual(bytes(ours.many(rows, 'xxh128', into=into)), digests)
-        for name, into in (('xxh128', array.array('Q', [1] * 4)), ('xxh64', array.array('I', [1] * 4)),
-                           ('xxh32', array.array('Q', [1])), ('xxh32', (ctypes.c_uint16 * 4)())):
+        for name, into in (
+            ('xxh128', array.array('Q', [1] * 4)),
+            ('xxh64', array.array('I', [1] * 4)),
+            ('xxh32', array.array('Q', [1])),
+            ('xxh32', (ctypes.c_uint16 * 4)()),
+        ):
             before = bytes(into)
             with self.assertRaisesRegex(ValueError, 'into has integers of'):
                 ours.many(rows, name, into=into)
@@ -203,16 +239,25 @@ class Many(unittest.TestCase):
     def test_rows_of_addresses(self):
         """Pointers of each kind are refused, also in a record; complex numbers and fields of such names are no
         pointers."""
+
         class Record(ctypes.Structure):
             _fields_ = (('number', ctypes.c_int), ('text', ctypes.c_wchar_p), ('d', ctypes.c_double))
 
         class Plain(ctypes.Structure):
             _fields_ = (('zPXZ', ctypes.c_int), ('P', ctypes.c_double))
-        for kind in (ctypes.c_char_p, ctypes.c_wchar_p, ctypes.c_void_p, ctypes.POINTER(ctypes.c_int),
-                     ctypes.CFUNCTYPE(ctypes.c_int), ctypes.POINTER(Plain), Record):
+
+        for pointer in (
+            ctypes.c_char_p,
+            ctypes.c_wchar_p,
+            ctypes.c_void_p,
+            ctypes.POINTER(ctypes.c_int),
+            ctypes.CFUNCTYPE(ctypes.c_int),
+            ctypes.POINTER(Plain),
+            Record,
+        ):
             for width in (None, 8):
                 with self.assertRaisesRegex(TypeError, 'not addresses'):
-                    ours.many((kind * 3)(), width=width)
+                    ours.many((pointer * 3)(), width=width)
         with self.assertRaisesRegex(TypeError, 'not addresses'):
             ours.many(memoryview(bytes(16)).cast('P'))
         self.assertEqual(ours.many((Plain * 2)()), [ours.xxh3_64_digest(bytes(ctypes.sizeof(Plain)))] * 2)
@@ -222,8 +267,8 @@ class Many(unittest.TestCase):
             import numpy
         except ImportError:
             self.skipTest('no numpy')
-        for kind in ('c8', 'c16'):
-            table = numpy.arange(3).astype(kind)
+        for dtype in ('c8', 'c16'):
+            table = numpy.arange(3).astype(dtype)
             self.assertEqual(ours.many(table), [ours.xxh3_64_digest(number.tobytes()) for number in table])
 
     def test_rows_that_change_while_they_are_hashed(self):
@@ -234,4 +279,5 @@ class Many(unittest.TestCase):
             for row in list(rows):
                 rows.clear()
                 yield row
+
         self.assertEqual(ours.many(changing()), [ours.xxh3_64_digest(row) for row in (b'a', b'b', b'c')])

@@ -18,7 +18,8 @@ def keys(name):
     """Each way to create an object of the hash."""
     plain = [{}, {'seed': 0x123456789ABCDEF}]
     return plain + [{'secret': SECRET}, {'secret': SECRET, 'seed': 9}, {'secret': bytes_of(256), 'seed': 0}] * (
-        name in WITH_SECRET)
+        name in WITH_SECRET
+    )
 
 
 def each():
@@ -29,18 +30,18 @@ def each():
 
 class Pieces(unittest.TestCase):
     def test_pieces_of_any_lengths(self):
-        draw = random.Random(3)
-        for kind, digest, key in each():
+        rng = random.Random(3)
+        for algorithm, digest, key in each():
             for longest in (1, 7, 65, 300, 600, 5000):
-                data = bytes_of(draw.randint(0, 40 * longest))
-                hasher = kind(**key)
-                for piece in pieces_of(data, draw, longest):
+                data = bytes_of(rng.randint(0, 40 * longest))
+                hasher = algorithm(**key)
+                for piece in pieces_of(data, rng, longest):
                     hasher.update(piece)
                 self.assertEqual(hasher.digest(), digest(data, **key))
 
     def test_pieces_from_64_kib_on(self):
-        for kind, digest, key in each():
-            hasher, data = kind(b'first', **key), b'first'
+        for algorithm, digest, key in each():
+            hasher, data = algorithm(b'first', **key), b'first'
             for length in (70000, 5, 200000, 65536, 100, 65535):
                 piece = bytes_of(length)
                 hasher.update(piece)
@@ -48,10 +49,10 @@ class Pieces(unittest.TestCase):
                 self.assertEqual(hasher.digest(), digest(data, **key))
 
     def test_a_copy_goes_on_alone(self):
-        for kind, digest, key in each():
+        for algorithm, digest, key in each():
             for length in LENGTHS:
                 data = bytes_of(length)
-                hasher = kind(data, **key)
+                hasher = algorithm(data, **key)
                 for other in (hasher.copy(), copy.copy(hasher), copy.deepcopy(hasher)):
                     other.update(b'more')
                     self.assertEqual(other.digest(), digest(data + b'more', **key))
@@ -59,18 +60,21 @@ class Pieces(unittest.TestCase):
                 self.assertEqual(hasher.digest(), digest(data, **key))
 
     def test_reset_keeps_the_seed_and_the_secret(self):
-        for kind, digest, key in each():
-            for hasher in (kind(b'some', **key), kind(b'some', **key).copy(),
-                           kind.from_state(kind(b'some', **key).state())):
+        for algorithm, digest, key in each():
+            for hasher in (
+                algorithm(b'some', **key),
+                algorithm(b'some', **key).copy(),
+                algorithm.from_state(algorithm(b'some', **key).state()),
+            ):
                 hasher.update(bytes(1000))
                 hasher.reset()
                 self.assertEqual(hasher.digest(), digest(b'', **key))
                 hasher.update(bytes(700))
                 self.assertEqual(hasher.digest(), digest(bytes(700), **key))
 
-    def test_a_start_anew(self):
-        for kind, digest, key in each():
-            hasher = kind(b'some', **key)
+    def test_a_fresh_start(self):
+        for algorithm, digest, key in each():
+            hasher = algorithm(b'some', **key)
             hasher.__init__()
             self.assertEqual((hasher.digest(), hasher.seed), (digest(b''), 0))
             hasher.__init__(b'other', **key)
@@ -85,9 +89,9 @@ class Pieces(unittest.TestCase):
             self.assertEqual(hasher.digest(), getattr(ours, name + '_digest')(bytes(500), secret=SECRET))
 
     def test_an_input_may_be_changed_afterwards(self):
-        for kind, digest, key in each():
+        for algorithm, digest, key in each():
             data = bytearray(b'abc')
-            hasher = kind(data, **key)
+            hasher = algorithm(data, **key)
             data += b'd'  # no buffer of it is held any more
             data[0] = 0
             self.assertEqual(hasher.digest(), digest(b'abc', **key))
@@ -95,25 +99,25 @@ class Pieces(unittest.TestCase):
 
 class Saved(unittest.TestCase):
     def test_what_was_saved_goes_on(self):
-        for kind, digest, key in each():
+        for algorithm, digest, key in each():
             for length in LENGTHS:
                 data = bytes_of(length)
-                hasher = kind(data, **key)
+                hasher = algorithm(data, **key)
                 text = hasher.state()
-                loaded = kind.from_state(text)
-                self.assertIs(type(loaded), kind)
+                loaded = algorithm.from_state(text)
+                self.assertIs(type(loaded), algorithm)
                 self.assertEqual((loaded.state(), loaded.seed), (text, hasher.seed))
-                self.assertEqual(kind.from_state(text.encode()).state(), text)
+                self.assertEqual(algorithm.from_state(text.encode()).state(), text)
                 loaded.update(b'and more' * 100)
                 self.assertEqual(loaded.digest(), digest(data + b'and more' * 100, **key))
                 self.assertEqual(hasher.digest(), digest(data, **key))
 
     def test_pickles(self):
-        for kind, digest, key in each():
+        for algorithm, digest, key in each():
             for length in LENGTHS[::3]:
                 data = bytes_of(length)
                 for protocol in range(pickle.HIGHEST_PROTOCOL + 1):
-                    loaded = pickle.loads(pickle.dumps(kind(data, **key), protocol))
+                    loaded = pickle.loads(pickle.dumps(algorithm(data, **key), protocol))
                     loaded.update(b'more')
                     self.assertEqual(loaded.digest(), digest(data + b'more', **key))
 
@@ -136,7 +140,7 @@ class Saved(unittest.TestCase):
         taken = 64 * record['stripes']
         self.assertTrue(0 < taken <= 520 - 64)
         self.assertEqual(record['buffer'], list(data[taken:520]))
-        for last in (data[taken - 64:taken], bytes(64)):
+        for last in (data[taken - 64 : taken], bytes(64)):
             loaded = ours.xxh3_64.from_state(json.dumps(record | {'last_stripe': list(last)}))
             self.assertEqual(loaded.digest(), theirs.xxh3_64_digest(data[:520]))
             loaded.update(data[520:])
@@ -145,13 +149,13 @@ class Saved(unittest.TestCase):
     def test_the_longer_buffer_of_earlier_versions(self):
         """They saved up to 512 bytes that no stripe had taken."""
         data = bytes_of(3000)
-        for kind, digest in ((ours.xxh3_64, theirs.xxh3_64_digest), (ours.xxh3_128, theirs.xxh3_128_digest)):
+        for algorithm, digest in ((ours.xxh3_64, theirs.xxh3_64_digest), (ours.xxh3_128, theirs.xxh3_128_digest)):
             for taken in (200, 1000):
                 for length in (256, 257, 300, 400):
-                    record = json.loads(kind(data[:taken]).state())
+                    record = json.loads(algorithm(data[:taken]).state())
                     end = taken + length - len(record['buffer'])
-                    record |= {'buffer': list(data[end - length:end]), 'total_len': end}
-                    loaded = kind.from_state(json.dumps(record))
+                    record |= {'buffer': list(data[end - length : end]), 'total_len': end}
+                    loaded = algorithm.from_state(json.dumps(record))
                     self.assertEqual(loaded.digest(), digest(data[:end]))
                     loaded.update(data[end:])
                     self.assertEqual(loaded.digest(), digest(data))
@@ -163,9 +167,9 @@ class Saved(unittest.TestCase):
             rows = [line.split() for line in file if not line.startswith('#')]
         self.assertGreater(len(rows), 20)
         for bits, seed, length, text in rows:
-            kind = getattr(ours, 'xxh' + bits)
+            algorithm = getattr(ours, 'xxh' + bits)
             data = bytes(i % 251 for i in range(int(length)))
-            whole, loaded = kind(data, int(seed)), kind.from_state(text)
+            whole, loaded = algorithm(data, int(seed)), algorithm.from_state(text)
             self.assertEqual(loaded.state(), text)
             self.assertEqual(json.loads(whole.state()) | {'buffer': 0}, json.loads(text) | {'buffer': 0})
             loaded.update(b'more')
@@ -175,97 +179,122 @@ class Saved(unittest.TestCase):
     def test_xxh_goes_on(self):
         for bits in ('32', '64'):
             for length in LENGTHS:
-                kind, data = getattr(ours, 'xxh' + bits), bytes_of(length)
-                text, xxh = kind(data, length).state(), os.environ['XXH']
+                algorithm, data = getattr(ours, 'xxh' + bits), bytes_of(length)
+                text, xxh = algorithm(data, length).state(), os.environ['XXH']
                 done = subprocess.run([xxh, 'resume', bits, text], input=b'more', stdout=subprocess.PIPE, check=True)
-                self.assertEqual(done.stdout.decode().split()[0], kind(data + b'more', length).hexdigest())
+                self.assertEqual(done.stdout.decode().split()[0], algorithm(data + b'more', length).hexdigest())
                 saved = subprocess.run([xxh, 'save', bits, str(length)], input=data, stdout=subprocess.PIPE, check=True)
-                self.assertEqual(kind.from_state(saved.stdout).digest(), kind(data, length).digest())
+                self.assertEqual(algorithm.from_state(saved.stdout).digest(), algorithm(data, length).digest())
 
 
 class Forged(unittest.TestCase):
-    def refused(self, kind, text, words):
+    def refused(self, algorithm, text, message):
         with self.assertRaises(ValueError) as caught:
-            kind.from_state(text)
-        self.assertEqual(str(caught.exception), words)
+            algorithm.from_state(text)
+        self.assertEqual(str(caught.exception), message)
 
-    def changed(self, kind, words, data=b'a' * 100, **members):
+    def changed(self, algorithm, message, data=b'a' * 100, **members):
         """The state with other members is refused with this text."""
-        self.refused(kind, json.dumps(json.loads(kind(data, 3).state()) | members), words)
+        self.refused(algorithm, json.dumps(json.loads(algorithm(data, 3).state()) | members), message)
 
     def test_what_is_no_saved_text(self):
-        words = 'The text is not a saved state'
-        for kind in map(ours.__dict__.get, NAMES):
-            for text in ('', ' ', '{', '{}', '[]', '1', 'null', 'NaN', '"a"', '{"a":1}', b'\xff', '[' * 100000,
-                         kind().state()[:-1], kind().state() + ',', kind().state().replace('0', '-1', 1),
-                         kind().state().replace('0', '0.0', 1), kind().state().replace('0', 'true', 1),
-                         kind().state().replace('total_len', 'length'), kind().state().replace('[', '[256,', 1),
-                         kind().state().replace('0', '1' * 5000, 1), kind().state().replace('seed', 'Seed')
-                         .replace('stripes', 'Stripes')):
-                self.refused(kind, text, words)
-            for other in (None, 5, [], kind()):
+        message = 'The text is not a saved state'
+        for algorithm in map(ours.__dict__.get, NAMES):
+            for text in (
+                '',
+                ' ',
+                '{',
+                '{}',
+                '[]',
+                '1',
+                'null',
+                'NaN',
+                '"a"',
+                '{"a":1}',
+                b'\xff',
+                '[' * 100000,
+                algorithm().state()[:-1],
+                algorithm().state() + ',',
+                algorithm().state().replace('0', '-1', 1),
+                algorithm().state().replace('0', '0.0', 1),
+                algorithm().state().replace('0', 'true', 1),
+                algorithm().state().replace('total_len', 'length'),
+                algorithm().state().replace('[', '[256,', 1),
+                algorithm().state().replace('0', '1' * 5000, 1),
+                algorithm().state().replace('seed', 'Seed').replace('stripes', 'Stripes'),
+            ):
+                self.refused(algorithm, text, message)
+            for other in (None, 5, [], algorithm()):
                 with self.assertRaises(TypeError):
-                    kind.from_state(other)
-        self.refused(ours.xxh64, ours.xxh32(b'a').state(), words)
-        self.refused(ours.xxh32, ours.xxh64(b'a').state(), words)
-        self.refused(ours.xxh3_64, ours.xxh64(b'a').state(), words)
-        for bits, kind in ((32, ours.xxh32), (64, ours.xxh64)):
-            self.changed(kind, words, seed=1 << bits)
-            self.changed(kind, words, core={'v1': 1 << bits, 'v2': 0, 'v3': 0, 'v4': 0})
-            self.changed(kind, words, core=[])
-            self.changed(kind, words, total_len=1 << 64)
+                    algorithm.from_state(other)
+        self.refused(ours.xxh64, ours.xxh32(b'a').state(), message)
+        self.refused(ours.xxh32, ours.xxh64(b'a').state(), message)
+        self.refused(ours.xxh3_64, ours.xxh64(b'a').state(), message)
+        for bits, algorithm in ((32, ours.xxh32), (64, ours.xxh64)):
+            self.changed(algorithm, message, seed=1 << bits)
+            self.changed(algorithm, message, core={'v1': 1 << bits, 'v2': 0, 'v3': 0, 'v4': 0})
+            self.changed(algorithm, message, core=[])
+            self.changed(algorithm, message, total_len=1 << 64)
 
     def test_what_may_stand_beside(self):
         """Other members, another order and white space are accepted, as by xxh."""
-        for kind in map(ours.__dict__.get, NAMES):
-            record = json.loads(kind(b'a' * 300, 3).state())
+        for algorithm in map(ours.__dict__.get, NAMES):
+            record = json.loads(algorithm(b'a' * 300, 3).state())
             text = json.dumps({'more': [-1, 0.5, None], **dict(reversed(record.items()))}, indent=2)
-            self.assertEqual(kind.from_state(text).digest(), kind(b'a' * 300, 3).digest())
+            self.assertEqual(algorithm.from_state(text).digest(), algorithm(b'a' * 300, 3).digest())
 
     def test_plain_states_that_no_bytes_lead_to(self):
         usage, core = 'The buffer usage does not match the total length', 'The core does not match the seed'
-        for kind, stripe in ((ours.xxh32, 16), (ours.xxh64, 32)):
+        for algorithm, stripe in ((ours.xxh32, 16), (ours.xxh64, 32)):
             waiting = 100 % stripe
             for number in {0, 1, stripe - 1, stripe, 1 << 40, (1 << 64) - 1} - {waiting}:
-                self.changed(kind, usage, buffer_usage=number)
-            self.changed(kind, usage, total_len=101)
-            self.changed(kind, usage, total_len=(1 << 64) - 1, buffer_usage=stripe)
-            self.changed(kind, core, data=b'a', seed=4)
-            self.changed(kind, core, data=b'a', core={'v1': 1, 'v2': 2, 'v3': 3, 'v4': 4})
-            self.changed(kind, usage, data=b'a', core={'v1': 1, 'v2': 2, 'v3': 3, 'v4': 4}, buffer_usage=2)
+                self.changed(algorithm, usage, buffer_usage=number)
+            self.changed(algorithm, usage, total_len=101)
+            self.changed(algorithm, usage, total_len=(1 << 64) - 1, buffer_usage=stripe)
+            self.changed(algorithm, core, data=b'a', seed=4)
+            self.changed(algorithm, core, data=b'a', core={'v1': 1, 'v2': 2, 'v3': 3, 'v4': 4})
+            self.changed(algorithm, usage, data=b'a', core={'v1': 1, 'v2': 2, 'v3': 3, 'v4': 4}, buffer_usage=2)
             # From 2^64 - 1 bytes on the length doesn't determine the number of bytes buffered.
-            record = json.loads(kind(b'a' * 100, 3).state()) | {'total_len': (1 << 64) - 1}
-            kind.from_state(json.dumps(record)).update(b'more')
+            record = json.loads(algorithm(b'a' * 100, 3).state()) | {'total_len': (1 << 64) - 1}
+            algorithm.from_state(json.dumps(record)).update(b'more')
 
     def test_streams_that_no_bytes_lead_to(self):
         usage = 'The buffer usage does not match the total length'
         place = 'The place in the secret does not match the stripes'
-        for kind in (ours.xxh3_64, ours.xxh3_128):
+        for algorithm in (ours.xxh3_64, ours.xxh3_128):
             long = {'data': b'a' * 3000}
-            self.changed(kind, usage, total_len=101)
-            stripes = json.loads(kind(b'a' * 3000).state())['stripes']
-            self.changed(kind, usage, **long, buffer=[], total_len=64 * stripes)
-            self.changed(kind, usage, **long, stripes=0)
-            self.changed(kind, place, **long, place=1000)
-            self.changed(kind, place, **long, place=json.loads(kind(b'a' * 3000).state())['place'] ^ 1)
-            self.changed(kind, place, data=b'a', place=1)
-            self.changed(kind, 'The accumulators are not those of no stripe', accumulators=[0] * 8)
-            for members in ({'secret': [0] * 135}, {'secret': [0] * 257}, {'accumulators': [0] * 7}, {'seed': -1},
-                            {'last_stripe': [0] * 63}, {'buffer': [0] * 513}, {'seed': '5'}, {'place': None}):
-                self.changed(kind, 'The text is not a saved state', **members)
+            self.changed(algorithm, usage, total_len=101)
+            stripes = json.loads(algorithm(b'a' * 3000).state())['stripes']
+            self.changed(algorithm, usage, **long, buffer=[], total_len=64 * stripes)
+            self.changed(algorithm, usage, **long, stripes=0)
+            self.changed(algorithm, place, **long, place=1000)
+            self.changed(algorithm, place, **long, place=json.loads(algorithm(b'a' * 3000).state())['place'] ^ 1)
+            self.changed(algorithm, place, data=b'a', place=1)
+            self.changed(algorithm, 'The accumulators are not those of no stripe', accumulators=[0] * 8)
+            for members in (
+                {'secret': [0] * 135},
+                {'secret': [0] * 257},
+                {'accumulators': [0] * 7},
+                {'seed': -1},
+                {'last_stripe': [0] * 63},
+                {'buffer': [0] * 513},
+                {'seed': '5'},
+                {'place': None},
+            ):
+                self.changed(algorithm, 'The text is not a saved state', **members)
 
     def test_forged_memory_does_no_harm(self):
         """The private call that writes a state to memory accepts any bytes: no call continues from invalid ones."""
-        draw = random.Random(11)
-        for kind in map(ours.__dict__.get, NAMES):
-            memory = kind(b'a' * 1000)._memory()
+        rng = random.Random(11)
+        for algorithm in map(ours.__dict__.get, NAMES):
+            memory = algorithm(b'a' * 1000)._memory()
             for wrong in (b'', memory + b'a', memory[1:]):
                 with self.assertRaises(ValueError):
-                    kind()._set_memory(wrong)
+                    algorithm()._set_memory(wrong)
             for _ in range(300):
-                forged, hasher = bytearray(memory), kind()
-                for _ in range(draw.randint(1, 4)):
-                    forged[draw.randrange(len(forged))] = draw.choice((0, 1, 127, 255))
+                forged, hasher = bytearray(memory), algorithm()
+                for _ in range(rng.randint(1, 4)):
+                    forged[rng.randrange(len(forged))] = rng.choice((0, 1, 127, 255))
                 try:
                     hasher._set_memory(bytes(forged))
                 except ValueError:

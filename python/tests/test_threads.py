@@ -21,7 +21,10 @@ try:
     import _interpreters as interpreters
 except ImportError:
     import _xxsubinterpreters as interpreters
-CODE = 'import twox_hash; assert twox_hash.xxh64_hexdigest(b"some bytes", 1234) == "eab55659a496d78b"; import os; os.write(1, b"hashed ")'
+CODE = (
+    'import twox_hash; assert twox_hash.xxh64_hexdigest(b"some bytes", 1234) == "eab55659a496d78b"; '
+    'import os; os.write(1, b"hashed ")'
+)
 made, start = [interpreters.create() for _ in range(8)], threading.Barrier(8)
 def run(each):
     start.wait()
@@ -90,8 +93,9 @@ class Threads(unittest.TestCase):
             name = NAMES[number % len(NAMES)]
             hasher, data = getattr(ours, name)(seed=number), bytes_of(300000, number)
             for at in range(0, len(data), 70000):
-                hasher.update(data[at:at + 70000])
+                hasher.update(data[at : at + 70000])
             return hasher.digest() == getattr(ours, name + '_digest')(data, number)
+
         with ThreadPoolExecutor(8) as pool:
             self.assertTrue(all(pool.map(digest_of, range(200))))
 
@@ -99,19 +103,21 @@ class Threads(unittest.TestCase):
         """Each chunk is hashed whole, in some order: equal chunks have one hash whatever the order. Others read,
         copy and save the object meanwhile."""
         for name in NAMES:
-            piece, short, kind = b'ab' * 50000, b'ab' * 3, getattr(ours, name)
-            hasher, ends = kind(), threading.Event()
+            piece, short, algorithm = b'ab' * 50000, b'ab' * 3, getattr(ours, name)
+            hasher, ends = algorithm(), threading.Event()
             failed = []
 
             def read():
                 while not ends.is_set():
                     copy = hasher.copy()
-                    if kind.from_state(copy.state()).digest() != copy.digest():
+                    if algorithm.from_state(copy.state()).digest() != copy.digest():
                         failed.append(name)
                     hasher.digest(), hasher.seed
+
             readers = [threading.Thread(target=read) for _ in range(2)]
-            writers = [threading.Thread(target=lambda: [hasher.update(one) for one in (piece, short) * 100])
-                       for _ in range(6)]
+            writers = [
+                threading.Thread(target=lambda: [hasher.update(one) for one in (piece, short) * 100]) for _ in range(6)
+            ]
             for thread in readers + writers:
                 thread.start()
             for thread in writers:
@@ -125,9 +131,9 @@ class Threads(unittest.TestCase):
     def test_resets_and_starts_beside_updates(self):
         """Whatever the order, the result is the hash of some chunks since the last start."""
         for name in NAMES:
-            kind = getattr(ours, name)
-            hasher, piece = kind(seed=3), b'a' * 70000
-            want = {getattr(ours, name + '_digest')(piece * count, 3) for count in range(200)}
+            algorithm = getattr(ours, name)
+            hasher, piece = algorithm(seed=3), b'a' * 70000
+            expected = {getattr(ours, name + '_digest')(piece * count, 3) for count in range(200)}
 
             def update():
                 for _ in range(50):
@@ -137,12 +143,13 @@ class Threads(unittest.TestCase):
                 for _ in range(50):
                     hasher.reset()
                     hasher.__init__(piece, 3)
+
             threads = [threading.Thread(target=call) for call in (update, update, begin)]
             for thread in threads:
                 thread.start()
             for thread in threads:
                 thread.join()
-            self.assertIn(hasher.digest(), want)
+            self.assertIn(hasher.digest(), expected)
 
     def status_of_a_child(self, hasher, call, seconds):
         """The status of a process that is forked while a thread updates the object, and makes the call for at most
@@ -173,7 +180,9 @@ class Threads(unittest.TestCase):
             self.assertEqual(self.status_of_a_child(hasher, lambda: make(piece).copy().update(piece), 100), 0)
 
     @unittest.skipIf(sys.version_info < (3, 12), 'before 3.12 all interpreters of a process have one lock')
-    @unittest.skipIf('.abi3.' in ours._native.__file__, 'the limited interface of 3.11 has no word for such interpreters')
+    @unittest.skipIf(
+        '.abi3.' in ours._native.__file__, 'the limited interface of 3.11 has no word for such interpreters'
+    )
     def test_first_imports_in_many_interpreters(self):
         for _ in range(10):
             done = subprocess.run([sys.executable, '-c', INTERPRETERS], capture_output=True, text=True)

@@ -9,7 +9,7 @@ TABLE = os.path.join(os.path.dirname(os.path.abspath(__file__)), '..', '..', 'or
 ALGORITHMS = {'32': 'xxh32', '64': 'xxh64', '3-64': 'xxh3_64', '3-128': 'xxh3_128'}
 
 
-def drawn(start, length):
+def bytes_from(start, length):
     """The bytes of a test case of the table: oracle/vectors.c defines them."""
     out, x = bytearray(length), start
     for i in range(length):
@@ -18,7 +18,7 @@ def drawn(start, length):
     return bytes(out)
 
 
-class Row:
+class Case:
     """A request of the table, and the reference library's value."""
 
     def __init__(self, line):
@@ -27,27 +27,27 @@ class Row:
         self.key = {} if seed == '-' else {'seed': int(seed, 16)}
         if secret != '-':
             secret_length, secret_start = secret.split(':')
-            self.key['secret'] = drawn(int(secret_start, 16), int(secret_length))
-        self.input = drawn(int(start, 16), int(length))
+            self.key['secret'] = bytes_from(int(secret_start, 16), int(secret_length))
+        self.input = bytes_from(int(start, 16), int(length))
 
 
-def rows():
+def cases():
     with open(TABLE) as file:
-        yield from (Row(line) for line in file if not line.startswith('#'))
+        yield from (Case(line) for line in file if not line.startswith('#'))
 
 
 class Table(unittest.TestCase):
     def test_each_row_at_once_and_in_pieces(self):
-        draw, at_once, in_pieces = random.Random(7), 0, 0
-        for row in rows():
-            self.assertEqual(getattr(ours, row.name + '_intdigest')(row.input, **row.key), row.answer)
+        rng, at_once, in_pieces = random.Random(7), 0, 0
+        for case in cases():
+            self.assertEqual(getattr(ours, case.name + '_intdigest')(case.input, **case.key), case.answer)
             at_once += 1
-            if len(row.key.get('secret', b'')) > 256:
+            if len(case.key.get('secret', b'')) > 256:
                 continue
-            hasher = getattr(ours, row.name)(**row.key)
-            for piece in pieces_of(row.input, draw, 700):
+            hasher = getattr(ours, case.name)(**case.key)
+            for piece in pieces_of(case.input, rng, 700):
                 hasher.update(piece)
-            self.assertEqual(hasher.intdigest(), row.answer)
+            self.assertEqual(hasher.intdigest(), case.answer)
             in_pieces += 1
         self.assertGreater(at_once, 20000)
         self.assertGreater(in_pieces, 15000)
@@ -79,7 +79,7 @@ class BesideTheOriginal(unittest.TestCase):
             for length in (0, 3, 16, 100, 241, 2000):
                 self.compare(bytes_of(length), seed)
 
-    def test_every_kind_of_input(self):
+    def test_every_type_of_input(self):
         data = bytes_of(300)
         for name in NAMES:
             call = getattr(ours, name + '_digest')
@@ -108,25 +108,25 @@ class Secrets(unittest.TestCase):
 
     def test_none_is_no_secret(self):
         for name in WITH_SECRET:
-            want = getattr(theirs, name + '_digest')(b'a', 3)
-            self.assertEqual(getattr(ours, name + '_digest')(b'a', 3, secret=None), want)
-            self.assertEqual(getattr(ours, name)(b'a', 3, secret=None).digest(), want)
+            expected = getattr(theirs, name + '_digest')(b'a', 3)
+            self.assertEqual(getattr(ours, name + '_digest')(b'a', 3, secret=None), expected)
+            self.assertEqual(getattr(ours, name)(b'a', 3, secret=None).digest(), expected)
 
     def test_lengths_of_secrets(self):
         for name in WITH_SECRET:
-            call, kind = getattr(ours, name + '_digest'), getattr(ours, name)
+            call, algorithm = getattr(ours, name + '_digest'), getattr(ours, name)
             for length in (0, 1, 135):
-                for function in (call, kind):
+                for function in (call, algorithm):
                     for seed in ({}, {'seed': 5}):
                         with self.assertRaises(ValueError) as caught:
                             function(b'abc', secret=bytes(length), **seed)
                         self.assertEqual(str(caught.exception), 'The secret must have at least 136 bytes')
             for length in (136, 137, 256):
                 secret = bytes_of(length)
-                self.assertEqual(kind(b'a' * 1000, secret=secret).digest(), call(b'a' * 1000, secret=secret))
-            self.assertEqual(len(call(b'a', secret=bytes(5000))), kind().digest_size)
+                self.assertEqual(algorithm(b'a' * 1000, secret=secret).digest(), call(b'a' * 1000, secret=secret))
+            self.assertEqual(len(call(b'a', secret=bytes(5000))), algorithm().digest_size)
             with self.assertRaisesRegex(ValueError, 'at most 256'):
-                kind(secret=bytes(257))
+                algorithm(secret=bytes(257))
 
     def test_what_no_secret_is(self):
         for secret in ('x' * 200, 5, [1] * 200):

@@ -8,11 +8,11 @@ import shlex
 import shutil
 import tomllib
 
-import by_cargo
-import provenance
-from arm_roots import debian_root
-from packing import read_tar, tree_of, write_tar
-from tools import bytes_of, must
+from release.parts import by_cargo
+from release.parts import provenance
+from checks.lib.arm_roots import debian_root
+from release.parts.packing import read_tar, tree_of, write_tar
+from checks.lib.tools import bytes_of, must
 
 PREFIX = 'usr/lib/twox-hash'
 EXAMPLES = tuple(f'examples/{name}' for name in ('c', 'cmake', 'cpp', 'go', 'java', 'python'))
@@ -28,38 +28,48 @@ def new_files(folder, step):
     return sorted(set(os.listdir(folder)) - before)
 
 
-def documents(commit, made):
+def documents(commit, build_dir):
     """The documents that each archive has besides its files."""
-    return {'LICENSE': commit.path('LICENSE'), 'PROVENANCE': os.path.join(made, 'PROVENANCE')}
+    return {'LICENSE': commit.path('LICENSE'), 'PROVENANCE': os.path.join(build_dir, 'PROVENANCE')}
 
 
-def words_of(commit, heading):
+def plain_text(commit, heading):
     """The section of docs/RELEASES.md on an archive, as its README, without links to other pages, which aren't
     there."""
-    part, = re.findall(rf'^## {re.escape(heading)}\n(.*?)(?=^## |\Z)', commit.read('docs', 'RELEASES.md'), re.M | re.S)
-    words = re.sub(r'\[([^]]*)\]\([^)]*\)', r'\1', part.strip())
-    return f'# {heading}\n\n{words}\n'.encode()
+    (part,) = re.findall(
+        rf'^## {re.escape(heading)}\n(.*?)(?=^## |\Z)', commit.read('docs', 'RELEASES.md'), re.M | re.S
+    )
+    text = re.sub(r'\[([^]]*)\]\([^)]*\)', r'\1', part.strip())
+    return f'# {heading}\n\n{text}\n'.encode()
 
 
-def write_archive(commit, made, name, files):
+def write_archive(commit, build_dir, name, files):
     stem = f'{commit.stem}-{name}'
     inside = {f'{stem}/{path}': file for path, file in files.items()}
-    write_tar(os.path.join(made, f'{stem}.tar.gz'), inside, commit.seconds)
+    write_tar(os.path.join(build_dir, f'{stem}.tar.gz'), inside, commit.seconds)
     return [f'{stem}.tar.gz']
 
 
 def unpacked(commit, architecture):
     """The folder of a Debian package's files."""
-    return os.path.join(commit.room, architecture, PREFIX)
+    return os.path.join(commit.workdir, architecture, PREFIX)
 
 
-def debian(commit, made):
+def debian(commit, build_dir):
     """The Debian packages, from which the archive of the programs is made."""
     names = []
     for architecture, target in MACHINES.values():
-        words = [commit.path('c', 'package'), '--target', target, '--of-ci', '--provenance', f'{made}/PROVENANCE', made]
-        name, = new_files(made, lambda words=words: must(words))
-        must(['dpkg-deb', '-x', os.path.join(made, name), os.path.join(commit.room, architecture)])
+        command = [
+            commit.path('c', 'package'),
+            '--target',
+            target,
+            '--of-ci',
+            '--provenance',
+            f'{build_dir}/PROVENANCE',
+            build_dir,
+        ]
+        (name,) = new_files(build_dir, lambda command=command: must(command))
+        must(['dpkg-deb', '-x', os.path.join(build_dir, name), os.path.join(commit.workdir, architecture)])
         names.append(name)
     return names
 
@@ -67,28 +77,51 @@ def debian(commit, made):
 def installed(commit, machine):
     """The folder of the library that make installs, without what no program links to. Or None if there is no
     compiler."""
-    tools, root = TOOLS[machine], os.path.join(commit.room, f'c-{machine}')
+    tools, root = TOOLS[machine], os.path.join(commit.workdir, f'c-{machine}')
     if not shutil.which(tools + 'gcc'):
         print(f'no {tools}gcc: the library for {machine} is omitted')
         return None
-    must(['make', '-s', '-C', commit.path('c'), f'CC={tools}gcc', f'out=out/release-{machine}', f'DESTDIR={root}',
-          'PREFIX=/prefix', 'install'])
+    must(
+        [
+            'make',
+            '-s',
+            '-C',
+            commit.path('c'),
+            f'CC={tools}gcc',
+            f'out=out/release-{machine}',
+            f'DESTDIR={root}',
+            'PREFIX=/prefix',
+            'install',
+        ]
+    )
     files = [path for path in tree_of(root).values() if not os.path.islink(path)]
     must([tools + 'strip', '--strip-unneeded', '-R', '.comment', *(path for path in files if '.so.' in path)])
-    must([tools + 'strip', '--strip-debug', '--enable-deterministic-archives', '-R', '.comment',
-          *(path for path in files if path.endswith('.a'))])
+    must(
+        [
+            tools + 'strip',
+            '--strip-debug',
+            '--enable-deterministic-archives',
+            '-R',
+            '.comment',
+            *(path for path in files if path.endswith('.a')),
+        ]
+    )
     return os.path.join(root, 'prefix')
 
 
-def library(commit, made):
+def library(commit, build_dir):
     names = []
     for machine in MACHINES:
         folder = installed(commit, machine)
         if folder:
-            files = {**documents(commit, made), 'README.md': words_of(commit, 'The library for C'), **tree_of(folder)}
+            files = {
+                **documents(commit, build_dir),
+                'README.md': plain_text(commit, 'The library for C'),
+                **tree_of(folder),
+            }
             for part in EXAMPLES:
                 files |= tree_of(commit.path(part), part)
-            names += write_archive(commit, made, f'c-{machine}', files)
+            names += write_archive(commit, build_dir, f'c-{machine}', files)
     return names
 
 
@@ -96,58 +129,85 @@ def static_programs(commit):
     """The object of each program that c/install built last, for every processor, linked with Debian's libc.a."""
     kit, found = provenance.kit_folder(), {}
     for name in ('xxh', 'xxhsum'):
-        path = os.path.join(commit.room, f'{name}-static')
-        must(['gcc', '-static', '-s', commit.path('crates', name, 'out', f'{name}.o'), f'{kit}/c/liblibc_c.a',
-              f'{kit}/c/libos_c.a', '-o', path])
+        path = os.path.join(commit.workdir, f'{name}-static')
+        must(
+            [
+                'gcc',
+                '-static',
+                '-s',
+                commit.path('crates', name, 'out', f'{name}.o'),
+                f'{kit}/c/liblibc_c.a',
+                f'{kit}/c/libos_c.a',
+                '-o',
+                path,
+            ]
+        )
         found[f'static/{name}'] = path
     return found
 
 
-def programs(commit, made):
+def programs(commit, build_dir):
     folder = unpacked(commit, 'amd64')
-    files = {**documents(commit, made), 'README.md': words_of(commit, 'The programs')}
+    files = {**documents(commit, build_dir), 'README.md': plain_text(commit, 'The programs')}
     for part in ('bin', 'libexec', 'share'):
         files |= tree_of(os.path.join(folder, part), part)
-    share = os.path.join(commit.room, 'completions')
+    share = os.path.join(commit.workdir, 'completions')
     by_cargo.put_completions(commit, share)
-    files |= {'share/man/man1/xxh.1': commit.path('docs', 'xxh.1'), **tree_of(share, 'share'), **static_programs(commit)}
-    return write_archive(commit, made, 'programs-x86_64', files)
+    files |= {
+        'share/man/man1/xxh.1': commit.path('docs', 'xxh.1'),
+        **tree_of(share, 'share'),
+        **static_programs(commit),
+    }
+    return write_archive(commit, build_dir, 'programs-x86_64', files)
 
 
-def cargo_programs(commit, made):
+def cargo_programs(commit, build_dir):
     names = []
     for machine in MACHINES:
         files = by_cargo.files(commit, machine)
         if files:
-            files |= {**documents(commit, made), 'README.md': words_of(commit, 'The programs, by cargo')}
-            names += write_archive(commit, made, f'cargo-programs-{machine}', files)
+            files |= {**documents(commit, build_dir), 'README.md': plain_text(commit, 'The programs, by cargo')}
+            names += write_archive(commit, build_dir, f'cargo-programs-{machine}', files)
     return names
 
 
-def debian_without_rt(commit, made):
+def debian_without_rt(commit, build_dir):
     """The Debian packages with the programs that cargo builds, if there is dpkg-deb."""
     names = []
     for machine, (_, target) in MACHINES.items():
         programs = shutil.which('dpkg-deb') and by_cargo.installed(commit, machine)
         if programs:
-            words = [commit.path('c', 'package'), '--target', target, '--programs', programs, '--provenance', f'{made}/PROVENANCE', made]
-            names += new_files(made, lambda words=words: must(words))
+            command = [
+                commit.path('c', 'package'),
+                '--target',
+                target,
+                '--programs',
+                programs,
+                '--provenance',
+                f'{build_dir}/PROVENANCE',
+                build_dir,
+            ]
+            names += new_files(build_dir, lambda command=command: must(command))
     return names
 
 
-def crate(commit, made):
+def crate(commit, build_dir):
     """The crate: the files that its manifest includes, as cargo packs them. cargo itself would request serde from a
     registry, to write a lock file."""
     folder = commit.path('rust')
     with open(os.path.join(folder, 'Cargo.toml'), 'rb') as file:
         package = tomllib.load(file)['package']
-    files = {'Cargo.toml': os.path.join(folder, 'Cargo.toml'), **documents(commit, made)}
+    files = {'Cargo.toml': os.path.join(folder, 'Cargo.toml'), **documents(commit, build_dir)}
     for pattern in package['include']:
         for path in glob.glob(folder + pattern):
             name = os.path.relpath(path, folder)
             files |= tree_of(path, name) if os.path.isdir(path) else {name: os.path.realpath(path)}
     stem = f'{package["name"]}-{package["version"]}'
-    write_tar(os.path.join(made, f'{stem}.crate'), {f'{stem}/{name}': path for name, path in files.items()}, commit.seconds)
+    write_tar(
+        os.path.join(build_dir, f'{stem}.crate'),
+        {f'{stem}/{name}': path for name, path in files.items()},
+        commit.seconds,
+    )
     return [f'{stem}.crate']
 
 
@@ -155,41 +215,41 @@ def python_machines(commit):
     """The variables of the builds of wheels, for each machine for which there is a compiler."""
     yield {}
     if shutil.which(TOOLS['aarch64'] + 'gcc'):
-        root = debian_root(os.path.join(commit.room, 'python-arm'), 'libpython3.11-dev')
+        root = debian_root(os.path.join(commit.workdir, 'python-arm'), 'libpython3.11-dev')
         yield {'CC': TOOLS['aarch64'] + 'gcc', 'CFLAGS': f'-idirafter {shlex.quote(root)}/usr/include'}
 
 
-def python(commit, made):
+def python(commit, build_dir):
     """The source package, and for each machine a wheel for Debian's Python and one for each from 3.11 on."""
-    shutil.copy(os.path.join(made, 'PROVENANCE'), commit.path('python'))
+    shutil.copy(os.path.join(build_dir, 'PROVENANCE'), commit.path('python'))
     names = set()
     for variables, options in itertools.product(python_machines(commit), ([], ['--limited'])):
         must([commit.path('python', 'build'), *options, '/usr/bin/python3'], env={**os.environ, **variables})
         for path in glob.glob(commit.path('python', 'out', '*')):
-            shutil.copy(path, made)
+            shutil.copy(path, build_dir)
             names.add(os.path.basename(path))
     return sorted(names)
 
 
-def node(commit, made):
+def node(commit, build_dir):
     """The package as npm packs it with the scripts of web/, with the project's version and PROVENANCE."""
-    folder = os.path.join(commit.room, 'npm')
+    folder = os.path.join(commit.workdir, 'npm')
     os.mkdir(folder)
     must(['npm', 'pack', '--silent', '--pack-destination', folder], cwd=commit.path('web'))
-    path, = glob.glob(os.path.join(folder, '*.tgz'))
+    (path,) = glob.glob(os.path.join(folder, '*.tgz'))
     files = read_tar(path)
     manifest = {**json.loads(files['package/package.json']), 'version': commit.version}
     files['package/package.json'] = json.dumps(manifest, indent=2).encode() + b'\n'
-    files['package/PROVENANCE'] = bytes_of(os.path.join(made, 'PROVENANCE'))
-    write_tar(os.path.join(made, f'{commit.stem}.tgz'), files, commit.seconds)
+    files['package/PROVENANCE'] = bytes_of(os.path.join(build_dir, 'PROVENANCE'))
+    write_tar(os.path.join(build_dir, f'{commit.stem}.tgz'), files, commit.seconds)
     return [f'{commit.stem}.tgz']
 
 
-def page(commit, made):
+def page(commit, build_dir):
     """The page by web/folder: one folder of static files."""
-    folder = os.path.join(commit.room, 'page')
+    folder = os.path.join(commit.workdir, 'page')
     must([commit.path('web', 'folder'), folder])
-    return write_archive(commit, made, 'page', {**documents(commit, made), **tree_of(folder, 'web')})
+    return write_archive(commit, build_dir, 'page', {**documents(commit, build_dir), **tree_of(folder, 'web')})
 
 
 PARTS_OF_BOTH = (library, cargo_programs, crate, python, node, page)

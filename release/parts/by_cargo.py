@@ -3,9 +3,9 @@ import functools
 import os
 import shutil
 
-from arm_roots import debian_root
-from packing import tree_of
-from tools import must
+from checks.lib.arm_roots import debian_root
+from release.parts.packing import tree_of
+from checks.lib.tools import must
 
 TARGETS = {'x86_64': 'x86_64-unknown-linux-gnu', 'aarch64': 'aarch64-unknown-linux-gnu'}
 COMPILERS = {'x86_64': 'gcc', 'aarch64': 'aarch64-linux-gnu-gcc'}
@@ -15,18 +15,23 @@ FLAGS = ('-Ctarget-feature=+crt-static', '-Cstrip=symbols')
 NAMES = ('xxh32sum', 'xxh64sum', 'xxh128sum', 'xxh3sum')
 # The completions of docs/completions, and their names in share, where each shell looks for them. bash and fish look
 # for a file of each command's name.
-COMPLETIONS = {'xxhsum.bash': 'bash-completion/completions/{}', '_xxhsum': 'zsh/site-functions/_xxhsum',
-               'xxhsum.fish': 'fish/vendor_completions.d/{}.fish'}
+COMPLETIONS = {
+    'xxhsum.bash': 'bash-completion/completions/{}',
+    '_xxhsum': 'zsh/site-functions/_xxhsum',
+    'xxhsum.fish': 'fish/vendor_completions.d/{}.fish',
+}
 
 
 def sysroot_flags(commit, machine):
     """Debian's compiler uses the standard library for another processor from a folder of that processor's packages."""
     if machine == 'x86_64':
         return ()
-    sysroot, libraries = os.path.join(commit.room, 'sysroot'), os.path.join('lib', 'rustlib')
-    root = debian_root(os.path.join(commit.room, 'rust-arm'), 'libstd-rust-web-dev')
+    sysroot, libraries = os.path.join(commit.workdir, 'sysroot'), os.path.join('lib', 'rustlib')
+    root = debian_root(os.path.join(commit.workdir, 'rust-arm'), 'libstd-rust-web-dev')
     os.makedirs(os.path.join(sysroot, libraries))
-    os.symlink(os.path.join(root, 'usr', libraries, TARGETS[machine]), os.path.join(sysroot, libraries, TARGETS[machine]))
+    os.symlink(
+        os.path.join(root, 'usr', libraries, TARGETS[machine]), os.path.join(sysroot, libraries, TARGETS[machine])
+    )
     return '--sysroot', sysroot
 
 
@@ -36,13 +41,22 @@ def installed(commit, machine):
     if not shutil.which(COMPILERS[machine]):
         print(f'no {COMPILERS[machine]}: the programs for {machine} are omitted')
         return None
-    target, made = TARGETS[machine], os.path.join(commit.room, 'cargo')
-    variables = {'CARGO_TARGET_DIR': made, 'CARGO_NET_OFFLINE': 'true', 'RUSTC': '/usr/bin/rustc',
-                 'CARGO_ENCODED_RUSTFLAGS': '\x1f'.join([*FLAGS, *sysroot_flags(commit, machine)]),
-                 f'CARGO_TARGET_{target.upper().replace("-", "_")}_LINKER': COMPILERS[machine]}
-    must(['/usr/bin/cargo', 'build', '-q', '--release', '--target', target], cwd=commit.path('rust', 'programs'),
-         env={**os.environ, **variables})
-    return laid_out(commit, os.path.join(made, target, 'release'), os.path.join(commit.room, f'cargo-{machine}'))
+    target, build_dir = TARGETS[machine], os.path.join(commit.workdir, 'cargo')
+    variables = {
+        'CARGO_TARGET_DIR': build_dir,
+        'CARGO_NET_OFFLINE': 'true',
+        'RUSTC': '/usr/bin/rustc',
+        'CARGO_ENCODED_RUSTFLAGS': '\x1f'.join([*FLAGS, *sysroot_flags(commit, machine)]),
+        f'CARGO_TARGET_{target.upper().replace("-", "_")}_LINKER': COMPILERS[machine],
+    }
+    must(
+        ['/usr/bin/cargo', 'build', '-q', '--release', '--target', target],
+        cwd=commit.path('rust', 'programs'),
+        env={**os.environ, **variables},
+    )
+    return laid_out(
+        commit, os.path.join(build_dir, target, 'release'), os.path.join(commit.workdir, f'cargo-{machine}')
+    )
 
 
 def put_completions(commit, share):

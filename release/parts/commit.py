@@ -3,14 +3,14 @@ import os
 import re
 import sys
 
-from tools import must, text_of
+from checks.lib.tools import must, text_of
 
 
 class Commit:
     """`tree` is a clone in a working folder. Everything packed is made there, and has the commit's time."""
 
-    def __init__(self, top, room):
-        self.room, self.tree = room, os.path.join(room, 'twox_hash')
+    def __init__(self, top, workdir):
+        self.workdir, self.tree = workdir, os.path.join(workdir, 'twox_hash')
         must(['git', 'clone', '-q', top, self.tree])
         if must(['git', '-C', top, 'status', '--porcelain', '--untracked-files=no']):
             print('release/make: uncommitted changes are omitted', file=sys.stderr)
@@ -29,8 +29,8 @@ class Commit:
         if not re.match(r'[1-9]\d* passed, 0 failed', last):
             sys.exit(f'release/make: rt ci: {last}')
 
-    def git(self, *words):
-        return must(['git', '-C', self.tree, *words])
+    def git(self, *args):
+        return must(['git', '-C', self.tree, *args])
 
     def path(self, *names):
         return os.path.join(self.tree, *names)

@@ -17,30 +17,34 @@ def tree_of(folder, below=''):
 
 def entry(name, source, seconds):
     """A file, a link, or bytes, as an entry of an archive, and its content."""
-    told = tarfile.TarInfo(name)
-    told.mtime, told.uname, told.gname, told.mode = seconds, 'root', 'root', 0o644
+    member = tarfile.TarInfo(name)
+    member.mtime, member.uname, member.gname, member.mode = seconds, 'root', 'root', 0o644
     if isinstance(source, bytes):
-        told.size = len(source)
-        return told, source
+        member.size = len(source)
+        return member, source
     if os.path.islink(source):
-        told.type, told.linkname, told.mode = tarfile.SYMTYPE, os.readlink(source), 0o777
-        return told, None
+        member.type, member.linkname, member.mode = tarfile.SYMTYPE, os.readlink(source), 0o777
+        return member, None
     with open(source, 'rb') as file:
         data = file.read()
-    told.size, told.mode = len(data), 0o755 if os.access(source, os.X_OK) and os.stat(source).st_mode & 0o100 else 0o644
-    return told, data
+    member.size, member.mode = (
+        len(data),
+        0o755 if os.access(source, os.X_OK) and os.stat(source).st_mode & 0o100 else 0o644,
+    )
+    return member, data
 
 
 def write_tar(path, files, seconds):
     """A tar.gz of files by name: each is a path or bytes."""
-    with open(path, 'wb') as out, gzip.GzipFile('', 'wb', 9, out, seconds) as packed, \
-            tarfile.open(fileobj=packed, mode='w', format=tarfile.GNU_FORMAT) as archive:
+    with open(path, 'wb') as out, gzip.GzipFile('', 'wb', 9, out, seconds) as packed, tarfile.open(
+        fileobj=packed, mode='w', format=tarfile.GNU_FORMAT
+    ) as archive:
         for name in sorted(files):
-            told, data = entry(name, files[name], seconds)
-            archive.addfile(told, None if data is None else io.BytesIO(data))
+            member, data = entry(name, files[name], seconds)
+            archive.addfile(member, None if data is None else io.BytesIO(data))
 
 
 def read_tar(path):
     """The bytes of each file of a tar.gz, by name."""
     with tarfile.open(path, 'r:gz') as archive:
-        return {told.name: archive.extractfile(told).read() for told in archive if told.isfile()}
+        return {member.name: archive.extractfile(member).read() for member in archive if member.isfile()}

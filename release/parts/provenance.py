@@ -5,15 +5,24 @@ import re
 import shutil
 import time
 
-from tools import must, text_of
-from written import sum_of
+from checks.lib.tools import must, text_of
+from release.parts.written import sum_of
 
 VERDICT = re.compile(r'^logic=')
 CRATE = re.compile(r'^== (\w+)$')
 COUNTS = re.compile(r'^\d+ passed, \d+ failed$')
 # The toolchain files that make the programs and the assembly source, below its folder.
-KIT_FILES = ('bin/rattle', 'bin/rattle-link', 'bin/rt', 'bin/rtlib.py', 'toolchain/bin/clang', 'toolchain/bin/ld.lld',
-             'rattle/logic/antt-project.json', 'c/liblibc_c.a', 'c/libos_c.a')
+KIT_FILES = (
+    'bin/rattle',
+    'bin/rattle-link',
+    'bin/rt',
+    'bin/rtlib.py',
+    'toolchain/bin/clang',
+    'toolchain/bin/ld.lld',
+    'rattle/logic/antt-project.json',
+    'c/liblibc_c.a',
+    'c/libos_c.a',
+)
 
 
 def sums(folder, names):
@@ -30,7 +39,10 @@ def kit():
 
 def tools():
     """The first line of each compiler's version."""
-    names = filter(shutil.which, ('gcc', 'aarch64-linux-gnu-gcc', 'ld', '/usr/bin/python3', '/usr/bin/rustc', '/usr/bin/cargo', 'npm'))
+    names = filter(
+        shutil.which,
+        ('gcc', 'aarch64-linux-gnu-gcc', 'ld', '/usr/bin/python3', '/usr/bin/rustc', '/usr/bin/cargo', 'npm'),
+    )
     return [f'{os.path.basename(name)}: {must([name, "--version"]).splitlines()[0]}' for name in names]
 
 
@@ -53,14 +65,18 @@ def machine():
 def gate(log):
     """The verdicts of a log of CI, and its last line, or that there is none."""
     if not log:
-        return {'Verdicts': ['absent: release/make was called without --gate'],
-                'CI': ['absent: release/make was called without --gate']}
+        return {
+            'Verdicts': ['absent: release/make was called without --gate'],
+            'CI': ['absent: release/make was called without --gate'],
+        }
     with open(log, encoding='utf-8', errors='replace') as file:
         lines = [line.strip() for line in file if line.strip()]
     ended = time.strftime('%Y-%m-%d %H:%M UTC', time.gmtime(os.path.getmtime(log)))
     last = lines[-1] if lines and COUNTS.match(lines[-1]) else 'absent: the log has no last line of counts'
-    return {'Verdicts': verdicts(lines) or ['absent: the log has none'],
-            'CI': [last, f'ended {ended}, packed on {machine()}', f'{sum_of(log)}  the log']}
+    return {
+        'Verdicts': verdicts(lines) or ['absent: the log has none'],
+        'CI': [last, f'ended {ended}, packed on {machine()}', f'{sum_of(log)}  the log'],
+    }
 
 
 def texts(commit):
@@ -68,8 +84,10 @@ def texts(commit):
     return sums(commit.tree, [name for name in names if name.endswith('.s')])
 
 
-UNPROVED = ['none: release/make --without-rt proves nothing. The assembly source, the modules and the erased source are',
-            'those of the commit, which CI compares with the proved code']
+UNPROVED = [
+    'none: release/make --without-rt proves nothing. The assembly source, the modules and the erased source are',
+    'those of the commit, which CI compares with the proved code',
+]
 BY_CARGO = 'compiled by rustc from proved source without its contracts; tested, not proved, as xxhsum --version says'
 BY_RT = 'proved and compiled by the toolchain'
 
@@ -77,14 +95,24 @@ BY_RT = 'proved and compiled by the toolchain'
 def programs(without_rt):
     """The origin of xxh and xxhsum in each archive."""
     packages = BY_CARGO if without_rt else f'{BY_RT} (amd64 only)'
-    return [*([] if without_rt else [f'programs-x86_64: {BY_RT}']), f'cargo-programs: {BY_CARGO}', f'Debian packages: {packages}']
+    return [
+        *([] if without_rt else [f'programs-x86_64: {BY_RT}']),
+        f'cargo-programs: {BY_CARGO}',
+        f'Debian packages: {packages}',
+    ]
 
 
 def text(commit, log, without_rt):
     """PROVENANCE: what was packed, what proved and compiled it, and the SHA-256 of its inputs."""
-    parts = {f'twox_hash {commit.version}': [f'commit {commit.name}', f'of {commit.date}'],
-             'Toolchain': UNPROVED if without_rt else kit(), 'Programs': programs(without_rt), 'Tools': tools(), **gate(log), 'Assembly source': texts(commit),
-             'Modules': sums(commit.tree, ['web/twox_hash.wasm', 'web/twox_hash_simd.wasm'])}
+    parts = {
+        f'twox_hash {commit.version}': [f'commit {commit.name}', f'of {commit.date}'],
+        'Toolchain': UNPROVED if without_rt else kit(),
+        'Programs': programs(without_rt),
+        'Tools': tools(),
+        **gate(log),
+        'Assembly source': texts(commit),
+        'Modules': sums(commit.tree, ['web/twox_hash.wasm', 'web/twox_hash_simd.wasm']),
+    }
     return '\n'.join('\n'.join([title, *(f'  {line}' for line in lines), '']) for title, lines in parts.items())
 
 

@@ -53,8 +53,10 @@ def earlier_files(folder):
     foreign = [name for name in names if name not in (sums and {SUMS}) and not is_written(folder, name, sums)]
     if foreign:
         more = f' and {len(foreign) - 5} more' if len(foreign) > 5 else ''
-        sys.exit(f'release/make: {folder} has files that release/make did not write, or that have changed since: '
-                 f'{", ".join(map(ascii, foreign[:5]))}{more}. Use another folder, or delete them')
+        sys.exit(
+            f'release/make: {folder} has files that release/make did not write, or that have changed since: '
+            f'{", ".join(map(ascii, foreign[:5]))}{more}. Use another folder, or delete them'
+        )
     return names
 
 
@@ -63,15 +65,15 @@ def is_written(folder, name, sums):
     return name in sums and is_file(path) and sum_of(path) == sums[name]
 
 
-def replace(folder, made):
+def replace(folder, build_dir):
     """Writes the files of a folder, replacing those of an earlier release. A run that is killed leaves whole files,
     which are in the sums."""
-    earlier, names = earlier_files(folder), sorted(os.listdir(made), key=lambda name: name != SUMS)
+    earlier, names = earlier_files(folder), sorted(os.listdir(build_dir), key=lambda name: name != SUMS)
     os.makedirs(folder, exist_ok=True)
-    with tempfile.TemporaryDirectory(prefix='.release-make-', dir=folder) as room:
+    with tempfile.TemporaryDirectory(prefix='.release-make-', dir=folder) as workdir:
         for name in names:
-            shutil.copy(os.path.join(made, name), room)
+            shutil.copy(os.path.join(build_dir, name), workdir)
         for name in set(earlier) - {SUMS}:
             os.remove(os.path.join(folder, name))
         for name in names:
-            os.replace(os.path.join(room, name), os.path.join(folder, name))
+            os.replace(os.path.join(workdir, name), os.path.join(folder, name))

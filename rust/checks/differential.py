@@ -3,13 +3,19 @@ import os
 import re
 import subprocess
 
-from erasers import RUST
-from report import tail, want
-from tools import write
+from rust.checks.erasers import RUST
+from checks.lib.report import last_line, check
+from checks.lib.tools import write
 
-ROOT = '#![tactic(auto)]\n\n{modules}\nuse std::io;\n\nfn main(rt: HostRuntime) -> Result<(), io::Error> {{\n{calls}    Ok(())\n}}\n'
+ROOT = (
+    '#![tactic(auto)]\n\n{modules}\nuse std::io;\n\n'
+    'fn main(rt: HostRuntime) -> Result<(), io::Error> {{\n{calls}    Ok(())\n}}\n'
+)
 # With the crate's replacements of names of Rattle's library.
-MAIN = '#[path = "{rust}/src"] mod crate_files {{ pub mod rattle; }}\nuse crate_files::rattle;\n{modules}\nfn main() {{\n{calls}}}\n'
+MAIN = (
+    '#[path = "{rust}/src"] mod crate_files {{ pub mod rattle; }}\nuse crate_files::rattle;\n{modules}\n'
+    'fn main() {{\n{calls}}}\n'
+)
 
 
 def values(text):
@@ -26,7 +32,7 @@ def in_rattle(sources, folder):
     for number, source in sources.items():
         write(os.path.join(crate, 'src', f'case_{number}.rt'), source)
     done = subprocess.run(['rt', 'try'], cwd=crate, capture_output=True, text=True)
-    want(done.returncode == 0, tail(done.stderr))
+    check(done.returncode == 0, last_line(done.stderr))
     return values(done.stdout)
 
 
@@ -38,6 +44,8 @@ def in_rust(sources, folder, *flags):
         write(os.path.join(folder, f'case_{number}.rs'), source)
     path = write(os.path.join(folder, 'main.rs'), MAIN.format(rust=RUST, modules=modules, calls=calls))
     program = os.path.join(folder, 'main')
-    done = subprocess.run(['rustc', '--edition', '2021', '-Awarnings', *flags, path, '-o', program], capture_output=True, text=True)
-    want(done.returncode == 0, tail(done.stderr))
+    done = subprocess.run(
+        ['rustc', '--edition', '2021', '-Awarnings', *flags, path, '-o', program], capture_output=True, text=True
+    )
+    check(done.returncode == 0, last_line(done.stderr))
     return values(subprocess.run([program], stdout=subprocess.PIPE, text=True, check=True).stdout)

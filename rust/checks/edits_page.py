@@ -1,16 +1,17 @@
-"""docs/EDITS.md: the rows of the eraser's tables of edits, and how many rules, sources and weakened erasers there are."""
+"""docs/EDITS.md: the rows of the eraser's tables of edits, and how many rules, sources and weakened erasers there
+are."""
 import os
 
-from erasers import RUST
-from planted_sources import CHANGED_CRATES, CHANGED_PROGRAMS, PLANTED
-from scenarios import SCENARIOS
+from rust.checks.erasers import RUST
+from rust.checks.planted_sources import CHANGED_CRATES, CHANGED_PROGRAMS, PLANTED
+from rust.checks.scenarios import SCENARIOS
 
 PAGE = os.path.join(os.path.dirname(RUST), 'docs', 'EDITS.md')
 TEXT = '''# What the eraser edits
 
 Written by `rust/checks/eraser --page`. [`rust/erase`](RUST.md) removes contracts. What else differs in the erased source is on this page: {rows} edits of code, and names.
 
-The eraser has {rules} rules that refuse a form, and {callees} functions of the toolchain's library that sources may call. {planted} planted sources ({kept} erased with the same value in both languages, {refused} refused), {changed} changed crates and {scenarios} scenarios detect each of {weakened} weakened erasers.
+The eraser has {rules} rules that refuse a form, and {callees} functions of the toolchain's library that sources may call. {planted} planted sources ({erased} erased with the same value in both languages, {refused} refused), {changed} changed crates and {scenarios} scenarios detect each of {weakened} weakened erasers.
 
 ## Edits
 
@@ -50,32 +51,64 @@ def lines(*rows):
 
 def edits_of(eraser):
     """A line for each edit: how often it applies, in which files, and why."""
-    packages, where = eraser.packages, lambda row: row.function and f'`{row.function}`' or row.files.replace('.*', 'all files')
+    packages, where = eraser.packages, lambda edit: edit.function and f'`{edit.function}`' or edit.files.replace(
+        '.*', 'all files'
+    )
     head = '| Edit | Of | Times | In | Reason |\n|---|---|---|---|---|\n'
-    return head + lines(*((row.name, of, str(row.count), where(row), row.why) for of, package in (
-        ('library', packages.LIBRARY_PACKAGE), ('programs', packages.PROGRAM_PACKAGE)) for row in package.edits))
+    return head + lines(
+        *(
+            (edit.name, of, str(edit.count), where(edit), edit.why)
+            for of, package in (('library', packages.LIBRARY_PACKAGE), ('programs', packages.PROGRAM_PACKAGE))
+            for edit in package.edits
+        )
+    )
 
 
 def own_items(eraser):
     head = '| Item | In the crate | Reason |\n|---|---|---|\n'
-    return head + lines(*((f'`{name}` of {file.replace("/src/", "/")}', f'`{path.removeprefix("crate::")}`', why)
-                          for file, items in eraser.own.ITEMS.items() for name, (path, why) in items.items()))
+    return head + lines(
+        *(
+            (f'`{name}` of {file.replace("/src/", "/")}', f'`{path.removeprefix("crate::")}`', why)
+            for file, items in eraser.own.ITEMS.items()
+            for name, (path, why) in items.items()
+        )
+    )
 
 
 def paths_of(eraser):
     paths = {**eraser.names.PROGRAM_PATHS, **eraser.names.LIBRARY_PATHS}
-    return '| Path | In its place |\n|---|---|\n' + lines(*((f'`{old}`', f'`{new}`') for old, new in sorted(paths.items())))
+    return '| Path | In its place |\n|---|---|\n' + lines(
+        *((f'`{old}`', f'`{new}`') for old, new in sorted(paths.items()))
+    )
 
 
 def page(eraser, counts, callees):
     packages, names, own = eraser.packages, eraser.names, eraser.own
-    kept = sum(not reason for *_, reason, _ in PLANTED)
+    erased = sum(not reason for *_, reason, _ in PLANTED)
     count = lambda table: str(sum(len(entries) for entries in table.values()))
     return TEXT.format(
-        rules=counts['rules'], callees=callees, rows=len(packages.LIBRARY_PACKAGE.edits) + len(packages.PROGRAM_PACKAGE.edits),
-        planted=len(PLANTED), kept=kept, refused=len(PLANTED) - kept, changed=len(CHANGED_CRATES) + len(CHANGED_PROGRAMS),
-        scenarios=len(SCENARIOS), weakened=sum(counts.values()), edits=edits_of(eraser), items=count(own.ITEMS), own=own_items(eraser),
-        paths=paths_of(eraser), prelude=', '.join(f'`{name}`' for name in sorted({*names.LIBRARY_PRELUDE, *names.PROGRAM_PRELUDE})),
+        rules=counts['rules'],
+        callees=callees,
+        rows=len(packages.LIBRARY_PACKAGE.edits) + len(packages.PROGRAM_PACKAGE.edits),
+        planted=len(PLANTED),
+        erased=erased,
+        refused=len(PLANTED) - erased,
+        changed=len(CHANGED_CRATES) + len(CHANGED_PROGRAMS),
+        scenarios=len(SCENARIOS),
+        weakened=sum(counts.values()),
+        edits=edits_of(eraser),
+        items=count(own.ITEMS),
+        own=own_items(eraser),
+        paths=paths_of(eraser),
+        prelude=', '.join(f'`{name}`' for name in sorted({*names.LIBRARY_PRELUDE, *names.PROGRAM_PRELUDE})),
         twice=names.TWICE.replace('/src/', '/'),
-        modules=lines(*((file.replace('/src/', '/'), f'`{path}`' if path else 'none', why) for file, (path, why) in names.MODULES.items())),
-        inlined=count(own.INLINED), bounded=count(own.BOUNDS), bound=own.BOUND)
+        modules=lines(
+            *(
+                (file.replace('/src/', '/'), f'`{path}`' if path else 'none', why)
+                for file, (path, why) in names.MODULES.items()
+            )
+        ),
+        inlined=count(own.INLINED),
+        bounded=count(own.BOUNDS),
+        bound=own.BOUND,
+    )

@@ -15,7 +15,7 @@ SECONDS = 2
 
 
 def path_of(part):
-    return os.path.join(RUST, 'erase') if part == 'erase' else os.path.join(RUST, 'eraser', f'{part}.py')
+    return os.path.join(RUST, 'eraser', f'{part}.py')
 
 
 @functools.cache
@@ -32,8 +32,10 @@ def code_of(part, source):
 @contextlib.contextmanager
 def limits():
     """A weakened eraser may not end, and may take all memory."""
+
     def stop(*_):
         raise TimeoutError
+
     signal.signal(signal.SIGALRM, stop)
     signal.setitimer(signal.ITIMER_REAL, SECONDS)
     try:
@@ -43,25 +45,39 @@ def limits():
 
 
 class Eraser:
+    """The modules of rust/eraser."""
+
+    tokens: types.ModuleType
+    contracts: types.ModuleType
+    forms: types.ModuleType
+    items: types.ModuleType
+    edits: types.ModuleType
+    names: types.ModuleType
+    own: types.ModuleType
+    packages: types.ModuleType
+    stored: types.ModuleType
+    erase: types.ModuleType
+
     def __init__(self, **changed):
         """`changed` has the source of each changed part."""
-        others = {part: sys.modules.pop(part, None) for part in PARTS}
-        for part in PARTS:
-            module = sys.modules[part] = types.ModuleType(part)
+        names = {part: f'rust.eraser.{part}' for part in PARTS}
+        others = {name: sys.modules.pop(name, None) for name in names.values()}
+        for part, name in names.items():
+            module = sys.modules[name] = types.ModuleType(name)
             module.__file__ = path_of(part)
             exec(code_of(part, changed.get(part, source_of(part))), module.__dict__)
             setattr(self, part, module)
-        for part, other in others.items():
-            sys.modules.pop(part)
+        for name, other in others.items():
+            sys.modules.pop(name)
             if other:
-                sys.modules[part] = other
+                sys.modules[name] = other
 
     def package_of(self, file):
         return self.packages.PROGRAM_PACKAGE if file.startswith('xxh') else self.packages.LIBRARY_PACKAGE
 
     def one(self, file, source, spans):
-        """'erased' and the Rust of a source that is read as a file of this name, or 'refused' and the reason. `spans` are
-        the toolchain's tokens, or its refusal."""
+        """'erased' and the Rust of a source that is read as a file of this name, or 'refused' and the reason. `spans`
+        are the toolchain's tokens, or its refusal."""
         try:
             if isinstance(spans, str):
                 raise self.tokens.Refused(spans)
@@ -76,7 +92,7 @@ class Eraser:
 
     def tree(self, texts, spans, package):
         """The files of a tree, or the refusal as a text."""
-        self.erase.toolchain_tokens = lambda _: spans
+        setattr(self.erase, 'toolchain_tokens', lambda _: spans)
         try:
             return self.erase.erased(texts, package)
         except self.tokens.Refused as reason:
@@ -92,5 +108,7 @@ def spans_of(eraser, sources):
             return {name: str(reason) for name in sources}
     names = list(sources)
     half = len(names) // 2
-    return {**spans_of(eraser, {name: sources[name] for name in names[:half]}),
-            **spans_of(eraser, {name: sources[name] for name in names[half:]})}
+    return {
+        **spans_of(eraser, {name: sources[name] for name in names[:half]}),
+        **spans_of(eraser, {name: sources[name] for name in names[half:]}),
+    }

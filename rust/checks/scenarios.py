@@ -3,14 +3,15 @@ import os
 import tempfile
 from types import SimpleNamespace
 
-from erasers import limits
-from tools import write
+from rust.checks.erasers import limits
+from checks.lib.tools import write
 
 CASE = {'case/src/lib.rt': 'pub fn f() { }'}
 
 
 def scenario(run):
     """The scenario's result for an eraser, in an empty folder."""
+
     def result(eraser):
         path = os.environ['PATH']
         with tempfile.TemporaryDirectory() as folder:
@@ -23,6 +24,7 @@ def scenario(run):
                 return repr(fault).replace(folder, '')
             finally:
                 os.environ['PATH'] = path
+
     return result
 
 
@@ -98,11 +100,14 @@ def run_with(eraser, folder, **stored):
     eraser.stored.STORED = os.path.join(folder, 'stored.txt')
     eraser.erase.sources, eraser.erase.erased = (lambda *_: CASE), (lambda *_: {'a.rs': ''})
     eraser.erase.stored, eraser.erase.calls = (lambda: stored), (lambda *_: {'crate case': ('1', [])})
-    return eraser.erase.run(SimpleNamespace(crates=folder, check=True, of_ci=False), package, os.path.join(folder, 'tree'), True)
+    return eraser.erase.run(
+        SimpleNamespace(crates=folder, check=True, of_ci=False), package, os.path.join(folder, 'tree'), True
+    )
 
 
 def restored(run):
     """A scenario that changes the modules `erase` and `stored`."""
+
     def result(eraser, folder):
         before = dict(eraser.erase.__dict__), dict(eraser.stored.__dict__)
         try:
@@ -110,6 +115,7 @@ def restored(run):
         finally:
             eraser.erase.__dict__.update(before[0])
             eraser.stored.__dict__.update(before[1])
+
     return result
 
 
@@ -158,8 +164,25 @@ def stored_callee_that_is_unknown(eraser, folder):
     return eraser.stored.calls(crates, texts, package, sections)
 
 
-SCENARIOS = {run.__name__.replace('_', ' '): scenario(run) for run in (
-    foreign_folder, foreign_file, file_that_is_not_rattle, no_toolchain, failing_toolchain, code_that_the_toolchain_reads_as_none,
-    text_between_tokens, comment_between_tokens, name_in_brackets, changed_without_toolchain, unchanged_without_toolchain,
-    unknown_callee, unproved_crate, crate_changed_since_ci, unread_program, stored_callee_that_is_unknown)}
+SCENARIOS = {
+    run.__name__.replace('_', ' '): scenario(run)
+    for run in (
+        foreign_folder,
+        foreign_file,
+        file_that_is_not_rattle,
+        no_toolchain,
+        failing_toolchain,
+        code_that_the_toolchain_reads_as_none,
+        text_between_tokens,
+        comment_between_tokens,
+        name_in_brackets,
+        changed_without_toolchain,
+        unchanged_without_toolchain,
+        unknown_callee,
+        unproved_crate,
+        crate_changed_since_ci,
+        unread_program,
+        stored_callee_that_is_unknown,
+    )
+}
 SCENARIOS |= {run.__name__.replace('_', ' '): scenario(restored(run)) for run in (tree_that_differs, stored_of_others)}

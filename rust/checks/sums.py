@@ -3,9 +3,9 @@ compiled over Rust's core library, which is built from Debian's sources, and lin
 sum is that of the same calls by the reference's header."""
 import os
 
-from report import tail, want
-from tools import ran, text_of, write
-from room import SOURCE_PACKAGES, SourceRoom, errors_of, install_packages, must
+from checks.lib.report import last_line, check
+from checks.lib.tools import ran, text_of, write
+from rust.checks.workspace import SOURCE_PACKAGES, SourceWorkspace, errors_of, install_packages, must
 
 SUMS = os.path.join(os.path.dirname(os.path.abspath(__file__)), 'sums')
 # Target -> the name of Debian's compiler and of its C library for that processor, and the emulator. Node runs wasm32.
@@ -32,53 +32,75 @@ def packages():
     return found
 
 
-def sum_of(room, target, flags=''):
+def sum_of(workspace, target, flags=''):
     """The output of the program for a target."""
     flags += '' if TARGETS[target] else ' -C linker=wasm-ld'
-    environment = {**room.environment(), 'RUSTFLAGS': flags, 'RUSTC_BOOTSTRAP': '1', 'RUSTC': '/usr/bin/rustc'}
-    folder = os.path.join(room.rust, 'checks', 'sums')
-    kind = 'staticlib' if TARGETS[target] else 'cdylib'
-    words = [room.cargo_program, 'rustc', '--release', '-Z', 'build-std=core', '--target', target, '--crate-type', kind]
-    done = ran(words, cwd=folder, env=environment)
-    want(done.returncode == 0, tail(errors_of(done.stdout)))
-    made = os.path.join(room.path, 'target', target, 'release')
+    environment = {**workspace.environment(), 'RUSTFLAGS': flags, 'RUSTC_BOOTSTRAP': '1', 'RUSTC': '/usr/bin/rustc'}
+    folder = os.path.join(workspace.rust, 'checks', 'sums')
+    crate_type = 'staticlib' if TARGETS[target] else 'cdylib'
+    command = [
+        workspace.cargo_program,
+        'rustc',
+        '--release',
+        '-Z',
+        'build-std=core',
+        '--target',
+        target,
+        '--crate-type',
+        crate_type,
+    ]
+    done = ran(command, cwd=folder, env=environment)
+    check(done.returncode == 0, last_line(errors_of(done.stdout)))
+    build_dir = os.path.join(workspace.path, 'target', target, 'release')
     if not TARGETS[target]:
-        return must(['node', os.path.join(SUMS, 'main.mjs'), os.path.join(made, 'sums.wasm')]).strip()
-    (name, _, emulator), program = TARGETS[target], os.path.join(made, 'sum')
-    must([f'{name}-gcc' if name else 'gcc', '-O1', '-static', os.path.join(SUMS, 'main.c'), os.path.join(made, 'libsums.a'), '-o', program])
+        return must(['node', os.path.join(SUMS, 'main.mjs'), os.path.join(build_dir, 'sums.wasm')]).strip()
+    (name, _, emulator), program = TARGETS[target], os.path.join(build_dir, 'sum')
+    must(
+        [
+            f'{name}-gcc' if name else 'gcc',
+            '-O1',
+            '-static',
+            os.path.join(SUMS, 'main.c'),
+            os.path.join(build_dir, 'libsums.a'),
+            '-o',
+            program,
+        ]
+    )
     return must([*([emulator] if emulator else []), program]).strip()
 
 
-def has_no_cpuid(room):
+def has_no_cpuid(workspace):
     """SGX forbids the instruction, which the program for Linux has if it compiles the erased source."""
     found = {}
     for target in ('x86_64-fortanix-unknown-sgx', 'x86_64-unknown-linux-gnu'):
-        sum_of(room, target, '--cfg twox_hash_no_assembly')
-        code = must(['objdump', '-d', os.path.join(room.path, 'target', target, 'release', 'libsums.a')])
+        sum_of(workspace, target, '--cfg twox_hash_no_assembly')
+        code = must(['objdump', '-d', os.path.join(workspace.path, 'target', target, 'release', 'libsums.a')])
         found[target] = code.count('\tcpuid')
-    want(list(map(bool, found.values())) == [False, True], f'{found}')
+    check(list(map(bool, found.values())) == [False, True], f'{found}')
 
 
-def is_the_sum(room, target, wanted, flags=''):
-    found = sum_of(room, target, flags)
-    want(found == wanted, f'{found}, not {wanted}')
+def is_the_sum(workspace, target, expected, flags=''):
+    found = sum_of(workspace, target, flags)
+    check(found == expected, f'{found}, not {expected}')
     return found
 
 
 def check_sums_of_targets(report, path):
     install_packages(packages())
     must(['gcc', '-O2', os.path.join(SUMS, 'reference.c'), '-o', os.path.join(path, 'reference')])
-    wanted, room = must([os.path.join(path, 'reference')]).strip(), SourceRoom(path, 'sums')
+    expected, workspace = must([os.path.join(path, 'reference')]).strip(), SourceWorkspace(path, 'sums')
     for target in TARGETS:
-        report.attempt(f'18,802 hashes for {target}', is_the_sum, room, target, wanted)
+        report.attempt(f'18,802 hashes for {target}', is_the_sum, workspace, target, expected)
     for target in ('x86_64-unknown-linux-gnu', 'aarch64-unknown-linux-gnu'):
-        report.attempt('.. by the erased source', is_the_sum, room, target, wanted, '--cfg twox_hash_no_assembly')
-    report.attempt('no cpuid in SGX', has_no_cpuid, room)
-    report.attempt('another sum is noticed', notices_another, room, wanted)
+        report.attempt(
+            '.. by the erased source', is_the_sum, workspace, target, expected, '--cfg twox_hash_no_assembly'
+        )
+    report.attempt('no cpuid in SGX', has_no_cpuid, workspace)
+    report.attempt('another sum is noticed', notices_another, workspace, expected)
 
 
-def notices_another(room, wanted):
+def notices_another(workspace, expected):
     """The crate with one wrong rotation."""
-    file = os.path.join(room.rust, 'src', 'erased', 'twox_plain', 'xxhash32', 'rounds.rs')
+    file = os.path.join(workspace.rust, 'src', 'erased', 'twox_plain', 'xxhash32', 'rounds.rs')
     write(file, text_of(file).replace('rotate_left(13)', 'rotate_left(14)'))
-    want(sum_of(room, 's390x-unknown-linux-gnu') != wanted, 'it was not noticed')
+    check(sum_of(workspace, 's390x-unknown-linux-gnu') != expected, 'it was not noticed')

@@ -1,43 +1,98 @@
-"""Weakened erasers, derived from its source: each without one refusal, with one more keyword, with one row of the tables of
-edits that has no place, no function, or other code, or with one name of the other tables that is another. Each is detected: a
-planted source, a changed crate or a scenario has another result than with the right eraser, or the second reader can't explain
-a file."""
+"""Weakened erasers, derived from its source: each without one refusal, with one more keyword, with one row of the
+tables of edits that has no place, no function, or other code, or with one name of the other tables that is another.
+Each is detected: a planted source, a changed crate or a scenario has another result than with the right eraser, or the
+second reader can't explain a file."""
 import ast
 import dataclasses
 import os
 import re
 from collections import Counter
 
-import reader
-from erasers import CRATES, PARTS, Eraser, source_of, spans_of
-from planted_sources import CHANGED_CRATES, CHANGED_PROGRAMS, LIBRARY, PLANTED, PROGRAM
-from scenarios import SCENARIOS
+from rust.checks import reader
+from rust.checks.erasers import CRATES, PARTS, Eraser, source_of, spans_of
+from rust.checks.planted_sources import CHANGED_CRATES, CHANGED_PROGRAMS, LIBRARY, PLANTED, PROGRAM
+from rust.checks.scenarios import SCENARIOS
 
 # Mistakes that are no missing refusal: the part, its text, and the wrong one.
 MISTAKES = (
-    ('a clause keeps the comments above it', 'contracts', "            drop(tokens, first_with_comments(tokens, i), i)\n            dropped",
-     "            drop(tokens, i, i)\n            dropped"),
-    ('the line above a ghost is lost', 'contracts', "comment.kind != 'comment' or comment.text.startswith('//!') or not begins_line:",
-     "comment.kind == 'space':"),
+    (
+        'a clause keeps the comments above it',
+        'contracts',
+        "            drop(tokens, first_with_comments(tokens, i), i)\n            dropped",
+        "            drop(tokens, i, i)\n            dropped",
+    ),
+    (
+        'the line above a ghost is lost',
+        'contracts',
+        "comment.kind != 'comment' or comment.text.startswith('//!') or not begins_line:",
+        "comment.kind == 'space':",
+    ),
     ('derives are lost', 'contracts', "    if names == {'Drop'}:", "    if 'Drop' in names:"),
-    ('attributes are lost', 'contracts', "            if name == 'tactic':", "            if name in ('tactic', 'inline'):"),
-    ('bounds are lost', 'contracts', "token.text != 'Drop':\n            continue\n        before,",
-     "token.text not in ('Drop', 'Copy'):\n            continue\n        before,"),
-    ('a contract ends late', 'tokens', "    if word in ('requires', 'ensures'):\n        return 'clause', end", 
-     "    if word in ('requires', 'ensures'):\n        return 'clause', end + 1"),
+    (
+        'attributes are lost',
+        'contracts',
+        "            if name == 'tactic':",
+        "            if name in ('tactic', 'inline'):",
+    ),
+    (
+        'bounds are lost',
+        'contracts',
+        "token.text != 'Drop':\n            continue\n        before,",
+        "token.text not in ('Drop', 'Copy'):\n            continue\n        before,",
+    ),
+    (
+        'a contract ends late',
+        'tokens',
+        "    if word in ('requires', 'ensures'):\n        return 'clause', end",
+        "    if word in ('requires', 'ensures'):\n        return 'clause', end + 1",
+    ),
     ('a contract ends at the first brace', 'tokens', "if spans[k][3] == 'End') + 1", "if spans[k][4] == '}') + 1"),
-    ('the field beside a ghost field is lost', 'tokens', "('item' if spans[end][4] == ';' else 'field'), end + 1", "'field', end + 4"),
-    ('examples that rustdoc compiles', 'contracts', "'```rattle' if begins and not fence[2]", "'```' if begins and not fence[2]"),
-    ('marks of documentation in strings', 'contracts', "FENCE.fullmatch(token.text) if token.kind == 'comment'",
-     "FENCE.search(token.text) if token.kind != 'space'"),
-    ('the forms of the programs in the library', 'forms', "PROGRAM_FORMS if is_of_programs(file) else LIBRARY_FORMS", "PROGRAM_FORMS"),
+    (
+        'the field beside a ghost field is lost',
+        'tokens',
+        "('item' if spans[end][4] == ';' else 'field'), end + 1",
+        "'field', end + 4",
+    ),
+    (
+        'examples that rustdoc compiles',
+        'contracts',
+        "'```rattle' if begins and not fence[2]",
+        "'```' if begins and not fence[2]",
+    ),
+    (
+        'marks of documentation in strings',
+        'contracts',
+        "FENCE.fullmatch(token.text) if token.kind == 'comment'",
+        "FENCE.search(token.text) if token.kind != 'space'",
+    ),
+    (
+        'the forms of the programs in the library',
+        'forms',
+        "PROGRAM_FORMS if is_of_programs(file) else LIBRARY_FORMS",
+        "PROGRAM_FORMS",
+    ),
     ('a path to another crate', 'names', "{crate if token.text == \"crate\" else token.text}", "{crate}"),
-    ("names of Rust's prelude", 'names', "use crate::rattle::prelude::{braced(names)}", "use std::prelude::v1::{braced(names)}"),
-    ('a name in the middle of a path', 'names', "tokens[before].text not in (':', '.', '$'))", "tokens[before].text not in ('.', '$'))"),
+    (
+        "names of Rust's prelude",
+        'names',
+        "use crate::rattle::prelude::{braced(names)}",
+        "use std::prelude::v1::{braced(names)}",
+    ),
+    (
+        'a name in the middle of a path',
+        'names',
+        "tokens[before].text not in (':', '.', '$'))",
+        "tokens[before].text not in ('.', '$'))",
+    ),
     ('an own item with other arguments', 'own', "({\", \".join(names)})'", "({\", \".join(reversed(names))})'"),
     ('bounds that only the type had', 'own', "f'where S: {BOUND} {{'", "'{'"),
     ('vectors of the other set', 'names', "if file == f'{TWICE}.rt':", "if file == TWICE:"),
-    ('files of the library in the programs', 'packages', "        return is_of_programs == (self is PROGRAM_PACKAGE)", "        return True"),
+    (
+        'files of the library in the programs',
+        'packages',
+        "        return is_of_programs == (self is PROGRAM_PACKAGE)",
+        "        return True",
+    ),
 )
 
 
@@ -49,17 +104,18 @@ def refusals():
         for node in ast.walk(ast.parse(source)):
             call = node.exc if isinstance(node, ast.Raise) else node.value if isinstance(node, ast.Expr) else None
             name = call.func.id if isinstance(call, ast.Call) and isinstance(call.func, ast.Name) else ''
-            if name == 'refuse' or name == 'Refused' and node.cause is None:
-                text = '\n'.join(lines[node.lineno - 1:node.end_lineno]).strip()
-                without = [*lines[:node.lineno - 1], ' ' * node.col_offset + 'pass', *lines[node.end_lineno:]]
+            if name == 'refuse' or name == 'Refused' and isinstance(node, ast.Raise) and node.cause is None:
+                text = '\n'.join(lines[node.lineno - 1 : node.end_lineno]).strip()
+                without = [*lines[: node.lineno - 1], ' ' * node.col_offset + 'pass', *lines[node.end_lineno :]]
                 yield f'{part}, line {node.lineno}: {text[:80]}', {part: '\n'.join(without)}
 
 
 def wider_lists():
     """The eraser with one more keyword, or one function of a layout less."""
     forms, source = Eraser().forms, source_of('forms')
-    for word in sorted(forms.KEYWORDS - forms.KEPT_KEYWORDS):
-        yield f'the keyword {word}', {'forms': source.replace('KEPT_KEYWORDS = set("""', f'KEPT_KEYWORDS = set("""{word} ')}
+    for word in sorted(forms.KEYWORDS - forms.ALLOWED_KEYWORDS):
+        changed = re.sub(r'(?<=^ALLOWED_KEYWORDS = set\(\n    """)', f'{word} ', source, flags=re.M)
+        yield f'the keyword {word}', {'forms': changed}
     for word in sorted(forms.LAYOUTS):
         yield f'the function {word}', {'forms': source.replace(f"'{word}'", "'none'", 1)}
 
@@ -90,9 +146,9 @@ class Right:
         texts = {file: text for file, text in self.texts.items() if file.split('/')[0] in package.read}
         return texts, {file: self.tokens[file] for file in texts}
 
-    def touched(self, package, row):
+    def touched(self, package, edit):
         """The files of a package to which a row applies."""
-        return [file for file in self.erased(package)[1] if row in self.erased(package)[1][file]]
+        return [file for file in self.erased(package)[1] if edit in self.erased(package)[1][file]]
 
     def erased(self, package):
         """The items of a package, and the rows that apply to each file."""
@@ -103,22 +159,27 @@ class Right:
     def applied(self, package):
         texts, spans = self.of(package)
         tokens = {file: self.eraser.erase.read(file, text, spans[file]) for file, text in texts.items()}
-        items, rows = self.eraser.items.Items(), {}
+        items, edits = self.eraser.items.Items(), {}
         for file in tokens:
             items.learn(file, tokens[file])
         for file in filter(package.has, tokens):
             counts = Counter()
             self.eraser.erase.as_rust(file, tokens[file], counts, items, package)
-            rows[file] = {row for row, count in counts.items() if count}
-        return items, rows
+            edits[file] = {edit for edit, count in counts.items() if count}
+        return items, edits
 
-    def with_row(self, package, file, row, weaker):
+    def with_edit(self, package, file, edit, weaker):
         """A file's source in Rust, with a row in place of another."""
         items = self.erased(package)[0]
         items.methods.clear()
-        edits = tuple(weaker if one is row else one for one in package.edits)
-        return self.eraser.erase.as_rust(file, self.eraser.erase.read(file, self.texts[file], self.tokens[file]), Counter(), items,
-                                         dataclasses.replace(package, edits=edits))
+        edits = tuple(weaker if one is edit else one for one in package.edits)
+        return self.eraser.erase.as_rust(
+            file,
+            self.eraser.erase.read(file, self.texts[file], self.tokens[file]),
+            Counter(),
+            items,
+            dataclasses.replace(package, edits=edits),
+        )
 
     def changed_file(self, eraser, change, package):
         """What an eraser makes of a changed file by itself, and how often each row applies."""
@@ -130,7 +191,9 @@ class Right:
             self.spans_of_changed[text] = self.eraser.tokens.toolchain_tokens({file: text})[file]
         items.methods.clear()
         try:
-            return eraser.erase.as_rust(file, eraser.erase.read(file, text, self.spans_of_changed[text]), counts, items, package), sorted(counts.values())
+            return eraser.erase.as_rust(
+                file, eraser.erase.read(file, text, self.spans_of_changed[text]), counts, items, package
+            ), sorted(counts.values())
         except eraser.tokens.Refused as reason:
             return str(reason)
         except Exception as fault:
@@ -156,14 +219,18 @@ class Right:
             if run(eraser) != self.scenarios[name]:
                 return f'the scenario "{name}"'
         packages = eraser.packages
-        for changes, package in (CHANGED_CRATES, packages.LIBRARY_PACKAGE), (CHANGED_PROGRAMS, packages.PROGRAM_PACKAGE):
+        for changes, package in (CHANGED_CRATES, packages.LIBRARY_PACKAGE), (
+            CHANGED_PROGRAMS,
+            packages.PROGRAM_PACKAGE,
+        ):
             for change in changes:
                 if self.changed_file(eraser, change, package) != self.changed_file(self.eraser, change, package):
                     return f'a changed {change[0]}'
             tree = self.changed(eraser, changes[0], package)
             if not isinstance(tree, str) or changes[0][-1] not in tree:
                 return f'a changed {changes[0][0]}'
-            tree = eraser.tree(*self.of(package), package)
+            texts, spans = self.of(package)
+            tree = eraser.tree(texts, spans, package)
             if isinstance(tree, str) or any(there(package, name) != text for name, text in tree.items()):
                 return f'the tree of {package.name}'
         return ''
@@ -182,6 +249,7 @@ def there(package, name):
 
 # ---- rows of the tables of edits ----
 
+
 def balanced(text):
     """A row's pattern as a source: each `$name` is a name, and what is open is closed."""
     closers = []
@@ -194,44 +262,50 @@ def balanced(text):
     return source + '>' * source.endswith('<V') + '() { }' * (') fn ' in source or '] fn ' in source)
 
 
-def weakened_rows(eraser):
+def weakened_edits(eraser):
     """Each row of both tables, weakened: the package, the row, what was done, and the weaker row."""
     for package in (eraser.packages.LIBRARY_PACKAGE, eraser.packages.PROGRAM_PACKAGE):
-        for row in package.edits:
-            yield package, row, 'other code', dataclasses.replace(row, new=damaged(row.new))
-            if row.files != '.*':
-                yield package, row, 'in any file', dataclasses.replace(row, files='.*', function='', was='')
-            if row.function:
-                yield package, row, 'in any code of its function', dataclasses.replace(row, function='', was='')
+        for edit in package.edits:
+            yield package, edit, 'other code', dataclasses.replace(edit, new=damaged(edit.new))
+            if edit.files != '.*':
+                yield package, edit, 'in any file', dataclasses.replace(edit, files='.*', function='', was='')
+            if edit.function:
+                yield package, edit, 'in any code of its function', dataclasses.replace(edit, function='', was='')
 
 
 def damaged(new):
     """A row's new code without its middle token, or with one if it has none."""
-    words = re.findall(r'"(?:\\.|[^"])*"|\$?\w+|\S', new)
-    if not words:
+    tokens = re.findall(r'"(?:\\.|[^"])*"|\$?\w+|\S', new)
+    if not tokens:
         return 'x'
-    middle = words[len(words) // 2]
-    begin = next(place for place in (m.start() for m in re.finditer(re.escape(middle), new)) if place >= len(new) // 3 or new.count(middle) == 1)
-    return new[:begin] + new[begin + len(middle):]
+    middle = tokens[len(tokens) // 2]
+    begin = next(
+        place
+        for place in (m.start() for m in re.finditer(re.escape(middle), new))
+        if place >= len(new) // 3 or new.count(middle) == 1
+    )
+    return new[:begin] + new[begin + len(middle) :]
 
 
-def row_is_noticed(right, package, row, what, weaker):
+def edit_is_noticed(right, package, edit, what, weaker):
     """True if the second reader, or a source where the row may not apply, detects a weaker row."""
     eraser = right.eraser
     if what == 'other code':
-        return any(reader_notices(right, package, file, row, weaker) for file in right.touched(package, row))
+        return any(reader_notices(right, package, file, edit, weaker) for file in right.touched(package, edit))
     file = PROGRAM if package is eraser.packages.PROGRAM_PACKAGE else LIBRARY
-    source = balanced(row.old)
+    source = balanced(edit.old)
     if what != 'in any file':
-        file, source = next(iter(right.touched(package, row))), f'fn {row.function}() {{ {source} }}'
+        file, source = next(iter(right.touched(package, edit))), f'fn {edit.function}() {{ {source} }}'
     spans = eraser.tokens.toolchain_tokens({'row': source})['row']
-    return erased_by(eraser, file, source, spans, row) != erased_by(eraser, file, source, spans, weaker)
+    return erased_by(eraser, file, source, spans, edit) != erased_by(eraser, file, source, spans, weaker)
 
 
 # ---- names of the other tables ----
 
+
 def weakened_names(right):
-    """Each name of the tables of names and of own items, weakened: what it is, its table, its key, the other one, and a file."""
+    """Each name of the tables of names and of own items, weakened: what it is, its table, its key, the other one, and a
+    file."""
     own, names, packages = right.eraser.own, right.eraser.names, right.eraser.packages
     for file, items in own.ITEMS.items():
         for name, (path, why) in items.items():
@@ -246,7 +320,9 @@ def weakened_names(right):
             yield f'the module {file}', names.MODULES, file, (f'{path}_2', why), [above]
     for package in (packages.LIBRARY_PACKAGE, packages.PROGRAM_PACKAGE):
         for path, new in package.paths.items():
-            files = [file for file in filter(package.has, right.of(package)[0]) if path.split('::')[-1] in right.texts[file]]
+            files = [
+                file for file in filter(package.has, right.of(package)[0]) if path.split('::')[-1] in right.texts[file]
+            ]
             yield f'the path {path}', package.paths, path, f'{new}::x', files
 
 
@@ -254,8 +330,11 @@ def name_is_noticed(right, table, key, weaker, files):
     """True if the second reader can't explain a file with another name."""
     before, table[key] = table[key], weaker
     try:
-        return any(unexplained(right, file, right.texts[file], right.with_row(own_package(right, file), file, None, None)) is not None
-                   for file in files)
+        return any(
+            unexplained(right, file, right.texts[file], right.with_edit(own_package(right, file), file, None, None))
+            is not None
+            for file in files
+        )
     finally:
         table[key] = before
 
@@ -265,9 +344,9 @@ def own_package(right, file):
     return next(one for one in (packages.LIBRARY_PACKAGE, packages.PROGRAM_PACKAGE) if one.has(file))
 
 
-def reader_notices(right, package, file, row, weaker):
+def reader_notices(right, package, file, edit, weaker):
     """True if the second reader can't explain a file that is erased with a weaker row."""
-    return unexplained(right, file, right.texts[file], right.with_row(package, file, row, weaker)) is not None
+    return unexplained(right, file, right.texts[file], right.with_edit(package, file, edit, weaker)) is not None
 
 
 def unexplained(right, file, source, rust):
@@ -277,12 +356,12 @@ def unexplained(right, file, source, rust):
     return reader.unexplained(source, rust, crate, name, reader.PROGRAMS if is_of_programs else reader.LIBRARY)
 
 
-def erased_by(eraser, file, source, spans, row):
+def erased_by(eraser, file, source, spans, edit):
     """A source's text with a row applied as rust/erase does, or the refusal."""
     tokens = eraser.contracts.without_contracts(eraser.tokens.lex(source, spans))
     try:
-        if re.fullmatch(row.files, file):
-            eraser.edits.apply(row, tokens, eraser.edits.sums_of(tokens))
+        if re.fullmatch(edit.files, file):
+            eraser.edits.apply(edit, tokens, eraser.edits.sums_of(tokens))
         return eraser.contracts.tidied(tokens)
     except eraser.tokens.Refused as reason:
         return str(reason)

@@ -1,11 +1,11 @@
 """Removes contracts from a file: clauses, ghost items, tactics, models, and `Drop` of a type."""
 import re
 
-from tokens import CLOSE, OPEN, Refused, Token, closing, following, preceding
+from rust.eraser.tokens import CLOSE, OPEN, Refused, Token, closing, following, preceding
 
-KEPT_ATTRIBUTES = {'inline', 'repr', 'must_use', 'cold', 'derive'}
+ALLOWED_ATTRIBUTES = {'inline', 'repr', 'must_use', 'cold', 'derive'}
 # `Hash`, `PartialOrd` and `Ord` are absent: it is not stated that Rattle's derives do what Rust's do.
-KEPT_DERIVES = {'Clone', 'Copy', 'Debug', 'PartialEq', 'Eq'}
+ALLOWED_DERIVES = {'Clone', 'Copy', 'Debug', 'PartialEq', 'Eq'}
 # Tokens that are read alike whatever is beside them.
 SEPARATE = {*OPEN, *CLOSE, ',', ';'}
 FENCE = re.compile(r'(//[/!] )```(\w*)')
@@ -132,7 +132,11 @@ def drop_attributes(tokens):
             name, end = tokens[following(tokens, begin)].text, closing(tokens, begin)
             if name == 'tactic':
                 drop(tokens, i, end)
-            elif name not in KEPT_ATTRIBUTES or name == 'repr' and [token.text for token in tokens[begin + 2:end]] != ['(', 'C', ')']:
+            elif (
+                name not in ALLOWED_ATTRIBUTES
+                or name == 'repr'
+                and [token.text for token in tokens[begin + 2 : end]] != ['(', 'C', ')']
+            ):
                 refuse(tokens[i], f'the attribute `{"".join(token.text for token in tokens[begin + 1:end])}`')
             elif name == 'derive':
                 drop_derive(tokens, i, begin, end)
@@ -143,12 +147,12 @@ def drop_attributes(tokens):
 def drop_derive(tokens, first, begin, last):
     places = [i for i in range(begin + 1, last) if tokens[i].kind == 'word' and tokens[i].text != 'derive']
     names = {tokens[i].text for i in places}
-    if names - KEPT_DERIVES - {'Drop'}:
-        refuse(tokens[first], f'derives of {", ".join(sorted(names - KEPT_DERIVES))}')
+    if names - ALLOWED_DERIVES - {'Drop'}:
+        refuse(tokens[first], f'derives of {", ".join(sorted(names - ALLOWED_DERIVES))}')
     if names == {'Drop'}:
         drop(tokens, first, last)
     elif 'Drop' in names:
-        place, = (i for i in places if tokens[i].text == 'Drop')
+        (place,) = (i for i in places if tokens[i].text == 'Drop')
         before = preceding(tokens, place)
         if tokens[before].text != ',':
             refuse(tokens[first], 'a derive that begins with `Drop`')
@@ -161,9 +165,17 @@ def drop_bounds(tokens):
         if token.kind != 'word' or token.text != 'Drop':
             continue
         before, after = preceding(tokens, i), following(tokens, i)
-        if tokens[before].text not in ('+', ':') or tokens[before - 1].text == ':' or tokens[after].text not in ('>', ',', '+', '{', ';'):
+        if (
+            tokens[before].text not in ('+', ':')
+            or tokens[before - 1].text == ':'
+            or tokens[after].text not in ('>', ',', '+', '{', ';')
+        ):
             refuse(token, '`Drop` of an unknown form')
-        if tokens[before].text == ':' and tokens[after].text not in ('>', ',') and not is_supertrait(tokens, before, after):
+        if (
+            tokens[before].text == ':'
+            and tokens[after].text not in ('>', ',')
+            and not is_supertrait(tokens, before, after)
+        ):
             refuse(token, '`Drop` as a bound of an unknown form')
         drop(tokens, before, i)
 
@@ -219,23 +231,23 @@ def merged(before, after):
 
 def tidied(tokens):
     """The text, without the lines and spaces that removed tokens leave."""
-    kept = []
+    lines = []
     for token in tokens:
         if token.kind == 'gone':
-            if not kept or kept[-1].kind != 'gone':
-                kept.append(token)
-        elif token.kind == 'space' and len(kept) > 1 and kept[-1].kind == 'gone' and kept[-2].kind == 'space':
-            space = Token('space', merged(kept[-2].text, token.text), token.line)
-            kept[-2:] = [space]
-        elif token.kind == 'space' and kept and kept[-1].kind == 'gone' and len(kept) == 1:
-            kept[-1:] = []
+            if not lines or lines[-1].kind != 'gone':
+                lines.append(token)
+        elif token.kind == 'space' and len(lines) > 1 and lines[-1].kind == 'gone' and lines[-2].kind == 'space':
+            space = Token('space', merged(lines[-2].text, token.text), token.line)
+            lines[-2:] = [space]
+        elif token.kind == 'space' and lines and lines[-1].kind == 'gone' and len(lines) == 1:
+            lines[-1:] = []
         else:
-            kept.append(token)
-    kept = [token for token in kept if token.kind != 'gone']
-    for i, token in enumerate(kept):
-        begins_block, ends_block = kept[i - 1].text == '{', i + 1 < len(kept) and kept[i + 1].text == '}'
+            lines.append(token)
+    lines = [token for token in lines if token.kind != 'gone']
+    for i, token in enumerate(lines):
+        begins_block, ends_block = lines[i - 1].text == '{', i + 1 < len(lines) and lines[i + 1].text == '}'
         if token.kind == 'space' and i and begins_block and ends_block:
             token.text = ''
         elif token.kind == 'space' and token.text.count('\n') > 1 and i and (begins_block or ends_block):
             token.text = '\n' + token.text.rsplit('\n', 1)[1]
-    return ''.join(token.text for token in kept)
+    return ''.join(token.text for token in lines)

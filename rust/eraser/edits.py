@@ -7,7 +7,7 @@ import hashlib
 import re
 from dataclasses import dataclass
 
-from tokens import Refused, Token, closing, split
+from rust.eraser.tokens import Refused, Token, closing, split
 
 
 @dataclass(frozen=True)
@@ -17,28 +17,50 @@ class Edit:
     new: str
     count: int
     why: str
-    files: str = '.*'      # a regular expression for the whole path below crates/
-    function: str = ''     # the function in whose head or body it applies
-    was: str = ''          # the sum of that function's code, all of which the row's reason is about
+    files: str = '.*'  # a regular expression for the whole path below crates/
+    function: str = ''  # the function in whose head or body it applies
+    was: str = ''  # the sum of that function's code, all of which the row's reason is about
 
 
 FORMATTER = 'a formatter of Rattle is generic in what it writes to'
 
 EDITS = (
-    Edit('formatter', 'fn fmt<W: fmt::Write>(&self, f: &mut fmt::Formatter<W>)',
-         "fn fmt(&self, f: &mut fmt::Formatter<'_>)", 8, FORMATTER),
+    Edit(
+        'formatter',
+        'fn fmt<W: fmt::Write>(&self, f: &mut fmt::Formatter<W>)',
+        "fn fmt(&self, f: &mut fmt::Formatter<'_>)",
+        8,
+        FORMATTER,
+    ),
 )
 # Those of the programs.
 ORIGINALS = 'the messages of xxhsum 0.8.1 and the options and lines of 0.8.3'
 PROGRAM_EDITS = (
-    Edit('formatter', 'fn fmt<W: fmt::Write>(&self, f: &mut fmt::Formatter<W>)',
-         "fn fmt(&self, f: &mut fmt::Formatter<'_>)", 3, FORMATTER),
-    Edit('texts of errors', 'write!(words, "{error}")', 'write!(words, "{}", io::Shown(&error))', 1,
-         "the text of an error of Rust's library takes memory, and stops the process if there is none", files='xxh_io/src/words.rt',
-         function='words_of', was='d651aa4a8c5e'),
-    Edit('the line of --version', f'b" 0.1.0 of twox_hash, with {ORIGINALS}"',
-         f'b" 0.1.0 of twox_hash, compiled by rustc from proved source, with {ORIGINALS}"', 1,
-         'it says who made the program', files='xxhsum_program/src/usage.rt'),
+    Edit(
+        'formatter',
+        'fn fmt<W: fmt::Write>(&self, f: &mut fmt::Formatter<W>)',
+        "fn fmt(&self, f: &mut fmt::Formatter<'_>)",
+        3,
+        FORMATTER,
+    ),
+    Edit(
+        'texts of errors',
+        'write!(words, "{error}")',
+        'write!(words, "{}", io::Shown(&error))',
+        1,
+        "the text of an error of Rust's library takes memory, and stops the process if there is none",
+        files='xxh_io/src/words.rt',
+        function='words_of',
+        was='d651aa4a8c5e',
+    ),
+    Edit(
+        'the line of --version',
+        f'b" 0.1.0 of twox_hash, with {ORIGINALS}"',
+        f'b" 0.1.0 of twox_hash, compiled by rustc from proved source, with {ORIGINALS}"',
+        1,
+        'it says who made the program',
+        files='xxhsum_program/src/usage.rt',
+    ),
 )
 
 
@@ -64,8 +86,11 @@ def matched(tokens, places, at, pattern):
 @functools.cache
 def parts_of(pattern):
     """The tokens of a pattern, with `$name` as one."""
-    return significant(re.sub(r'\$(\w+)', r'ˑ\1', pattern)) if '$' not in pattern else [
-        part.replace('ˑ', '$', 1) for part in significant(re.sub(r'\$(\w+)', r'ˑ\1', pattern))]
+    return (
+        significant(re.sub(r'\$(\w+)', r'ˑ\1', pattern))
+        if '$' not in pattern
+        else [part.replace('ˑ', '$', 1) for part in significant(re.sub(r'\$(\w+)', r'ˑ\1', pattern))]
+    )
 
 
 def places_in(tokens, function):
@@ -94,16 +119,19 @@ def sums_of(tokens):
             if begin is None or tokens[begin].text == ';':
                 continue
             end = closing(tokens, begin)
-            words = [tokens[k].text for k in places if i <= k <= end]
+            texts = [tokens[k].text for k in places if i <= k <= end]
             name = tokens[after].text
-            found[name] = '' if name in found else hashlib.sha256(' '.join(words).encode()).hexdigest()[:12]
+            found[name] = '' if name in found else hashlib.sha256(' '.join(texts).encode()).hexdigest()[:12]
     return found
 
 
 def apply(edit, tokens, sums):
     """Applies an edit wherever it matches. Returns how often."""
     if edit.function and sums.get(edit.function) not in edit.was.split():
-        raise Refused(f'the edit `{edit.name}` is for other code of `{edit.function}`: read all of it, and state {sums.get(edit.function)}')
+        raise Refused(
+            f'the edit `{edit.name}` is for other code of `{edit.function}`: read all of it, and state '
+            f'{sums.get(edit.function)}'
+        )
     pattern, count = parts_of(edit.old), 0
     places = places_in(tokens, edit.function)
     at = 0
@@ -114,7 +142,7 @@ def apply(edit, tokens, sums):
             at += 1
             continue
         first, last = places[at], places[at + len(pattern) - 1]
-        if any(token.kind == 'comment' for token in tokens[first:last + 1]):
+        if any(token.kind == 'comment' for token in tokens[first : last + 1]):
             raise Refused(f'line {tokens[first].line}: a comment in what the edit `{edit.name}` takes')
         text = re.sub(r'\$\w+', lambda name: found[name[0]], edit.new)
         for i in range(first, last + 1):
@@ -124,4 +152,3 @@ def apply(edit, tokens, sums):
         count += 1
         at += len(pattern)
     return count
-

@@ -1,8 +1,8 @@
 """The types, traits and methods of all sources, so that a call has one candidate in both languages."""
 import os
 
-from forms import ADDED_METHODS, TWICE, refuse
-from tokens import closing
+from rust.eraser.forms import ADDED_METHODS, TWICE, refuse
+from rust.eraser.tokens import closing
 
 # The types of Rattle's library for which the sources implement traits. A slice and an array are `[`.
 FOREIGN = {'u8', 'u16', 'u32', 'u64', 'u128', 'usize', 'bool', 'char', 'str', '[', 'BoxedSlice'}
@@ -15,7 +15,12 @@ def behind_parameters(code, i):
         return i, names
     while True:
         depth += {'<': 1, '>': -1 if code[i - 1].text not in ('-', '=') else 0}.get(code[i].text, 0)
-        if depth == 1 and code[i].text in ('<', ',', 'const') and code[i + 1].text != 'const' and code[i + 1].kind == 'word':
+        if (
+            depth == 1
+            and code[i].text in ('<', ',', 'const')
+            and code[i + 1].text != 'const'
+            and code[i + 1].kind == 'word'
+        ):
             names.append(code[i + 1])
         i += 1
         if not depth:
@@ -44,7 +49,7 @@ class Items:
         """Collects a file's types, what other names they have, and the methods of its traits."""
         code = [token for token in tokens if not token.is_blank()]
         for i, token in enumerate(code):
-            if token.kind != 'word' or code[i + 1:] and code[i + 1].kind != 'word':
+            if token.kind != 'word' or code[i + 1 :] and code[i + 1].kind != 'word':
                 continue
             if token.text in ('struct', 'enum'):
                 self.types.setdefault(code[i + 1].text, []).append(file)
@@ -71,7 +76,12 @@ class Items:
                         refuse(name, f'the parameter `{name.text}`, which is the name of a type')
             if token.text == 'trait':
                 check_defaults(code, next(k for k in range(i, len(code)) if code[k].text == '{'))
-            if token.text == 'impl' and code[i - 1].text in ('}', ';', ']', '{', 'unsafe') or i == 0 and token.text == 'impl':
+            if (
+                token.text == 'impl'
+                and code[i - 1].text in ('}', ';', ']', '{', 'unsafe')
+                or i == 0
+                and token.text == 'impl'
+            ):
                 self.check_impl(file, code, first)
 
     def type_of(self, name):
@@ -103,7 +113,11 @@ class Items:
 
 def head_of(code, i):
     """The first name of a type, after references."""
-    while code[i].text in ('&', 'mut') or code[i].kind == 'life' or [one.text for one in code[i + 1:i + 3]] == [':', ':']:
+    while (
+        code[i].text in ('&', 'mut')
+        or code[i].kind == 'life'
+        or [one.text for one in code[i + 1 : i + 3]] == [':', ':']
+    ):
         i += 3 if code[i].kind == 'word' and code[i].text != 'mut' else 1
     return code[i]
 

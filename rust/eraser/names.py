@@ -1,12 +1,15 @@
 """Names that differ: paths of Rattle's library, modules that a tree has in another form, and Rattle's prelude."""
-from contracts import drop, first_with_comments
-from tokens import Refused, Token, closing, following, preceding
+from rust.eraser.contracts import drop, first_with_comments
+from rust.eraser.tokens import Refused, Token, closing, following, preceding
 
 # Paths of Rattle's standard library and of its ports, and those of their replacements.
 LIBRARY_PATHS = {'std::alloc': 'crate::rattle', 'std::boxed': 'crate::buffers', 'std::simd': 'crate::rattle::simd'}
-PROGRAM_PATHS = {'std::alloc': 'crate::rattle', 'str::from_utf8': 'std::str::from_utf8',
-                 **{f'std::{name}': f'crate::rattle::{name}' for name in ('env', 'fs', 'io', 'process', 'rt')},
-                 **{name: f'crate::rattle::{name}' for name in ('itoa', 'memchr', 'serde_json')}}
+PROGRAM_PATHS = {
+    'std::alloc': 'crate::rattle',
+    'str::from_utf8': 'std::str::from_utf8',
+    **{f'std::{name}': f'crate::rattle::{name}' for name in ('env', 'fs', 'io', 'process', 'rt')},
+    **{name: f'crate::rattle::{name}' for name in ('itoa', 'memchr', 'serde_json')},
+}
 # Files that are compiled again over other vectors, which they take from the module above them.
 TWICE = 'twox_core/src/xxhash3/large'
 # Names that a file imports from `crate::rattle::prelude`, and the words that need them.
@@ -17,11 +20,16 @@ WITH_SERDE = 'over JSON and random numbers, for which the crate has serde and th
 MODULES = {
     'twox_words/src/barriers.rt': ('crate::rattle::barriers', 'in Rattle each is only its value'),
     'twox_core/src/xxhash3/streaming/buffers.rt': (
-        'crate::buffers', 'secrets that users pass are an unsafe trait over `AsRef`'),
+        'crate::buffers',
+        'secrets that users pass are an unsafe trait over `AsRef`',
+    ),
     'twox_plain/src/by_stripes.rt': ('', 'for a target with no vectors, where the toolchain compiles'),
     'twox_plain/src/saved_text.rt': ('', WITH_SERDE),
-    **{f'twox_plain/src/xxhash{bits}/{name}.rt': ('', WITH_SERDE)
-       for bits in (32, 64) for name in ('saved', 'build_hashers')},
+    **{
+        f'twox_plain/src/xxhash{bits}/{name}.rt': ('', WITH_SERDE)
+        for bits in (32, 64)
+        for name in ('saved', 'build_hashers')
+    },
 }
 
 
@@ -69,7 +77,7 @@ def rename_paths(tokens, paths):
 def split_group(tokens, i, begin, paths):
     """Imports each module of `use std::{a, b};` by itself if one has a replacement."""
     end = closing(tokens, begin)
-    names = [token.text for token in tokens[begin + 1:end] if not token.is_blank() and token.text != ',']
+    names = [token.text for token in tokens[begin + 1 : end] if not token.is_blank() and token.text != ',']
     new = [paths.get(f'std::{name}', f'std::{name}') for name in names]
     if not any(f'std::{name}' in paths for name in names):
         return
@@ -86,7 +94,7 @@ def rename_roots(tokens, tree, crate, crates):
     places = [i for i, token in enumerate(tokens) if not token.is_blank()]
     for at, place in enumerate(places):
         token, before = tokens[place], tokens[places[at - 1]].text if at else ''
-        follows = ''.join(tokens[i].text for i in places[at + 1:at + 3])
+        follows = ''.join(tokens[i].text for i in places[at + 1 : at + 3])
         if token.kind != 'word' or token.text not in ('crate', *crates):
             continue
         if token.text == 'crate' and follows.startswith(')') and before == '(':
@@ -122,8 +130,8 @@ def drop_statement(tokens, i):
 
 def prelude_of(tokens, names):
     """The names of Rattle's prelude that a file needs."""
-    words = {token.text for i, token in enumerate(tokens) if token.kind == 'word' and not is_derived(tokens, i)}
-    return sorted(name for name, needs in names.items() if needs & words)
+    texts = {token.text for i, token in enumerate(tokens) if token.kind == 'word' and not is_derived(tokens, i)}
+    return sorted(name for name, needs in names.items() if needs & texts)
 
 
 def import_prelude(tokens, file, names):

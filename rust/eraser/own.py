@@ -1,13 +1,15 @@
 """What the crate for cargo has in a form of its own, for its compiler and its processors: items with the contracts of
 those in their places, where a call is inlined, and where a bound is written."""
-from tokens import Refused, Token, closing, following, preceding
+from rust.eraser.tokens import Refused, Token, closing, following, preceding
 
 WORD = 'rustc leaves a test of bounds for each byte: one test and one load'
 MIDDLE = 'rustc leaves a test of bounds for each word: one test of both lengths'
 CHUNKS = '`as_chunks` is stable only since rustc 1.88'
 ENDS = 'rustc leaves two tests of bounds for the last bytes, and LLVM then keeps the record of a stream in memory'
-KERNEL = ('the kernel that is fastest on a target, or the proved function as assembly source: all are proved to '
-          'compute the same')
+KERNEL = (
+    'the kernel that is fastest on a target, or the proved function as assembly source: all are proved to '
+    'compute the same'
+)
 BLOCKS = 'the products of a block are slow without an instruction for them: blocks are for the proved function'
 PAIRS = 'rustc makes faster code of pairs'
 CHANGED = "an `unsafe impl` can break its promise: the message names the secret's length"
@@ -20,15 +22,18 @@ ITEMS = {
     'twox_plain/src/xxhash32/rounds.rt': {
         'write_blocks': ('crate::kernels::write_blocks_32', BLOCKS),
         'BYTES_FOR_BLOCKS': ('crate::kernels::BYTES_FOR_BLOCKS', BLOCKS),
-        'IN_PAIRS': ('crate::kernels::IN_PAIRS', PAIRS)},
+        'IN_PAIRS': ('crate::kernels::IN_PAIRS', PAIRS),
+    },
     'twox_plain/src/xxhash64/rounds.rt': {'IN_PAIRS': ('crate::kernels::IN_PAIRS', PAIRS)},
     'twox_core/src/width_64.rt': {
         'oneshot_long': ('crate::kernels::long_64', KERNEL),
         'oneshot_long_derived': ('crate::kernels::long_derived_64', KERNEL),
-        'second_word': ('crate::rattle::second_word', MIDDLE)},
+        'second_word': ('crate::rattle::second_word', MIDDLE),
+    },
     'twox_core/src/width_128.rt': {
         'oneshot_long': ('crate::kernels::long_128', KERNEL),
-        'oneshot_long_derived': ('crate::kernels::long_derived_128', KERNEL)},
+        'oneshot_long_derived': ('crate::kernels::long_derived_128', KERNEL),
+    },
     'twox_core/src/xxhash3/parts.rt': {'expect_middle': ('crate::kernels::expect_middle', MIDDLE)},
     'twox_core/src/xxhash3/large.rt': {'Kernel': ('crate::kernels::Kernel', KERNEL)},
     'twox_core/src/xxhash3/streaming/core_state.rt': {'write_by_default': ('crate::kernels::write', KERNEL)},
@@ -41,7 +46,8 @@ ALWAYS = 'inline(always)'
 INLINED = {
     'twox_core/src/xxhash3/large/four.rt': dict.fromkeys(('accumulate_four', 'sum', 'sum_with_exchange'), ALWAYS),
     'twox_core/src/xxhash3/large/lanes4.rt': dict.fromkeys(
-        ('scramble_four', 'times_prime', 'halves_of', 'joined'), ALWAYS),
+        ('scramble_four', 'times_prime', 'halves_of', 'joined'), ALWAYS
+    ),
     'twox_core/src/xxhash3/stripes.rt': dict.fromkeys(('take_stripes', 'take_many_stripes'), ALWAYS),
     'twox_core/src/xxhash3/stripes/blocks.rt': {'take_many_blocks': ALWAYS},
     'twox_core/src/xxhash3/streaming/stream_counts.rt': {'write_through': ALWAYS},
@@ -88,8 +94,11 @@ def parameters(tokens, i):
                 return names, i
         elif depth == 1 and is_first and token.kind == 'word' and token.text not in ('const', 'mut'):
             names.append(token.text)
-        is_first = depth == 1 and (token.text in (',', '(', '<', '&') or is_first and (
-            token.is_blank() or token.text in ('const', 'mut') or opener == '(' and token.kind == 'life'))
+        is_first = depth == 1 and (
+            token.text in (',', '(', '<', '&')
+            or is_first
+            and (token.is_blank() or token.text in ('const', 'mut') or opener == '(' and token.kind == 'life')
+        )
         i += 1
 
 
@@ -148,7 +157,7 @@ def move_bounds(tokens, file):
             continue
         for k in (colon, bound):
             tokens[k] = Token('gone', '', tokens[k].line)
-        tokens[colon + 1:bound] = [Token('gone', '', tokens[k].line) for k in range(colon + 1, bound)]
+        tokens[colon + 1 : bound] = [Token('gone', '', tokens[k].line) for k in range(colon + 1, bound)]
         for k in range(begin, closing(tokens, begin)):
             if tokens[k].text == 'fn' and tokens[following(tokens, k)].text in BOUNDS[file]:
                 body, *_ = body_of(tokens, k, '')

@@ -8,11 +8,11 @@ import os
 import re
 import subprocess
 
-from tokens import Refused, rattle
+from rust.eraser.tokens import Refused, rattle
 
 HERE = os.path.dirname(os.path.abspath(__file__))
-# The sums of the files of `main`: a program has no `mir.json`. They call the crates below, the streams of the process, and
-# of the standard library `is_terminal`, `alloc` and `var`.
+# The sums of the files of `main`: a program has no `mir.json`. They call the crates below, the streams of the process,
+# and of the standard library `is_terminal`, `alloc` and `var`.
 PROGRAMS_READ = {'1672933e99ffd7604939f2872a2ebfc3', 'acdd16c9a538985f3d82804cfc66ad94'}
 STORED, CALLEES = os.path.join(HERE, 'stored.txt'), os.path.join(HERE, 'callees.txt')
 
@@ -29,7 +29,7 @@ def read(path):
 
 def eraser_files():
     folder = [os.path.join(HERE, name) for name in sorted(os.listdir(HERE)) if name.endswith(('.py', 'callees.txt'))]
-    return {os.path.basename(path): read(path) for path in [*folder, os.path.join(os.path.dirname(HERE), 'erase')]}
+    return {os.path.basename(path): read(path) for path in folder}
 
 
 def stored():
@@ -46,14 +46,18 @@ def stored():
 
 def write(sections):
     with open(STORED, 'w', encoding='utf-8') as file:
-        file.write('# Written by rust/erase: sums of what it read and wrote, and what each crate calls of other crates.\n')
+        file.write(
+            '# Written by rust/erase: sums of what it read and wrote, and what each crate calls of other crates.\n'
+        )
         for name, (total, lines) in sorted(sections.items()):
             file.write(''.join([f'\n{name} {total}\n', *(f'    {line}\n' for line in sorted(lines))]))
 
 
 def below(crates, crate):
     """A crate and those of the repository below it."""
-    uses = dict(re.findall(r'^(\w+)(?: staticlib)?:(.*)', read(os.path.join(os.path.dirname(crates), 'crates.txt')), re.M))
+    uses = dict(
+        re.findall(r'^(\w+)(?: staticlib)?:(.*)', read(os.path.join(os.path.dirname(crates), 'crates.txt')), re.M)
+    )
     found, waiting = set(), [crate]
     while waiting:
         name = waiting.pop()
@@ -69,6 +73,7 @@ def sum_of_crate(crates, crate, texts):
 
 
 # ---- what a crate calls ----
+
 
 def names_in(tree, found):
     """Adds the functions, impls and bounds that a function of `mir.json` names."""
@@ -86,7 +91,9 @@ def names_in(tree, found):
 
 def callees(mir, package):
     """What the functions of a library call of other crates, each with the functions that do."""
-    left_out = tuple(file.removesuffix('.rt').replace('/src/', '::').replace('/', '::') + '::' for file in package.left_out)
+    left_out = tuple(
+        file.removesuffix('.rt').replace('/src/', '::').replace('/', '::') + '::' for file in package.left_out
+    )
     found = {}
     for function, body, *_ in mir:
         names = set()
@@ -117,8 +124,11 @@ def place_of(function, callee, texts):
 def check_callees(found, texts):
     """Refuses a function of another crate that is not known to have one meaning, with its file and line."""
     known = {line for line in read(CALLEES).split('\n') if not line.startswith('#')}
-    unknown = [f'{place_of(functions[0], callee, texts)}: `{functions[0]}` calls `{callee}`' for callee, functions in sorted(found.items())
-               if callee not in known]
+    unknown = [
+        f'{place_of(functions[0], callee, texts)}: `{functions[0]}` calls `{callee}`'
+        for callee, functions in sorted(found.items())
+        if callee not in known
+    ]
     if unknown:
         raise Refused('\n'.join(['what is called is not in callees.txt:', *unknown]))
 
@@ -138,8 +148,13 @@ def proved_mir(crates, crate, of_ci=False):
     if of_ci and not is_of_ci(crates, crate, library):
         raise Refused(f'`rt ci` has not proved {crate} since its last change')
     if not of_ci:
-        done = subprocess.run([os.path.join(os.path.dirname(rattle()), 'rt'), 'lib'], cwd=folder, stdout=subprocess.PIPE,
-                              stderr=subprocess.STDOUT, text=True)
+        done = subprocess.run(
+            [os.path.join(os.path.dirname(rattle()), 'rt'), 'lib'],
+            cwd=folder,
+            stdout=subprocess.PIPE,
+            stderr=subprocess.STDOUT,
+            text=True,
+        )
         if done.returncode:
             raise Refused(f'{crate} is not proved, so what it calls is not known: {done.stdout[-300:]}')
     with open(os.path.join(library, 'toolchain', 'mir.json'), encoding='utf-8') as file:
@@ -147,13 +162,16 @@ def proved_mir(crates, crate, of_ci=False):
 
 
 def calls(crates, texts, package, sections, of_ci=False):
-    """The section of each crate of a package: from stored.txt if its sources are the same, else of the proved library."""
+    """The section of each crate of a package: from stored.txt if its sources are the same, else of the proved
+    library."""
     found = {}
     for crate in package.read:
         total = sum_of_crate(crates, crate, texts)
         if program := {file: text for file, text in texts.items() if file == f'{crate}/src/main.rt'}:
             if sum_of(program) not in PROGRAMS_READ:
-                raise Refused(f'crates/{crate}/src/main.rt: read what it calls, and state {sum_of(program)} in stored.py')
+                raise Refused(
+                    f'crates/{crate}/src/main.rt: read what it calls, and state {sum_of(program)} in stored.py'
+                )
             found[f'crate {crate}'] = total, []
         elif sections.get(f'crate {crate}', ('',))[0] == total:
             found[f'crate {crate}'] = sections[f'crate {crate}']
@@ -161,5 +179,7 @@ def calls(crates, texts, package, sections, of_ci=False):
             named = callees(proved_mir(crates, crate, of_ci), package)
             check_callees(named, texts)
             found[f'crate {crate}'] = total, list(named)
-    check_callees({line: [crate.removeprefix('crate ')] for crate, (_, lines) in found.items() for line in lines}, texts)
+    check_callees(
+        {line: [crate.removeprefix('crate ')] for crate, (_, lines) in found.items() for line in lines}, texts
+    )
     return found

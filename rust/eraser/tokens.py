@@ -1,5 +1,5 @@
-"""Rattle's tokens, as the toolchain reads them. A contract is one token including its braces, so later passes don't look
-inside."""
+"""Rattle's tokens, as the toolchain reads them. A contract is one token including its braces, so later passes don't
+look inside."""
 import json
 import os
 import re
@@ -9,7 +9,8 @@ import tempfile
 from dataclasses import dataclass
 
 # Splits code that has no contract and no comment: the code of one of the toolchain's tokens, or the pattern of an edit.
-CODE = re.compile(r"""
+CODE = re.compile(
+    r"""
     (?P<space>\s+)
   | (?P<comment>//[^\n]*)
   | (?P<string>[bc]?r(?P<hashes>\#*)".*?"(?P=hashes) | [bc]?"(?:\\.|[^"\\])*")
@@ -17,7 +18,9 @@ CODE = re.compile(r"""
   | (?P<life>'\w+)
   | (?P<word>\w+)
   | (?P<mark>.)
-""", re.X | re.S)
+""",
+    re.X | re.S,
+)
 OPEN = {'(': ')', '[': ']', '{': '}'}
 CLOSE = set(OPEN.values())
 BLOCK_COMMENT = re.compile(r'/\*|\*/')
@@ -74,10 +77,10 @@ def lex(text, spans):
     data, tokens, at, i, line = text.encode(), [], 0, 0, 1
     while i < len(spans):
         first = spans[i]
-        tokens += blanks(data[at:first[1]].decode(), line)
+        tokens += blanks(data[at : first[1]].decode(), line)
         kind, after = contract(spans, i)
         at, i, line = spans[after - 1][2], after, first[0]
-        part = data[first[1]:at].decode()
+        part = data[first[1] : at].decode()
         tokens += [Token(kind, part, line)] if kind else parts_of_code(part, first)
         line += part.count('\n')
     return tokens + blanks(data[at:].decode(), line)

@@ -1,6 +1,6 @@
 """Benchmarks modules in a headless browser, as run.mjs does in Node:
 
-    web/bench_c/in_browser.py chromium | firefox | webkit ROUNDS NAME=FILE.."""
+    python3 -B . web.bench_c.in_browser in_browser chromium | firefox | webkit ROUNDS NAME=FILE.."""
 import json
 import os
 import shutil
@@ -8,13 +8,11 @@ import sys
 import tempfile
 
 WEB = os.path.dirname(os.path.dirname(os.path.abspath(__file__)))
-sys.dont_write_bytecode = True
 TOP = os.path.dirname(WEB)
-sys.path[:0] = [os.path.join(WEB, "tests"), os.path.join(TOP, "oracle"), os.path.join(TOP, "checks", "lib")]
 
-from browser import Chromium, Firefox, WebKit
-from page import Requests, Served
-from tools import write
+from web.tests.browser import Chromium, Firefox, WebKit
+from web.tests.page import Requests, Served
+from checks.lib.tools import write
 
 
 class Isolated(Requests):
@@ -25,6 +23,7 @@ class Isolated(Requests):
         self.send_header("Cross-Origin-Embedder-Policy", "require-corp")
         super().end_headers()
 
+
 PAGE = """<!doctype html><title>bench</title><script type=module>
 import { measure } from "/web/bench_c/measure.js";
 globalThis.measured = async (names, rounds) => {
@@ -34,13 +33,13 @@ globalThis.measured = async (names, rounds) => {
 </script>"""
 
 
-def main(kind, rounds, *words):
-    modules = dict(word.split("=") for word in words)
+def measure(browser_name, rounds, *args):
+    modules = dict(word.split("=") for word in args)
     with tempfile.TemporaryDirectory(prefix="twox-bench-") as folder:
         for name, file in modules.items():
             shutil.copyfile(file, os.path.join(folder, f"{name}.wasm"))
         write(os.path.join(folder, "bench.html"), PAGE)
-        browser = {"chromium": Chromium, "firefox": Firefox, "webkit": WebKit}[kind]()
+        browser = {"chromium": Chromium, "firefox": Firefox, "webkit": WebKit}[browser_name]()
         try:
             with Served(folder, Isolated) as address:
                 browser.go(f"{address}/bundles/bench.html")
@@ -51,5 +50,5 @@ def main(kind, rounds, *words):
             browser.close()
 
 
-if __name__ == "__main__":
-    main(*sys.argv[1:])
+def main():
+    measure(*sys.argv[1:])

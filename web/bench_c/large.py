@@ -1,6 +1,6 @@
 """Measures how fast the page's worker hashes a large file in a headless browser, compared with reading only:
 
-    web/bench_c/large.py chromium | firefox | webkit [MIB [TURNS]]
+    python3 -B . web.bench_c.large large chromium | firefox | webkit [MIB [TURNS]]
 
 It prints GB/s, the best and the median turn of each: only reading, as the page reads; all four hashes, as the page
 computes them; and each hash separately, by `hashBlob`. They take turns, over one file of 1,024 MiB in the system's
@@ -10,13 +10,11 @@ import sys
 import tempfile
 
 WEB = os.path.dirname(os.path.dirname(os.path.abspath(__file__)))
-sys.dont_write_bytecode = True
 TOP = os.path.dirname(WEB)
-sys.path[:0] = [os.path.join(WEB, "tests"), os.path.join(TOP, "oracle"), os.path.join(TOP, "checks", "lib")]
 
-from browser import Chromium, Firefox, WebKit
-from page import Served
-from tools import write
+from web.tests.browser import Chromium, Firefox, WebKit
+from web.tests.page import Served
+from checks.lib.tools import write
 
 MIB = 1 << 20
 # As streams.js reads: four chunks ahead.
@@ -66,7 +64,7 @@ globalThis.measured = async (what) => {
 WHAT = ["reading alone", "all four", "xxh32", "xxh64", "xxh3_64", "xxh3_128"]
 
 
-def main(kind, mib="1024", turns="5"):
+def measure(browser_name, mib="1024", turns="5"):
     size = int(mib) * MIB
     with tempfile.TemporaryDirectory(prefix="twox-large-") as folder:
         for name, text in ("reader.js", READER), ("hasher.js", HASHER), ("large.html", PAGE):
@@ -75,7 +73,7 @@ def main(kind, mib="1024", turns="5"):
         with open(large, "wb") as file:
             for _ in range(int(mib)):
                 file.write(os.urandom(MIB))
-        browser = {"chromium": Chromium, "firefox": Firefox, "webkit": WebKit}[kind]()
+        browser = {"chromium": Chromium, "firefox": Firefox, "webkit": WebKit}[browser_name]()
         try:
             with Served(folder) as address:
                 browser.go(f"{address}/bundles/large.html")
@@ -92,7 +90,7 @@ def main(kind, mib="1024", turns="5"):
         print(f"{what}: {best:.2f}, {median:.2f} GB/s")
 
 
-if __name__ == "__main__":
+def main():
     if not 2 <= len(sys.argv) <= 4:
         sys.exit(__doc__)
-    main(*sys.argv[1:])
+    measure(*sys.argv[1:])

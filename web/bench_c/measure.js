@@ -14,7 +14,7 @@ const WARM_MILLISECONDS = 60;
 const TURN_MILLISECONDS = 0.4;
 
 /** Drawn once, so that every module has the same bytes. */
-function drawn(length) {
+function generated(length) {
   const bytes = new Uint8Array(length);
   let x = 1;
   for (let i = 0; i < length; i += 1) {
@@ -35,7 +35,7 @@ class Module {
     [this.value, this.record, this.secret, this.input] = [start, start + 256, start + 1024, start + 4096];
     const pages = Math.ceil((this.input + TOTAL - exports.memory.buffer.byteLength) / PAGE_BYTES);
     if (pages > 0) exports.memory.grow(pages);
-    new Uint8Array(exports.memory.buffer).set(drawn(TOTAL), this.input);
+    new Uint8Array(exports.memory.buffer).set(generated(TOTAL), this.input);
     this.view = new DataView(exports.memory.buffer, this.value, 16);
   }
 

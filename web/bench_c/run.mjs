@@ -4,8 +4,8 @@
 import { readFile } from "node:fs/promises";
 import { measure } from "./measure.js";
 
-const [rounds, ...words] = process.argv.slice(2);
-const modules = await Promise.all(words.map(async (word) => {
+const [rounds, ...args] = process.argv.slice(2);
+const modules = await Promise.all(args.map(async (word) => {
   const [name, file] = word.split("=");
   return { name, bytes: await readFile(file) };
 }));

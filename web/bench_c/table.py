@@ -10,7 +10,7 @@ import json
 import statistics
 import sys
 
-KINDS = {"xxh32": "XXH32", "xxh64": "XXH64", "xxh3_64": "XXH3-64", "xxh3_128": "XXH3-128"}
+ALGORITHMS = {"xxh32": "XXH32", "xxh64": "XXH64", "xxh3_64": "XXH3-64", "xxh3_128": "XXH3-128"}
 FORMS = {"oneshot": "", "stream": "chunks of "}
 MEDIAN = 1  # of a module's times in a pass, behind the best
 DISTURBED = 1.1
@@ -19,8 +19,11 @@ DISTURBED = 1.1
 def ratio(row, ours, among):
     def fastest(times):
         return min(times[name][MEDIAN] for name in times if not name.startswith("ours") and among(name))
+
     least = min(fastest(times) for times in row["passes"])
-    return statistics.median(fastest(times) / times[ours][MEDIAN] for times in row["passes"] if fastest(times) < DISTURBED * least)
+    return statistics.median(
+        fastest(times) / times[ours][MEDIAN] for times in row["passes"] if fastest(times) < DISTURBED * least
+    )
 
 
 def ratios(row):
@@ -30,7 +33,13 @@ def ratios(row):
 
 
 def size_of(row):
-    size = "1 MiB" if row["size"] == 1 << 20 else f"{row['size'] >> 10} KiB" if row["size"] >= 1024 else f"{row['size']:,} bytes"
+    size = (
+        "1 MiB"
+        if row["size"] == 1 << 20
+        else f"{row['size'] >> 10} KiB"
+        if row["size"] >= 1024
+        else f"{row['size']:,} bytes"
+    )
     return FORMS[row["form"]] + size
 
 
@@ -39,9 +48,9 @@ def table(runs):
     sizes = list(dict.fromkeys(size_of(row) for rows in runs.values() for row in rows))
     print("|", " | ".join(["with vectors, without", *sizes]), "|")
     print("|---" * (1 + len(sizes)) + "|")
-    for kind, shown in KINDS.items():
+    for algorithm, shown in ALGORITHMS.items():
         for name, rows in runs.items():
-            cells = {size_of(row): "{:.2f}, {:.2f}".format(*ratios(row)) for row in rows if row["kind"] == kind}
+            cells = {size_of(row): "{:.2f}, {:.2f}".format(*ratios(row)) for row in rows if row["kind"] == algorithm}
             print("|", " | ".join([f"{shown}, {name}", *(cells.get(size, "") for size in sizes)]), "|")
 
 
@@ -54,14 +63,10 @@ def of_passes(lines):
     return list(rows.values())
 
 
-def main(words):
+def main():
     runs = {}
-    for word in words:
+    for word in sys.argv[1:]:
         name, file = word.split("=")
         with open(file) as lines:
             runs[name] = of_passes(lines)
     table(runs)
-
-
-if __name__ == "__main__":
-    main(sys.argv[1:])

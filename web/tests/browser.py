@@ -13,7 +13,7 @@ import time
 import urllib.error
 import urllib.request
 
-from tools import free_port, write
+from checks.lib.tools import free_port, write
 
 ELEMENT = "element-6066-11e4-a52e-4f735466cecf"
 KEYS = {"Tab": "\ue004", "Enter": "\ue007", "Space": " "}
@@ -24,7 +24,7 @@ class Browser:
     """One window. `close` ends everything that was started."""
 
     def __init__(self, width=1000, height=1400):
-        self.room = tempfile.mkdtemp(prefix="twox-browser-")
+        self.workdir = tempfile.mkdtemp(prefix="twox-browser-")
         self.port = free_port()
         self.process = None
         try:
@@ -33,9 +33,19 @@ class Browser:
             self.close()
             raise
 
-    def spawn(self, *words, **more):
+    def start(self, width, height):
+        raise NotImplementedError
+
+    def command(self, name, **parameters):
+        """Sends a command of the protocol, and returns its result."""
+        raise NotImplementedError
+
+    def end_session(self):
+        raise NotImplementedError
+
+    def spawn(self, *args, **more):
         quiet = dict(stdin=subprocess.DEVNULL, stdout=subprocess.DEVNULL, stderr=subprocess.DEVNULL)
-        self.process = subprocess.Popen(words, start_new_session=True, **quiet, **more)
+        self.process = subprocess.Popen(args, start_new_session=True, **quiet, **more)
 
     def until(self, attempt, what, errors):
         """The result of the attempt, once there is one."""
@@ -51,9 +61,11 @@ class Browser:
 
     def run(self, script, *arguments):
         """The value of a script, which may be a promise."""
-        whole = "const done = arguments[arguments.length - 1]; const given = [...arguments].slice(0, -1);" \
-            "(async (...arguments) => {" + script + "})(...given)" \
+        whole = (
+            "const done = arguments[arguments.length - 1]; const given = [...arguments].slice(0, -1);"
+            "(async (...arguments) => {" + script + "})(...given)"
             ".then((value) => done({ value }), (error) => done({ error: String(error.stack ?? error) }));"
+        )
         answer = self.command("ExecuteAsyncScript", script=whole, args=list(arguments))
         if "error" in answer:
             raise RuntimeError(answer["error"])
@@ -76,7 +88,7 @@ class Browser:
 
     def press(self, *names):
         """Presses keys, one after another, wherever the focus is."""
-        actions = [{"type": kind, "value": KEYS[name]} for name in names for kind in ("keyDown", "keyUp")]
+        actions = [{"type": action, "value": KEYS[name]} for name in names for action in ("keyDown", "keyUp")]
         self.command("PerformActions", actions=[{"type": "key", "id": "keyboard", "actions": actions}])
 
     def wait(self, script, *arguments, seconds=60):
@@ -101,24 +113,30 @@ class Browser:
                 self.process.wait(10)
             except (ProcessLookupError, subprocess.TimeoutExpired):
                 self.process.kill()
-        shutil.rmtree(self.room, ignore_errors=True)
+        shutil.rmtree(self.workdir, ignore_errors=True)
 
 
 class ByDriver(Browser):
     """A browser that has a program as its driver."""
 
     # The path of a command, in which {id} is an element's.
-    PATHS = {"Navigate": "/url", "ExecuteAsyncScript": "/execute/async", "FindElement": "/element",
-             "ElementClick": "/element/{id}/click", "ElementSendKeys": "/element/{id}/value",
-             "ElementClear": "/element/{id}/clear", "PerformActions": "/actions"}
+    PATHS = {
+        "Navigate": "/url",
+        "ExecuteAsyncScript": "/execute/async",
+        "FindElement": "/element",
+        "ElementClick": "/element/{id}/click",
+        "ElementSendKeys": "/element/{id}/value",
+        "ElementClear": "/element/{id}/clear",
+        "PerformActions": "/actions",
+    }
     session = None
 
-    def start_driver(self, *words, **more):
-        self.spawn(*words, f"--port={self.port}", **more)
-        self.until(lambda: self.request("GET", "/status")["ready"], words[0], (urllib.error.URLError, ConnectionError))
+    def start_driver(self, *args, **more):
+        self.spawn(*args, f"--port={self.port}", **more)
+        self.until(lambda: self.request("GET", "/status")["ready"], args[0], (urllib.error.URLError, ConnectionError))
 
-    def start_session(self, **wanted):
-        answer = self.request("POST", "/session", {"capabilities": {"alwaysMatch": {"timeouts": TIMEOUTS, **wanted}}})
+    def start_session(self, **expected):
+        answer = self.request("POST", "/session", {"capabilities": {"alwaysMatch": {"timeouts": TIMEOUTS, **expected}}})
         self.session, self.version = answer["sessionId"], answer["capabilities"]["browserVersion"]
 
     def end_session(self):
@@ -127,8 +145,9 @@ class ByDriver(Browser):
 
     def request(self, method, path, body=None):
         data = None if body is None else json.dumps(body).encode()
-        asked = urllib.request.Request(f"http://127.0.0.1:{self.port}{path}", data, method=method,
-                                       headers={"Content-Type": "application/json"})
+        asked = urllib.request.Request(
+            f"http://127.0.0.1:{self.port}{path}", data, method=method, headers={"Content-Type": "application/json"}
+        )
         try:
             with urllib.request.urlopen(asked, timeout=330) as answer:
                 return json.load(answer)["value"]
@@ -146,8 +165,16 @@ class Chromium(ByDriver):
 
     def start(self, width, height):
         self.start_driver("chromedriver")
-        options = ["--headless=new", f"--user-data-dir={self.room}", f"--window-size={width},{height}", "--disable-gpu",
-                   "--hide-scrollbars", "--force-device-scale-factor=1", "--no-first-run", "--disable-dev-shm-usage"]
+        options = [
+            "--headless=new",
+            f"--user-data-dir={self.workdir}",
+            f"--window-size={width},{height}",
+            "--disable-gpu",
+            "--hide-scrollbars",
+            "--force-device-scale-factor=1",
+            "--no-first-run",
+            "--disable-dev-shm-usage",
+        ]
         if os.geteuid() == 0:
             options.append("--no-sandbox")
         self.start_session(browserName="chrome", **{"goog:chromeOptions": {"args": options}})
@@ -157,9 +184,14 @@ class Chromium(ByDriver):
 
     def picture(self, last):
         """The page from the top to the end of the element of that id, as a PNG."""
-        width, height = self.run("const { bottom } = document.getElementById(arguments[0]).getBoundingClientRect(); return [innerWidth, bottom + 24]", last)
+        width, height = self.run(
+            "const { bottom } = document.getElementById(arguments[0]).getBoundingClientRect(); return [innerWidth, bottom + 24]",
+            last,
+        )
         clip = {"x": 0, "y": 0, "width": width, "height": height, "scale": 1}
-        return base64.b64decode(self.devtools("Page.captureScreenshot", format="png", captureBeyondViewport=True, clip=clip)["data"])
+        return base64.b64decode(
+            self.devtools("Page.captureScreenshot", format="png", captureBeyondViewport=True, clip=clip)["data"]
+        )
 
 
 class WebKit(ByDriver):
@@ -169,7 +201,11 @@ class WebKit(ByDriver):
     SCREEN = ["xvfb-run", "--auto-servernum", "--server-args=-screen 0 1000x1400x24"]
 
     def start(self, *_):
-        self.start_driver(*self.SCREEN, "WebKitWebDriver", env={**os.environ, "HOME": self.room, "WEBKIT_DISABLE_COMPOSITING_MODE": "1"})
+        self.start_driver(
+            *self.SCREEN,
+            "WebKitWebDriver",
+            env={**os.environ, "HOME": self.workdir, "WEBKIT_DISABLE_COMPOSITING_MODE": "1"},
+        )
         options = {"binary": mini_browser(), "args": ["--automation"]}
         self.start_session(browserName="MiniBrowser", **{"webkitgtk:browserOptions": options})
 
@@ -191,14 +227,25 @@ class Firefox(Browser):
     socket = None
 
     def start(self, width, height):
-        write(os.path.join(self.room, "user.js"), f'user_pref("marionette.port", {self.port});\n')
-        self.spawn("firefox-esr", "--headless", "--marionette", "--no-remote", "--profile", self.room,
-                   f"--width={width}", f"--height={height}", env={**os.environ, "HOME": self.room})
+        write(os.path.join(self.workdir, "user.js"), f'user_pref("marionette.port", {self.port});\n')
+        self.spawn(
+            "firefox-esr",
+            "--headless",
+            "--marionette",
+            "--no-remote",
+            "--profile",
+            self.workdir,
+            f"--width={width}",
+            f"--height={height}",
+            env={**os.environ, "HOME": self.workdir},
+        )
         self.socket = self.until(lambda: socket.create_connection(("127.0.0.1", self.port), 330), "Firefox", OSError)
         self.file = self.socket.makefile("rb")
         self.read()  # the server's greeting
         self.number = 0
-        self.version = self.command("NewSession", capabilities={"alwaysMatch": {"timeouts": TIMEOUTS}})["browserVersion"]
+        self.version = self.command("NewSession", capabilities={"alwaysMatch": {"timeouts": TIMEOUTS}})[
+            "browserVersion"
+        ]
 
     def end_session(self):
         if self.socket:

@@ -6,16 +6,16 @@ import { readFile } from "node:fs/promises";
 /** The parser's results that differ from the expected ones. */
 export async function misread(address) {
   const { isComment, readLine } = await import(address);
-  const rows = JSON.parse(await readFile(new URL("../../checks/lines.json", import.meta.url), "utf8")).filter(({ little }) => !little);
-  const wrong = rows.map((row) => ({ row, said: wordsOf(isComment(row.line), readLine(row.line)) })).filter(({ row, said }) => said !== wanted(row));
-  return { count: rows.length, wrong };
+  const cases = JSON.parse(await readFile(new URL("../../checks/lines.json", import.meta.url), "utf8")).filter(({ little }) => !little);
+  const wrong = cases.map((test) => ({ test, actual: meaningOf(isComment(test.line), readLine(test.line)) })).filter(({ test, actual }) => actual !== expected(test));
+  return { count: cases.length, wrong };
 }
 
-function wanted({ is, kind, digits, name }) {
+function expected({ is, kind, digits, name }) {
   return is ?? JSON.stringify([kind, digits, name]);
 }
 
-function wordsOf(isComment, said) {
-  if (said) return isComment ? "both" : JSON.stringify([said.kinds.join(), said.digits, said.name]);
+function meaningOf(isComment, actual) {
+  if (actual) return isComment ? "both" : JSON.stringify([actual.kinds.join(), actual.digits, actual.name]);
   return isComment ? "a comment" : "nothing";
 }

@@ -6,19 +6,42 @@ import shutil
 import subprocess
 import tempfile
 
-import tools
-from report import Fault, want
-from tools import bytes_of, text_of
-from values import long_digests
+from checks.lib import tools
+from checks.lib.report import Fault, check
+from checks.lib.tools import bytes_of, text_of
+from web.tests.values import long_digests
 
 HERE = os.path.dirname(os.path.abspath(__file__))
 WEB = os.path.dirname(HERE)
-PACKAGED = ["LICENSE", "README.md", "SHA256SUMS", "inline.d.ts", "inline.js", "node.d.ts", "node.js", "node_hash.js", "package.json",
-            "streams.d.ts", "streams.js", "twox_hash.d.ts", "twox_hash.js", "twox_hash.wasm", "twox_hash_simd.wasm",
-            "xxhash_wasm.d.ts", "xxhash_wasm.js", "out/modules.js", "out/modules.cjs",
-            *(f"out/{name}.{end}" for name in ("inline", "node", "node_hash", "streams", "twox_hash", "xxhash_wasm")
-              for end in ("cjs", "d.cts") if (name, end) != ("node_hash", "d.cts")),
-            "out/twox_hash.wasm", "out/twox_hash_simd.wasm"]
+PACKAGED = [
+    "LICENSE",
+    "README.md",
+    "SHA256SUMS",
+    "inline.d.ts",
+    "inline.js",
+    "node.d.ts",
+    "node.js",
+    "node_hash.js",
+    "package.json",
+    "streams.d.ts",
+    "streams.js",
+    "twox_hash.d.ts",
+    "twox_hash.js",
+    "twox_hash.wasm",
+    "twox_hash_simd.wasm",
+    "xxhash_wasm.d.ts",
+    "xxhash_wasm.js",
+    "out/modules.js",
+    "out/modules.cjs",
+    *(
+        f"out/{name}.{end}"
+        for name in ("inline", "node", "node_hash", "streams", "twox_hash", "xxhash_wasm")
+        for end in ("cjs", "d.cts")
+        if (name, end) != ("node_hash", "d.cts")
+    ),
+    "out/twox_hash.wasm",
+    "out/twox_hash_simd.wasm",
+]
 MODULES = ["twox_hash.wasm", "twox_hash_simd.wasm"]
 SAMPLE = "await load(); console.log(toHex(xxh64('some bytes', 1234), 'xxh64'));"
 OF_SAMPLE = "eab55659a496d78b\n"
@@ -30,7 +53,8 @@ BUNDLES = {
         ["--format=esm", "--loader:.wasm=file"],
         'import * as twox from "twox_hash"; import plain from "twox_hash/twox_hash.wasm";'
         'import vectors from "twox_hash/twox_hash_simd.wasm";'
-        "const entry = { ...twox, load: () => twox.load((hasVectors) => hasVectors ? vectors : plain) };"),
+        "const entry = { ...twox, load: () => twox.load((hasVectors) => hasVectors ? vectors : plain) };",
+    ),
     "whose modules lie beside it": (["--format=esm"], 'import * as entry from "twox_hash";'),
     "whose modules lie beside it, as one classic script": (["--format=iife"], 'import * as entry from "twox_hash";'),
 }
@@ -38,13 +62,13 @@ BUNDLES = {
 WITHOUT_VECTORS = ["--no-enable-sse4-1"]
 
 
-def run(words, folder):
-    return subprocess.run(words, capture_output=True, text=True, cwd=folder)
+def run(command, folder):
+    return subprocess.run(command, capture_output=True, text=True, cwd=folder)
 
 
-def must(words, folder):
-    ran = run(words, folder)
-    want(ran.returncode == 0, f"{' '.join(words[:2])}: {(ran.stderr + ran.stdout).strip()[-600:]}")
+def must(command, folder):
+    ran = run(command, folder)
+    check(ran.returncode == 0, f"{' '.join(command[:2])}: {(ran.stderr + ran.stdout).strip()[-600:]}")
     return ran.stdout
 
 
@@ -54,8 +78,8 @@ def write(folder, name, data):
 
 def all_right(lines):
     """Checks that no line of the tests reports a failure, and returns their number."""
-    wrong = [f"{line['name']} ({line.get('words', '')})" for line in lines if not line["ok"]]
-    want(len(lines) > 1 and not wrong, "; ".join(wrong) or f"{len(lines)} tests")
+    wrong = [f"{line['name']} ({line.get('message', '')})" for line in lines if not line["ok"]]
+    check(len(lines) > 1 and not wrong, "; ".join(wrong) or f"{len(lines)} tests")
     return f"{len(lines)} tests"
 
 
@@ -63,13 +87,20 @@ def tests_in_node(folder, node, entry, others="", flags=(), vectors=None, requir
     """The tests of an entry, and of the other ones, in a Node: as the folder's scripts import or require them."""
     imports = "".join(f'import * as {name} from "{path}";' for name, path in entry.items())
     if required:
-        imports = 'import { createRequire } from "node:module"; const given = createRequire(import.meta.url);' + "".join(
-            f'const {name} = given("{path}");' for name, path in entry.items())
-    script = write(folder, "run.mjs", f'{imports} {others} import {{ report }} from "file://{HERE}/run_node.mjs";'
-                                      f"await report(process.argv[2], {{ {', '.join(entry)}{', xxhash' if others else ''} }});")
-    said = json.loads(must([node, *flags, script, json.dumps(long_digests())], folder))
-    want(vectors is None or said["hasVectors"] == vectors, f"vectors: {said['hasVectors']}")
-    return f"Node {said['version']}, {'with' if said['hasVectors'] else 'without'} vectors, {all_right(said['lines'])}"
+        imports = (
+            'import { createRequire } from "node:module"; const given = createRequire(import.meta.url);'
+            + "".join(f'const {name} = given("{path}");' for name, path in entry.items())
+        )
+    script = write(
+        folder,
+        "run.mjs",
+        f'{imports} {others} import {{ report }} from "file://{HERE}/run_node.mjs";'
+        f"await report(process.argv[2], {{ {', '.join(entry)}{', xxhash' if others else ''} }});",
+    )
+    result = json.loads(must([node, *flags, script, json.dumps(long_digests())], folder))
+    check(vectors is None or result["hasVectors"] == vectors, f"vectors: {result['hasVectors']}")
+    vectors = "with" if result["hasVectors"] else "without"
+    return f"Node {result['version']}, {vectors} vectors, {all_right(result['lines'])}"
 
 
 def tests_of_tree(folder, node, flags=(), vectors=None):
@@ -80,8 +111,12 @@ def tests_of_tree(folder, node, flags=(), vectors=None):
 
 def tests_of_module(folder, node, module):
     """The module's tests with this module, even where the other would be loaded."""
-    entry = write(folder, "given.mjs", f'import * as twox from "file://{WEB}/node.js"; export * from "file://{WEB}/node.js";'
-                                       f'export const load = () => twox.load("file://{WEB}/{module}");')
+    entry = write(
+        folder,
+        "given.mjs",
+        f'import * as twox from "file://{WEB}/node.js"; export * from "file://{WEB}/node.js";'
+        f'export const load = () => twox.load("file://{WEB}/{module}");',
+    )
     return tests_in_node(folder, node, {"entry": f"file://{entry}"})
 
 
@@ -89,26 +124,34 @@ def wrong_module_is_noticed(folder, node):
     """A module with one bit changed, in the default secret of XXH3, fails the tests."""
     module = bytearray(bytes_of(f"web/{MODULES[1]}"))
     at = module.find(bytes.fromhex("b8fe6c3923a44bbe"))
-    want(at > 0, "the secret is not there")
+    check(at > 0, "the secret is not there")
     module[at] ^= 1
     path = write(folder, "wrong.wasm", bytes(module))
-    entry = write(folder, "wrong.mjs", f'import * as twox from "file://{WEB}/node.js"; export * from "file://{WEB}/node.js";'
-                                       f'export const load = () => twox.load("file://{path}");')
+    entry = write(
+        folder,
+        "wrong.mjs",
+        f'import * as twox from "file://{WEB}/node.js"; export * from "file://{WEB}/node.js";'
+        f'export const load = () => twox.load("file://{path}");',
+    )
     try:
-        said = tests_in_node(folder, node, {"entry": f"file://{entry}"})
+        result = tests_in_node(folder, node, {"entry": f"file://{entry}"})
     except Fault as found:
-        want("rows of the reference library" in str(found), str(found))
+        check("vectors of the reference library" in str(found), str(found))
         return
-    want(False, f"a wrong module passes: {said}")
+    check(False, f"a wrong module passes: {result}")
 
 
 def refused_in_node(folder, node):
     """Without WebAssembly, the error reports that."""
-    script = write(folder, "refused.mjs", f"""delete globalThis.WebAssembly;
+    script = write(
+        folder,
+        "refused.mjs",
+        f"""delete globalThis.WebAssembly;
         const {{ isSupported, load }} = await import("file://{WEB}/node.js");
-        await load().catch((error) => console.log(isSupported(), error.name, error.code, error.message));""")
-    said = must([node, script], folder)
-    want(said.startswith("false TwoxHashError unsupported WebAssembly is not available"), said)
+        await load().catch((error) => console.log(isSupported(), error.name, error.code, error.message));""",
+    )
+    result = must([node, script], folder)
+    check(result.startswith("false TwoxHashError unsupported WebAssembly is not available"), result)
 
 
 def packed(folder):
@@ -119,19 +162,23 @@ def packed(folder):
     must(["npm", "install", "--offline", "--no-audit", "--no-fund", "./" + archive], folder)
     package = os.path.join(folder, "node_modules", "twox_hash")
     files = [os.path.relpath(os.path.join(at, name), package) for at, _, names in os.walk(package) for name in names]
-    want(sorted(files) == sorted(PACKAGED), sorted(set(files) ^ set(PACKAGED)))
-    want(text_of(f"{package}/LICENSE") == text_of("LICENSE"), "LICENSE is another")
+    check(sorted(files) == sorted(PACKAGED), sorted(set(files) ^ set(PACKAGED)))
+    check(text_of(f"{package}/LICENSE") == text_of("LICENSE"), "LICENSE is another")
     links = set(re.findall(r"\]\(([^)#:]+)[^):]*\)", text_of(f"{package}/README.md")))
     lost = [link for link in links if not link.startswith("../") and not os.path.exists(os.path.join(package, link))]
-    want(not lost, f"README links to {lost}")
+    check(not lost, f"README links to {lost}")
     return archive
 
 
 def copy_of_clone(folder):
     """A user's clone of the repository, in which nothing was packed or built."""
     top = os.path.dirname(WEB)
-    must(["git", "-C", top, "checkout-index", "-q", "-a", f"--prefix={folder}/"] if os.path.exists(os.path.join(top, ".git"))
-         else ["cp", "-r", top, folder], top)
+    must(
+        ["git", "-C", top, "checkout-index", "-q", "-a", f"--prefix={folder}/"]
+        if os.path.exists(os.path.join(top, ".git"))
+        else ["cp", "-r", top, folder],
+        top,
+    )
     shutil.rmtree(os.path.join(folder, "web", "out"), ignore_errors=True)
 
 
@@ -148,86 +195,129 @@ def row_of_page(start):
 def installed_as_printed(folder, node):
     """Each way to install on the page, its commands in one shell, in a folder next to a clone, which stays
     unchanged."""
-    ways = [re.findall("`([^`]+)`", way) for way in row_of_page("the package, which has no dependencies").split("; or ")]
-    want(len(ways) == 2, f"{len(ways)} ways")
+    ways = [
+        re.findall("`([^`]+)`", way) for way in row_of_page("the package, which has no dependencies").split("; or ")
+    ]
+    check(len(ways) == 2, f"{len(ways)} ways")
     for way in ways:
-        with tempfile.TemporaryDirectory(dir=folder) as room:
-            copy_of_clone(os.path.join(room, "twox_hash"))
-            web, user = os.path.join(room, "twox_hash", "web"), os.path.join(room, "user")
+        with tempfile.TemporaryDirectory(dir=folder) as workdir:
+            copy_of_clone(os.path.join(workdir, "twox_hash"))
+            web, user = os.path.join(workdir, "twox_hash", "web"), os.path.join(workdir, "user")
             before = files_of(web)
             os.makedirs(user)
             write(user, "package.json", '{ "private": true }')
-            must(["sh", "-e", "-c", "export npm_config_offline=true npm_config_audit=false npm_config_fund=false\n" + "\n".join(way)], user)
+            must(
+                [
+                    "sh",
+                    "-e",
+                    "-c",
+                    "export npm_config_offline=true npm_config_audit=false npm_config_fund=false\n" + "\n".join(way),
+                ],
+                user,
+            )
             for name in ("twox_hash", "twox_hash/inline"):
-                said = must([node, "--input-type=module", "-e", f'import {{ load, toHex, xxh64 }} from "{name}"; {SAMPLE}'], user)
-                want(said == OF_SAMPLE, said)
-            want(files_of(web) == before, f"{way} changes the clone")
+                result = must(
+                    [node, "--input-type=module", "-e", f'import {{ load, toHex, xxh64 }} from "{name}"; {SAMPLE}'],
+                    user,
+                )
+                check(result == OF_SAMPLE, result)
+            check(files_of(web) == before, f"{way} changes the clone")
     return "; ".join(" && ".join(way) for way in ways)
 
 
 def without_a_package(node):
     """The files that the page lists, copied, are enough, also if Node doesn't detect the type of a script."""
     names = re.findall("`([^`]+)`", row_of_page("the files without a package"))
-    with tempfile.TemporaryDirectory() as room:  # below no other package.json
+    with tempfile.TemporaryDirectory() as workdir:  # below no other package.json
         for name in names:
             if name.startswith("{"):
-                write(room, "package.json", name)
+                write(workdir, "package.json", name)
             elif name != "package.json":
-                shutil.copy(os.path.join(WEB, name), room)
-        write(room, "main.mjs", f'import {{ load, toHex, xxh64 }} from "./node.js"; {SAMPLE}')
+                shutil.copy(os.path.join(WEB, name), workdir)
+        write(workdir, "main.mjs", f'import {{ load, toHex, xxh64 }} from "./node.js"; {SAMPLE}')
         guess = "--experimental-detect-module"
-        flags = must([node, "-p", f'process.allowedNodeEnvironmentFlags.has("{guess}") ? "--no{guess[1:]}" : ""'], room).split()
-        said = must([node, *flags, "main.mjs"], room)
-    want(said == OF_SAMPLE, said)
+        flags = must(
+            [node, "-p", f'process.allowedNodeEnvironmentFlags.has("{guess}") ? "--no{guess[1:]}" : ""'], workdir
+        ).split()
+        result = must([node, *flags, "main.mjs"], workdir)
+    check(result == OF_SAMPLE, result)
     return ", ".join(names)
 
 
 def bundles_for_node(folder, node):
     """esbuild's bundles for Node, with the modules next to them, run from another folder."""
-    entries = {"import": 'import { load, toHex, xxh64 } from "twox_hash";', "require": 'const { load, toHex, xxh64 } = require("twox_hash");'}
+    entries = {
+        "import": 'import { load, toHex, xxh64 } from "twox_hash";',
+        "require": 'const { load, toHex, xxh64 } = require("twox_hash");',
+    }
     for given, form, end in (("import", "esm", "mjs"), ("import", "cjs", "cjs"), ("require", "cjs", "cjs")):
-        with tempfile.TemporaryDirectory(dir=folder) as room:
-            app = write(room, f"app.{'mjs' if given == 'import' else 'cjs'}", f"{entries[given]} (async () => {{ {SAMPLE} }})();")
-            bundled = os.path.join(room, "dist", "here", f"app.{end}")
-            must(["esbuild", app, "--bundle", "--platform=node", "--log-level=error", f"--format={form}", f"--outfile={bundled}"], room)
+        with tempfile.TemporaryDirectory(dir=folder) as workdir:
+            app = write(
+                workdir,
+                f"app.{'mjs' if given == 'import' else 'cjs'}",
+                f"{entries[given]} (async () => {{ {SAMPLE} }})();",
+            )
+            bundled = os.path.join(workdir, "dist", "here", f"app.{end}")
+            must(
+                [
+                    "esbuild",
+                    app,
+                    "--bundle",
+                    "--platform=node",
+                    "--log-level=error",
+                    f"--format={form}",
+                    f"--outfile={bundled}",
+                ],
+                workdir,
+            )
             for module in MODULES:
                 shutil.copy(os.path.join(WEB, module), os.path.dirname(bundled))
-            said = must([node, bundled], "/")
-        want(said == OF_SAMPLE, f"{given}, {form}: {said}")
+            result = must([node, bundled], "/")
+        check(result == OF_SAMPLE, f"{given}, {form}: {result}")
 
 
 def tests_of_commonjs(folder, node):
     """All tests of the package by `require`, whose names are those of `import`."""
     with open(os.path.join(folder, "commonjs.cjs"), "w", encoding="utf-8") as file:
-        file.write("""const entries = ["twox_hash", "twox_hash/streams", "twox_hash/inline", "twox_hash/xxhash-wasm"];
+        file.write(
+            """const entries = ["twox_hash", "twox_hash/streams", "twox_hash/inline", "twox_hash/xxhash-wasm"];
             module.exports = Object.fromEntries(entries.map((name) => [name, require(name)]));
             const { load, xxh64, TwoxHashError } = require("twox_hash");
             const early = (() => { try { return xxh64("some bytes"); } catch (error) { return error instanceof TwoxHashError && error.code; } })();
-            module.exports.first = load().then(() => [early, xxh64("some bytes", 1234).toString(16)].join(" "));""")
-    script = write(folder, "commonjs.mjs", """import { createRequire } from "node:module";
+            module.exports.first = load().then(() => [early, xxh64("some bytes", 1234).toString(16)].join(" "));"""
+        )
+    script = write(
+        folder,
+        "commonjs.mjs",
+        """import { createRequire } from "node:module";
         const { first, ...entries } = createRequire(import.meta.url)("./commonjs.cjs");
         const wrong = [];
         for (const [name, given] of Object.entries(entries)) {
           const [one, other] = [Object.keys(given), Object.keys(await import(name))].map((names) => names.sort().join());
           if (one !== other) wrong.push(`${name}: ${one} and not ${other}`);
         }
-        console.log(JSON.stringify([await first, wrong]));""")
-    want(json.loads(must([node, script], folder)) == ["not-loaded eab55659a496d78b", []], must([node, script], folder))
+        console.log(JSON.stringify([await first, wrong]));""",
+    )
+    check(json.loads(must([node, script], folder)) == ["not-loaded eab55659a496d78b", []], must([node, script], folder))
     given = {"entry": "twox_hash", "streams": "twox_hash/streams"}
-    return tests_in_node(folder, node, {**given, "node": "twox_hash"}, 'const xxhash = given("twox_hash/xxhash-wasm");', required=True)
+    return tests_in_node(
+        folder, node, {**given, "node": "twox_hash"}, 'const xxhash = given("twox_hash/xxhash-wasm");', required=True
+    )
 
 
 def page_example(folder, node):
     """The examples of web/README.md have the printed results, in the package's own folder."""
     examples = re.findall(r"```js\n(.*?)```", text_of("web/README.md"), re.S)
-    same = "function same(value, expected) { if (value !== expected) throw new Error(`${value} instead of ${expected}`); }"
+    same = (
+        "function same(value, expected) { if (value !== expected) throw new Error(`${value} instead of ${expected}`); }"
+    )
     all_of_them = 0
     for number, code in enumerate(examples):
         lines, count = re.subn(r'^(?:const \w+ = )?(.*); // "([0-9a-f]+)"$', r'same(\1, "\2");', code, flags=re.M)
-        want(count >= 1 and 'from "twox_hash' in code, f"example {number + 1} has {count} values")
+        check(count >= 1 and 'from "twox_hash' in code, f"example {number + 1} has {count} values")
         must([node, write(folder, f"example{number}.mjs", lines + same)], folder)
         all_of_them += count
-    want(all_of_them >= 6, f"{all_of_them} values")
+    check(all_of_them >= 6, f"{all_of_them} values")
     return f"{all_of_them} values of {len(examples)} examples"
 
 
@@ -240,25 +330,33 @@ def types(folder):
     must([*TSC, "--lib", "es2022", "types_without_dom.ts"], folder)
 
 
-def bundle(folder, name, words, entry):
+def bundle(folder, name, args, entry):
     """Writes the bundle's page, and returns its address."""
     out = os.path.join(folder, name)
     os.makedirs(out)
-    app = write(folder, f"{name}.js", f'{entry} import {{ runTests }} from "{HERE}/module_tests.js";'
-                                      "globalThis.tests = (...given) => runTests(entry, ...given);")
-    must(["esbuild", app, "--bundle", "--log-level=error", *words, f"--outdir={out}"], folder)
-    if '"twox_hash"' in entry and "--loader:.wasm=file" not in words:
+    app = write(
+        folder,
+        f"{name}.js",
+        f'{entry} import {{ runTests }} from "{HERE}/module_tests.js";'
+        "globalThis.tests = (...given) => runTests(entry, ...given);",
+    )
+    must(["esbuild", app, "--bundle", "--log-level=error", *args, f"--outdir={out}"], folder)
+    if '"twox_hash"' in entry and "--loader:.wasm=file" not in args:
         for module in MODULES:
             shutil.copy(os.path.join(WEB, module), out)
-    kind = "" if "--format=iife" in words else ' type="module"'
-    write(out, "index.html", f"<!doctype html><title>bundle</title><script{kind} src={name}.js></script>")
+    module_type = "" if "--format=iife" in args else ' type="module"'
+    write(out, "index.html", f"<!doctype html><title>bundle</title><script{module_type} src={name}.js></script>")
     return f"{name}/index.html"
 
 
-def tests_in_bundle(browser, address, folder, name, words, entry):
-    browser.go(address + bundle(folder, name, words, entry))
+def tests_in_bundle(browser, address, folder, name, args, entry):
+    browser.go(address + bundle(folder, name, args, entry))
     browser.wait("return typeof tests === 'function'")
-    return all_right(browser.run("""return tests(await (await fetch("/oracle/vectors.txt")).text(), arguments[0]);""", long_digests()))
+    return all_right(
+        browser.run(
+            """return tests(await (await fetch("/oracle/vectors.txt")).text(), arguments[0]);""", long_digests()
+        )
+    )
 
 
 # A page with no bundle, whose script imports the files of this folder.
@@ -276,19 +374,33 @@ def tests_in_page(browser, address, folder):
     write(folder, "tests.html", TESTS_PAGE)
     browser.go(address + "tests.html")
     browser.wait("return typeof tests === 'function'")
-    said = browser.run("""return tests(await (await fetch("/oracle/vectors.txt")).text(), arguments[0]);""", long_digests())
-    return f"{all_right(said['lines'])}, {'with' if said['vectors'] else 'without'} vectors"
+    result = browser.run(
+        """return tests(await (await fetch("/oracle/vectors.txt")).text(), arguments[0]);""", long_digests()
+    )
+    return f"{all_right(result['lines'])}, {'with' if result['vectors'] else 'without'} vectors"
 
 
 def tests_in_jsc(module, vectors):
     """The module's tests in the shell of WebKit's engine."""
     environment = {**os.environ, "JSC_useWasmSIMD": str(int(vectors))}
-    ran = subprocess.run([jsc(), "-m", os.path.join(HERE, "run_jsc.mjs"), "--", WEB, os.path.join(WEB, module),
-                          json.dumps(long_digests())], capture_output=True, text=True, env=environment)
-    want(ran.stdout.startswith("{"), (ran.stdout + ran.stderr)[-600:])
-    said = json.loads(ran.stdout)
-    want(said["hasVectors"] == vectors, f"vectors: {said['hasVectors']}")
-    return all_right(said["lines"])
+    ran = subprocess.run(
+        [
+            jsc(),
+            "-m",
+            os.path.join(HERE, "run_jsc.mjs"),
+            "--",
+            WEB,
+            os.path.join(WEB, module),
+            json.dumps(long_digests()),
+        ],
+        capture_output=True,
+        text=True,
+        env=environment,
+    )
+    check(ran.stdout.startswith("{"), (ran.stdout + ran.stderr)[-600:])
+    result = json.loads(ran.stdout)
+    check(result["hasVectors"] == vectors, f"vectors: {result['hasVectors']}")
+    return all_right(result["lines"])
 
 
 def jsc():
@@ -301,17 +413,25 @@ def jsc():
 def lines_read(folder):
     """The lines of checks/lines.json as the page reads them; a parser that accepts none is detected."""
     nothing = write(folder, "nothing.mjs", "export const isComment = () => false; export const readLine = () => null;")
-    script = write(folder, "lines.mjs", f'import {{ misread }} from "file://{HERE}/lines_test.mjs";'
-                                        "console.log(JSON.stringify(await misread(process.argv[2])));")
-    said, planted = (json.loads(must(["node", script, f"file://{reader}"], folder)) for reader in (f"{WEB}/lines.js", nothing))
-    want(said["count"] > 100 and not said["wrong"], json.dumps(said["wrong"][:3]))
-    want(len(planted["wrong"]) > 50, "a reader that reads nothing passes")
-    return f"{said['count']} lines"
+    script = write(
+        folder,
+        "lines.mjs",
+        f'import {{ misread }} from "file://{HERE}/lines_test.mjs";'
+        "console.log(JSON.stringify(await misread(process.argv[2])));",
+    )
+    result, planted = (
+        json.loads(must(["node", script, f"file://{reader}"], folder)) for reader in (f"{WEB}/lines.js", nothing)
+    )
+    check(result["count"] > 100 and not result["wrong"], json.dumps(result["wrong"][:3]))
+    check(len(planted["wrong"]) > 50, "a reader that reads nothing passes")
+    return f"{result['count']} lines"
 
 
 def check_in_node(checks, folder, nodes):
-    checks.attempt("the modules have their sums",
-                   lambda: must(["sha256sum", "--check", "SHA256SUMS"], WEB).strip().replace("\n", ", "))
+    checks.attempt(
+        "the modules have their sums",
+        lambda: must(["sha256sum", "--check", "SHA256SUMS"], WEB).strip().replace("\n", ", "),
+    )
     checks.attempt("Node: the page reads lines as the command does", lines_read, folder)
     for node in nodes:
         checks.attempt(f"{node}: the tests of the module and its streams", tests_of_tree, folder, node)
@@ -326,10 +446,22 @@ def check_package(checks, folder, nodes):
     checks.attempt("the package, as npm packs it, has its files and no other", packed, folder)
     xxhash = 'import xxhash from "twox_hash/xxhash-wasm";'
     for node in nodes:
-        checks.attempt(f"the package in {node}: all tests", tests_in_node, folder, node,
-                   {"entry": "twox_hash", "node": "twox_hash", "streams": "twox_hash/streams"}, xxhash)
+        checks.attempt(
+            f"the package in {node}: all tests",
+            tests_in_node,
+            folder,
+            node,
+            {"entry": "twox_hash", "node": "twox_hash", "streams": "twox_hash/streams"},
+            xxhash,
+        )
         checks.attempt(f"the package in {node}: all tests of what require gives", tests_of_commonjs, folder, node)
-        checks.attempt(f"the package in {node}: the entry with the bytes inside", tests_in_node, folder, node, {"entry": "twox_hash/inline"})
+        checks.attempt(
+            f"the package in {node}: the entry with the bytes inside",
+            tests_in_node,
+            folder,
+            node,
+            {"entry": "twox_hash/inline"},
+        )
         checks.attempt(f"the files alone in {node}, as the page says", without_a_package, node)
         checks.attempt(f"bundles for {node}, with the modules beside them", bundles_for_node, folder, node)
     checks.attempt("npm install, as the page says", installed_as_printed, folder, nodes[0])
@@ -339,11 +471,23 @@ def check_package(checks, folder, nodes):
 
 def check_in_jsc(checks):
     checks.attempt("WebKit's engine (jsc): the tests of twox_hash_simd.wasm", tests_in_jsc, MODULES[1], True)
-    checks.attempt("WebKit's engine (jsc), without vectors: the tests of twox_hash.wasm", tests_in_jsc, MODULES[0], False)
+    checks.attempt(
+        "WebKit's engine (jsc), without vectors: the tests of twox_hash.wasm", tests_in_jsc, MODULES[0], False
+    )
 
 
 def check_in_browser(checks, name, folder, browser, address):
-    checks.attempt(f"{name}: the tests of the module and its streams", tests_in_page, browser, f"{address}/bundles/", folder)
-    for number, (what, (words, entry)) in enumerate(BUNDLES.items()):
-        checks.attempt(f"{name}: the module's tests in a bundle {what}", tests_in_bundle, browser, f"{address}/bundles/", folder,
-                   f"{browser.name.lower()}{number}", words, entry)
+    checks.attempt(
+        f"{name}: the tests of the module and its streams", tests_in_page, browser, f"{address}/bundles/", folder
+    )
+    for number, (what, (args, entry)) in enumerate(BUNDLES.items()):
+        checks.attempt(
+            f"{name}: the module's tests in a bundle {what}",
+            tests_in_bundle,
+            browser,
+            f"{address}/bundles/",
+            folder,
+            f"{browser.name.lower()}{number}",
+            args,
+            entry,
+        )

@@ -13,7 +13,7 @@ const LONG = 65535;
 const KIND_OF = { 32: "xxh32", 64: "xxh64", "3-64": "xxh3_64", "3-128": "xxh3_128" };
 
 /** Returns the bytes of a test case: oracle/vectors.c defines them. */
-function drawn(start, length) {
+function generated(start, length) {
   const bytes = new Uint8Array(length);
   let x = start;
   for (let i = 0; i < length; i += 1) {
@@ -30,7 +30,7 @@ class Row {
     this.line = line;
     this.kind = KIND_OF[hash];
     this.seed = seed === "-" ? undefined : BigInt(`0x${seed}`);
-    this.secretDrawn = secret === "-" ? undefined : secret.split(":");
+    this.secretRange = secret === "-" ? undefined : secret.split(":");
     this.length = Number(length);
     this.start = BigInt(`0x${start}`);
     this.digits = answer;
@@ -39,22 +39,22 @@ class Row {
 
   /** The bytes are generated when they are needed, since there are some 20,000 test cases. */
   get input() {
-    return drawn(this.start, this.length);
+    return generated(this.start, this.length);
   }
 
   get options() {
-    const secret = this.secretDrawn && drawn(BigInt(`0x${this.secretDrawn[1]}`), Number(this.secretDrawn[0]));
+    const secret = this.secretRange && generated(BigInt(`0x${this.secretRange[1]}`), Number(this.secretRange[0]));
     return { ...(this.seed === undefined ? {} : { seed: this.seed }), ...(secret ? { secret } : {}) };
   }
 }
 
-export function rowsOf(table) {
+export function vectorsOf(table) {
   return table.split("\n").filter((line) => line && !line.startsWith("#")).map((line) => new Row(line));
 }
 
 /** The test cases that are used. */
 function chosen(table) {
-  return rowsOf(table).filter(({ length }, i) => i % STRIDE === 0 || length >= LONG);
+  return vectorsOf(table).filter(({ length }, i) => i % STRIDE === 0 || length >= LONG);
 }
 
 /** The processor time, if the engine has it, so that other programs have little effect. */
@@ -126,11 +126,11 @@ function withBit(saved, at, bit) {
   return other;
 }
 
-function rowIsRight(row) {
-  const { input, length } = row;
-  const ways = [oneshot(row), inPieces(row, input, []), inPieces(row, input, [Math.floor(length / 3), Math.floor(length / 2)])];
-  if (length <= 600) ways.push(inPieces(row, input, [...input.keys()]));
-  return ways.every((value) => value === row.answer);
+function vectorIsRight(vector) {
+  const { input, length } = vector;
+  const ways = [oneshot(vector), inPieces(vector, input, []), inPieces(vector, input, [Math.floor(length / 3), Math.floor(length / 2)])];
+  if (length <= 600) ways.push(inPieces(vector, input, [...input.keys()]));
+  return ways.every((value) => value === vector.answer);
 }
 
 /** The error's code, if the call throws one of ours. */
@@ -199,7 +199,7 @@ function liars() {
   return [own, ...[Short, Long, Elsewhere].map((kind) => kind.from(new TextEncoder().encode("some bytes")))];
 }
 
-/** Calls that are refused, and the code; for some also words of the message. */
+/** Calls that are refused, and the code; for some also a part of the message. */
 const REFUSED = [
   ["input", () => twox.xxh64(7)],
   ["input", () => twox.xxh64(undefined)],
@@ -313,10 +313,10 @@ const FORGED = [
 ];
 
 const TESTS = {
-  "the chosen rows of the reference library, at once and in pieces": (table) => {
-    const rows = chosen(table);
-    const wrong = rows.filter((row) => !rowIsRight(row));
-    return { ok: rows.length > 500 && wrong.length === 0, words: wrong[0]?.line ?? `${rows.length} rows` };
+  "the chosen vectors of the reference library, at once and in pieces": (table) => {
+    const vectors = chosen(table);
+    const wrong = vectors.filter((vector) => !vectorIsRight(vector));
+    return { ok: vectors.length > 500 && wrong.length === 0, message: wrong[0]?.line ?? `${vectors.length} vectors` };
   },
   "1,000,003 bytes, which are carried in chunks, at once and in pieces": (table, digests) => {
     const input = many();
@@ -324,18 +324,18 @@ const TESTS = {
       const values = [BigInt(twox[kind](input)), inPieces({ kind, options: {} }, input, [400_000]), inPieces({ kind, options: {} }, input, [7])];
       return values.some((value) => value !== BigInt(`0x${digests[kind]}`));
     });
-    return { ok: wrong.length === 0, words: wrong.join(" ") };
+    return { ok: wrong.length === 0, message: wrong.join(" ") };
   },
   "toHex gives all digits, zeros in front among them": (table) => {
-    const rows = rowsOf(table).filter(({ digits, length }) => digits.startsWith("0") && length < 2000);
-    const wrong = rows.filter((row) => twox.toHex(oneshot(row), row.kind) !== row.digits);
-    const kinds = new Set(rows.map(({ kind }) => kind));
-    return { ok: kinds.size === 4 && wrong.length === 0, words: wrong[0]?.line ?? `${rows.length} rows` };
+    const vectors = vectorsOf(table).filter(({ digits, length }) => digits.startsWith("0") && length < 2000);
+    const wrong = vectors.filter((vector) => twox.toHex(oneshot(vector), vector.kind) !== vector.digits);
+    const kinds = new Set(vectors.map(({ kind }) => kind));
+    return { ok: kinds.size === 4 && wrong.length === 0, message: wrong[0]?.line ?? `${vectors.length} vectors` };
   },
   "text is taken as UTF-8, at once and by a stream": () => {
     const wrong = TEXTS.filter((text) => !textIsRight(text));
     const known = twox.toHex(twox.xxh64("some bytes", 1234), "xxh64") === "eab55659a496d78b";
-    return { ok: known && wrong.length === 0, words: wrong.length ? JSON.stringify(wrong[0].slice(0, 20)) : `${TEXTS.length} texts` };
+    return { ok: known && wrong.length === 0, message: wrong.length ? JSON.stringify(wrong[0].slice(0, 20)) : `${TEXTS.length} texts` };
   },
   "a secret may be text": () => {
     const secret = "\u00e9".repeat(68);
@@ -344,41 +344,41 @@ const TESTS = {
   },
   "XXH32 answers a number, and the others a bigint": () => {
     const types = twox.KINDS.flatMap((kind) => [typeof twox[kind](BYTES), typeof new twox.Stream(kind).digest()]);
-    return { ok: types.join(" ") === "number number bigint bigint bigint bigint bigint bigint", words: types.join(" ") };
+    return { ok: types.join(" ") === "number number bigint bigint bigint bigint bigint bigint", message: types.join(" ") };
   },
   "toBytes gives the bytes of the digits": (table) => {
-    const rows = chosen(table).filter(({ length }) => length < 2000);
-    const digits = (row) => [...twox.toBytes(oneshot(row), row.kind)].map((byte) => byte.toString(16).padStart(2, "0")).join("");
-    const wrong = rows.filter((row) => digits(row) !== row.digits);
-    return { ok: rows.length > 400 && wrong.length === 0, words: wrong[0]?.line ?? `${rows.length} rows` };
+    const vectors = chosen(table).filter(({ length }) => length < 2000);
+    const digits = (vector) => [...twox.toBytes(oneshot(vector), vector.kind)].map((byte) => byte.toString(16).padStart(2, "0")).join("");
+    const wrong = vectors.filter((vector) => digits(vector) !== vector.digits);
+    return { ok: vectors.length > 400 && wrong.length === 0, message: wrong[0]?.line ?? `${vectors.length} vectors` };
   },
   "a copy of a stream goes on by itself": (table) => {
-    const rows = chosen(table).filter(({ length }) => length > 1);
-    const wrong = rows.filter((row) => {
-      const [input, half] = [row.input, row.length >> 1];
-      const stream = new twox.Stream(row.kind, row.options).update(input.subarray(0, half));
+    const vectors = chosen(table).filter(({ length }) => length > 1);
+    const wrong = vectors.filter((vector) => {
+      const [input, half] = [vector.input, vector.length >> 1];
+      const stream = new twox.Stream(vector.kind, vector.options).update(input.subarray(0, half));
       const other = stream.copy();
       const values = [stream.update(input.subarray(half)).digest(), other.update(input.subarray(half)).digest()];
       stream.free();
       other.free();
-      return values.some((value) => BigInt(value) !== row.answer);
+      return values.some((value) => BigInt(value) !== vector.answer);
     });
-    return { ok: rows.length > 400 && wrong.length === 0, words: wrong[0]?.line ?? `${rows.length} rows` };
+    return { ok: vectors.length > 400 && wrong.length === 0, message: wrong[0]?.line ?? `${vectors.length} vectors` };
   },
   "a stream goes on from where it was saved": (table) => {
-    const rows = chosen(table).filter(({ length }) => length > 0);
-    const wrong = rows.filter((row) => {
-      const { input, length } = row;
+    const vectors = chosen(table).filter(({ length }) => length > 0);
+    const wrong = vectors.filter((vector) => {
+      const { input, length } = vector;
       const cuts = [[], [Math.floor(length / 3), Math.floor(length / 2)], length <= 300 ? [...input.keys()] : [257, 512, 520]];
-      return !cuts.every((ends) => savedBetween(row, input, ends) === row.answer);
+      return !cuts.every((ends) => savedBetween(vector, input, ends) === vector.answer);
     });
-    return { ok: rows.length > 500 && wrong.length === 0, words: wrong[0]?.line ?? `${rows.length} rows` };
+    return { ok: vectors.length > 500 && wrong.length === 0, message: wrong[0]?.line ?? `${vectors.length} vectors` };
   },
   "a state that was saved stays as it is, and gives itself again": () => {
     const states = twox.KINDS.flatMap((kind) => [0, 3, 100, 600, 2000].map((length) => stateOf(kind, length, { seed: 7 })));
     const wrong = states.filter((saved) => String(twox.Stream.load(saved).save()) !== String(saved));
     const inside = Uint8Array.of(1, ...states[0], 2).subarray(1, -1);
-    return { ok: wrong.length === 0 && twox.Stream.load(inside).kind === "xxh32", words: `${states.length} states` };
+    return { ok: wrong.length === 0 && twox.Stream.load(inside).kind === "xxh32", message: `${states.length} states` };
   },
   "a saved stream of XXH3 has its last stripe before the number of stripes": () => {
     const input = many().subarray(0, 520);
@@ -386,36 +386,36 @@ const TESTS = {
     const saved = stream.save();
     const stripes = new DataView(saved.buffer).getBigUint64(HEAD + 152, true);
     const isThere = String(saved.subarray(HEAD + 88, HEAD + 152)) === String(input.subarray(448, 512));
-    return { ok: saved.length === 720 && isThere && stripes === 8n, words: `${saved.length} bytes, ${stripes} stripes` };
+    return { ok: saved.length === 720 && isThere && stripes === 8n, message: `${saved.length} bytes, ${stripes} stripes` };
   },
   "the last stripe in a saved stream with more bytes buffered has no meaning": () => {
     const saved = forged(stateOf("xxh3_64", 520), HEAD + 88, ...new Array(64).fill(0xaa));
     const values = [64, 1000].map((more) => twox.Stream.load(saved).update(new Uint8Array(more)).digest() === twox.xxh3_64(new Uint8Array(520 + more)));
-    return { ok: values.every(Boolean), words: String(values) };
+    return { ok: values.every(Boolean), message: String(values) };
   },
   "a state with any bit changed is refused": () => {
     const states = twox.KINDS.map((kind) => stateOf(kind, 100));
     const flipped = states.flatMap((saved) => [...saved.keys()].map((i) => withBit(saved, i, i % 8)));
     const wrong = flipped.filter((saved) => codeOf(() => twox.Stream.load(saved)) !== "state");
-    return { ok: flipped.length > 1000 && wrong.length === 0, words: `${flipped.length} states` };
+    return { ok: flipped.length > 1000 && wrong.length === 0, message: `${flipped.length} states` };
   },
   "forged states are refused, by their code": () => {
     const wrong = FORGED.filter(([, kind, length, at, ...bytes]) => {
       const saved = stateOf(kind, length, { seed: 7 });
       return codeOf(() => twox.Stream.load(forged(saved, at, ...bytes))) !== "state";
     });
-    return { ok: wrong.length === 0, words: wrong.length ? wrong[0][0] : `${FORGED.length} states` };
+    return { ok: wrong.length === 0, message: wrong.length ? wrong[0][0] : `${FORGED.length} states` };
   },
   "refused calls, by their codes": () => {
-    const wrong = REFUSED.filter(([code, call, words]) => codeOf(call) !== code || !messageOf(call).includes(words ?? ""));
-    return { ok: wrong.length === 0, words: wrong.length ? String(wrong[0]) : `${REFUSED.length} calls` };
+    const wrong = REFUSED.filter(([code, call, text]) => codeOf(call) !== code || !messageOf(call).includes(text ?? ""));
+    return { ok: wrong.length === 0, message: wrong.length ? String(wrong[0]) : `${REFUSED.length} calls` };
   },
   "a freed stream is refused": () => {
     const stream = new twox.Stream("xxh3_64");
     stream.free();
     const calls = [() => stream.update(BYTES), () => stream.update(new Uint8Array(0)), () => stream.digest(), () => stream.save()];
     const codes = calls.map(codeOf);
-    return { ok: codes.every((code) => code === "freed"), words: codes.join(" ") };
+    return { ok: codes.every((code) => code === "freed"), message: codes.join(" ") };
   },
   "every kind of view and buffer": () => {
     const wide = new Uint8Array([9, ...new TextEncoder().encode("some bytes"), 9]);
@@ -444,38 +444,38 @@ const TESTS = {
       times.push(Math.ceil(milliseconds() - start));
     }
     const isLevel = times[3] < 10 * Math.min(...times);
-    return { ok: isLevel && value === twox.xxh3_64(BYTES), words: times.map((time) => `${time} ms`).join(", ") };
+    return { ok: isLevel && value === twox.xxh3_64(BYTES), message: times.map((time) => `${time} ms`).join(", ") };
   },
   "a stream of XXH3 answers both widths, and goes on afterwards": (table) => {
-    const row = rowsOf(table).find(({ kind, length, secretDrawn }) => kind === "xxh3_128" && length > 1000 && secretDrawn);
-    const stream = new twox.Stream("xxh3_64", row.options);
-    const { input } = row;
+    const vector = vectorsOf(table).find(({ kind, length, secretRange }) => kind === "xxh3_128" && length > 1000 && secretRange);
+    const stream = new twox.Stream("xxh3_64", vector.options);
+    const { input } = vector;
     stream.update(input.subarray(0, 700)).digest("xxh3_128");
     stream.update(input.subarray(700));
-    const low = BigInt.asUintN(64, row.answer);
-    return { ok: stream.digest("xxh3_128") === row.answer && stream.digest() === low };
+    const low = BigInt.asUintN(64, vector.answer);
+    return { ok: stream.digest("xxh3_128") === vector.answer && stream.digest() === low };
   },
   "many streams side by side, in memory that grows and is used again": (table) => {
-    const rows = chosen(table).filter(({ kind }) => kind === "xxh3_128").slice(0, 60);
-    const streams = rows.flatMap((row) => Array.from({ length: 30 }, () => ({ row, stream: new twox.Stream(row.kind, row.options) })));
-    for (const { row, stream } of streams) stream.update(row.input);
-    const ok = streams.every(({ row, stream }) => stream.digest() === row.answer);
+    const vectors = chosen(table).filter(({ kind }) => kind === "xxh3_128").slice(0, 60);
+    const streams = vectors.flatMap((vector) => Array.from({ length: 30 }, () => ({ vector, stream: new twox.Stream(vector.kind, vector.options) })));
+    for (const { vector, stream } of streams) stream.update(vector.input);
+    const ok = streams.every(({ vector, stream }) => stream.digest() === vector.answer);
     for (const { stream } of streams) stream.free();
-    return { ok: ok && rows.every(rowIsRight), words: `${streams.length} streams` };
+    return { ok: ok && vectors.every(vectorIsRight), message: `${streams.length} streams` };
   },
   "more streams than lie in the memory, with their copies, in turn": (table) => {
-    const rows = chosen(table).filter(({ length }) => length > 300 && length < 3000).slice(0, 300);
-    const parts = (row) => [row.input.subarray(0, 250), row.input.subarray(250, 260), row.input.subarray(260)];
-    const streams = rows.map((row) => ({ row, all: [new twox.Stream(row.kind, row.options)] }));
+    const vectors = chosen(table).filter(({ length }) => length > 300 && length < 3000).slice(0, 300);
+    const parts = (vector) => [vector.input.subarray(0, 250), vector.input.subarray(250, 260), vector.input.subarray(260)];
+    const streams = vectors.map((vector) => ({ vector, all: [new twox.Stream(vector.kind, vector.options)] }));
     for (let part = 0; part < 3; part += 1) {
-      for (const { row, all } of streams) {
-        for (const stream of all) stream.update(parts(row)[part]);
+      for (const { vector, all } of streams) {
+        for (const stream of all) stream.update(parts(vector)[part]);
         all.push(all[0].copy());
       }
     }
-    const wrong = streams.filter(({ row, all }) => all.some((stream) => BigInt(stream.digest()) !== row.answer
-      || BigInt(twox.Stream.load(stream.save(), row.options.secret ? { secret: row.options.secret } : {}).digest()) !== row.answer));
-    return { ok: rows.length > 200 && wrong.length === 0, words: wrong[0]?.row.line ?? `${rows.length} rows` };
+    const wrong = streams.filter(({ vector, all }) => all.some((stream) => BigInt(stream.digest()) !== vector.answer
+      || BigInt(twox.Stream.load(stream.save(), vector.options.secret ? { secret: vector.options.secret } : {}).digest()) !== vector.answer));
+    return { ok: vectors.length > 200 && wrong.length === 0, message: wrong[0]?.vector.line ?? `${vectors.length} vectors` };
   },
   "a copy, however many streams came between": () => {
     const wrong = twox.KINDS.flatMap((kind) => Array.from({ length: 140 }, (_, count) => {
@@ -484,7 +484,7 @@ const TESTS = {
       const values = [stream.copy(), stream].map((it) => it.update(" bytes").digest());
       return values.every((value) => value === new twox.Stream(kind, { seed: 7 }).update("some bytes").digest()) ? [] : [`${kind} ${count}`];
     }).flat());
-    return { ok: wrong.length === 0, words: wrong.join(", ") };
+    return { ok: wrong.length === 0, message: wrong.join(", ") };
   },
   "long secrets of several streams in turn": (table) => {
     const secrets = [1, 2, 3].map((byte) => new Uint8Array(1000 * byte).fill(byte));
@@ -496,17 +496,17 @@ const TESTS = {
     return { ok: streams.every((stream, i) => stream.digest() === values[i] && stream.copy().digest() === values[i]) };
   },
   "a secret larger than the memory at first": (table) => {
-    const row = rowsOf(table).find(({ kind, length, seed, secretDrawn }) => kind === "xxh3_64" && length <= 240 && seed && secretDrawn);
+    const vector = vectorsOf(table).find(({ kind, length, seed, secretRange }) => kind === "xxh3_64" && length <= 240 && seed && secretRange);
     const secret = new Uint8Array(40_000_000);
-    secret.set(row.options.secret);
+    secret.set(vector.options.secret);
     // Up to 240 bytes the seed is used and the secret isn't, so the test case's value is the same.
-    return { ok: twox.xxh3_64(row.input, { seed: row.options.seed, secret }) === row.answer };
+    return { ok: twox.xxh3_64(vector.input, { seed: vector.options.seed, secret }) === vector.answer };
   },
   "updateAll hands several streams the same bytes": (table) => {
-    const row = rowsOf(table).find(({ kind, length }) => kind === "xxh64" && length > 1000);
-    const streams = [new twox.Stream("xxh64", row.options), new twox.Stream("xxh64", row.options)];
-    twox.updateAll(streams, row.input);
-    return { ok: streams.every((stream) => BigInt(stream.digest()) === row.answer) };
+    const vector = vectorsOf(table).find(({ kind, length }) => kind === "xxh64" && length > 1000);
+    const streams = [new twox.Stream("xxh64", vector.options), new twox.Stream("xxh64", vector.options)];
+    twox.updateAll(streams, vector.input);
+    return { ok: streams.every((stream) => BigInt(stream.digest()) === vector.answer) };
   },
   "updateAll looks at the piece once it has the streams": () => {
     const codes = [100, 200_000].map((length) => {
@@ -514,7 +514,7 @@ const TESTS = {
       const detaching = { * [Symbol.iterator]() { detached(piece); yield stream; } };
       return codeOf(() => twox.updateAll(detaching, piece));
     });
-    return { ok: codes.every((code) => code === "input") && shrinksInTime(), words: codes.join(" ") };
+    return { ok: codes.every((code) => code === "input") && shrinksInTime(), message: codes.join(" ") };
   },
   "options that take the input away": () => {
     const input = new Uint8Array(10);
@@ -524,7 +524,7 @@ const TESTS = {
     const [stream, freed] = [new twox.Stream("xxh64").update("some"), new twox.Stream("xxh64")];
     freed.free();
     const code = codeOf(() => twox.updateAll([stream, freed], " more"));
-    return { ok: code === "freed" && stream.digest() === twox.xxh64("some"), words: code };
+    return { ok: code === "freed" && stream.digest() === twox.xxh64("some"), message: code };
   },
 };
 
@@ -536,7 +536,7 @@ export async function runTests(entry, table, digests) {
   twox = entry;
   const early = codeOf(() => twox.KINDS.map((kind) => new twox.Stream(kind)));
   await twox.load();
-  const first = { name: "calls before load() are refused", ok: early === "not-loaded" && twox.isSupported(), words: early };
+  const first = { name: "calls before load() are refused", ok: early === "not-loaded" && twox.isSupported(), message: early };
   return [first, ...Object.entries(TESTS).map(([name, test]) => run(name, test, table, digests))];
 }
 
@@ -544,6 +544,6 @@ function run(name, test, table, digests) {
   try {
     return { name, ...test(table, digests) };
   } catch (error) {
-    return { name, ok: false, words: String(error.stack ?? error) };
+    return { name, ok: false, message: String(error.stack ?? error) };
   }
 }

@@ -85,8 +85,8 @@ const CASES = {
     [TEXT], [TEXT, "utf8"], [TEXT, "UTF-8"], [TEXT, "ascii"], [BYTES.toString("hex"), "hex"], [BYTES.toString("base64"), "base64"],
     [BYTES.toString("base64url"), "base64url"], [BYTES], [BYTES, "hex"], [new Uint8Array(BYTES)], [new DataView(new Uint8Array(BYTES).buffer)],
     [new Uint16Array([1, 258])], [TEXT, "utf16le"], [TEXT, "no encoding"], ["\u00e9", "latin1"],
-  ].map((words) => make().update(...words).digest("hex")),
-  "inputs of no kind": (make) => [[7], [null], [undefined], [{}], ["abc", "hex"], []].map((words) => outcome(() => make().update(...words).digest("hex"))),
+  ].map((args) => make().update(...args).digest("hex")),
+  "inputs of no kind": (make) => [[7], [null], [undefined], [{}], ["abc", "hex"], []].map((args) => outcome(() => make().update(...args).digest("hex"))),
 };
 
 /** The result of a case, with each digest replaced by the name of its input. */
@@ -110,14 +110,14 @@ const TESTS = {
     } finally {
       await rm(folder, { recursive: true });
     }
-    return { ok: wrong.length === 0, words: wrong.join("; ") || `${Object.keys(CASES).length} cases` };
+    return { ok: wrong.length === 0, message: wrong.join("; ") || `${Object.keys(CASES).length} cases` };
   },
   "buffers and views of another page": () => {
     const bytes = `[..."some bytes"].map((it) => it.charCodeAt(0))`;
     const kinds = [`Uint8Array.of(...${bytes})`, `Uint8Array.of(...${bytes}).buffer`, `new DataView(Uint8Array.of(...${bytes}).buffer)`,
       `(() => { const it = new SharedArrayBuffer(10); new Uint8Array(it).set(${bytes}); return it; })()`];
     const values = kinds.map((kind) => twox.toHex(twox.xxh64(runInNewContext(kind), 1234), "xxh64"));
-    return { ok: values.every((value) => value === "eab55659a496d78b"), words: values.join(" ") };
+    return { ok: values.every((value) => value === "eab55659a496d78b"), message: values.join(" ") };
   },
   "createHash: update and digest, as text and as bytes": (digests) => {
     const input = many();
@@ -127,12 +127,12 @@ const TESTS = {
       return hash().digest("hex") !== digests[kind] || hash().digest("base64") !== bytes.toString("base64")
         || !hash().digest().equals(bytes) || !Buffer.isBuffer(hash().digest("buffer"));
     });
-    return { ok: wrong.length === 0, words: wrong.join(" ") };
+    return { ok: wrong.length === 0, message: wrong.join(" ") };
   },
   "createHash: text, in each encoding": () => {
-    const wanted = twox.toHex(twox.xxh64("a\u00e9"), "xxh64");
+    const expected = twox.toHex(twox.xxh64("a\u00e9"), "xxh64");
     const given = [["a\u00e9"], ["a\u00e9", "utf8"], ["61c3a9", "hex"], ["YcOp", "base64"], ["a\u00c3\u00a9", "latin1"]];
-    return { ok: given.every((words) => twox.createHash("xxh64").update(...words).digest("hex") === wanted) };
+    return { ok: given.every((args) => twox.createHash("xxh64").update(...args).digest("hex") === expected) };
   },
   "createHash: a seed and a secret": () => {
     const secret = Buffer.alloc(136, 7);
@@ -161,11 +161,11 @@ const TESTS = {
     const hash = twox.createHash("xxh32");
     hash.digest();
     const codes = [() => hash.update("more"), () => hash.digest(), () => hash.copy()].map(codeOf);
-    return { ok: codes.every((code) => code === "freed"), words: codes.join(" ") };
+    return { ok: codes.every((code) => code === "freed"), message: codes.join(" ") };
   },
   "a Hash by new is refused": () => {
     const codes = [() => new twox.Hash("xxh64"), () => new twox.Hash()].map(codeOf);
-    return { ok: codes.every((code) => code === "kind"), words: codes.join(" ") };
+    return { ok: codes.every((code) => code === "kind"), message: codes.join(" ") };
   },
 };
 
@@ -186,7 +186,7 @@ export async function runNodeHashTests(entry, digests) {
     try {
       lines.push({ name, ...(await test(digests)) });
     } catch (error) {
-      lines.push({ name, ok: false, words: String(error.stack ?? error) });
+      lines.push({ name, ok: false, message: String(error.stack ?? error) });
     }
   }
   return lines;

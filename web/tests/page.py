@@ -1,20 +1,18 @@
 """The page in a browser, served from the working tree, with files of the check's own."""
 import os
-import sys
 import threading
 
-from module_checks import WEB
-from report import want
-from tools import bytes_of
+from web.tests.module_checks import WEB
+from checks.lib.report import check
+from checks.lib.tools import bytes_of
 
-sys.path.append(WEB)
-import serve
+from web import serve
 
 # The content of a card of the list: its state, its texts and its digests.
 CARD = """const item = [...document.querySelectorAll(".card")].find((it) => it.querySelector(".name").textContent === arguments[0]);
 if (!item) return null;
 const rows = [...item.querySelectorAll(".digest")];
-return { words: item.querySelector(".state").textContent, failed: item.classList.contains("failed"),
+return { message: item.querySelector(".state").textContent, failed: item.classList.contains("failed"),
   button: item.querySelector(".act").hidden ? "" : item.querySelector(".act").textContent,
   isRunning: !item.querySelector("progress").hidden,
   digests: Object.fromEntries(rows.map((row) => [row.dataset.kind, row.querySelector("code").textContent])) };"""
@@ -36,7 +34,7 @@ class Requests(serve.Handler):
         if self.path == Requests.withheld:
             self.send_error(404)
         elif self.path == Requests.changed[0]:
-            self.send_file(os.path.join(WEB, "words.js"), Requests.changed[1] + b"\n")
+            self.send_file(os.path.join(WEB, "text.js"), Requests.changed[1] + b"\n")
         elif self.path == "/web/worker.js" and Requests.before_worker:
             self.send_file(os.path.join(WEB, "worker.js"), Requests.before_worker)
         elif name != self.path:
@@ -73,17 +71,19 @@ class Served:
 class Page:
     """The page in a browser, with files of its own."""
 
-    def __init__(self, browser, address, room):
-        self.browser, self.address, self.room = browser, address, room
+    def __init__(self, browser, address, workdir):
+        self.browser, self.address, self.workdir = browser, address, workdir
 
     def open(self):
         self.browser.go("about:blank")
         self.browser.go(self.address)
-        self.browser.wait("return document.documentElement.hasAttribute('data-ready') || !document.getElementById('unsupported').hidden")
+        self.browser.wait(
+            "return document.documentElement.hasAttribute('data-ready') || !document.getElementById('unsupported').hidden"
+        )
 
     def file(self, name, content=b"", length=None):
         """Makes a file. With a length it is that long, and zeros after the content take no space."""
-        path = os.path.join(self.room, name)
+        path = os.path.join(self.workdir, name)
         with open(path, "wb") as file:
             file.write(content)
             if length is not None:
@@ -104,25 +104,35 @@ class Page:
 
     def wait_for(self, name, test, seconds=60):
         """The card once `test`, a script over `card`, is true for it."""
-        return self.browser.wait(f"const card = (() => {{ {CARD} }})(); return card && ({test}) ? card : null;", name, seconds=seconds)
+        return self.browser.wait(
+            f"const card = (() => {{ {CARD} }})(); return card && ({test}) ? card : null;", name, seconds=seconds
+        )
 
     def digests(self, name, seconds=120):
         card = self.wait_for(name, "!card.isRunning && (card.failed || 'xxh64' in card.digests)", seconds)
-        want(not card["failed"], card["words"])
-        self.browser.run("""const item = [...document.querySelectorAll(".card")].find((it) => it.querySelector(".name").textContent === arguments[0]);
+        check(not card["failed"], card["message"])
+        self.browser.run(
+            """const item = [...document.querySelectorAll(".card")].find((it) => it.querySelector(".name").textContent === arguments[0]);
             const more = item.querySelector(".more");
-            if (!more.hidden && more.ariaExpanded === "false") more.click();""", name)
+            if (!more.hidden && more.ariaExpanded === "false") more.click();""",
+            name,
+        )
         return self.card(name)["digests"]
 
     def text_of(self, selector):
         return self.browser.run("return document.querySelector(arguments[0]).textContent", selector)
 
     def set_field(self, field, text):
-        self.browser.run("""const it = document.getElementById(arguments[0]); it.value = arguments[1];
-            it.dispatchEvent(new Event("input", { bubbles: true }));""", field, text)
+        self.browser.run(
+            """const it = document.getElementById(arguments[0]); it.value = arguments[1];
+            it.dispatchEvent(new Event("input", { bubbles: true }));""",
+            field,
+            text,
+        )
 
     def error_of(self, field):
-        return self.browser.run("return [document.getElementById(arguments[0] + '-error').textContent,"
-                                "document.getElementById(arguments[0]).getAttribute('aria-invalid')]", field)
-
-
+        return self.browser.run(
+            "return [document.getElementById(arguments[0] + '-error').textContent,"
+            "document.getElementById(arguments[0]).getAttribute('aria-invalid')]",
+            field,
+        )

@@ -12,11 +12,11 @@ const UNUSED_BYTES = (1024 - 64) * 1024;
 const MARK = 0xa5;
 const instances = [];
 const { instantiate } = WebAssembly;
-WebAssembly.instantiate = async (...words) => {
-  const made = await instantiate(...words);
-  instances.push(made.instance ?? made);
+WebAssembly.instantiate = async (...args) => {
+  const instance = await instantiate(...args);
+  instances.push(instance.instance ?? instance);
   new Uint8Array(instances.at(-1).exports.memory.buffer, 0, UNUSED_BYTES).fill(MARK);
-  return made;
+  return instance;
 };
 
 function stackIsShort() {
@@ -41,7 +41,7 @@ function memoryIsLevel({ Stream, KINDS }) {
   const [before, heap] = [sizes(), process.memoryUsage().rss];
   for (let i = 0; i < 200_000; i += 1) new Stream(KINDS[i % 4]).update("some bytes").digest();
   const grown = Math.round((process.memoryUsage().rss - heap) / 1e6);
-  return { name: "200,000 streams that are never freed, in level memory", ok: sizes() === before && grown < 200, words: `${before}, ${sizes()}; ${grown} MB more of the engine's` };
+  return { name: "200,000 streams that are never freed, in level memory", ok: sizes() === before && grown < 200, message: `${before}, ${sizes()}; ${grown} MB more of the engine's` };
 }
 
 const readTable = () => readFile(new URL("../../oracle/vectors.txt", import.meta.url), "utf8");

@@ -31,35 +31,35 @@ async function collected(readable) {
 const TESTS = {
   "a blob is hashed by one call, with its progress": async (digests) => {
     const blob = new Blob([many()]);
-    const told = [];
-    const values = await Promise.all(twox.KINDS.map((kind) => streams.hashBlob(kind, blob, { progress: (...it) => told.push(it) })));
+    const reports = [];
+    const values = await Promise.all(twox.KINDS.map((kind) => streams.hashBlob(kind, blob, { progress: (...it) => reports.push(it) })));
     const wrong = twox.KINDS.filter((kind, i) => BigInt(values[i]) !== valueOf(digests[kind]));
-    const isTold = told.length === 4 && told.every(([done, size]) => done === blob.size && size === blob.size);
-    return { ok: wrong.length === 0 && isTold, words: wrong.join(" ") };
+    const isReported = reports.length === 4 && reports.every(([done, size]) => done === blob.size && size === blob.size);
+    return { ok: wrong.length === 0 && isReported, message: wrong.join(" ") };
   },
   "a blob in many pieces, with a seed": async () => {
     const part = many();
     const blob = new Blob(Array.from({ length: 20 }, () => part));
     const stream = new twox.Stream("xxh64", { seed: 7 });
     for (let i = 0; i < 20; i += 1) stream.update(part);
-    const told = [];
-    const value = await streams.hashBlob("xxh64", blob, { seed: 7, progress: (done) => told.push(done) });
-    return { ok: value === stream.digest() && told.length === 3 && told.at(-1) === blob.size, words: `${told.length} pieces` };
+    const reports = [];
+    const value = await streams.hashBlob("xxh64", blob, { seed: 7, progress: (done) => reports.push(done) });
+    return { ok: value === stream.digest() && reports.length === 3 && reports.at(-1) === blob.size, message: `${reports.length} pieces` };
   },
   "an empty blob": async () => ({ ok: await streams.hashBlob("xxh64", new Blob([])) === twox.xxh64("") }),
   "a signal stops it, before and between two pieces": async () => {
     const blob = new Blob(Array.from({ length: 20 }, many));
     const before = await errorOf(streams.hashBlob("xxh64", blob, { signal: AbortSignal.abort() }));
     const stop = new AbortController();
-    const told = [];
-    const progress = (done) => told.push(done) && stop.abort("enough");
+    const reports = [];
+    const progress = (done) => reports.push(done) && stop.abort("enough");
     const between = await errorOf(streams.hashBlob("xxh64", blob, { signal: stop.signal, progress }));
-    return { ok: before.name === "AbortError" && between === "enough" && told.length === 1, words: `${before.name} ${between}` };
+    return { ok: before.name === "AbortError" && between === "enough" && reports.length === 1, message: `${before.name} ${between}` };
   },
   "wrong options are refused": async () => {
     const refused = [["kind", "xxh128", {}], ["seed", "xxh64", { seed: -1 }], ["options", "xxh64", { sead: 1 }], ["secret", "xxh64", { secret: "s" }]];
     const codes = await Promise.all(refused.map(async ([, kind, options]) => (await errorOf(streams.hashBlob(kind, new Blob([]), options))).code));
-    return { ok: codes.every((code, i) => code === refused[i][0]), words: codes.join(" ") };
+    return { ok: codes.every((code, i) => code === refused[i][0]), message: codes.join(" ") };
   },
   "a blob in many pieces, for streams that are listed once": async () => {
     const part = many();
@@ -70,7 +70,7 @@ const TESTS = {
   },
   "a blob of another size than was said": async () => {
     const error = await errorOf(streams.takeBlob([], new Blob(["four"]), { size: 5 }));
-    return { ok: error.name === "NotReadableError", words: error.name };
+    return { ok: error.name === "NotReadableError", message: error.name };
   },
   "a stream that passes on what it hashes": async (digests) => {
     const input = many();
@@ -81,7 +81,7 @@ const TESTS = {
       const isPassed = passed.length === input.length && passed.every((byte, i) => byte === input[i]);
       if (!isPassed || BigInt(hashing.digest()) !== valueOf(digests[kind])) wrong.push(kind);
     }
-    return { ok: wrong.length === 0, words: wrong.join(" ") };
+    return { ok: wrong.length === 0, message: wrong.join(" ") };
   },
 };
 
@@ -99,6 +99,6 @@ async function run(name, test, digests) {
   try {
     return { name, ...(await test(digests)) };
   } catch (error) {
-    return { name, ok: false, words: String(error.stack ?? error) };
+    return { name, ok: false, message: String(error.stack ?? error) };
   }
 }

@@ -1,18 +1,18 @@
 /** The tests of the entry with the names of xxhash-wasm, on test cases of the reference library. */
-import { milliseconds, rowsOf } from "./module_tests.js";
+import { milliseconds, vectorsOf } from "./module_tests.js";
 
 const STRIDE = 20;
 
 /** True if every call returns the test case's value, for bytes and, if the bytes are text, for text. */
-function isRight(calls, row) {
-  const bits = row.kind === "xxh32" ? 32 : 64;
-  const seed = bits === 32 ? Number(row.seed) : row.seed;
+function isRight(calls, vector) {
+  const bits = vector.kind === "xxh32" ? 32 : 64;
+  const seed = bits === 32 ? Number(vector.seed) : vector.seed;
   const [raw, digits, create, load] = [`h${bits}Raw`, `h${bits}ToString`, `create${bits}`, `load${bits}`].map((name) => calls[name]);
-  const { input } = row;
-  const stream = create(seed).update(input.subarray(0, row.length >> 1));
-  const values = [raw(input, seed), stream.update(input.subarray(row.length >> 1)).digest(), load(stream.save()).digest()];
+  const { input } = vector;
+  const stream = create(seed).update(input.subarray(0, vector.length >> 1));
+  const values = [raw(input, seed), stream.update(input.subarray(vector.length >> 1)).digest(), load(stream.save()).digest()];
   const types = values.every((value) => typeof value === (bits === 32 ? "number" : "bigint"));
-  return types && values.every((value) => BigInt(value) === row.answer) && digits(input, seed) === row.digits;
+  return types && values.every((value) => BigInt(value) === vector.answer) && digits(input, seed) === vector.digits;
 }
 
 function timeOf(call) {
@@ -24,8 +24,8 @@ function timeOf(call) {
 /** The calls, with the table's text: one line of output each. */
 export async function runXxhashWasmTests(xxhash, table) {
   const calls = await xxhash();
-  const rows = rowsOf(table).filter(({ kind, seed, length }, i) => i % STRIDE === 0 && length < 5000 && seed !== undefined && (kind === "xxh32" || kind === "xxh64"));
-  const wrong = rows.filter((row) => !isRight(calls, row));
+  const vectors = vectorsOf(table).filter(({ kind, seed, length }, i) => i % STRIDE === 0 && length < 5000 && seed !== undefined && (kind === "xxh32" || kind === "xxh64"));
+  const wrong = vectors.filter((vector) => !isRight(calls, vector));
   const text = "a\u00e9\u20ac";
   const bytes = new TextEncoder().encode(text);
   const known = [
@@ -37,8 +37,8 @@ export async function runXxhashWasmTests(xxhash, table) {
     for (let i = 0; i < 100_000; i += 1) calls.create64().update(bytes).digest();
   }));
   return [
-    { name: "xxhash-wasm's names: 400,000 streams, which nothing frees, take level time", ok: times[3] < 10 * Math.min(...times), words: `${times.join(", ")} ms` },
-    { name: "xxhash-wasm's names: rows of the reference library", ok: rows.length > 100 && wrong.length === 0, words: wrong[0]?.line ?? `${rows.length} rows` },
-    { name: "xxhash-wasm's names: text, seeds and digits", ok: known.every(Boolean), words: known.join(" ") },
+    { name: "xxhash-wasm's names: 400,000 streams, which nothing frees, take level time", ok: times[3] < 10 * Math.min(...times), message: `${times.join(", ")} ms` },
+    { name: "xxhash-wasm's names: vectors of the reference library", ok: vectors.length > 100 && wrong.length === 0, message: wrong[0]?.line ?? `${vectors.length} vectors` },
+    { name: "xxhash-wasm's names: text, seeds and digits", ok: known.every(Boolean), message: known.join(" ") },
   ];
 }

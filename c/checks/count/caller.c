@@ -39,20 +39,20 @@ __attribute__((noinline)) static XXH64_hash_t nothing(const void *p, size_t n, X
 typedef XXH64_hash_t call_of_hash(const void *, size_t, XXH64_hash_t);
 typedef XXH_errorcode call_of_update(XXH3_state_t *, const void *, size_t);
 
-int main(int count, char **words)
+int main(int count, char **argv)
 {
     if (count != 5) fail("usage: caller LIBRARY CALL BYTES TIMES");
-    size_t bytes = strtoul(words[3], NULL, 10), times = strtoul(words[4], NULL, 10);
+    size_t bytes = strtoul(argv[3], NULL, 10), times = strtoul(argv[4], NULL, 10);
     if (bytes > sizeof input) fail("too many bytes");
-    if (!(library = dlopen(words[1], RTLD_NOW | RTLD_LOCAL))) fail(dlerror());
-    if (strstr(words[2], "_update")) {
+    if (!(library = dlopen(argv[1], RTLD_NOW | RTLD_LOCAL))) fail(dlerror());
+    if (strstr(argv[2], "_update")) {
         XXH3_state_t *state = ((__typeof__(&XXH3_createState))named("XXH3_createState"))();
-        call_of_update *update = (call_of_update *)named(words[2]);
+        call_of_update *update = (call_of_update *)named(argv[2]);
         ((__typeof__(&XXH3_64bits_reset))named("XXH3_64bits_reset"))(state);
         while (times--) update(state, input, bytes);
         return 0;
     }
-    call_of_hash *hash = strcmp(words[2], "nothing") ? (call_of_hash *)named(words[2]) : nothing;
+    call_of_hash *hash = strcmp(argv[2], "nothing") ? (call_of_hash *)named(argv[2]) : nothing;
     while (times--) hash(input, bytes, 1234);
     return 0;
 }

@@ -37,9 +37,9 @@ static void ended(uint64_t plugin, void *data)
     qemu_plugin_outs(text);
 }
 
-int qemu_plugin_install(uint64_t plugin, const void *information, int count, char **words)
+int qemu_plugin_install(uint64_t plugin, const void *information, int count, char **argv)
 {
-    (void)information, (void)count, (void)words;
+    (void)information, (void)count, (void)argv;
     qemu_plugin_register_vcpu_tb_trans_cb(plugin, translated);
     qemu_plugin_register_atexit_cb(plugin, ended, NULL);
     return 0;

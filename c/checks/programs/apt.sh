@@ -1,5 +1,5 @@
-# A repository of made-up packages, and apt with a root of its own: its cache is keyed and checked by XXH3. Where apt knows
-# lz4 its lists are kept so.
+# A repository of made-up packages, and apt with a root of its own: its cache is keyed and checked by XXH3. Where apt
+# knows lz4 its lists are kept so.
 # Debian: 12 13
 # packages: apt
 mkdir -p repository apt/lists/partial apt/cache/archives/partial

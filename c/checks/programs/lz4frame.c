@@ -13,7 +13,7 @@ int main(void)
                                                 .blockChecksumFlag = LZ4F_blockChecksumEnabled } };
     LZ4F_cctx *writer;
     LZ4F_dctx *reader;
-    size_t end, piece, room = sizeof back, taken;
+    size_t end, piece, size = sizeof back, taken;
     for (size_t i = 0; i < sizeof data; i++) data[i] = (char)(i * i >> 9 ^ i >> 3);
     if (LZ4F_isError(LZ4F_createCompressionContext(&writer, LZ4F_VERSION))) return 2;
     end = LZ4F_compressBegin(writer, frame, sizeof frame, &asked);
@@ -30,7 +30,7 @@ int main(void)
     LZ4F_freeCompressionContext(writer);
     if (LZ4F_isError(LZ4F_createDecompressionContext(&reader, LZ4F_VERSION))) return 5;
     taken = end;
-    if (LZ4F_decompress(reader, back, &room, frame, &taken, NULL) != 0 || memcmp(back, data, sizeof data)) return 6;
+    if (LZ4F_decompress(reader, back, &size, frame, &taken, NULL) != 0 || memcmp(back, data, sizeof data)) return 6;
     LZ4F_freeDecompressionContext(reader);
     return fwrite(frame, 1, end, stdout) != end;
 }

@@ -15,9 +15,9 @@ import random
 import subprocess
 import tempfile
 
-import command
-from report import Report, want
-from tools import install_packages
+from checks.lib import command
+from checks.lib.report import Report, check
+from checks.lib.tools import install_packages
 
 from . import judge, planted, scenarios, traces, worlds
 
@@ -54,21 +54,21 @@ def run(scenario, programs, world, injections=()):
     streams, opened = streams_of(scenario, world)
     with tempfile.NamedTemporaryFile() as trace:
         try:
-            words = [programs[scenario.program], *scenario.words]
-            return traces.traced(words, injections, streams, world.folder, trace.name)
+            args = [programs[scenario.program], *scenario.args]
+            return traces.traced(args, injections, streams, world.folder, trace.name)
         finally:
             for file in opened:
                 file.close()
 
 
-def chosen(tries, is_all, draw):
+def chosen(tries, is_all, rng):
     """All tries, or of each call's name and error the first and one more."""
     if is_all:
         return tries
     groups = {}
     for at, name, error in tries:
         groups.setdefault((name, error), []).append((at, name, error))
-    return [it for group in groups.values() for it in dict.fromkeys((group[0], draw.choice(group)))]
+    return [it for group in groups.values() for it in dict.fromkeys((group[0], rng.choice(group)))]
 
 
 def is_left_out(call, error, given):
@@ -78,8 +78,13 @@ def is_left_out(call, error, given):
 
 def tries_of(scenario, calls, given):
     """Each call that is to fail, by its index and name, with each error. Memory fails from the call on, if it does."""
-    return [(at, call.name, error) for at, call in enumerate(calls) if judge.is_tried(scenario, calls, at)
-            for error in judge.errors_of(call) if not is_left_out(call, error, given)]
+    return [
+        (at, call.name, error)
+        for at, call in enumerate(calls)
+        if judge.is_tried(scenario, calls, at)
+        for error in judge.errors_of(call)
+        if not is_left_out(call, error, given)
+    ]
 
 
 def injections_of(done, at, error):
@@ -89,8 +94,8 @@ def injections_of(done, at, error):
 
 
 def shown(scenario, at, name, error, fault, failed):
-    told = f'{fault}\n  found {(failed.out, failed.err, failed.status)!r}'
-    return f'{scenario.name}: call {at + 1} of `main`, {name}, {error}: {told:.{SHOWN}}'
+    detail = f'{fault}\n  found {(failed.out, failed.err, failed.status)!r}'
+    return f'{scenario.name}: call {at + 1} of `main`, {name}, {error}: {detail:.{SHOWN}}'
 
 
 def over_calls(scenario, programs, world, given):
@@ -98,7 +103,7 @@ def over_calls(scenario, programs, world, given):
     done = run(scenario, programs, world)
     right = judge.right_of(scenario, done)
     if (done.out, done.err, done.status) != judge.text(right):
-        return 1, [f'{scenario.name}: wanted {judge.text(right)!r:.{SHOWN}}, found {done[:3]!r:.{SHOWN}}']
+        return 1, [f'{scenario.name}: expected {judge.text(right)!r:.{SHOWN}}, found {done[:3]!r:.{SHOWN}}']
     if not done.calls:
         return 1, [f'{scenario.name}: no call after `main` began']
     tries = chosen(tries_of(scenario, done.calls, given), given.all, random.Random(f'{SEED} {scenario.name}'))
@@ -111,54 +116,64 @@ def over_calls(scenario, programs, world, given):
     return len(tries), faults
 
 
-def detects(title, programs, world, rows):
+def detects(title, programs, world, selected):
     """True if a planted result is detected, and the result that it replaces is not."""
     name, call, error, wrong = planted.PLANTED[title]
-    scenario = rows[name]
+    scenario = selected[name]
     done = run(scenario, programs, world)
     right = judge.right_of(scenario, done)
     at = planted.failing_call(done.calls, call, error, judge.errors_of)
     failed = run(scenario, programs, world, injections_of(done, at, error))
-    want(not judge.fault_in(scenario, right, done.calls, at, error, failed), 'the result without it is not as it has to be')
-    want(judge.fault_in(scenario, right, done.calls, at, error, wrong(failed)), 'it is not detected')
+    check(
+        not judge.fault_in(scenario, right, done.calls, at, error, failed),
+        'the result without it is not as it has to be',
+    )
+    check(judge.fault_in(scenario, right, done.calls, at, error, wrong(failed)), 'it is not detected')
 
 
 def vanishes(programs, world):
-    """A name that vanishes between the listing of its directory and its look-up is reported, as one that vanishes later,
-    and the audit goes on."""
-    words, gone = [programs['xxhsum'], '-r', '--audit', 'below', 'd'], 'd/inner'
+    """A name that vanishes between the listing of its directory and its look-up is unreadable, as one that vanishes
+    later, and the audit goes on."""
+    args, gone = [programs['xxhsum'], '-r', '--audit', 'below', 'd'], 'd/inner'
     with scenarios.input_of(scenarios.Scenario('', (), None), world) as given, tempfile.NamedTemporaryFile() as trace:
         streams = {'stdin': given, 'stdout': subprocess.PIPE, 'stderr': subprocess.PIPE}
-        done = traces.traced(words, (), streams, world.folder, trace.name)
+        done = traces.traced(args, (), streams, world.folder, trace.name)
         calls = [at for at, call in enumerate(done.calls) if call.target == gone]
-        failed = traces.traced(words, traces.vanishing(done.before, done.calls, calls), streams, world.folder, trace.name)
+        failed = traces.traced(
+            args, traces.vanishing(done.before, done.calls, calls), streams, world.folder, trace.name
+        )
     lines = done.out.decode().splitlines(keepends=True)
-    out = ''.join(lines[1:-1]) + lines[-1].replace('4 same', '3 same')
+    counts = lines[-1].replace('4 same', '3 same').replace('0 unreadable', '1 unreadable')
+    out = ''.join([*lines[1:-1], f'{gone}: unreadable\n', counts])
     err = f"Error: Could not open '{gone}': No such file or directory. \n"
-    want(lines[0] == f'{gone}: same\n' and len(calls) > 1, f'the run without it prints {lines}')
-    want((failed.out.decode(), failed.err.decode(), failed.status) == (out, err, 1), f'{failed[:3]}')
+    check(lines[0] == f'{gone}: same\n' and len(calls) > 1, f'the run without it prints {lines}')
+    check((failed.out.decode(), failed.err.decode(), failed.status) == (out, err, 1), f'{failed[:3]}')
 
 
 def main():
     parser = command.parser(__doc__, 'scenarios')
-    parser.add_argument('xxhsum')
-    parser.add_argument('xxh')
+    parser.add_argument('xxhsum', help='the program xxhsum')
+    parser.add_argument('xxh', help='the program xxh')
     parser.add_argument('--all', action='store_true', help='try each call')
     parser.add_argument('--no-memory', action='store_true', help='leave out the calls for memory')
-    parser.add_argument('--readdir', action='store_true', help="the programs list directories by the C library's `readdir`")
+    parser.add_argument(
+        '--readdir', action='store_true', help="the programs list directories by the C library's `readdir`"
+    )
     parser.add_argument('--jobs', type=int, default=2, help='how many runs at a time')
     given = parser.parse_args()
     install_packages(PACKAGES)
     programs = {'xxhsum': os.path.abspath(given.xxhsum), 'xxh': os.path.abspath(given.xxh)}
     report = Report()
-    with tempfile.TemporaryDirectory() as room, concurrent.futures.ThreadPoolExecutor(given.jobs) as pool:
-        world = worlds.World(os.path.join(room, 'files'))
-        every = [row for group in scenarios.GROUPS for row in group(world)]
-        rows = [it for it in every if given.only in it.name]
-        for row, (count, faults) in zip(rows, pool.map(lambda row: over_calls(row, programs, world, given), rows)):
+    with tempfile.TemporaryDirectory() as workdir, concurrent.futures.ThreadPoolExecutor(given.jobs) as pool:
+        world = worlds.World(os.path.join(workdir, 'files'))
+        every = [scenario for group in scenarios.GROUPS for scenario in group(world)]
+        selected = [it for it in every if given.only in it.name]
+        for scenario, (count, faults) in zip(
+            selected, pool.map(lambda scenario: over_calls(scenario, programs, world, given), selected)
+        ):
             for fault in faults:
                 print(f'FAILED  {fault}')
-            print(f'{row.name}: {count} failing calls, {len(faults)} wrong', flush=True)
+            print(f'{scenario.name}: {count} failing calls, {len(faults)} wrong', flush=True)
             report.count(count - len(faults), len(faults))
         if given.only in VANISHED:
             report.attempt(VANISHED, vanishes, programs, world)

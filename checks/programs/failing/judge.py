@@ -6,15 +6,29 @@ from .worlds import NO_MEMORY, WRITE_FAILED, Fault, Outcome
 # The errors of each call. Linux returns each of these for some file system or device.
 ERRORS = {
     **{name: ('EIO', 'EACCES', 'EMFILE', 'EINTR', 'ESTALE', 'ENXIO', 'EUCLEAN') for name in ('open', 'openat')},
-    'read': ('EIO', 'EACCES', 'EINTR', 'EAGAIN', 'EISDIR', 'ESTALE', 'EUCLEAN'), 'write': ('EIO', 'ENOSPC', 'EINTR', 'EAGAIN'),
+    'read': ('EIO', 'EACCES', 'EINTR', 'EAGAIN', 'EISDIR', 'ESTALE', 'EUCLEAN'),
+    'write': ('EIO', 'ENOSPC', 'EINTR', 'EAGAIN'),
     'getdents64': ('EIO', 'EACCES', 'EINTR', 'ENOENT', 'ESTALE', 'EUCLEAN'),
-    'close': ('EIO', 'EINTR'), 'ioctl': ('EIO',),
-    **{name: ('EIO', 'EACCES', 'EMFILE', 'ESTALE', 'EUCLEAN') for name in ('stat', 'lstat', 'statx', 'newfstatat', 'readlink', 'readlinkat')},
+    'close': ('EIO', 'EINTR'),
+    'ioctl': ('EIO',),
+    **{
+        name: ('EIO', 'EACCES', 'EMFILE', 'ESTALE', 'EUCLEAN')
+        for name in ('stat', 'lstat', 'statx', 'newfstatat', 'readlink', 'readlinkat')
+    },
 }
-WHYS = {'EIO': 'Input/output error', 'EACCES': 'Permission denied', 'EMFILE': 'Too many open files',
-        'EINTR': 'Interrupted system call', 'ENOSPC': 'No space left on device', 'ESTALE': 'Stale file handle',
-        'ENXIO': 'No such device or address', 'EAGAIN': 'Resource temporarily unavailable',
-        'ENOENT': 'No such file or directory', 'EISDIR': 'Is a directory', 'EUCLEAN': 'Structure needs cleaning'}
+WHYS = {
+    'EIO': 'Input/output error',
+    'EACCES': 'Permission denied',
+    'EMFILE': 'Too many open files',
+    'EINTR': 'Interrupted system call',
+    'ENOSPC': 'No space left on device',
+    'ESTALE': 'Stale file handle',
+    'ENXIO': 'No such device or address',
+    'EAGAIN': 'Resource temporarily unavailable',
+    'ENOENT': 'No such file or directory',
+    'EISDIR': 'Is a directory',
+    'EUCLEAN': 'Structure needs cleaning',
+}
 OPENS = ('open', 'openat')
 READS = ('read', 'readv', 'pread64')
 WRITES = ('write', 'writev')
@@ -47,8 +61,11 @@ def name_of(calls, at):
 def given_before(calls, at):
     """The number of bytes that the reads of the same file returned before this one."""
     opened = opened_as(calls, at) or 0
-    return sum(call.result for call in calls[opened:at]
-               if call.name in READS and call.target == calls[at].target and call.result > 0)
+    return sum(
+        call.result
+        for call in calls[opened:at]
+        if call.name in READS and call.target == calls[at].target and call.result > 0
+    )
 
 
 def faults_of(calls, at, error):
@@ -58,7 +75,11 @@ def faults_of(calls, at, error):
     bare = name[:-1] if name.endswith('/') else name
     if call.name in OPENS:
         step = 'folder' if call.is_folder else 'open'
-        return [None, Fault(step, bare, why)] if error == 'EINTR' or call.is_folder and bare == name else [Fault(step, bare, why)]
+        return (
+            [None, Fault(step, bare, why)]
+            if error == 'EINTR' or call.is_folder and bare == name
+            else [Fault(step, bare, why)]
+        )
     if call.name in READS:
         return [Fault('read', name, why, given_before(calls, at))]
     if call.name == 'getdents64':
@@ -72,10 +93,11 @@ def is_tried(scenario, calls, at):
     """True if this call is made to fail: in runs into one pipe those for memory, and the reads of the lists."""
     if scenario.out != 'merged' or calls[at].name in FOR_MEMORY:
         return True
-    return calls[at].name in READS and name_of(calls, at) in scenario.words
+    return calls[at].name in READS and name_of(calls, at) in scenario.args
 
 
 # ---- whether a run is as expected
+
 
 def text(outcome):
     return outcome.out.encode(), outcome.err.encode(), outcome.status
@@ -92,25 +114,29 @@ def after_failed_write(scenario, right, calls, at, done):
     if calls[at].target == '2':
         is_well = (done.out, done.status) == (out, right.status) and err.startswith(done.err)
         return '' if is_well else 'a lost message changed more than the messages'
-    told = WRITE_FAILED.encode() if scenario.program == 'xxhsum' else b'xxh: write failed\n'
-    if done.status != 1 or not done.err.endswith(told):
+    message = WRITE_FAILED.encode() if scenario.program == 'xxhsum' else b'xxh: write failed\n'
+    if done.status != 1 or not done.err.endswith(message):
         return 'the lost output is not reported'
-    if done.out != out[:written(calls, at)]:
+    if done.out != out[: written(calls, at)]:
         return 'the output is not what was written before'
-    return '' if err.startswith(done.err[:-len(told)]) else 'another message than those of the run'
+    return '' if err.startswith(done.err[: -len(message)]) else 'another message than those of the run'
 
 
 def after_no_memory(scenario, right, done):
     """The error of a run out of memory: it must be unchanged, or stop with a message."""
     if (done.out, done.err, done.status) == text(right):
         return ''
-    told, status = (NO_MEMORY.encode(), 1) if scenario.program == 'xxhsum' else (b'xxh: out of memory\n', 3)
+    message, status = (NO_MEMORY.encode(), 1) if scenario.program == 'xxhsum' else (b'xxh: out of memory\n', 3)
     if scenario.out == 'merged':
-        is_well = done.status == status and done.out.endswith(told) and right.out.encode().startswith(done.out[:-len(told)])
+        is_well = (
+            done.status == status
+            and done.out.endswith(message)
+            and right.out.encode().startswith(done.out[: -len(message)])
+        )
         return '' if is_well else 'neither the right output nor a beginning of it and then a message on memory'
-    if done.status != status or not done.err.endswith(told):
+    if done.status != status or not done.err.endswith(message):
         return 'neither the right output nor a message on memory'
-    begins = right.out.encode().startswith(done.out) and right.err.encode().startswith(done.err[:-len(told)])
+    begins = right.out.encode().startswith(done.out) and right.err.encode().startswith(done.err[: -len(message)])
     return '' if begins else 'what was printed before is no beginning of the right output'
 
 
@@ -134,7 +160,7 @@ def fault_in(scenario, right, planned, at, error, done):
         return after_failed_write(scenario, right, planned, at, done)
     faults = [None] if is_repeated(scenario, call, error) else faults_of(planned, at, error)
     allowed = [text(right if fault is None else scenario.outcome(fault)) for fault in faults]
-    return '' if (done.out, done.err, done.status) in allowed else f'wanted {" or ".join(map(repr, allowed))}'
+    return '' if (done.out, done.err, done.status) in allowed else f'expected {" or ".join(map(repr, allowed))}'
 
 
 def right_of(scenario, done):

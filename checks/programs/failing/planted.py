@@ -1,7 +1,7 @@
 """Wrong results of wrong programs, which the check of failing calls must detect."""
 
 
-def told_twice(done):
+def reported_twice(done):
     return done._replace(err=done.err * 2)
 
 
@@ -37,15 +37,15 @@ def failed(done):
 
 def message_first(done):
     """The message about memory before the last buffered line."""
-    *lines, last, empty, told = done.out.splitlines(keepends=True)
-    return done._replace(out=b''.join([*lines, empty, told, last]))
+    *lines, last, empty, message = done.out.splitlines(keepends=True)
+    return done._replace(out=b''.join([*lines, empty, message, last]))
 
 
 # The mistake, and the scenario, call and error whose result it replaces.
 PLANTED = {
     'a status of 0 after a failed read': ('one file', 'read', 'EIO', well),
     'a failed read that is not reported': ('one file', 'read', 'EIO', silent),
-    'a failed read that is reported twice': ('one file', 'read', 'EIO', told_twice),
+    'a failed read that is reported twice': ('one file', 'read', 'EIO', reported_twice),
     'a failed read with another reason': ('one file', 'read', 'ESTALE', of_another_reason),
     'a failed read of another name': ('one file', 'read', 'EIO', of_another_name),
     'a digest of a file that was not read': ('one file', 'read', 'EIO', with_line(b'26c7827d889f6da3  a\n')),
@@ -62,7 +62,12 @@ PLANTED = {
     'a line of a list that is lost': ('a good list', 'close', 'EIO', without_last_line),
     'a list that breaks off, with the status 0': ('a good list', 'read', 'EIO', well),
     'an audit that calls a file missing that was not read': ('an audit', 'read', 'EIO', with_line(b'a: missing\n')),
-    'a message on memory before the output that waits': ('a list, both streams one pipe', 'brk', 'ENOMEM', message_first),
+    'a message on memory before the output that waits': (
+        'a list, both streams one pipe',
+        'brk',
+        'ENOMEM',
+        message_first,
+    ),
     'a failed read of the input with another reason': ('input', 'read', 'ESTALE', of_another_reason),
     'a failed read of a list with another reason': ('a good list', 'read', 'ESTALE', of_another_reason),
     'a failed read of `xxh` with another reason': ('xxh hash 64, of a', 'read', 'ESTALE', of_another_reason),

@@ -5,7 +5,7 @@ import signal
 import subprocess
 from typing import NamedTuple
 
-from programs.runs import SETTINGS
+from checks.programs.runs import SETTINGS
 
 # The calls that are made to fail: those with a name, those with a descriptor, and those for memory.
 BY_NAME = ('open', 'openat', 'stat', 'lstat', 'statx', 'newfstatat', 'readlink', 'readlinkat')
@@ -21,6 +21,7 @@ CALL = re.compile(r'^(\w+)\((.*)\) += (\S+)(.*)$')
 class Call(NamedTuple):
     """A system call: its name, its file name or descriptor, whether it needs a directory, whether it has a descriptor
     in place of a name, its result, and whether it was made to fail."""
+
     name: str
     target: str
     is_folder: bool
@@ -31,6 +32,7 @@ class Call(NamedTuple):
 
 class Done(NamedTuple):
     """The output of a run, how it ended, and its calls: those before `main`, and those from there on."""
+
     out: bytes
     err: bytes
     status: object
@@ -43,13 +45,13 @@ def call_of(line):
     found = CALL.match(line)
     if not found:
         return None
-    name, words, result, rest = found.groups()
+    name, args, result, rest = found.groups()
     # `fstat` of the C library is a look-up of the empty name in a descriptor.
-    is_open = name not in BY_NAME or 'AT_EMPTY_PATH' in words
-    named = re.match(r'\w+', words) if is_open else re.search(r'"((?:[^"\\]|\\.)*)"', words)
+    is_open = name not in BY_NAME or 'AT_EMPTY_PATH' in args
+    named = re.match(r'\w+', args) if is_open else re.search(r'"((?:[^"\\]|\\.)*)"', args)
     target = named[named.lastindex or 0] if named else ''
     number = re.match(r'-?[0-9]+', result)
-    return Call(name, target, 'O_DIRECTORY' in words, is_open, int(number[0]) if number else -1, '(INJECTED)' in rest)
+    return Call(name, target, 'O_DIRECTORY' in args, is_open, int(number[0]) if number else -1, '(INJECTED)' in rest)
 
 
 def calls_of(path):
@@ -59,7 +61,7 @@ def calls_of(path):
     begins = next((at for at, call in enumerate(calls) if (call.name, call.target) == MAIN), None)
     if begins is None:
         return calls, []
-    return calls[:begins + 1], calls[begins + 1:]
+    return calls[: begins + 1], calls[begins + 1 :]
 
 
 def ended(process):
@@ -73,12 +75,14 @@ def ended(process):
         return out or b'', err or b'', f'not ended after {SECONDS} s'
 
 
-def traced(words, injections, streams, folder, trace):
+def traced(command, injections, streams, folder, trace):
     """Runs these arguments with these faults, and over these streams."""
     names = ','.join(f'?{name}' for name in (*BY_NAME, *BY_DESCRIPTOR, *FOR_MEMORY, MAIN[0]))
     strace = ['strace', '-qq', '-s', '0', '-o', trace, '-e', f'trace={names}', '-e', 'signal=none']
     faults = [word for fault in injections for word in ('-e', f'inject={fault}')]
-    process = subprocess.Popen([*strace, *faults, *words], cwd=folder, env=SETTINGS, start_new_session=True, **streams)
+    process = subprocess.Popen(
+        [*strace, *faults, *command], cwd=folder, env=SETTINGS, start_new_session=True, **streams
+    )
     out, err, status = ended(process)
     return Done(out, err, status, *calls_of(trace))
 
@@ -86,21 +90,23 @@ def traced(words, injections, streams, folder, trace):
 def injection(before, calls, at, error):
     """Makes the call of this index fail. strace counts the calls of one name, from the program's start on."""
     name = calls[at].name
-    count = sum(call.name == name for call in [*before, *calls[:at + 1]])
+    count = sum(call.name == name for call in [*before, *calls[: at + 1]])
     return [f'{name}:error={error}:when={count}']
 
 
 def vanishing(before, calls, places):
-    """Makes the calls of these indices fail, at most two of each name, since their file has vanished. A name that can't be
-    looked up is also opened as a directory."""
+    """Makes the calls of these indices fail, at most two of each name, since their file has vanished. A name that can't
+    be looked up is also opened as a directory."""
     counts = {}
     for at in places:
         name = calls[at].name
-        counts.setdefault(name, []).append(sum(call.name == name for call in [*before, *calls[:at + 1]]))
+        counts.setdefault(name, []).append(sum(call.name == name for call in [*before, *calls[: at + 1]]))
     for name in OPENS & counts.keys():
         counts[name].append(counts[name][-1] + 1)
-    return [f'{name}:error=ENOENT:when={first}..{last}+{max(last - first, 1)}' for name, (first, *_, last) in
-            ((name, each * 2 if len(each) == 1 else each) for name, each in counts.items())]
+    return [
+        f'{name}:error=ENOENT:when={first}..{last}+{max(last - first, 1)}'
+        for name, (first, *_, last) in ((name, each * 2 if len(each) == 1 else each) for name, each in counts.items())
+    ]
 
 
 def memory_injections(before, calls, at):

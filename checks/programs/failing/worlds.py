@@ -7,13 +7,24 @@ import re
 import subprocess
 from typing import NamedTuple
 
-from tools import write
+from checks.lib.tools import write
 
 HELLO = b'hello'
 # Three full reads of a file, and a part of one.
 LONG = bytes(at * 7 % 251 for at in range(400_001))
-FILES = {'a': HELLO, 'e': b'', 'b c': b'world', 'long': LONG, 'piped': LONG[:40_000], 'same': HELLO, 'd/inner': HELLO, 'd/other': b'world',
-         'd/sub/deep': b'deep', 'd/sub/last': b'', 'one/only': b'only'}
+FILES = {
+    'a': HELLO,
+    'e': b'',
+    'b c': b'world',
+    'long': LONG,
+    'piped': LONG[:40_000],
+    'same': HELLO,
+    'd/inner': HELLO,
+    'd/other': b'world',
+    'd/sub/deep': b'deep',
+    'd/sub/last': b'',
+    'one/only': b'only',
+}
 FLAGS = {'32': '-H0', '64': '-H1', '128': '-H2', '3': '-H3'}
 MISSING, TOO_LONG = 'No such file or directory', 'File name too long'
 WRITE_FAILED = 'Error: a failure occurred writing the output.\n'
@@ -21,8 +32,9 @@ NO_MEMORY = '\nError: Out of memory.\n'
 
 
 class Fault(NamedTuple):
-    """A call that the system refuses: `open` or `read` of a file, `folder` for its names, or `look-up` of a name; with the
-    name, the reason, and how many bytes of the file the reads before returned."""
+    """A call that the system refuses: `open` or `read` of a file, `folder` for its names, or `look-up` of a name; with
+    the name, the reason, and how many bytes of the file the reads before returned."""
+
     step: str
     name: str
     why: str
@@ -54,7 +66,9 @@ class World:
     def digest(self, name, algorithm='64'):
         """The digits of Debian's xxhsum."""
         if (name, algorithm) not in self.known:
-            done = subprocess.run(['xxhsum', FLAGS[algorithm], self.path(name)], capture_output=True, text=True, check=True)
+            done = subprocess.run(
+                ['xxhsum', FLAGS[algorithm], self.path(name)], capture_output=True, text=True, check=True
+            )
             self.known[name, algorithm] = re.search(r'(?:^| = |XXH3_)([0-9a-f]{8,32})(?=  |$)', done.stdout, re.M)[1]
         return self.known[name, algorithm]
 
@@ -63,6 +77,7 @@ class World:
 
 
 # ---- digests of names
+
 
 def refusal(name, fault):
     """The message for a file or a directory that could not be opened or read."""
@@ -82,9 +97,9 @@ def trouble(world, name, fault):
 
 def digests(world, names, fault=None, form=World.line, before=''):
     """A line of each name that has a digest, and a message for each other one."""
-    told = {name: trouble(world, name, fault) for name in names}
-    out = ''.join(form(world, name) for name in names if not told[name])
-    err = before + ''.join(told[name] for name in names)
+    messages = {name: trouble(world, name, fault) for name in names}
+    out = ''.join(form(world, name) for name in names if not messages[name])
+    err = before + ''.join(messages[name] for name in names)
     return Outcome(out, err, 1 if err else 0)
 
 
@@ -96,32 +111,42 @@ def of_input(world, name, fault, algorithm='64'):
 
 # ---- folders
 
+
 def walked(world, names, fault):
     """The files below these names, in order, and the messages on the way."""
-    files, told = [], ''
+    files, messages = [], ''
     for name in names:
         if fault and fault.step in ('folder', 'look-up') and fault.name in (name, name + '/'):
-            told += refusal(name, fault)
+            messages += refusal(name, fault)
         elif os.path.isdir(world.path(name)):
             below = [f'{name}/{it}' for it in sorted(os.listdir(world.path(name)), key=os.fsencode)]
-            plain = [it for it in below if not os.path.islink(world.path(it)) and not it.endswith('/pipe')
-                     or fault and fault.step == 'look-up' and fault.name == it]
-            more, said = walked(world, plain, fault)
-            files, told = files + more, told + said
+            plain = [
+                it
+                for it in below
+                if not os.path.islink(world.path(it))
+                and not it.endswith('/pipe')
+                or fault
+                and fault.step == 'look-up'
+                and fault.name == it
+            ]
+            more, message = walked(world, plain, fault)
+            files, messages = files + more, messages + message
         else:
             files.append(name)
-    return files, told
+    return files, messages
 
 
 def digests_below(world, names, fault=None):
-    files, told = walked(world, names, fault)
-    return digests(world, files, fault, before=told)
+    files, messages = walked(world, names, fault)
+    return digests(world, files, fault, before=messages)
 
 
 # ---- checks of lists
 
+
 class Line(NamedTuple):
     """A line of a list: its text, its file, if any, and whether that has the value."""
+
     text: str
     name: str = ''
     is_good: bool = True
@@ -161,23 +186,25 @@ def checked(world, listed, lines, fault=None, warns=False):
     if fault and fault.name == listed and fault.step == 'open':
         return Outcome('', f"Error: Could not open '{listed}': {fault.why}\n", 1)
     is_cut = bool(fault) and fault.name == listed
-    given = lines[:''.join(line.text for line in lines)[:fault.given].count('\n')] if is_cut else lines
-    said, err = [], ''
+    given = lines[: ''.join(line.text for line in lines)[: fault.given].count('\n')] if is_cut else lines
+    verdicts, err = [], ''
     for number, line in enumerate(given, 1):
         if line.name:
-            said.append(verdict(world, listed, number, line, fault))
+            verdicts.append(verdict(world, listed, number, line, fault))
         elif warns and line != COMMENT:
             err += f'{listed}:{number}: Error: Improperly formatted checksum line.\n'
     malformed = sum(not line.name and line != COMMENT for line in given)
     if is_cut:
         err += f'{listed}:{len(given) + 1}: Error: {fault.why}.\n'
-    if not said:
+    if not verdicts:
         # A list that broke off before its first line is not a list without a line.
         is_known = not is_cut or malformed
-        return Outcome('', err + (f'{listed}: no properly formatted xxHash checksum lines found\n' if is_known else ''), 1)
-    unread = sum('Could not' in it for it in said)
-    failed = sum(it.endswith('FAILED\n') for it in said)
-    out = ''.join(said) + counted(malformed, 'line is improperly formatted', 'lines are improperly formatted')
+        return Outcome(
+            '', err + (f'{listed}: no properly formatted xxHash checksum lines found\n' if is_known else ''), 1
+        )
+    unread = sum('Could not' in it for it in verdicts)
+    failed = sum(it.endswith('FAILED\n') for it in verdicts)
+    out = ''.join(verdicts) + counted(malformed, 'line is improperly formatted', 'lines are improperly formatted')
     out += counted(unread, 'listed file could not be read', 'listed files could not be read')
     out += counted(failed, 'computed checksum did NOT match', 'computed checksums did NOT match')
     return Outcome(out, err, 1 if unread or failed or is_cut else 0)
@@ -186,15 +213,19 @@ def checked(world, listed, lines, fault=None, warns=False):
 def merged_check(world, listed, lines, fault=None):
     """The content of one pipe of both streams, if every malformed line is reported: each message at its place, and
     the counts after the last line."""
-    given = lines[:''.join(line.text for line in lines)[:fault.given].count('\n')] if fault else lines
-    both = [verdict(world, listed, number, line, None) if line.name else
-            f'{listed}:{number}: Error: Improperly formatted checksum line.\n' for number, line in enumerate(given, 1)]
+    given = lines[: ''.join(line.text for line in lines)[: fault.given].count('\n')] if fault else lines
+    both = [
+        verdict(world, listed, number, line, None)
+        if line.name
+        else f'{listed}:{number}: Error: Improperly formatted checksum line.\n'
+        for number, line in enumerate(given, 1)
+    ]
     found = checked(world, listed, lines, fault, warns=True)
     if not any(line.name for line in given):
-        ends = found.err.splitlines(keepends=True)[len(both):]
+        ends = found.err.splitlines(keepends=True)[len(both) :]
         return Outcome(''.join(both + ends), '', found.status)
     break_of = found.err.splitlines(keepends=True)[-1:] if fault else []
-    counts = found.out.splitlines(keepends=True)[sum(bool(line.name) for line in given):]
+    counts = found.out.splitlines(keepends=True)[sum(bool(line.name) for line in given) :]
     return Outcome(''.join([*both, *break_of, *counts]), '', found.status)
 
 
@@ -205,10 +236,15 @@ def all_checked(world, lists, fault=None, warns=False):
 
 # ---- lists of names
 
+
 def digests_listed(world, lists, fault=None):
     """The digests of the names in lists."""
-    told = unread_list(lists, fault)
-    return Outcome('', told, 1) if told else digests(world, [name for names in lists.values() for name in names], fault)
+    messages = unread_list(lists, fault)
+    return (
+        Outcome('', messages, 1)
+        if messages
+        else digests(world, [name for names in lists.values() for name in names], fault)
+    )
 
 
 def unread_list(lists, fault):
@@ -219,6 +255,7 @@ def unread_list(lists, fault):
 
 
 # ---- audits
+
 
 def classes(entries, found):
     """The class of each line and name, in the order of the report: (the output, its class)."""
@@ -232,31 +269,41 @@ def classes(entries, found):
         copied = next((it for it, state in settled if state == 'same' and found[it] == value), None)
         if old:
             gone.remove(old)
-            moved.append((value, f'{name}: moved from {old[1]}', 'moved'))
+            moved.append((name, f'moved from {old[1]}', 'moved'))
         elif copied:
-            moved.append((value, f'{name}: copy of {copied}', 'copied'))
+            moved.append((name, f'copy of {copied}', 'copied'))
         else:
-            moved.append((value, f'{name}: new', 'new'))
-    moved += [(value, f'{name}: missing', 'missing') for value, name in gone]
-    return [(f'{name}: {state}', state) for name, state in settled] + [(text, state) for _, text, state in sorted(moved)]
+            moved.append((name, 'new', 'new'))
+    moved += [(name, 'missing', 'missing') for _, name in gone]
+    return [
+        (f'{name}: {text}', state)
+        for name, text, state in [(name, state, state) for name, state in settled] + sorted(moved)
+    ]
 
 
-def audited(world, listed, entries, names, fault=None, before=''):
-    """The audit of names against a list with these digests. A name with no digest is left out, with its line."""
-    told = unread_list({listed: []}, fault)
-    if told:
-        return Outcome('', before + told, 1)
+def audited(world, listed, entries, names, fault=None, before='', lost=()):
+    """The audit of names against a list with these digests. A name with no digest is unreadable; so are directories
+    that could not be read, and the lines of names below them."""
+    messages = unread_list({listed: []}, fault)
+    if messages:
+        return Outcome('', before + messages, 1)
     unread = {name: trouble(world, name, fault) for name in sorted(names, key=os.fsencode)}
     found = {name: world.digest(name) for name in names if not unread[name]}
-    kept = {name: value for name, value in entries.items() if not unread.get(name)}
-    rows = classes(kept, found)
-    states = ('same', 'changed', 'moved', 'copied', 'new', 'missing')
-    counts = ', '.join(f'{sum(state == it for _, state in rows)} {it}' for it in states)
-    is_well = all(state == 'same' for _, state in rows) and not any(unread.values())
-    return Outcome(''.join(f'{text}\n' for text, _ in rows) + counts + '\n', ''.join(unread.values()), 0 if is_well else 1)
+    hidden = [name for name in entries if name not in names and any(f'{name}/'.startswith(f'{it}/') for it in lost)]
+    unreadable = [*lost, *sorted([*hidden, *(name for name in unread if unread[name])], key=os.fsencode)]
+    readable = {name: value for name, value in entries.items() if name not in unreadable}
+    classes_found = classes(readable, found) + [(f'{name}: unreadable', 'unreadable') for name in unreadable]
+    states = ('same', 'changed', 'moved', 'copied', 'new', 'missing', 'unreadable')
+    counts = ', '.join(f'{sum(state == it for _, state in classes_found)} {it}' for it in states)
+    is_well = all(state == 'same' for _, state in classes_found)
+    return Outcome(
+        ''.join(f'{text}\n' for text, _ in classes_found) + counts + '\n',
+        before + ''.join(unread.values()),
+        0 if is_well else 1,
+    )
 
 
 def audited_below(world, listed, entries, names, fault=None):
-    """The audit of the files below directories: none if one of them can't be read."""
-    files, told = walked(world, names, fault)
-    return Outcome('', told, 1) if told else audited(world, listed, entries, files, fault)
+    """The audit of the files below directories."""
+    files, messages = walked(world, names, fault)
+    return audited(world, listed, entries, files, fault, messages, [fault.name.rstrip('/')] if messages else [])

@@ -11,9 +11,15 @@ PIECE_BYTES = 1 << 18
 
 
 @overload
-def file_digest(file: Union[Path, BinaryIO], algorithm: str = ..., **key: Any) -> Hasher: ...
+def file_digest(file: Union[Path, BinaryIO], algorithm: str = ..., **key: Any) -> Hasher:
+    ...
+
+
 @overload
-def file_digest(file: Union[Path, BinaryIO], algorithm: type[OneHasher], **key: Any) -> OneHasher: ...
+def file_digest(file: Union[Path, BinaryIO], algorithm: type[OneHasher], **key: Any) -> OneHasher:
+    ...
+
+
 def file_digest(file: Union[Path, BinaryIO], algorithm: Any = 'xxh3_64', **key: Any) -> Hasher:
     """Returns the hash of a file, as an object: `file_digest(path, "xxh3_128").hexdigest()`.
 
@@ -38,16 +44,16 @@ def _take_all(hasher: Hasher, file: Any) -> None:
     if not hasattr(file, 'readinto'):
         _take_pieces(hasher, file)
         return
-    room = memoryview(bytearray(PIECE_BYTES))
+    buffer = memoryview(bytearray(PIECE_BYTES))
     while True:
-        length = file.readinto(room)
+        length = file.readinto(buffer)
         if length is None:
             raise BlockingIOError(f'{file!r} has no bytes yet')
         if not length:
             return
         if not 0 < length <= PIECE_BYTES:
             raise OSError(f'{file!r}.readinto() returned {length}, for a buffer of {PIECE_BYTES} bytes')
-        hasher.update(room[:length])
+        hasher.update(buffer[:length])
 
 
 def _take_pieces(hasher: Hasher, file: Any) -> None:

@@ -17,13 +17,32 @@ NATIVE_INTEGER = re.compile(f'[@={"<" if sys.byteorder == "little" else ">"}]?[h
 
 
 @overload
-def many(rows: Iterable[Any], algorithm: Union[str, HasherType] = ..., *, width: Optional[int] = ...,
-         into: None = ..., **key: Any) -> list[bytes]: ...
+def many(
+    rows: Iterable[Any],
+    algorithm: Union[str, HasherType] = ...,
+    *,
+    width: Optional[int] = ...,
+    into: None = ...,
+    **key: Any,
+) -> list[bytes]:
+    ...
+
+
 @overload
-def many(rows: Iterable[Any], algorithm: Union[str, HasherType] = ..., *, width: Optional[int] = ...,
-         into: Into, **key: Any) -> Into: ...
-def many(rows: Iterable[Any], algorithm: Union[str, HasherType] = 'xxh3_64', *, width: Optional[int] = None,
-         into: Any = None, **key: Any) -> Any:
+def many(
+    rows: Iterable[Any], algorithm: Union[str, HasherType] = ..., *, width: Optional[int] = ..., into: Into, **key: Any
+) -> Into:
+    ...
+
+
+def many(
+    rows: Iterable[Any],
+    algorithm: Union[str, HasherType] = 'xxh3_64',
+    *,
+    width: Optional[int] = None,
+    into: Any = None,
+    **key: Any,
+) -> Any:
     """Returns the digests of many inputs, each as `<algorithm>_digest(row, ...)` returns it, as a list of bytes.
 
     `rows` is an iterable of bytes-like objects or str, or a contiguous buffer of rows of one length: of two dimensions
@@ -56,15 +75,17 @@ def many(rows: Iterable[Any], algorithm: Union[str, HasherType] = 'xxh3_64', *, 
 
 def _takes_numbers(into: Any, digest_bytes: int) -> bool:
     """True if a buffer gets the values as native integers, and not the digests' bytes."""
-    with memoryview(into) as room:
-        if room.readonly or not room.c_contiguous:
-            raise BufferError(f'into {"is read-only" if room.readonly else "is not C-contiguous"}')
-        if not NATIVE_INTEGER.fullmatch(room.format):
+    with memoryview(into) as view:
+        if view.readonly or not view.c_contiguous:
+            raise BufferError(f'into {"is read-only" if view.readonly else "is not C-contiguous"}')
+        if not NATIVE_INTEGER.fullmatch(view.format):
             return False
-        if room.itemsize == digest_bytes:
+        if view.itemsize == digest_bytes:
             return True
-        raise ValueError(f'into has integers of {room.itemsize} bytes, and a digest has {digest_bytes}: they would hold '
-                         'parts of it')
+        raise ValueError(
+            f'into has integers of {view.itemsize} bytes, and a digest has {digest_bytes}: they would hold '
+            'parts of it'
+        )
 
 
 def _view_of(rows: Any) -> Optional[memoryview]:
@@ -81,8 +102,9 @@ def _view_of(rows: Any) -> Optional[memoryview]:
     if POINTER.search(items):
         raise TypeError(f'the rows must be bytes, not addresses (format {view.format!r})')
     if 'w' in items or 'u' in items:
-        raise TypeError(f'the rows must be bytes, not UTF-32 text (format {view.format!r}): '
-                        'use rows.tolist() for str')
+        raise TypeError(
+            f'the rows must be bytes, not UTF-32 text (format {view.format!r}): ' 'use rows.tolist() for str'
+        )
     return view
 
 

@@ -18,15 +18,16 @@ def text_of(hasher: Hasher) -> str:
     return json.dumps(record, separators=(',', ':'), sort_keys=True)
 
 
-def from_text(kind: HasherType, text: Union[str, bytes]) -> Hasher:
+def from_text(algorithm: HasherType, text: Union[str, bytes]) -> Hasher:
     """Restores a saved object. ValueError: the text is no saved state; for XXH32 and XXH64 also one that no bytes
     lead to, and for XXH3 one whose parts don't fit each other."""
     if not isinstance(text, (str, bytes)):
         raise TypeError(f'a saved state is a str, not {type(text).__name__!r}')
-    return _FORMS[kind].hasher_of(kind, _read(text))
+    return _FORMS[algorithm].hasher_of(algorithm, _read(text))
 
 
 # ---- JSON ----
+
 
 def _not_a_state() -> ValueError:
     return ValueError('The text is not a saved state')
@@ -44,8 +45,8 @@ def _constant(name: str) -> None:
 def _read(text: Union[str, bytes]) -> dict[str, Any]:
     """Returns the members of a text's object."""
     try:
-        words = text.decode() if isinstance(text, bytes) else text
-        record = json.loads(words, parse_int=_whole_number, parse_constant=_constant)
+        decoded = text.decode() if isinstance(text, bytes) else text
+        record = json.loads(decoded, parse_int=_whole_number, parse_constant=_constant)
     except (ValueError, RecursionError):
         raise _not_a_state() from None
     return _object(record)
@@ -73,6 +74,7 @@ def _numbers(value: Any, least: int, most: int, limit: int = 256) -> list[int]:
 
 # ---- the state in memory, in the machine's byte order, and when bytes lead to it ----
 
+
 def _with_fields(hasher: Hasher, layout: struct.Struct, *fields: Any) -> Hasher:
     """Returns the object, which is new, with these fields at the start of its state."""
     memory = bytearray(hasher._memory())
@@ -92,10 +94,15 @@ class _Plain:
     def record_of(self, memory: bytes) -> dict[str, Any]:
         state = dict(zip(self.fields, self.layout.unpack_from(memory)))
         core = {name: state[name] for name in CORE}
-        return {'buffer': list(state['buffer']), 'buffer_usage': state['marked_usage'] - self.mark, 'core': core,
-                'seed': state['seed'], 'total_len': state['total_len']}
+        return {
+            'buffer': list(state['buffer']),
+            'buffer_usage': state['marked_usage'] - self.mark,
+            'core': core,
+            'seed': state['seed'],
+            'total_len': state['total_len'],
+        }
 
-    def hasher_of(self, kind: Any, record: dict[str, Any]) -> Hasher:
+    def hasher_of(self, algorithm: Any, record: dict[str, Any]) -> Hasher:
         buffer = bytes(_numbers(record.get('buffer'), self.stripe, self.stripe))
         usage, total = _number(record.get('buffer_usage')), _number(record.get('total_len'))
         members = _object(record.get('core'))
@@ -104,7 +111,7 @@ class _Plain:
         # A length from 2^64 - 1 on is counted as that, so it doesn't determine the number of bytes buffered.
         if usage >= self.stripe or total < WORD - 1 and usage != total % self.stripe:
             raise ValueError(USAGE)
-        hasher = kind(seed=seed)
+        hasher = algorithm(seed=seed)
         if total < self.stripe and core != self.record_of(hasher._memory())['core']:
             raise ValueError('The core does not match the seed')
         state = {**core, 'seed': seed, 'total_len': total, 'marked_usage': self.mark + usage, 'buffer': buffer}
@@ -114,29 +121,36 @@ class _Plain:
 class _Stream:
     """XXH3 of both widths: a state is accepted if its parts fit each other and the secret. Whether some bytes lead
     to its accumulators is known only for those of no stripe. `seed` is null in one that was made with only a secret."""
+
     taken = struct.Struct('=8QQQQQ256s')
     # The seed, the length, the end of the buffer and the secrets aren't written if they have no meaning.
     whole = struct.Struct('=8QQQQQ256s192sQ8s8s8x256s')
     # The end of a state's buffer, and that of earlier versions.
-    room, greatest, stripe = 256, 512, 64
+    buffer_size, greatest, stripe = 256, 512, 64
     # The marks of a state whose secret is behind it: without a seed and with one. Of one that has its secret, without.
-    behind, behind_with_seed, copied = 0x9b4ed3712ac8f516, 0x68d7b5aec13f0e9b, 0xc5a16e0f93d24b87
+    behind, behind_with_seed, copied = 0x9B4ED3712AC8F516, 0x68D7B5AEC13F0E9B, 0xC5A16E0F93D24B87
 
     def record_of(self, memory: bytes) -> dict[str, Any]:
         *accumulators, place, stripes, usage, total, buffer, own, mark, seed, length, other = self.whole.unpack(memory)
-        secret = other[:int.from_bytes(length, sys.byteorder)] if mark in (self.behind, self.behind_with_seed) else own
+        secret = other[: int.from_bytes(length, sys.byteorder)] if mark in (self.behind, self.behind_with_seed) else own
         has_seed = mark not in (self.behind, self.copied)
-        return {'accumulators': accumulators, 'buffer': list(buffer[:usage]),
-                'last_stripe': self._last_stripe(stripes, buffer, usage), 'place': place,
-                'secret': list(secret), 'seed': int.from_bytes(seed, sys.byteorder) if has_seed else None,
-                'stripes': stripes, 'total_len': total}
+        return {
+            'accumulators': accumulators,
+            'buffer': list(buffer[:usage]),
+            'last_stripe': self._last_stripe(stripes, buffer, usage),
+            'place': place,
+            'secret': list(secret),
+            'seed': int.from_bytes(seed, sys.byteorder) if has_seed else None,
+            'stripes': stripes,
+            'total_len': total,
+        }
 
     def _last_stripe(self, stripes: int, buffer: bytes, usage: int) -> list[int]:
         """Returns the last stripe taken, with which the buffer ends if fewer bytes than a stripe are in use, and zeros
         if it has no meaning."""
-        return list(buffer[-self.stripe:]) if stripes and usage < self.stripe else [0] * self.stripe
+        return list(buffer[-self.stripe :]) if stripes and usage < self.stripe else [0] * self.stripe
 
-    def hasher_of(self, kind: Any, record: dict[str, Any]) -> Hasher:
+    def hasher_of(self, algorithm: Any, record: dict[str, Any]) -> Hasher:
         accumulators = _numbers(record.get('accumulators'), 8, 8, WORD)
         buffer = _numbers(record.get('buffer'), 0, self.greatest)
         last = _numbers(record.get('last_stripe'), self.stripe, self.stripe)
@@ -144,17 +158,17 @@ class _Stream:
         place, stripes, total = (_number(record.get(name)) for name in ('place', 'stripes', 'total_len'))
         seed = record.get('seed')
         key = {} if seed is None else {'seed': _number(seed)}
-        hasher = kind(secret=secret, **key)
+        hasher = algorithm(secret=secret, **key)
         if total != min(64 * stripes + len(buffer), WORD - 1) or stripes and not buffer:
             raise ValueError(USAGE)
         self._test_place(place, stripes, secret)
         if not stripes and accumulators != self.record_of(hasher._memory())['accumulators']:
             raise ValueError('The accumulators are not those of no stripe')
         end = bytes(last) if len(buffer) < self.stripe else b''
-        first, rest = bytes(buffer[:self.room]), bytes(buffer[self.room:])
-        room = first.ljust(self.room - len(end), b'\0') + end
+        first, rest = bytes(buffer[: self.buffer_size]), bytes(buffer[self.buffer_size :])
+        filled = first.ljust(self.buffer_size - len(end), b'\0') + end
         total = min(64 * stripes + len(first), WORD - 1)
-        loaded = _with_fields(hasher, self.taken, *accumulators, place, stripes, len(first), total, room)
+        loaded = _with_fields(hasher, self.taken, *accumulators, place, stripes, len(first), total, filled)
         loaded.update(rest)
         return loaded
 
@@ -170,5 +184,6 @@ class _Stream:
 _FORMS: dict[HasherType, Union[_Plain, _Stream]] = {
     xxh32: _Plain(32, 16, b'XX32', '=5IQI16s', 'v1 seed v2 marked_usage v3 total_len v4 buffer'),
     xxh64: _Plain(64, 32, b'XX64', '=5QI4xQ32s', 'v1 seed v2 total_len v3 marked_usage v4 buffer'),
-    xxh3_64: _Stream(), xxh3_128: _Stream(),
+    xxh3_64: _Stream(),
+    xxh3_128: _Stream(),
 }

@@ -8,7 +8,11 @@ HasherType = Union[type[xxh32], type[xxh64], type[xxh3_64], type[xxh3_128]]
 OneHasher = TypeVar('OneHasher', xxh32, xxh64, xxh3_64, xxh3_128)
 
 _BY_NAME: dict[str, HasherType] = {
-    'xxh32': xxh32, 'xxh64': xxh64, 'xxh3_64': xxh3_64, 'xxh3_128': xxh3_128, 'xxh128': xxh3_128,
+    'xxh32': xxh32,
+    'xxh64': xxh64,
+    'xxh3_64': xxh3_64,
+    'xxh3_128': xxh3_128,
+    'xxh128': xxh3_128,
 }
 algorithms_available: set[str] = set(_BY_NAME)
 

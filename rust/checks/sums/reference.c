@@ -24,7 +24,7 @@ static void add_wide(XXH128_hash_t hash) {
     add(hash.high64);
 }
 
-static void draw_pieces(size_t length) {
+static void random_pieces(size_t length) {
     size_t most = length % 2 == 0 ? 700 : 9;
     for (size_t at = 0; at < length;) {
         at += 1 + (uint16_t)next() % most;
@@ -44,7 +44,7 @@ static void add_hashes(const unsigned char *bytes, size_t length) {
     add_wide(XXH3_128bits(bytes, length));
     add_wide(XXH3_128bits_withSeed(bytes, length, seed));
     add_wide(XXH3_128bits_withSecret(bytes, length, secret, size));
-    draw_pieces(length);
+    random_pieces(length);
     add(XXH32(bytes, length, (uint32_t)seed));
     add(XXH64(bytes, length, seed));
     add(XXH3_64bits_withSeed(bytes, length, seed));

@@ -16,18 +16,18 @@ static size_t in_use;
 
 static int is_refused(size_t more) {
     static long count, number = -1;
-    static char kind;
+    static char form;
     if (number < 0) {
         const char *text = getenv("REFUSED");
         char *end = "";
-        kind = text ? *text : 0;
-        number = text ? strtol(text + (kind == '='), &end, 10) : 0;
-        kind = kind == '=' ? '=' : *end;
+        form = text ? *text : 0;
+        number = text ? strtol(text + (form == '='), &end, 10) : 0;
+        form = form == '=' ? '=' : *end;
     }
     count++;
-    if (kind == '=')
+    if (form == '=')
         return in_use + more > (size_t)number;
-    return number && (count == number || (kind == '.' && count > number));
+    return number && (count == number || (form == '.' && count > number));
 }
 
 static void *counted(void *found) {

@@ -3,37 +3,40 @@ import os
 import re
 import shutil
 
-from report import tail, want
-from room import ARM_PACKAGES, FURTHER, SOURCE_PACKAGES, ArmRoom, install_packages
-from tools import TOP, must, ran, write
+from checks.lib.report import last_line, check
+from rust.checks.workspace import ARM_PACKAGES, FURTHER, SOURCE_PACKAGES, ArmWorkspace, install_packages
+from checks.lib.tools import TOP, must, ran, write
 
 PROGRAMS = ('xxh', 'xxhsum')
-RIGHT = re.compile(r'(\d+) (?:cases|rows on \w+) as wanted, (\d+) otherwise')
+RIGHT = re.compile(r'(\d+) (?:cases|rows on \w+) as expected, (\d+) otherwise')
 
 
-def emulated(room, programs, runner):
+def emulated(workspace, programs, runner):
     """A script for each program that runs it by an emulator, under the name by which the script is called."""
     found = {}
     for name, program in programs.items():
-        found[name] = write(os.path.join(room.path, f'{name}-emulated'),
-                            f'#!/bin/sh\nexec {" ".join(runner)} {program} "$@"\n', 0o755)
+        found[name] = write(
+            os.path.join(workspace.path, f'{name}-emulated'),
+            f'#!/bin/sh\nexec {" ".join(runner)} {program} "$@"\n',
+            0o755,
+        )
     return found
 
 
-def rows_of_xxhsum(program):
+def cases_of_xxhsum(program):
     """The cases and rows of checks/xxhsum. Its planted faults depend on times, which an emulator stretches."""
     done = ran([os.path.join(TOP, 'checks', 'xxhsum'), '--stored', program])
     counts = RIGHT.findall(done.stdout)
-    want(len(counts) == 3 and all(wrong == '0' for _, wrong in counts), f'{counts}: {tail(done.stdout)}')
+    check(len(counts) == 3 and all(wrong == '0' for _, wrong in counts), f'{counts}: {last_line(done.stdout)}')
     return f'{sum(int(right) for right, _ in counts)} cases and rows'
 
 
 def check_arm(report, path, built):
     install_packages(ARM_PACKAGES)
-    room = ArmRoom(path)
-    programs = emulated(room, built(room), [room.runner[0], '-0', '"$0"', *room.runner[1:]])
-    report.attempt("xxh's table", lambda: tail(must([os.path.join(TOP, 'checks', 'program'), programs['xxh']])))
-    report.attempt("xxhsum's table", rows_of_xxhsum, programs['xxhsum'])
+    workspace = ArmWorkspace(path)
+    programs = emulated(workspace, built(workspace), [workspace.runner[0], '-0', '"$0"', *workspace.runner[1:]])
+    report.attempt("xxh's table", lambda: last_line(must([os.path.join(TOP, 'checks', 'program'), programs['xxh']])))
+    report.attempt("xxhsum's table", cases_of_xxhsum, programs['xxhsum'])
 
 
 # A command, its input, its output, and its status. {a} and {b} are the lines of Debian's xxhsum, {32} that of XXH32.
@@ -49,11 +52,11 @@ ON_WINDOWS = (
 )
 
 
-def on_windows(wine, folder, words, given, told, status):
-    name, *arguments = words.split()
+def on_windows(wine, folder, args, given, message, status):
+    name, *arguments = args.split()
     done = ran([*wine, os.path.join(folder, f'{name}.exe'), *arguments], input=given, cwd=folder)
     found = '\n'.join(line for line in done.stdout.splitlines() if not line.startswith('wine:'))
-    want((found.rstrip('\n'), done.returncode) == (told, status), f'{found}, {done.returncode}')
+    check((found.rstrip('\n'), done.returncode) == (message, status), f'{found}, {done.returncode}')
 
 
 def lay_out_for_windows(programs, folder):
@@ -69,15 +72,17 @@ def lay_out_for_windows(programs, folder):
 
 
 def check_windows(report, path, built):
-    make_room, packages = FURTHER['windows']
+    make_workspace, packages = FURTHER['windows']
     install_packages({**SOURCE_PACKAGES, **packages})
-    room = make_room(path)
+    workspace = make_workspace(path)
     folder = os.path.join(path, 'on-windows')
-    a, b = lay_out_for_windows(built(room), folder).splitlines()
+    a, b = lay_out_for_windows(built(workspace), folder).splitlines()
     lines = {'{a}': a, '{b}': b, '{32}': must(['xxhsum', '-q', '-H0', 'a'], cwd=folder).strip()}
-    for words, given, told, status in ON_WINDOWS:
-        told = re.sub(r'\{\w+\}', lambda found: lines[found[0]], told)
-        report.attempt(f'on Windows: {words}', on_windows, room.runner.split(), folder, words, given, told, status)
+    for args, given, message, status in ON_WINDOWS:
+        message = re.sub(r'\{\w+\}', lambda found: lines[found[0]], message)
+        report.attempt(
+            f'on Windows: {args}', on_windows, workspace.runner.split(), folder, args, given, message, status
+        )
 
 
 TARGETS = {'aarch64': check_arm, 'windows': check_windows}

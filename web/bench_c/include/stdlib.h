@@ -1,4 +1,4 @@
 /* Declared for functions of xxhash.h that are not called here. */
 #include <stddef.h>
 void *malloc(size_t size);
-void free(void *room);
+void free(void *memory);

@@ -11,7 +11,7 @@ export function copyOf(template) {
   return $(template).content.firstElementChild.cloneNode(true);
 }
 
-export function sizeInWords(bytes) {
+export function sizeText(bytes) {
   if (bytes < 1000) return bytes === 1 ? "1 byte" : `${Math.round(bytes)} bytes`;
   const units = ["kB", "MB", "GB", "TB"];
   let value = bytes / 1000;
@@ -23,11 +23,11 @@ export function sizeInWords(bytes) {
   return `${value.toPrecision(3)} ${units[unit]}`;
 }
 
-export function keyInWords(seed, secret) {
-  const words = [];
-  if (seed !== undefined) words.push(`seed ${seed}`);
-  if (secret !== undefined) words.push(`a secret of ${secret.length} bytes`);
-  return words.length ? `, with ${words.join(" and ")}` : "";
+export function keyText(seed, secret) {
+  const parts = [];
+  if (seed !== undefined) parts.push(`seed ${seed}`);
+  if (secret !== undefined) parts.push(`a secret of ${secret.length} bytes`);
+  return parts.length ? `, with ${parts.join(" and ")}` : "";
 }
 
 /** "10,000". */
@@ -41,8 +41,8 @@ export function counted(number, word) {
 }
 
 /** Announces it to a screen reader. */
-export function say(words) {
-  $("status").textContent = words;
+export function announce(text) {
+  $("status").textContent = text;
 }
 
 /** Copies a text to the clipboard, and shows that on the button. */
@@ -51,10 +51,10 @@ export async function copy(text, button, what) {
   try {
     await navigator.clipboard.writeText(text);
     button.textContent = "Copied";
-    say(`${what} copied`);
+    announce(`${what} copied`);
   } catch {
     button.textContent = "Not allowed";
-    say(`This browser doesn't let the page copy ${what}`);
+    announce(`This browser doesn't let the page copy ${what}`);
   }
   setTimeout(() => { button.textContent = word; }, 1500);
 }

@@ -2,46 +2,54 @@
 import glob
 import os
 import shutil
-import sys
 
 PYTHON_FOLDER = os.path.dirname(os.path.dirname(os.path.abspath(__file__)))
 TOP = os.path.dirname(PYTHON_FOLDER)
-sys.path[:0] = [os.path.join(TOP, 'checks', 'lib'), os.path.join(TOP, 'assembly')]
 
-from report import Fault, tail, want
-from tools import ran
+from checks.lib.report import Fault, last_line, check
+from checks.lib.tools import ran
 
 PYTHON, DEBUG = '/usr/bin/python3', '/usr/bin/python3-dbg'
 DEBIANS = '/usr/lib/python3/dist-packages'
-PACKAGES = {'/usr/bin/gcc': 'gcc', '/usr/bin/nm': 'binutils', '/usr/include/stdio.h': 'libc6-dev', PYTHON: 'python3',
-            '/usr/include/python3.11/Python.h': 'python3-dev', f'{DEBIANS}/xxhash/__init__.py': 'python3-xxhash',
-            '/usr/share/doc/python3-venv': 'python3-venv', f'{DEBIANS}/pip/__init__.py': 'python3-pip'}
+PACKAGES = {
+    '/usr/bin/gcc': 'gcc',
+    '/usr/bin/nm': 'binutils',
+    '/usr/include/stdio.h': 'libc6-dev',
+    PYTHON: 'python3',
+    '/usr/include/python3.11/Python.h': 'python3-dev',
+    f'{DEBIANS}/xxhash/__init__.py': 'python3-xxhash',
+    '/usr/share/doc/python3-venv': 'python3-venv',
+    f'{DEBIANS}/pip/__init__.py': 'python3-pip',
+}
 # A user's environment: no rt, whatever the machine has.
 PATH = '/usr/bin:/bin'
 
 
-def environment(**more):
+def environment(**more: str) -> dict[str, str]:
     """The environment of a user without the toolchain and a network, and with pip's messages off."""
-    kept = {name: value for name, value in os.environ.items()
-            if name in ('HOME', 'LANG', 'LC_ALL', 'TMPDIR', 'TERM', 'USER') or name.lower().endswith('_proxy')}
+    inherited = {
+        name: value
+        for name, value in os.environ.items()
+        if name in ('HOME', 'LANG', 'LC_ALL', 'TMPDIR', 'TERM', 'USER') or name.lower().endswith('_proxy')
+    }
     quiet = {'PIP_NO_INDEX': '1', 'PIP_DISABLE_PIP_VERSION_CHECK': '1', 'PIP_ROOT_USER_ACTION': 'ignore'}
-    return {**kept, 'PATH': PATH, 'PYTHONDONTWRITEBYTECODE': '1', **quiet, **more}
+    return {**inherited, 'PATH': PATH, 'PYTHONDONTWRITEBYTECODE': '1', **quiet, **more}
 
 
-def run(words, folder=None, timeout=1200, **more):
+def run(command, folder=None, timeout=1200, **more):
     """A program's status and both of its outputs, in the environment of such a user."""
-    return ran(words, cwd=folder, env=environment(**more), timeout=timeout)
+    return ran(command, cwd=folder, env=environment(**more), timeout=timeout)
 
 
-def must(words, folder=None, **more):
+def must(command, folder=None, **more):
     """The output of a program that must succeed."""
-    done = run(words, folder, **more)
+    done = run(command, folder, **more)
     if done.returncode:
-        raise Fault(f'{" ".join(words)}: {tail(done.stdout)}')
+        raise Fault(f'{" ".join(command)}: {last_line(done.stdout)}')
     return done.stdout
 
 
-def copied(folder):
+def copied(folder: str) -> str:
     """A copy of the package's sources, as in a clean clone: nothing is built in the repository."""
     keep = shutil.ignore_patterns('out', '__pycache__', '*.so')
     for part in ('python', 'c/asm', 'c/include'):
@@ -50,17 +58,17 @@ def copied(folder):
     return os.path.join(folder, 'python')
 
 
-def packed(folder, *words, **more):
+def packed(folder, *args, **more):
     """The source package and the wheel that python/build makes in a copy, called with these arguments."""
-    must([os.path.join(folder, 'build'), *(words or [PYTHON])], **more)
+    must([os.path.join(folder, 'build'), *(args or [PYTHON])], **more)
     names = sorted(os.listdir(os.path.join(folder, 'out')), key=lambda name: name.endswith('.whl'))
-    want(len(names) == 2, f'python/build made {names}')
+    check(len(names) == 2, f'python/build made {names}')
     return [os.path.join(folder, 'out', name) for name in names]
 
 
-def site(room, name, wheel):
+def site(workdir: str, name: str, wheel: str) -> str:
     """A folder for PYTHONPATH that has the wheel's files."""
-    path = os.path.join(room, 'sites', name)
+    path = os.path.join(workdir, 'sites', name)
     must([PYTHON, '-m', 'zipfile', '-e', wheel, path])
     return path
 
@@ -68,9 +76,9 @@ def site(room, name, wheel):
 class Built:
     """The package, built in the check's folder: `source`, `wheel`, and `site`, the folder of the wheel's files."""
 
-    def __init__(self, room):
-        self.room = room
-        self.folder = copied(os.path.join(room, 'clone'))
+    def __init__(self, workdir):
+        self.workdir = workdir
+        self.folder = copied(os.path.join(workdir, 'clone'))
         self.source, self.wheel = packed(self.folder)
-        self.site = site(room, 'plain', self.wheel)
-        self.library, = glob.glob(os.path.join(self.site, 'twox_hash', '_native*.so'))
+        self.site = site(workdir, 'plain', self.wheel)
+        (self.library,) = glob.glob(os.path.join(self.site, 'twox_hash', '_native*.so'))

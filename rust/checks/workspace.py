@@ -7,35 +7,48 @@ import sys
 
 RUST = os.path.dirname(os.path.dirname(os.path.abspath(__file__)))
 TOP = os.path.dirname(RUST)
-sys.path[:0] = [os.path.join(TOP, 'checks', 'lib'), os.path.join(TOP, 'assembly')]
 
-import arm_roots
-from report import tail, want
-from tools import install, ran, text_of, write
+from checks.lib import arm_roots
+from checks.lib.report import last_line, check
+from checks.lib.tools import install, ran, text_of, write
 
 CRATES = '/usr/share/cargo/registry'
-PACKAGES = {'gcc': 'gcc', 'nm': 'binutils', 'git': 'git', 'valgrind': 'valgrind', 'xxhsum': 'xxhash',
-            '/usr/lib/x86_64-linux-gnu/libxxhash.so': 'libxxhash-dev',
-            f'{CRATES}/serde_derive-1.0.152': 'librust-serde-derive-dev',
-            f'{CRATES}/serde-1.0.152': 'librust-serde-dev',
-            f'{CRATES}/serde_json-1.0.87': 'librust-serde-json-dev',
-            f'{CRATES}/rand-0.8.5': 'librust-rand-dev',
-            f'{CRATES}/xxhash-rust-0.8.5': 'librust-xxhash-rust-dev'}
+PACKAGES = {
+    'gcc': 'gcc',
+    'nm': 'binutils',
+    'git': 'git',
+    'valgrind': 'valgrind',
+    'xxhsum': 'xxhash',
+    '/usr/lib/x86_64-linux-gnu/libxxhash.so': 'libxxhash-dev',
+    f'{CRATES}/serde_derive-1.0.152': 'librust-serde-derive-dev',
+    f'{CRATES}/serde-1.0.152': 'librust-serde-dev',
+    f'{CRATES}/serde_json-1.0.87': 'librust-serde-json-dev',
+    f'{CRATES}/rand-0.8.5': 'librust-rand-dev',
+    f'{CRATES}/xxhash-rust-0.8.5': 'librust-xxhash-rust-dev',
+}
 # Debian's newest cargo: its plain one is older than the crate's rust-version.
 CARGO = 'cargo-web'
 DEBIANS_RUST = {'/usr/bin/rustc': 'rustc-web', '/usr/bin/cargo': CARGO}
 # Builds and runs programs for 64-bit ARM: Debian's compiler for its standard library for that processor.
 ARM = 'aarch64-unknown-linux-gnu'
-ARM_PACKAGES = {'aarch64-linux-gnu-gcc': 'gcc-aarch64-linux-gnu',
-                'aarch64-linux-gnu-objcopy': 'binutils-aarch64-linux-gnu',
-                '/usr/aarch64-linux-gnu/include/stdio.h': 'libc6-dev-arm64-cross', 'qemu-aarch64': 'qemu-user',
-                **DEBIANS_RUST}
+ARM_PACKAGES = {
+    'aarch64-linux-gnu-gcc': 'gcc-aarch64-linux-gnu',
+    'aarch64-linux-gnu-objcopy': 'binutils-aarch64-linux-gnu',
+    '/usr/aarch64-linux-gnu/include/stdio.h': 'libc6-dev-arm64-cross',
+    'qemu-aarch64': 'qemu-user',
+    **DEBIANS_RUST,
+}
 # Runs a program on a processor without features that this one has.
 OLDER_PACKAGES = {'qemu-x86_64': 'qemu-user'}
 # The sources of Rust's standard library, to build it for targets for which Debian has none.
 SOURCES = '/usr/lib/rustlib/src/rust/library'
-SOURCE_PACKAGES = {**DEBIANS_RUST, SOURCES: 'rust-web-src', 'musl-gcc': 'musl-tools', 'make': 'make',
-                   '/usr/lib/llvm-14/lib/libunwind.a': 'libunwind-14-dev'}
+SOURCE_PACKAGES = {
+    **DEBIANS_RUST,
+    SOURCES: 'rust-web-src',
+    'musl-gcc': 'musl-tools',
+    'make': 'make',
+    '/usr/lib/llvm-14/lib/libunwind.a': 'libunwind-14-dev',
+}
 # The original's manifest, for sources that come without one.
 ORIGINAL = '''[package]
 name = "twox-hash"
@@ -59,15 +72,15 @@ serde = { version = "1.0", features = ["derive"], optional = true }
 '''
 
 
-def must(words, **more):
+def must(command, **more):
     """Runs a tool of the check itself, which must succeed."""
-    done = subprocess.run(words, capture_output=True, text=True, **more)
+    done = subprocess.run(command, capture_output=True, text=True, **more)
     if done.returncode:
-        sys.exit(f'rust/{os.path.basename(sys.argv[0])}: {" ".join(words)}:\n{(done.stdout + done.stderr)[-2000:]}')
+        sys.exit(f'rust/{os.path.basename(sys.argv[0])}: {" ".join(command)}:\n{(done.stdout + done.stderr)[-2000:]}')
     return done.stdout
 
 
-def install_packages(packages=PACKAGES):
+def install_packages(packages: dict[str, str] = PACKAGES) -> None:
     missing = {package for name, package in packages.items() if not (shutil.which(name) or os.path.exists(name))}
     version = shutil.which('cargo') and re.match(r'cargo 1\.(\d+)', must(['cargo', '--version']))
     if not version or int(version[1]) < 81:
@@ -75,7 +88,7 @@ def install_packages(packages=PACKAGES):
     install(missing)
 
 
-class Room:
+class Workspace:
     """The check's own folder: a copy of the crate's sources and assembly source, and cargo's output."""
 
     cargo_program = 'cargo'
@@ -92,32 +105,34 @@ class Room:
         os.makedirs(os.path.join(path, 'programs'))
 
     def use_registry(self, folder):
-        write(os.path.join(self.path, '.cargo', 'config.toml'),
-              f'[source.crates-io]\nreplace-with = "debian"\n[source.debian]\ndirectory = "{folder}"\n')
+        write(
+            os.path.join(self.path, '.cargo', 'config.toml'),
+            f'[source.crates-io]\nreplace-with = "debian"\n[source.debian]\ndirectory = "{folder}"\n',
+        )
 
     def environment(self, flags='', **more):
-        kept = {name: value for name, value in os.environ.items() if name != 'RUSTFLAGS'}
+        inherited = {name: value for name, value in os.environ.items() if name != 'RUSTFLAGS'}
         found = {'CARGO_TARGET_DIR': os.path.join(self.path, 'target'), 'CARGO_NET_OFFLINE': 'true'}
-        return {**kept, **found, 'RUSTFLAGS': flags, **more}
+        return {**inherited, **found, 'RUSTFLAGS': flags, **more}
 
-    def cargo(self, folder, command, *words, environment=None):
-        return ran([self.cargo_program, command, *words], cwd=folder, env=environment or self.environment())
+    def cargo(self, folder, command, *args, environment=None):
+        return ran([self.cargo_program, command, *args], cwd=folder, env=environment or self.environment())
 
-    def must(self, folder, command, *words, environment=None):
+    def must(self, folder, command, *args, environment=None):
         """The output of cargo, which must succeed."""
-        done = self.cargo(folder, command, *words, environment=environment)
-        want(done.returncode == 0, tail(errors_of(done.stdout)))
+        done = self.cargo(folder, command, *args, environment=environment)
+        check(done.returncode == 0, last_line(errors_of(done.stdout)))
         return done.stdout
 
-    def build(self, folder, name, *words, environment=None):
+    def build(self, folder, name, *args, environment=None):
         """A program of a package, under a name of its own."""
-        self.must(folder, 'build', '--release', *words, environment=environment)
+        self.must(folder, 'build', '--release', *args, environment=environment)
         path = os.path.join(self.path, 'programs', name + self.ending)
-        shutil.copy(os.path.join(self.made, os.path.basename(name).split('@')[0] + self.ending), path)
+        shutil.copy(os.path.join(self.build_dir, os.path.basename(name).split('@')[0] + self.ending), path)
         return path
 
     @property
-    def made(self):
+    def build_dir(self):
         return os.path.join(self.path, 'target', *([self.target] if self.target else []), 'release')
 
     def changed(self, name, change):
@@ -138,11 +153,13 @@ class Room:
         # Two packages of one name and version can't be linked into one program.
         write(manifest, re.sub(r'^version = "2\.1\.5"', 'version = "2.1.5-original"', text, flags=re.M))
         with open(os.path.join(package, 'Cargo.toml'), 'a') as file:
-            file.write(f'original = {{ package = "twox-hash", path = "{copy}", version = "=2.1.5-original", '
-                       'features = ["serialize"] }\n')
+            file.write(
+                f'original = {{ package = "twox-hash", path = "{copy}", version = "=2.1.5-original", '
+                'features = ["serialize"] }\n'
+            )
 
 
-class ArmRoom(Room):
+class ArmWorkspace(Workspace):
     """A folder for 64-bit ARM: programs are built by Debian's compiler and run under qemu."""
 
     cargo_program = '/usr/bin/cargo'
@@ -153,18 +170,25 @@ class ArmRoom(Room):
         self.root = arm_roots.debian_root(os.path.join(path, 'debian'), 'libc6', 'libxxhash-dev', 'libstd-rust-web-dev')
         self.sysroot = os.path.join(path, 'sysroot')
         os.makedirs(os.path.join(self.sysroot, 'lib', 'rustlib'))
-        os.symlink(os.path.join(self.root, 'usr', 'lib', 'rustlib', ARM),
-                   os.path.join(self.sysroot, 'lib', 'rustlib', ARM))
+        os.symlink(
+            os.path.join(self.root, 'usr', 'lib', 'rustlib', ARM), os.path.join(self.sysroot, 'lib', 'rustlib', ARM)
+        )
         self.runner = ['qemu-aarch64', '-L', self.root]
 
     def environment(self, flags='', **more):
         libraries = os.path.join(self.root, 'usr', 'lib', 'aarch64-linux-gnu')
-        return super().environment(f'--sysroot {self.sysroot} -L native={libraries} {flags}', **{
-            'CARGO_BUILD_TARGET': ARM, 'RUSTC': '/usr/bin/rustc',
-            **for_target(ARM, LINKER='aarch64-linux-gnu-gcc', RUNNER=' '.join(self.runner)), **more})
+        return super().environment(
+            f'--sysroot {self.sysroot} -L native={libraries} {flags}',
+            **{
+                'CARGO_BUILD_TARGET': ARM,
+                'RUSTC': '/usr/bin/rustc',
+                **for_target(ARM, LINKER='aarch64-linux-gnu-gcc', RUNNER=' '.join(self.runner)),
+                **more,
+            },
+        )
 
 
-class SourceRoom(Room):
+class SourceWorkspace(Workspace):
     """A folder for a target whose standard library is built from Debian's sources, for example with musl. A program
     is linked by `linker`, and run by `runner` if that isn't empty. Debian's static unwinder is in the root `root`."""
 
@@ -189,24 +213,36 @@ class SourceRoom(Room):
         """Debian's unwinder, which is compiled for glibc, and the function of glibc that it needs: to print a
         message before it stops."""
         os.symlink(f'{root}/usr/lib/llvm-14/lib/libunwind.a', os.path.join(self.libraries, 'libunwind.a'))
-        must([self.linker, '-O2', '-x', 'c', '-', '-c', '-o', os.path.join(self.libraries, 'chk.o')],
-             input='void abort(void); int __fprintf_chk(void *f, int n, const char *s, ...) { abort(); }')
+        must(
+            [self.linker, '-O2', '-x', 'c', '-', '-c', '-o', os.path.join(self.libraries, 'chk.o')],
+            input='void abort(void); int __fprintf_chk(void *f, int n, const char *s, ...) { abort(); }',
+        )
 
     def environment(self, flags='', **more):
-        native = (f'-C link-self-contained=no -L native={self.libraries} -C link-arg={self.libraries}/chk.o '
-                  '-C link-arg=-lgcc')
-        return super().environment(f'{native} {flags}', **{
-            # The switch for `-Z build-std`, which a released compiler also has.
-            'RUSTC_BOOTSTRAP': '1', 'RUSTC': '/usr/bin/rustc', 'RUSTDOC': '/usr/bin/rustdoc',
-            **for_target(self.target, LINKER=self.linker, RUNNER=self.runner), **more})
+        native = (
+            f'-C link-self-contained=no -L native={self.libraries} -C link-arg={self.libraries}/chk.o '
+            '-C link-arg=-lgcc'
+        )
+        return super().environment(
+            f'{native} {flags}',
+            **{
+                # The switch for `-Z build-std`, which a released compiler also has.
+                'RUSTC_BOOTSTRAP': '1',
+                'RUSTC': '/usr/bin/rustc',
+                'RUSTDOC': '/usr/bin/rustdoc',
+                **for_target(self.target, LINKER=self.linker, RUNNER=self.runner),
+                **more,
+            },
+        )
 
-    def cargo(self, folder, command, *words, environment=None):
+    def cargo(self, folder, command, *args, environment=None):
         parts = 'core' if self.linker == 'false' else 'std,panic_abort'
-        return super().cargo(folder, command, '-Z', f'build-std={parts}', '--target', self.target, *words,
-                             environment=environment)
+        return super().cargo(
+            folder, command, '-Z', f'build-std={parts}', '--target', self.target, *args, environment=environment
+        )
 
 
-class FurtherRoom(SourceRoom):
+class FurtherWorkspace(SourceWorkspace):
     """A target that the toolchain doesn't support, whose programs an emulator runs. Its libxxhash is the reference's
     header, compiled for it."""
 
@@ -215,38 +251,72 @@ class FurtherRoom(SourceRoom):
         super().__init__(path, target, linker, runner)
 
     def add_unwinder(self, root):
-        made = os.path.join(self.libraries, 'xxhash.o')
+        object_file = os.path.join(self.libraries, 'xxhash.o')
         header = '#define XXH_STATIC_LINKING_ONLY\n#define XXH_IMPLEMENTATION\n#include "/usr/include/xxhash.h"\n'
-        must([self.linker, '-O2', '-x', 'c', '-', '-c', '-o', made], input=header)
-        must([self.linker.replace('gcc', 'ar'), 'rcs', os.path.join(self.libraries, 'libxxhash.a'), made])
+        must([self.linker, '-O2', '-x', 'c', '-', '-c', '-o', object_file], input=header)
+        must([self.linker.replace('gcc', 'ar'), 'rcs', os.path.join(self.libraries, 'libxxhash.a'), object_file])
 
     def environment(self, flags='', **more):
-        return Room.environment(self, f'-L native={self.libraries} {flags}', **{
-            'RUSTC_BOOTSTRAP': '1', 'RUSTC': '/usr/bin/rustc',
-            **for_target(self.target, LINKER=self.linker, RUNNER=self.runner), **more})
+        return Workspace.environment(
+            self,
+            f'-L native={self.libraries} {flags}',
+            **{
+                'RUSTC_BOOTSTRAP': '1',
+                'RUSTC': '/usr/bin/rustc',
+                **for_target(self.target, LINKER=self.linker, RUNNER=self.runner),
+                **more,
+            },
+        )
 
 
 # The function of Windows that Rust's standard library calls for random seeds, and Debian's wine lacks.
 RANDOM_DLL = '''#include <windows.h>
-BOOLEAN NTAPI SystemFunction036(PVOID room, ULONG length);
-__declspec(dllexport) BOOL WINAPI ProcessPrng(PBYTE room, SIZE_T length) { return SystemFunction036(room, (ULONG)length); }
+BOOLEAN NTAPI SystemFunction036(PVOID buffer, ULONG length);
+__declspec(dllexport) BOOL WINAPI ProcessPrng(PBYTE buffer, SIZE_T length)
+{
+    return SystemFunction036(buffer, (ULONG)length);
+}
 '''
 
 
-def windows_room(path):
+def windows_workspace(path):
     folder = os.path.join(path, 'wine')
     os.makedirs(folder)
-    must(['x86_64-w64-mingw32-gcc', '-shared', '-O2', '-x', 'c', '-', '-o', os.path.join(folder, 'bcryptprimitives.dll'),
-          '-ladvapi32'], input=RANDOM_DLL)
-    os.environ.update(WINEPATH='Z:' + folder.replace('/', '\\'), WINEPREFIX=os.path.join(folder, 'prefix'), WINEDEBUG='-all')
-    return FurtherRoom(path, 'x86_64-pc-windows-gnu', 'x86_64-w64-mingw32-gcc', '/usr/lib/wine/wine64', '.exe')
+    must(
+        [
+            'x86_64-w64-mingw32-gcc',
+            '-shared',
+            '-O2',
+            '-x',
+            'c',
+            '-',
+            '-o',
+            os.path.join(folder, 'bcryptprimitives.dll'),
+            '-ladvapi32',
+        ],
+        input=RANDOM_DLL,
+    )
+    os.environ.update(
+        WINEPATH='Z:' + folder.replace('/', '\\'), WINEPREFIX=os.path.join(folder, 'prefix'), WINEDEBUG='-all'
+    )
+    return FurtherWorkspace(path, 'x86_64-pc-windows-gnu', 'x86_64-w64-mingw32-gcc', '/usr/lib/wine/wine64', '.exe')
 
 
 RISCV = 'riscv64gc-unknown-linux-gnu', 'riscv64-linux-gnu-gcc', 'qemu-riscv64 -L /usr/riscv64-linux-gnu'
-FURTHER = {'riscv64': (lambda path: FurtherRoom(path, *RISCV), {
-    'riscv64-linux-gnu-gcc': 'gcc-riscv64-linux-gnu', 'qemu-riscv64': 'qemu-user',
-    '/usr/riscv64-linux-gnu/include/stdio.h': 'libc6-dev-riscv64-cross'}),
-           'windows': (windows_room, {'x86_64-w64-mingw32-gcc': 'gcc-mingw-w64-x86-64', '/usr/lib/wine/wine64': 'wine64'})}
+FURTHER = {
+    'riscv64': (
+        lambda path: FurtherWorkspace(path, *RISCV),
+        {
+            'riscv64-linux-gnu-gcc': 'gcc-riscv64-linux-gnu',
+            'qemu-riscv64': 'qemu-user',
+            '/usr/riscv64-linux-gnu/include/stdio.h': 'libc6-dev-riscv64-cross',
+        },
+    ),
+    'windows': (
+        windows_workspace,
+        {'x86_64-w64-mingw32-gcc': 'gcc-mingw-w64-x86-64', '/usr/lib/wine/wine64': 'wine64'},
+    ),
+}
 
 
 def for_target(target, **variables):
@@ -255,11 +325,11 @@ def for_target(target, **variables):
     return {begin + name: value for name, value in variables.items() if value}
 
 
-def errors_of(text):
+def errors_of(text: str) -> str:
     return '\n'.join(line for line in text.splitlines() if line.startswith('error')) or text
 
 
-def has(name):
+def has(name: str) -> bool:
     """True if this processor has an instruction set, for example x86-64-v3."""
     done = subprocess.run(['/lib64/ld-linux-x86-64.so.2', '--help'], stdout=subprocess.PIPE, text=True)
     return f'{name} (supported' in done.stdout

@@ -1,6 +1,6 @@
 /* The four hashes, as a table of their differences. */
-#ifndef TWOX_HASH_KINDS_H
-#define TWOX_HASH_KINDS_H
+#ifndef TWOX_HASH_ALGORITHMS_H
+#define TWOX_HASH_ALGORITHMS_H
 
 #include <stddef.h>
 #include <stdint.h>
@@ -27,7 +27,7 @@ struct key {
 /* A value of any hash: only the low half if it has 64 bits or fewer. */
 typedef XXH128_hash_t hash_value;
 
-struct kind {
+struct algorithm {
     const char *name; /* the attribute of this name */
     unsigned char digest_bytes;
     unsigned char block_bytes;
@@ -43,6 +43,6 @@ struct kind {
     struct key (*key_of)(const void *state);
 };
 
-extern const struct kind xxh32_kind, xxh64_kind, xxh3_64_kind, xxh3_128_kind;
+extern const struct algorithm xxh32_algorithm, xxh64_algorithm, xxh3_64_algorithm, xxh3_128_algorithm;
 
 #endif

@@ -1,5 +1,5 @@
 /* The calls of each hash, in one form for all. */
-#include "kinds.h"
+#include "algorithms.h"
 
 #include <string.h>
 
@@ -14,7 +14,7 @@ static inline hash_value narrow(uint64_t low)
 
 /* ---- XXH32 and XXH64 ---- */
 
-#define PLAIN_KIND(bits, block) \
+#define PLAIN_ALGORITHM(bits, block) \
     static hash_value hash_##bits(const void *input, size_t length, const struct key *key) \
     { \
         return narrow(calls.XXH##bits(input, length, (XXH##bits##_hash_t)key->seed)); \
@@ -35,14 +35,14 @@ static inline hash_value narrow(uint64_t low)
     { \
         return (struct key){.seed = ((const struct xxh##bits##_state *)state)->seed, .has_seed = 1}; \
     } \
-    const struct kind xxh##bits##_kind = { \
+    const struct algorithm xxh##bits##_algorithm = { \
         .name = "XXH" #bits, .digest_bytes = bits / 8, .block_bytes = block, \
         .has_narrow_seed = bits == 32, .state_bytes = XXH##bits##_STATE_BYTES, .hash = hash_##bits, \
         .start = start_##bits, .take = take_##bits, .finish = finish_##bits, .key_of = key_of_##bits, \
     };
 
-PLAIN_KIND(32, 16)
-PLAIN_KIND(64, 32)
+PLAIN_ALGORITHM(32, 16)
+PLAIN_ALGORITHM(64, 32)
 
 /* ---- XXH3 ---- */
 
@@ -91,7 +91,7 @@ static hash_value as_128(XXH128_hash_t hash)
     return hash;
 }
 
-#define XXH3_KIND(bits, block) \
+#define XXH3_ALGORITHM(bits, block) \
     static hash_value hash_3_##bits(const void *input, size_t length, const struct key *key) \
     { \
         if (!key->secret) return as_##bits(calls.XXH3_##bits##bits_withSeed(input, length, key->seed)); \
@@ -122,11 +122,11 @@ static hash_value as_128(XXH128_hash_t hash)
             return as_##bits(calls.twox_c_digest_##bits(state, keyed->secret, keyed->state.secret_length)); \
         return as_##bits(calls.XXH3_##bits##bits_digest(state)); \
     } \
-    const struct kind xxh3_##bits##_kind = { \
+    const struct algorithm xxh3_##bits##_algorithm = { \
         .name = "XXH3_" #bits, .digest_bytes = bits / 8, .block_bytes = block, \
         .has_secret = 1, .state_bytes = KEYED_STATE_BYTES, .hash = hash_3_##bits, .start = start_3_##bits, \
         .take = take_3_##bits, .finish = finish_3_##bits, .key_of = key_of_3, \
     };
 
-XXH3_KIND(64, 32)
-XXH3_KIND(128, 64)
+XXH3_ALGORITHM(64, 32)
+XXH3_ALGORITHM(128, 64)

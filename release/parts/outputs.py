@@ -10,90 +10,92 @@ import tarfile
 import tempfile
 import zipfile
 
-import written
-from packing import read_tar
-from report import tail, want
-from tools import TOP, bytes_of, flip_bit, must, ran, text_of, write
+from release.parts import written
+from release.parts.packing import read_tar
+from checks.lib.report import last_line, check
+from checks.lib.tools import TOP, bytes_of, flip_bit, must, ran, text_of, write
 
 # The programs that make the assembly sources, and their targets.
 TEXTS = {'c/build': ('x86-64', 'aarch64'), 'rust/build-library': ('x86-64', 'aarch64')}
 MAKE = os.path.join(TOP, 'release', 'make')
 
 
-def make(room, folder, log, umask):
+def make(workdir, folder, log, umask):
     """release/make, with a working folder of its own."""
-    os.mkdir(room)
-    done = ran([MAKE, *(['--gate', log] if log else []), folder], env={**os.environ, 'TMPDIR': room}, umask=umask)
-    want(done.returncode == 0, done.stdout[-1500:])
-    return tail(done.stdout)
+    os.mkdir(workdir)
+    done = ran([MAKE, *(['--gate', log] if log else []), folder], env={**os.environ, 'TMPDIR': workdir}, umask=umask)
+    check(done.returncode == 0, done.stdout[-1500:])
+    return last_line(done.stdout)
 
 
-def twice(room, folder, log):
+def twice(workdir, folder, log):
     """The files in the folder are those of a second run, under another umask, byte for byte."""
-    other = os.path.join(room, 'a second folder')
-    said, again = (make(os.path.join(room, name), into, log, umask).split(': ', 1)[1]
-                   for name, into, umask in (('first', folder, 0o022), ('second', other, 0o077)))
-    want(said == again, f'first {said}, then {again}')  # for example if a commit was made meanwhile
+    other = os.path.join(workdir, 'a second folder')
+    summary, again = (
+        make(os.path.join(workdir, name), into, log, umask).split(': ', 1)[1]
+        for name, into, umask in (('first', folder, 0o022), ('second', other, 0o077))
+    )
+    check(summary == again, f'first {summary}, then {again}')  # for example if a commit was made meanwhile
     one, two = ({name: written.sum_of(f'{path}/{name}') for name in os.listdir(path)} for path in (folder, other))
     shutil.rmtree(other)
     differ = sorted(name for name in set(one) | set(two) if one.get(name) != two.get(name))
-    want(not differ, f'other bytes: {", ".join(differ)}')
-    return said
+    check(not differ, f'other bytes: {", ".join(differ)}')
+    return summary
 
 
-def proved_clone(room):
+def proved_clone(workdir):
     """A clone that `rt ci` has proved."""
-    clone = os.path.join(room, 'proved')
+    clone = os.path.join(workdir, 'proved')
     if not os.path.exists(clone):
         must(['git', 'clone', '-q', TOP, clone])
         must(['rt', 'ci'], cwd=clone)
     return clone
 
 
-def texts_are_made_anew(room):
+def texts_are_regenerated(workdir):
     """Regenerates the assembly source of every target from the proved code, including the targets that CI skips."""
-    clone = proved_clone(room)
+    clone = proved_clone(workdir)
     for build, targets in TEXTS.items():
         for target in targets:
             must([os.path.join(clone, build), '--target', target, '--of-ci', '--update'])
     other = must(['git', 'status', '--porcelain', '--', 'c/asm', 'rust/asm', 'rust/lto'], cwd=clone)
-    want(not other, f'other than they are made: {other.split()[1::2]}')
+    check(not other, f'other than they are made: {other.split()[1::2]}')
     return ', '.join(TEXTS['rust/build-library'])
 
 
-def wrong_bodies_are_refused(room):
+def wrong_bodies_are_refused(workdir):
     """Each mutant, even if this machine remembers that it was refused. The planted ones of all crates have the
     expected verdicts; CI tests those of the smallest crates."""
-    program = os.path.join(proved_clone(room), 'checks', 'wrong-bodies')
+    program = os.path.join(proved_clone(workdir), 'checks', 'wrong-bodies')
     for word in '--self-test', '--anew':
         done = ran([program, word], stdin=subprocess.DEVNULL)
-        want(done.returncode == 0, done.stdout[-1500:])
-    return tail(done.stdout)
+        check(done.returncode == 0, done.stdout[-1500:])
+    return last_line(done.stdout)
 
 
 def stem(folder):
     """The name and the version with which file names begin."""
     found = glob.glob(os.path.join(folder, 'twox_hash-*.spdx'))
-    want(len(found) == 1, f'{folder} has no release')
+    check(len(found) == 1, f'{folder} has no release')
     return os.path.basename(found[0]).removesuffix('.spdx')
 
 
 def sums_agree(folder):
-    said = must(['sha256sum', '-c', '--strict', 'SHA256SUMS'], cwd=folder)
-    names = {line.rsplit(': ', 1)[0] for line in said.splitlines()}
-    want(names == set(os.listdir(folder)) - {'SHA256SUMS'}, f'{names ^ set(os.listdir(folder))} has no sum')
+    summary = must(['sha256sum', '-c', '--strict', 'SHA256SUMS'], cwd=folder)
+    names = {line.rsplit(': ', 1)[0] for line in summary.splitlines()}
+    check(names == set(os.listdir(folder)) - {'SHA256SUMS'}, f'{names ^ set(os.listdir(folder))} has no sum')
     return f'{len(names)} files'
 
 
-def change_is_noticed(room, folder):
+def change_is_noticed(workdir, folder):
     """A changed byte of an archive."""
-    copy = os.path.join(room, 'changed')
+    copy = os.path.join(workdir, 'changed')
     shutil.copytree(folder, copy)
     path = sorted(glob.glob(os.path.join(copy, '*.tar.gz')))[0]
     flip_bit(path, 1000)
     done = subprocess.run(['sha256sum', '-c', '--quiet', 'SHA256SUMS'], cwd=copy, capture_output=True, text=True)
     shutil.rmtree(copy)
-    want(done.returncode and os.path.basename(path) in done.stdout, 'it is not detected')
+    check(done.returncode and os.path.basename(path) in done.stdout, 'it is not detected')
     return os.path.basename(path)
 
 
@@ -105,9 +107,11 @@ def members(path):
     elif path.endswith(('.gz', '.tgz', '.crate')):
         found = read_tar(path)
     elif path.endswith('.deb'):
-        packed = subprocess.run(['dpkg-deb', '--fsys-tarfile', path], stdout=subprocess.PIPE, check=True).stdout
+        packed = subprocess.run(['dpkg-deb', '--fsys-tarfile', path], stdout=subprocess.PIPE, test=True).stdout
         with tarfile.open(fileobj=io.BytesIO(packed)) as archive:
-            found = {it.name: (oct(it.mode), it.linkname, it.isfile() and archive.extractfile(it).read()) for it in archive}
+            found = {
+                it.name: (oct(it.mode), it.linkname, it.isfile() and archive.extractfile(it).read()) for it in archive
+            }
     else:
         found = {'': bytes_of(path)}
     return {name: data for name, data in found.items() if os.path.basename(name) not in ('PROVENANCE', 'RECORD')}
@@ -129,47 +133,55 @@ def tree(folder):
     return found
 
 
-def foreign_folders(room, folder):
+def foreign_folders(workdir, folder):
     """Folders with more than a release in them, each with a name that release/make must refuse."""
-    mirror, name = os.path.join(room, 'mirror'), sorted(os.listdir(folder))[-1]
+    mirror, name = os.path.join(workdir, 'mirror'), sorted(os.listdir(folder))[-1]
     write(os.path.join(mirror, 'disk.iso'), b'an image')
     write(os.path.join(mirror, written.SUMS), must(['sha256sum', 'disk.iso'], cwd=mirror))
     yield mirror, 'disk.iso'
-    yield shutil.copytree(os.path.join(TOP, 'web'), os.path.join(room, 'web')), 'LICENSE'
-    for number, (foreign, change) in enumerate((('more', 'echo > more'), ('more', 'mkdir more'), (name, f'echo >> {name}'),
-                                                (name, f'mv {name} ../moved; ln -s ../moved {name}'))):
-        copy = shutil.copytree(folder, os.path.join(room, f'copy {number}'))
+    yield shutil.copytree(os.path.join(TOP, 'web'), os.path.join(workdir, 'web')), 'LICENSE'
+    for number, (foreign, change) in enumerate(
+        (
+            ('more', 'echo > more'),
+            ('more', 'mkdir more'),
+            (name, f'echo >> {name}'),
+            (name, f'mv {name} ../moved; ln -s ../moved {name}'),
+        )
+    ):
+        copy = shutil.copytree(folder, os.path.join(workdir, f'copy {number}'))
         must(['sh', '-c', change], cwd=copy)
         yield copy, foreign
-    yield write(os.path.join(room, 'a file'), ''), 'a file'
+    yield write(os.path.join(workdir, 'a file'), ''), 'a file'
 
 
 def foreign_folders_stay(folder):
     """release/make deletes nothing that it didn't write, and lists what that is. It replaces an earlier release."""
-    with tempfile.TemporaryDirectory(prefix='twox-foreign-') as room:
+    with tempfile.TemporaryDirectory(prefix='twox-foreign-') as workdir:
         count = 0
-        for place, name in foreign_folders(room, folder):
+        for place, name in foreign_folders(workdir, folder):
             before = tree(place)
             done = ran([MAKE, place], timeout=60)
-            want(done.returncode and place in done.stdout and name in done.stdout and tree(place) == before,
-                 f'{place}: status {done.returncode}: {tail(done.stdout)}')
+            check(
+                done.returncode and place in done.stdout and name in done.stdout and tree(place) == before,
+                f'{place}: status {done.returncode}: {last_line(done.stdout)}',
+            )
             count += 1
-        earlier, other = shutil.copytree(folder, os.path.join(room, 'earlier')), os.path.join(room, 'other')
+        earlier, other = shutil.copytree(folder, os.path.join(workdir, 'earlier')), os.path.join(workdir, 'other')
         write(os.path.join(other, 'new'), '')
         written.write_sums(other)
         written.replace(earlier, other)
-        want(sorted(os.listdir(earlier)) == [written.SUMS, 'new'], f'of a release is left {os.listdir(earlier)}')
+        check(sorted(os.listdir(earlier)) == [written.SUMS, 'new'], f'of a release is left {os.listdir(earlier)}')
         sums_agree(earlier)
     return f'{count} folders stay, a release gives way'
 
 
-def provenances(room, path):
+def provenances(workdir, path):
     """The files of that name in an archive."""
     if path.endswith('.whl'):
         with zipfile.ZipFile(path) as archive:
             return [archive.read(name) for name in archive.namelist() if name.endswith('/PROVENANCE')]
     if path.endswith('.deb'):
-        folder = os.path.join(room, 'unpacked')
+        folder = os.path.join(workdir, 'unpacked')
         must(['dpkg-deb', '-x', path, folder])
         found = glob.glob(os.path.join(folder, 'usr', 'share', 'doc', '*', 'PROVENANCE'))
         held = [open(name, 'rb').read() for name in found]
@@ -178,16 +190,16 @@ def provenances(room, path):
     return [data for name, data in read_tar(path).items() if name.endswith('/PROVENANCE')]
 
 
-def has_provenance(room, folder):
+def has_provenance(workdir, folder):
     right = bytes_of(os.path.join(folder, 'PROVENANCE'))
     names = list(filter(is_archive, sorted(os.listdir(folder))))
     for name in names:
-        want(provenances(room, os.path.join(folder, name)) == [right], f'{name} has another one, or none')
-    words, has_programs = right.decode(), any('-programs-' in name and '-cargo-' not in name for name in names)
+        check(provenances(workdir, os.path.join(folder, name)) == [right], f'{name} has another one, or none')
+    target, has_programs = right.decode(), any('-programs-' in name and '-cargo-' not in name for name in names)
     kit = ('rattle-kit', '[0-9a-f]{64}  bin/rattle') if has_programs else ('none: release/make --without-rt',)
     for part in ('commit [0-9a-f]{40}', *kit, '[0-9a-f]{64}  c/asm/x86-64-v2.s'):
-        want(re.search(part, words), f'without {part}')
-    gate = re.search(r'^CI\n  (.*)', words, re.M)[1]
+        check(re.search(part, target), f'without {part}')
+    gate = re.search(r'^CI\n  (.*)', target, re.M)[1]
     return f'{len(names)} archives; gate: {gate}'
 
 
@@ -210,8 +222,10 @@ def all_users_can_read(folder):
     for name in filter(is_archive, sorted(os.listdir(folder))):
         for mode, owner, rest in modes_of(os.path.join(folder, name)):
             is_program = re.search(r'/bin/[\w-]+$', rest)
-            expected = ('-rwxr-xr-x', 'lrwxrwxrwx') if is_program else ('-rw-r--r--', '-rwxr-xr-x', 'drwxr-xr-x', 'lrwxrwxrwx')
-            want(mode in expected and owner in ('root/root', '0/0'), f'{name}: {mode} {owner} {rest}')
+            expected = (
+                ('-rwxr-xr-x', 'lrwxrwxrwx') if is_program else ('-rw-r--r--', '-rwxr-xr-x', 'drwxr-xr-x', 'lrwxrwxrwx')
+            )
+            check(mode in expected and owner in ('root/root', '0/0'), f'{name}: {mode} {owner} {rest}')
             count += 1
     return f'{count} files'
 
@@ -220,9 +234,9 @@ def is_archive(name):
     return name.endswith(('.gz', '.tgz', '.crate', '.whl', '.deb'))
 
 
-def check_all(report, room, folder):
+def check_all(report, workdir, folder):
     report.attempt('the modes of all files', all_users_can_read, folder)
     report.attempt('SHA256SUMS', sums_agree, folder)
-    report.attempt('a changed byte is detected', change_is_noticed, room, folder)
-    report.attempt('PROVENANCE in each archive', has_provenance, room, folder)
+    report.attempt('a changed byte is detected', change_is_noticed, workdir, folder)
+    report.attempt('PROVENANCE in each archive', has_provenance, workdir, folder)
     report.attempt('release/make in a folder with other files', foreign_folders_stay, folder)

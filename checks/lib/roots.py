@@ -3,9 +3,10 @@ import contextlib
 import os
 import shutil
 import subprocess
+from typing import Iterator, Union
 
-from report import tail, want
-from tools import QUIET, must, ran, write
+from checks.lib.report import last_line, check
+from checks.lib.tools import QUIET, must, ran, write
 
 MIRROR, SECURITY = 'http://deb.debian.org/debian', 'http://deb.debian.org/debian-security'
 # The folder of the archives in a root, as downloaded by a user, and of the repository, as cloned.
@@ -14,7 +15,7 @@ TAKEN, CLONE = '/root/taken', '/root/twox_hash'
 LEFT = ('proc', 'root', 'tmp', 'var/log', 'var/cache', 'var/lib/apt', 'var/lib/dpkg', 'etc/ld.so.cache')
 
 
-def new_base(suite, folder):
+def new_base(suite: str, folder: str) -> str:
     """A root of a release with what every Debian machine has, and its updates."""
     must(['debootstrap', '--variant=minbase', suite, folder, MIRROR], env=QUIET)
     places = ((MIRROR, suite), (MIRROR, f'{suite}-updates'), (SECURITY, f'{suite}-security'))
@@ -29,37 +30,43 @@ def new_base(suite, folder):
 class Root:
     """A user's machine: programs there see no other file, and no toolchain."""
 
-    def __init__(self, path, suite='', stem=''):
+    def __init__(self, path: str, suite: str = '', stem: str = '') -> None:
         self.path, self.suite, self.stem = path, suite, stem
 
-    def at(self, name):
+    def at(self, name: str) -> str:
         return os.path.join(self.path, name.lstrip('/'))
 
-    def run(self, script, folder=TAKEN, **variables):
+    def run(self, script: str, folder: str = TAKEN, **variables: str) -> tuple[int, str]:
         """The status and the output of a script of bash in a folder."""
-        environment = {'PATH': '/usr/sbin:/usr/bin:/sbin:/bin', 'HOME': '/root', 'DEBIAN_FRONTEND': 'noninteractive',
-                       'LC_ALL': 'C.UTF-8', 'PYTHONDONTWRITEBYTECODE': '1', **variables}
-        words = ['chroot', self.path, '/bin/bash', '-c', f'cd {folder}\n{script}']
-        done = ran(words, env=environment, stdin=subprocess.DEVNULL, timeout=1800)
+        environment = {
+            'PATH': '/usr/sbin:/usr/bin:/sbin:/bin',
+            'HOME': '/root',
+            'DEBIAN_FRONTEND': 'noninteractive',
+            'LC_ALL': 'C.UTF-8',
+            'PYTHONDONTWRITEBYTECODE': '1',
+            **variables,
+        }
+        command = ['chroot', self.path, '/bin/bash', '-c', f'cd {folder}\n{script}']
+        done = ran(command, env=environment, stdin=subprocess.DEVNULL, timeout=1800)
         return done.returncode, done.stdout
 
-    def must(self, script, **variables):
+    def must(self, script: str, **variables: str) -> str:
         status, out = self.run(f'set -euo pipefail\n{script}', **variables)
-        want(status == 0, f'{script.strip().splitlines()[-1][:80]}: status {status}: {tail(out)}')
+        check(status == 0, f'{script.strip().splitlines()[-1][:80]}: status {status}: {last_line(out)}')
         return out
 
-    def install(self, *packages):
+    def install(self, *packages: str) -> None:
         if packages:
             self.must(f'apt-get install -y -qq {" ".join(packages)}')
 
-    def write(self, name, data):
+    def write(self, name: str, data: Union[str, bytes]) -> None:
         write(self.at(f'{TAKEN}/{name}'), data)
 
-    def copy(self, source, name):
+    def copy(self, source: str, name: str) -> None:
         """Copies a file or a folder of this machine to the archives."""
         (shutil.copytree if os.path.isdir(source) else shutil.copy)(source, self.at(f'{TAKEN}/{name}'))
 
-    def files(self):
+    def files(self) -> set[str]:
         """All files except those that an installation may leave behind."""
         found = set()
         for folder, folders, names in os.walk(self.path):
@@ -70,14 +77,14 @@ class Root:
 
 
 @contextlib.contextmanager
-def new_root(base, path, suite, made, stem):
+def new_root(base: str, path: str, suite: str, files: str, stem: str) -> Iterator[Root]:
     """A copy of a base with the archives in it, whose names begin with the stem, while it is needed."""
     must(['cp', '-a', base, path])
     root = Root(path, suite, stem)
-    shutil.copytree(made, root.at(TAKEN))
+    shutil.copytree(files, root.at(TAKEN))
     must(['mount', '-t', 'proc', 'proc', root.at('proc')])
     try:
-        want(root.run('command -v rt || command -v rattle')[0] != 0, 'the root has the toolchain')
+        check(root.run('command -v rt || command -v rattle')[0] != 0, 'the root has the toolchain')
         yield root
     finally:
         must(['umount', '-l', root.at('proc')])
