@@ -3,10 +3,12 @@ compared with the processor. They can only fail: no proof of a source depends on
 import functools
 import itertools
 import math
+import random
 import tempfile
 import types
 
 from symbolic_terms.processes import Task
+from verifier_mutants import checks, edges, inductions, objects, processors, values
 
 from . import (any_updates, cargo_calls, cargo_exports, cargo_planted, cargo_streams, cargo_tasks, disabled_checks, exports,
                mutation, on_processor, planted, planted_checks, planted_lines, planted_objects, planted_values, removed,
@@ -18,6 +20,7 @@ from .tasks import counted, makers
 
 OF_CARGO = [cargo_calls.interface, cargo_calls.few_bytes, cargo_calls.secrets_of_long_inputs, cargo_calls.without_mark,
             cargo_calls.out_of_range, cargo_calls.secrets_of_streams]
+VALUE_TESTS = [*values.ALL, *edges.ALL, *inductions.ALL, *objects.ALL, *processors.ALL]
 SOME_EXPORTS = 26                 # step between removed exports without --all
 SOME_CHECKS, SWITCHED_OFF = 9, (4, 100)      # step of planted faults without --all; minimum of disabled checks
 
@@ -39,10 +42,19 @@ def choose(texts, others, is_all):
             planted_task("wrong texts, one for each check, are refused", planted_checks.X86_ASKED[::1 if is_all else SOME_CHECKS]),
             planted_task("calls with wrong operands are refused", planted_values.ASKED),
             counted("checks that are switched off are noticed", SWITCHED_OFF[is_all], functools.partial(disabled_checks.tell, is_all)),
+            counted("tests of values", len(VALUE_TESTS), value_tests),
             counted("faults of the check itself are noticed", len(planted.CHECKS), planted.noticed),
             counted("the layouts of streams are those of the source", source_layouts.FEWEST, source_layouts.of_source),
             planted_task(f"{BEGIN}wrong texts are refused", cargo_planted.ASKED), *change_tasks(texts, others, is_all),
             *removal_tasks(texts, others, is_all)]
+
+
+def value_tests():
+    """Runs the tests of values by which oracle/mutate detects changes of the verifier."""
+    for test in VALUE_TESTS:
+        checks.begin()
+        test(random.Random(1))
+    return len(VALUE_TESTS), []
 
 
 def removal_tasks(texts, others, is_all):
@@ -69,9 +81,9 @@ def change_tasks(texts, others, is_all):
     the one that shares no function with c/asm."""
     for name, make in makers(texts).items():
         if name == V4:
-            yield change_task(f"in the widened functions of {name}", (6, 100), is_all, name, make, is_drawn=is_widened)
+            yield change_task(f"in the widened functions of {name}", (4, 100), is_all, name, make, is_drawn=is_widened)
         else:
-            yield change_task(name, (12, 100), is_all, name, make)
+            yield change_task(name, (6, 100), is_all, name, make)
     name = f"cargo's {V1}"
     task = change_task(name, (6, 30), is_all, f"cargo-{V1}", makers(others)[name],
                      beside=Beside([*OF_CARGO, *pieces()], cargo_streams.KINDS, each_piece, 241))

@@ -555,7 +555,10 @@ def copies(draw):
     machine_memory.fill(address(to, 8), 0xAB, 16)
     for k in range(8, 24):
         expect(to.load(k, 1), 0xAB, "a filled byte")
-    refuses(lambda: machine_memory.fill(address(to, 0), 0, 3), "three filled bytes")
+    before = value_of(to.load(3, 1))
+    machine_memory.fill(address(to, 0), 0xCD, 3)
+    expect(value_of(to.load(0, 4)), before << 24 | 0xCDCDCD, "three filled bytes")
+    refuses(lambda: machine_memory.fill(address(to, 0), 0, symbol("b64", 64)), "a symbolic number of filled bytes")
     refuses(lambda: machine_memory.fill(address(to, 0), symbol("b8", 8), 8), "bytes of a symbol")
     expect(machine_memory.is_apart(0, 8, 8) and machine_memory.is_apart(8, 0, 8) and not machine_memory.is_apart(0, 7,
                                                                 8), True, "apart")
