@@ -23,7 +23,7 @@ GATE_EACH, GATE_STREAMS = 16, (33, 300)      # step between the lengths of one-s
 GATE_KINDS, GATE_CASES = [("32", "seed"), ("64", "seed"), ("3-64", "seed"), ("3-128", "both")], 24
 # Cases of XXH3's streams: size of a sample, and the number of parts of all.
 XXH3_CASES = {UPDATES: (8, 4), DIGESTS: (37, 2), STRIPES: (2, 2)}
-GATE_CHANGES, CHANGES = 12, 1000     # of a module
+GATE_CHANGES, CHANGES = 6, 1000      # of a module
 GATE_TYPES, GATE_REMOVED = 3, 6      # steps between planted types of exports, and removed exports
 PARTS = 4                            # tasks into which the changes of a module are split
 
