@@ -18,7 +18,7 @@ from symbolic_terms import REFUSALS, Request, WrongRule, comparison, nodes
 from symbolic_terms.mutation import differs
 
 from ..xxh3_updates import TAKE_BLOCKS
-from . import calls, every_length, executions, refusals
+from . import calls, every_length, executions, invalid_records, refusals
 from .comparing import Texts, with_seed_0
 from .module import Malformed, Reader
 from .opcodes import OPCODES
@@ -78,7 +78,7 @@ def take(vm, request):
 
 
 # Tests without a value: of a refused call, or the proof of a case.
-REFUSING = (calls.refused_one_shot, calls.refused_start, refusals.refuse_short_secret, refusals.refuse_record,
+REFUSING = (calls.refused_one_shot, calls.refused_start, refusals.refuse_short_secret, invalid_records.refuse,
             refusals.keep_counters, take)
 
 
@@ -107,12 +107,10 @@ def asked(is_all=True):
 
 
 def refused():
-    """Yields calls whose secret is too short, and calls with invalid records."""
+    """Yields calls whose secret is too short, and calls with saturated counters."""
     for hash_name, way, size in itertools.product(("3-64", "3-128"), ("secret", "both"), TOO_SHORT):
         for answer in (calls.refused_one_shot, calls.refused_start, refusals.refuse_short_secret):
             yield Request(hash_name, way, 300, size), answer
-    for wrong in refusals.WRONG_RECORDS:
-        yield refusals.WrongRecord(*wrong), refusals.refuse_record
     yield from ((request, refusals.keep_counters) for request in refusals.of_counters())
 
 
@@ -127,7 +125,8 @@ class Covered:
     def __init__(self, vm, is_all):
         by_kind, seen, draw = collections.defaultdict(dict), collections.Counter(), random.Random(5)
         texts = Texts()
-        for query in (*asked(is_all), *long_pieces(vm, is_all)):
+        of_records = ((record, invalid_records.refuse) for record in invalid_records.records(vm))
+        for query in (*asked(is_all), *of_records, *long_pieces(vm, is_all)):
             texts.make_room()
             vm.used, kind = set(), kind_of(query)
             query[1](vm, query[0])
@@ -226,7 +225,7 @@ def of_request(vm, texts, request, answer):
 
 def more(queries):
     """Yields requests of the same kinds with EDGES, for one one-shot and one stream with many short lengths, for one
-    stream of each family with more chunks, and for XXH3 more invalid records."""
+    stream of each family with more chunks."""
     found = dict.fromkeys(kind_of(query)[:4] for query in queries)
     # Instructions that only refused calls run are tested by streams too.
     kinds = [kind for kind in found if kind[3] not in REFUSING] or [(*kind[:3], calls.stream) for kind in found][:1]
@@ -242,8 +241,6 @@ def more(queries):
     for family, (hash_name, way, secret, answer) in streams.items():
         for n, *cuts in [*(FILLED if family == "xxh3" else PLAIN_FILLED), *SHORT_PIECES]:
             yield Request(hash_name, way, n, secret, cuts=cuts), answer
-    for wrong in refusals.more_wrong_records() if "xxh3" in streams else ():
-        yield wrong, refusals.refuse_record
 
 
 def of_lengths(kind, lengths):
@@ -339,6 +336,8 @@ def tell(machines, name, count, seed, is_all):
         if what in (NOTICED, UNNOTICED):
             what = called.outcome(what, functools.partial(
                 executions.first_difference, vm.module.whole, changed.module.whole, number))
+        elif changed is not None:
+            called.detected += 1
         counts[what.partition(":")[0]] += 1
         if is_fault(what, False):
             bad.append(f"{what}: {text}")

@@ -1,11 +1,11 @@
-"""Tests calls that the modules refuse without writing anything: with secrets of fewer than 136 bytes, or with invalid
-records. Also tests that a counter saturates at 2^64 - 1."""
+"""Tests calls that the modules refuse without writing anything, because their secret has fewer than 136 bytes. Also tests
+that a counter saturates at 2^64 - 1."""
 import itertools
 
 from symbolic_terms import Memory, Request, Unsupported, at_most, given, plus, variable
 
 from . import calls
-from .calls import NOT_A_STREAM, SECRET_TOO_SHORT, Stream, answered, expect_kept
+from .calls import SECRET_TOO_SHORT, Stream, answered, expect_kept
 from .comparing import compare
 from .every_length import LONGEST
 
@@ -13,41 +13,11 @@ LEAST_SECRET = 136
 SERVED = 241                      # bytes of a message from which on a seeded call needs a secret
 FEW, TAKEN = 64, (0, 300, 700)    # bytes of a chunk, up to which an update has a separate path; bytes of started streams
 XXH3 = "3-64", "3-128"
-# Invalid records: hash, bytes of the stream, title, and fields that don't fit these: (offset, size, value), ..
 MOST = 2 ** 64 - 1
-LOST = calls.RECORDS["xxh64"].total, 8, MOST             # the saturated length
 # Offsets of a record's counters, of bytes and of stripes.
 OF_32, OF_64, OF_3 = calls.RECORDS.values()
 COUNTERS = {"32": [OF_32.total], "64": [OF_64.total], **dict.fromkeys(XXH3, [OF_3.total_bytes, OF_3.count])}
 PIECES = 5, 40, 200, 600, 3000
-WRONG_RECORDS = [
-    ("32", 5, "fewer bytes wait", (OF_32.marked, 8, 4)), ("32", 5, "more bytes wait", (OF_32.marked, 8, 6)),
-    ("32", 5, "a whole stripe waits", (OF_32.marked, 8, 16)), ("32", 5, "2^32 bytes more wait", (OF_32.marked, 8, 5 + 2 ** 32)),
-    ("32", 5, "another length", (OF_32.total, 8, 4)), ("32", 5, "an accumulator, with no stripe", (OF_32.accumulators[0], 4, 1)),
-    ("32", 5, "the last accumulator, with no stripe", (OF_32.accumulators[3], 4, 1)), ("32", 5, "another seed", (OF_32.seed, 4, 8)),
-    ("32", 15, "an accumulator, just below a stripe", (OF_32.accumulators[0], 4, 1)),
-    ("64", 31, "an accumulator, just below a stripe", (OF_64.accumulators[0], 8, 1)),
-    ("32", 5, "a length that is lost, and a whole stripe waits", (OF_32.marked, 8, 16), LOST),
-    ("32", 5, "a length that is lost, and 2^63 bytes wait", (OF_32.marked, 8, 2 ** 63), LOST),
-    ("64", 5, "a length that is lost, and a whole stripe waits", (OF_64.marked, 8, 32), LOST),
-    ("64", 5, "a length that is lost, and 2^63 bytes wait", (OF_64.marked, 8, 2 ** 63), LOST),
-    ("64", 5, "fewer bytes wait", (OF_64.marked, 8, 4)), ("64", 5, "more bytes wait", (OF_64.marked, 8, 6)),
-    ("64", 5, "a whole stripe waits", (OF_64.marked, 8, 32)), ("64", 5, "another length", (OF_64.total, 8, 2 ** 63 + 4)),
-    ("64", 5, "an accumulator, with no stripe", (OF_64.accumulators[0], 8, 1)), ("64", 5, "the last accumulator, with no stripe", (OF_64.accumulators[3], 8, 1)),
-    ("64", 5, "another seed", (OF_64.seed, 8, 8)), ("64", 40, "fewer bytes wait", (OF_64.marked, 8, 7)),
-    ("3-64", 5, "no byte waits", (OF_3.buffer_usage, 8, 0)), ("3-64", 5, "more bytes wait than there is room", (OF_3.buffer_usage, 8, 513)),
-    ("3-64", 5, "another length", (OF_3.total_bytes, 8, 6)), ("3-64", 5, "2^63 bytes more", (OF_3.total_bytes, 8, 5 + 2 ** 63)),
-    ("3-64", 5, "a stripe more", (OF_3.count, 8, 1)), ("3-64", 5, "an accumulator, with no stripe", (OF_3.accumulator, 8, 1)),
-    ("3-64", 5, "the last accumulator, with no stripe", (OF_3.accumulator + 56, 8, 1)), ("3-64", 5, "a place in the block", (OF_3.current_stripe, 8, 1)),
-    ("3-64", 700, "a place behind the secret", (OF_3.current_stripe, 8, 16)), ("3-64", 700, "no byte waits", (OF_3.buffer_usage, 8, 0)),
-    ("3-64", 700, "another length", (OF_3.total_bytes, 8, 699)), ("3-64", 700, "a stripe fewer", (OF_3.count, 8, 6)),
-    ("3-64", 5, "513 bytes are said to wait and to have been taken", (OF_3.buffer_usage, 8, 513), (OF_3.total_bytes, 8, 513)),
-]
-# More, each after the length of its secret, or None. Only changes that nothing else detects are tested with these.
-NO_BYTE_WAITS = "3-64", 700, "no byte waits, and the length is that of the stripes", (OF_3.buffer_usage, 8, 0), (OF_3.total_bytes, 8, 576)
-OWN_SECRET = 140
-MORE_WRONG_RECORDS = [(None, *NO_BYTE_WAITS), (OWN_SECRET, *NO_BYTE_WAITS),
-                      (OWN_SECRET, "3-64", 700, "a place behind a secret of 4 bytes more than stripes", (OF_3.current_stripe, 8, 9))]
 
 
 def short_secret(n):
@@ -127,33 +97,6 @@ def expect_refused(it, code):
         answered(it.digest(out, name), code)
         expect_kept("the value", out, {})
     expect_kept("the record", it.record, before)
-
-
-class WrongRecord(Request):
-    """A stream of `taken` bytes with some fields changed afterwards."""
-
-    def __init__(self, hash_name, taken, what, *fields, secret_length=None):
-        super().__init__(hash_name, "both" if secret_length else "seed", taken, secret_length, seed=7)
-        self.what, self.fields = what, fields
-
-
-def refuse_record(vm, wrong):
-    it = started(vm, wrong, wrong.length)
-    for field in wrong.fields:
-        it.record.store(*field)
-    expect_refused(it, NOT_A_STREAM)
-
-
-def more_wrong_records():
-    return [WrongRecord(*wrong, secret_length=length) for length, *wrong in MORE_WRONG_RECORDS]
-
-
-def wrong_records(machines):
-    asked = [*(WrongRecord(*wrong) for wrong in WRONG_RECORDS), *more_wrong_records()]
-    for vm in machines.values():
-        for wrong in asked:
-            refuse_record(vm, wrong)
-    return f"{len(asked) * len(machines)} refused", []
 
 
 # ---- counters

@@ -11,7 +11,7 @@ from symbolic_terms.tasks import STREAM_SECRETS
 from .. import coverage
 from .. import tasks as of_texts
 from ..xxh3_updates import DIGESTS, STRIPES, UPDATES
-from . import (calls, comparing, engine, every_length, mutation, plain_streams, planted, planted_sections, refusals,
+from . import (calls, comparing, engine, every_length, invalid_records, mutation, plain_streams, planted, planted_sections, refusals,
                removed, xxh3_streams)
 from .machine import STACK, Machine
 from .module import FUNCTION, GLOBAL, MEMORY, PAGE, Module
@@ -157,7 +157,7 @@ def compared(title, kind, asked, is_stream):
 OF_REFUSALS = [("planted modules", planted.tell), ("planted modules, streams of XXH3", planted.tell_of_streams),
                ("secrets of 0 to 135 bytes, one-shots", refusals.one_shots_with_short_secrets),
                ("secrets of 0 to 135 bytes, streams", refusals.streams_with_short_secrets),
-               ("records that are no stream's", refusals.wrong_records),
+               ("records that are no stream's", invalid_records.refuse_all),
                ("counters that stay at 2^64 - 1", refusals.counters_stay)]
 
 

@@ -143,6 +143,8 @@ def binary(name, width, a, b):
         return masked(a, b, width)
     if isinstance(a, Poly) and name == "xor" and is_same_number(b, ones(width)):
         return minus(b, a)
+    if isinstance(a, Poly) and name == "shl" and not is_natural(at_most(a, ones(width - b))):
+        return times(divided(a, 1 << width - b)[1], 1 << b)
     name = NAMES.get(name, name)
     answer = BINARY[name](width, a, b)
     return halves.noted(name, a, b, answer) if width == WORD and name in KEPT else answer
