@@ -10,9 +10,12 @@ the stripes of a block. If a byte was taken, 1 to 512 bytes are buffered.
 
 All other fields have any value. Of wrong accumulators there is one at a time."""
 import itertools
+import random
 
-from symbolic_terms import Input, Memory, Request, at_most, given, minus, plus, times, variable
+from symbolic_terms import Input, Memory, Request, at_most, given, minus, parts_of, plus, times, value_at, variable
+from symbolic_terms.polynomials import names_of
 
+from .. import coverage
 from . import calls
 from .calls import NOT_A_STREAM, Stream, answered, expect_kept
 from .every_length import LEAST_STRIPES, LONGEST
@@ -22,7 +25,7 @@ PLAIN, XXH3 = ("32", "64"), ("3-64", "3-128")
 AT = calls.RECORDS["xxh3"]
 MOST, SEED = 2 ** 64 - 1, 7
 ROUND = 2 ** 58                   # stripes, of 2^64 bytes
-LANES = 8
+LANES, POINTS = 8, 3000           # accumulators; random records of each hash
 FEW = 64                          # bytes of a chunk, up to which an update of XXH3 has a separate path
 
 
@@ -205,11 +208,83 @@ def digests_of(record):
         yield hash_name, [(AT.seeds, 8, plus(w, 1))], [at_most(plus(w, 1), MOST)]
 
 
+# ---- completeness
+
+def solved(fields, point):
+    """Returns the values of the variables for which the fields have the point's values, as far as there are any."""
+    found = {"q": point["q"], "e": 0}
+    for at, _, x in fields:
+        rest = point[at] - value_at(x, {name: found.get(name, 0) for name in names_of(x)})
+        unknown = [(c, *names) for names, c in parts_of(x).items() if names and names[0] not in found]
+        for c, name in sorted(unknown, reverse=True):
+            found[name], rest = divmod(rest, c)
+    return found
+
+
+def is_valid(hash_name, point, initial):
+    """True if a record with these fields is one of a stream."""
+    if hash_name in PLAIN:
+        at = calls.RECORDS[f"xxh{hash_name}"]
+        total, used = point[at.total], point[at.marked]
+        if used >= at.room or total < MOST and total % at.room != used:
+            return False
+        return total >= at.room or [point[place] for place in at.accumulators] == initial
+    count, used, total, position = (point[at] for at in (AT.count, AT.buffer_usage, AT.total_bytes, AT.current_stripe))
+    if total != min(64 * count + used, MOST):
+        return False
+    if count:
+        return position < point["q"] and 0 < used <= AT.room
+    return position == 0 and used <= AT.room and [point[AT.accumulator + 8 * k] for k in range(LANES)] == initial
+
+
+def near(rng, *numbers):
+    """Returns a random word, mostly one near some numbers."""
+    return min(MOST, max(0, rng.choice([*numbers, rng.getrandbits(64)]) + rng.choice((-1, 0, 0, 1))))
+
+
+def points(hash_name, initial, count):
+    """Yields random fields of records, with at most one other accumulator than the initial ones."""
+    rng = random.Random(count)
+    for _ in range(count):
+        point, wrong = {"q": LEAST_STRIPES + rng.randrange(100)}, list(initial)
+        if rng.random() < 0.5:
+            k = rng.randrange(len(initial))
+            wrong[k] = near(rng, 0, initial[k]) % (1 << 8 * calls.BYTES[hash_name])
+        if hash_name in PLAIN:
+            at = calls.RECORDS[f"xxh{hash_name}"]
+            used = near(rng, 0, 5, at.room)
+            point |= {at.total: near(rng, 0, used, used + 3 * at.room, at.room, MOST), at.marked: used, at.seed: SEED}
+            point |= dict(zip(at.accumulators, wrong))
+        else:
+            stripes, used = rng.choice((0, near(rng, 5, ROUND, 9 * ROUND))), near(rng, 0, 1, 200, AT.room, AT.room)
+            total = min(64 * stripes + used, MOST)
+            point |= {AT.count: stripes, AT.buffer_usage: used,
+                      AT.total_bytes: rng.choice((total, near(rng, 0, total, MOST))),
+                      AT.current_stripe: rng.choice((0, near(rng, 5, point["q"])))}
+            point |= {AT.accumulator + 8 * k: x for k, x in enumerate(wrong)}
+        yield point
+
+
+def left_out(vm, all_records, count):
+    """Yields the points that are no stream's and in no record, or a stream's and in one."""
+    for hash_name in (*PLAIN, XXH3[0]):
+        begun = initial(vm, hash_name)
+        own = [([*{at: (at, size, x) for at, size, x in record.fields}.values()], record.facts)
+               for record in all_records if record.hash_name == hash_name]
+        for point in points(hash_name, begun, count):
+            is_found = any(coverage.has(solved(fields, point), facts, [(x, point[at]) for at, _, x in fields])
+                           for fields, facts in own)
+            if is_found == is_valid(hash_name, point, begun):
+                yield f"{hash_name}: {point}"
+
+
 def refuse_all(machines):
-    """Tests all records on each module."""
+    """Tests all records on each module, and that they are all invalid ones."""
     count = 0
     for vm in machines.values():
-        for record in records(vm):
+        found = list(records(vm))
+        for record in found:
             refuse(vm, record)
-            count += 1
-    return f"{count} kinds refused", []
+        count += len(found)
+    bad = [*itertools.islice(left_out(vm, found, POINTS), 5)]
+    return f"{count} refused, which contain each of {POINTS} random records of each hash that is invalid", bad
