@@ -37,7 +37,7 @@ def is_called(function, name, bodies):
 
 def text_of_body(crate, edit):
     lines = kit.read(f"{crate.folder}/{edit.path}").split("\n")
-    return "\n".join(lines[edit.body.first:edit.body.last])
+    return "\n".join(lines[edit.body.first : edit.body.last])
 
 
 def give_copies(folder, its, first):

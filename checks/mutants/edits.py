@@ -53,9 +53,9 @@ def proof_folder(function):
 def parsed(text):
     """The only file of an edit, or None, and its pairs of old and new texts."""
     lines = text.split("\n")
-    paths = {it[len("file: "):].strip() for it in lines if it.startswith("file: ")}
-    olds = [it[len("old: "):] for it in lines if it.startswith("old: ")]
-    news = [re.sub(r"\A ", "", it[len("new:"):]) for it in lines if it.startswith("new:")]
+    paths = {it[len("file: ") :].strip() for it in lines if it.startswith("file: ")}
+    olds = [it[len("old: ") :] for it in lines if it.startswith("old: ")]
+    news = [re.sub(r"\A ", "", it[len("new:") :]) for it in lines if it.startswith("new:")]
     return (paths.pop() if len(paths) == 1 and len(olds) == len(news) else None), list(zip(olds, news))
 
 
@@ -96,5 +96,5 @@ def texts_with(crate, edits):
     spots = sorted(((*spot, it.path) for it in edits for spot in it.spots), reverse=True)
     # From the end of each file on, so that each position stays valid.
     for at, old, new, path in spots:
-        texts[path] = texts[path][:at] + new + texts[path][at + len(old):]
+        texts[path] = texts[path][:at] + new + texts[path][at + len(old) :]
     return texts

@@ -70,11 +70,13 @@ def with_whole_messages(checked):
     """A check whose output has each message on one line. The prover continues in a further line, which begins with a
     space, if a message has a long name; rt reads line by line, and so does everything here. A check over no kept work
     writes files in any case: it can't use a library's build without."""
+
     def check(crate, texts, flags, kept):
         with closed(is_closed_now() and kept is not None):
             ran = checked(crate, texts, flags, kept)
         ran.stdout = re.sub(r"\n +", " ", ran.stdout)
         return ran
+
     return check
 
 
@@ -113,7 +115,7 @@ def check(crate, texts, kept, only=()):
     ran = rt.checked(crate, texts, words, kept)
     # An error of the machine is no refusal.
     if unusable := UNUSABLE.search(ran.stdout):
-        sys.exit(f"wrong-bodies: {crate.name}: a library that was built can't be used, so nothing is known: {unusable[0][:200]}")
+        sys.exit(f"wrong-bodies: {crate.name}: a built library can't be used: {unusable[0][:200]}")
     return ran.returncode, ran.stdout.rstrip("\n").split("\n")
 
 

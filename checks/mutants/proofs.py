@@ -17,7 +17,9 @@ class Built:
 
     def __init__(self, crates, jobs):
         self.jobs = jobs
-        for it in dict.fromkeys(library for crate in crates for library in [*crate.below(), crate] if kit.is_library(library)):
+        for it in dict.fromkeys(
+            library for crate in crates for library in [*crate.below(), crate] if kit.is_library(library)
+        ):
             kit.build_library(it)
 
     def at_a_time(self):

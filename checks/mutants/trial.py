@@ -82,7 +82,9 @@ class Trial:
         os.makedirs(self.kept, exist_ok=True)
         status, lines = self.timed("as it stands", kit.check, crate, {}, self.kept, only)
         if status:
-            why = [it for it in lines if kit.PLACE.match(it) or ": not proved" in it or ": no proof" in it] or lines[-5:]
+            why = [it for it in lines if kit.PLACE.match(it) or ": not proved" in it or ": no proof" in it] or lines[
+                -5:
+            ]
             sys.exit("\n".join([f"wrong-bodies: {crate.name} is not proved as it stands", *why[:5]]))
 
     def check(self, what, crate, texts, only):
@@ -143,7 +145,11 @@ class Trial:
         texts = edits.texts_with(self.twin, batch)
         status, lines = self.check(f"{len(batch)} edits", self.twin, texts, [it.function for it in batch])
         with self.lock:
-            if status not in (0, 1) or not lines[-1].startswith("only=") or any(kit.is_front_end_error(it, texts) for it in lines):
+            if (
+                status not in (0, 1)
+                or not lines[-1].startswith("only=")
+                or any(kit.is_front_end_error(it, texts) for it in lines)
+            ):
                 self.without_verdict(batch, lines)
             else:
                 self.judge(batch, lines)
@@ -240,4 +246,8 @@ def is_well(name, said, errors):
     no error."""
     if said.startswith(("proved", "assumed")):
         return True
-    return "it calls" in said and not OWN_GOALS.match(said) and not any(it[1].startswith(edits.proof_folder(name)) for it in errors)
+    return (
+        "it calls" in said
+        and not OWN_GOALS.match(said)
+        and not any(it[1].startswith(edits.proof_folder(name)) for it in errors)
+    )
