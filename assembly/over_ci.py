@@ -10,19 +10,19 @@ import sys
 
 TOP = os.path.dirname(os.path.dirname(os.path.abspath(__file__)))
 
-from checks.mutants import kit
+from checks.mutants import toolchain
 
 
 def run_rt(verb, *args):
     name = os.path.basename(os.getcwd())
-    crate = kit.crates().get(name) or sys.exit(__doc__)
+    crate = toolchain.crates().get(name) or sys.exit(__doc__)
     for below in crate.below():
-        if not kit.is_built(below):
+        if not toolchain.is_built(below):
             sys.exit(f'{name}: rt ci left no library {below.name} of what its files say now')
     flags, arguments = args, ()
     if '--' in args:
         flags, arguments = args[: args.index('--')], args[args.index('--') + 1 :]
-    flags = [*kit.one_job(), *flags]
+    flags = [*toolchain.one_job(), *flags]
     if verb == 'lib':
         return crate.build_static(flags)
     crate.held = []  # rt's locks, which it releases before it runs the program
