@@ -2,7 +2,7 @@
 proofs in the same way. This machine remembers in a folder what it has seen refused. The repository remembers in
 refused.txt the refusals of a run with --write, for machines that remember nothing; each run tries a random part of
 them again. A user with write access can make an edit pass as refused until it is drawn: `--anew` uses nothing that
-was kept."""
+was cached."""
 import glob
 import hashlib
 import os

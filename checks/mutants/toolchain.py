@@ -61,15 +61,15 @@ def is_closed_now():
 
 
 def no_file_written():
-    """Meanwhile a check over kept work writes no file. Its proofs are not kept; and if it can't keep them, rattle
+    """Meanwhile a check over cached proofs writes no file. Its own are not cached; and if it can't cache them, rattle
     doesn't load all modules a second time, which it does to print the file that each refused function wants."""
     return closed(True)
 
 
 def with_whole_messages(checked):
     """A check whose output has each message on one line. The prover continues in a further line, which begins with a
-    space, if a message has a long name; rt reads line by line, and so does everything here. A check over no kept work
-    writes files in any case: it can't use a library's build without."""
+    space, if a message has a long name; rt reads line by line, and so does everything here. A check without cached
+    proofs writes files in any case: it can't use a library's build without."""
 
     def check(crate, texts, flags, cache):
         with closed(is_closed_now() and cache is not None):
@@ -109,8 +109,8 @@ def write(path, text):
 
 
 def check(crate, texts, cache, only=()):
-    """Checks the crate with these texts in place of its own, over the kept work, if there is any: its status and its
-    lines."""
+    """Checks the crate with these texts in place of its own, over the cached proofs, if there are any: its status and
+    its lines."""
     args = [*one_job(), *(arg for name in only for arg in ("--only", name))]
     ran = rt.checked(crate, texts, args, cache)
     # An error of the machine is no refusal.
@@ -121,7 +121,7 @@ def check(crate, texts, cache, only=()):
 
 @contextlib.contextmanager
 def copy_of(cache):
-    """A copy of kept work, or None if there is none. Proofs are linked: a check replaces such a file, and writes
+    """A copy of cached proofs, or None if there are none. Proofs are linked: a check replaces such a file, and writes
     into none."""
     if not os.path.isdir(cache):
         yield None
@@ -144,8 +144,8 @@ def listing(folder):
 
 
 def try_alone(crate, edit_file, cache):
-    """True if the prover refuses the edit, with a message: over kept work, if there is any, and if that passes from
-    nothing."""
+    """True if the prover refuses the edit, with a message: over cached proofs, if there are any, and if that passes
+    from nothing."""
     outcome, message = rt.must_fail(crate, edit_file, one_job(), cache)
     if cache and not is_refusal(outcome):
         outcome, message = rt.must_fail(crate, edit_file, one_job())

@@ -35,7 +35,7 @@ class Trial:
         self.waiting, self.alone, self.results, self.is_ended = [], [], {}, False
         # The edits with a remembered refusal, and the checksum under which that of each other one will be stored.
         self.remembered, self.sums = set(), {}
-        # What the check of the unchanged crate has kept, once it has ended, if there is one.
+        # The proofs that the check of the unchanged crate has cached, once it has ended, if there is one.
         self.cached_files = None
         # Each check: its time, and its edits.
         self.checks = []
@@ -88,7 +88,7 @@ class Trial:
             sys.exit("\n".join([f"wrong-bodies: {crate.name} is not proved as it stands", *why[:5]]))
 
     def check(self, what, crate, texts, only):
-        """Checks the crate with these texts over a copy of the kept work."""
+        """Checks the crate with these texts over a copy of the cached proofs."""
         with toolchain.no_file_written(), toolchain.copy_of(self.cache) as cache:
             return self.timed(what, toolchain.check, crate, texts, cache, only)
 
@@ -103,7 +103,7 @@ class Trial:
         return sum(took for took, _ in self.checks)
 
     def end(self):
-        """Checks that no check of an edit has changed the kept work, and proves the whole crate over it if nothing
+        """Checks that no check of an edit has changed the cached proofs, and proves the whole crate over it if nothing
         else has."""
         if toolchain.listing(self.cache) != (self.cached_files or {}):
             sys.exit(f"wrong-bodies: {self.crate.name}: a check of an edit has changed the work that others begin with")
