@@ -58,7 +58,6 @@ LONG_LINES = {
     'assembly/eh_frame.py': 'the verifier tests mutants of this file',
     'assembly/same_bytes.py': 'the verifier tests mutants of this file',
     'c/include/xxhash.h': 'the verifier has run over this file',
-    'bench/page.py': 'the text of a page',
     'docs/api/contracts.py': 'the text of a page',
     'rust/checks/edits_page.py': 'the text of a page',
     'rust/checks/planted_sources.py': 'sources in Rattle',
