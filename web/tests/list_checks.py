@@ -15,13 +15,10 @@ return { rows: [...item.querySelectorAll("ol li")].map((it) => [it.children[0].t
     counts: item.querySelector(".counts").textContent, hint: !item.querySelector(".hint").hidden };"""
 
 
-def check_expected(page):
-    """Every correct way to write a digest, and the same with its last digit changed."""
-    page.set_key("1234")
-    page.choose(page.file("some.txt", b"some bytes"))
-    page.digests("some.txt")
+def written_digests():
+    """Every correct way to write a digest, and the name of its hash."""
     short, plain, narrow, wide = (SOME_BYTES[algorithm] for algorithm in ("xxh32", "xxh64", "xxh3_64", "xxh3_128"))
-    rows = [
+    return [
         (short, "XXH32"),
         (plain.upper(), "XXH64"),
         (narrow, "XXH3, 64 bits"),
@@ -35,7 +32,14 @@ def check_expected(page):
         ("XXH3, 64 bits " + narrow, "XXH3, 64 bits"),
         (f"XXH64_LE (x) = {bytes.fromhex(plain)[::-1].hex()}", "XXH64"),
     ]
-    for text, name in rows:
+
+
+def check_expected(page):
+    """Every correct way to write a digest, and the same with its last digit changed."""
+    page.set_key("1234")
+    page.choose(page.file("some.txt", b"some bytes"))
+    page.digests("some.txt")
+    for text, name in written_digests():
         page.set_field("expected", text)
         page.browser.wait(
             "return document.getElementById('verdict').textContent === arguments[0]",
@@ -54,9 +58,9 @@ def check_expected(page):
             page.text_of(".card .verdicts") == "Different from the expected digest, with seed 1234",
             page.text_of(".card .verdicts"),
         )
-    page.set_field("expected", f"XXH64 {narrow}")
+    page.set_field("expected", f"XXH64 {SOME_BYTES['xxh3_64']}")
     page.browser.wait("return document.getElementById('verdict').textContent.startsWith('Different')", seconds=5)
-    return f"{len(rows)} ways to write one"
+    return f"{len(written_digests())} ways to write one"
 
 
 def no_digest(page):
