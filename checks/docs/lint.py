@@ -8,7 +8,8 @@
   files of LONG_LINES;
 - pages, comments, help texts and error messages have none of the words of checks/docs/words.txt, and doc comments
   don't begin with "Whether" or "What";
-- each argument of a command has a help text;
+- each argument of a command has a help text, and no function of Python has more than 40 lines, except in the files of
+  LONG_FUNCTIONS;
 - identifiers of Python, shell, C and JavaScript have none of the words of checks/docs/identifiers.txt;
 - the pages of checks/docs/plain.py have sentences of at most 30 words;
 - docs/CONTRACTS.md names each file of `specs/`;
@@ -67,6 +68,8 @@ LONG_LINES = {
     'web/*.mjs': 'not wrapped yet',
     'web/*.ts': 'not wrapped yet',
 }
+MOST_LINES = 40
+LONG_FUNCTIONS = ('oracle/*', 'checks/programs/cases*.py')
 FEATURES = ('random', 'xxhash32', 'xxhash64', 'xxhash3_64', 'xxhash3_128', 'std', 'alloc')
 
 
@@ -113,11 +116,7 @@ def sources(paths):
 
 def documented(paths):
     """The sources whose comments are documentation."""
-    return [
-        path
-        for path in sources(paths)
-        if any(fnmatch.fnmatch(os.path.relpath(path, TOP), it) for it in words.DOCUMENTED)
-    ]
+    return [path for path in sources(paths) if is_one_of(path, words.DOCUMENTED)]
 
 
 def found(*command):
@@ -174,10 +173,13 @@ def typed(paths):
     return [path for path in paths if not excluded.match(os.path.relpath(path, TOP))]
 
 
+def is_one_of(path, patterns):
+    return any(fnmatch.fnmatch(words.name_of(path), pattern) for pattern in patterns)
+
+
 def long_lines(*paths):
     for path in paths:
-        name = words.name_of(path)
-        if not any(fnmatch.fnmatch(name, pattern) for pattern in LONG_LINES):
+        if not is_one_of(path, LONG_LINES):
             for number, line in enumerate(text_of(path).splitlines(), 1):
                 if len(line) > MOST_COLUMNS:
                     yield f'{path}:{number}: {len(line)} columns'
@@ -189,6 +191,17 @@ def arguments_without_help(*paths):
             if isinstance(node, ast.Call) and getattr(node.func, 'attr', '') == 'add_argument':
                 if not any(word.arg == 'help' for word in node.keywords):
                     yield f'{path}:{node.lineno}: an argument without help'
+
+
+def long_functions(*paths):
+    """Each function with too many lines, its docstring not counted."""
+    for path in paths:
+        for node in ast.walk(ast.parse(text_of(path))):
+            if isinstance(node, (ast.FunctionDef, ast.AsyncFunctionDef)) and not is_one_of(path, LONG_FUNCTIONS):
+                first = node.body[1] if ast.get_docstring(node) and node.body[1:] else node.body[0]
+                count = node.body[0].lineno - node.lineno + node.end_lineno - first.lineno + 1
+                if count > MOST_LINES:
+                    yield f'{path}:{node.lineno}: {node.name} has {count} lines'
 
 
 def node(*paths):
@@ -216,6 +229,10 @@ WRONG = {
         ('wrong.py', 'def f(a):\n    return a\n\n\nf(1, 2)\n'),
     ],
     arguments_without_help: [('wrong.py', "parser.add_argument('--all', action='store_true')\n")],
+    long_functions: [
+        ('wrong.py', 'def f():\n' + '    f()\n' * MOST_LINES),
+        ('wrong.py', 'class A:\n    async def f(self):\n        """Doc."""\n' + '        f()\n' * MOST_LINES),
+    ],
     long_lines: [(f'wrong{ending}', 'x' * 121) for ending in ('.py', '.sh', '.c', '.js')],
     rustfmt: [('wrong.rs', 'fn  main(){}\n')],
     clippy: [('wrong.rs', 'pub fn one(a: bool) -> bool { a == true }\n')],
@@ -309,6 +326,7 @@ def check_code(report, every):
     report.attempt('black', is_clean, black, python)
     report.attempt('mypy', is_clean, mypy, typed(python))
     report.attempt('help of arguments', is_clean, arguments_without_help, typed(python))
+    report.attempt('lengths of functions', is_clean, long_functions, python)
     report.attempt('rustfmt', is_clean, rustfmt, rust)
     report.attempt('clippy', is_clean, clippy, roots)
     report.attempt('node', is_clean, node, [path for path in every if path.endswith(('.js', '.mjs'))])
