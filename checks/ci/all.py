@@ -28,7 +28,7 @@ BESIDE_PROOFS = [
     ("the library for C without rt", 22, "c/check --without-rt"),
     ("the cargo crate without rt", 37, "rust/check --without-rt"),
     ("the eraser, and the source that it wrote", 402, "rust/checks/eraser"),
-    ("scripts, and what is no Rattle", 18, "checks/lint"),
+    ("scripts, and what is no Rattle", 20, "checks/lint"),
     ("the commands of the pages, as they are printed", 6, "checks/pages"),
     ("what the gate has to notice", 11, "checks/planted"),
     # Over symbols, for all bytes: they use the processors that the proofs leave idle.

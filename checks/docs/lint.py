@@ -13,8 +13,8 @@
 - identifiers of Python, shell, C and JavaScript have none of the words of checks/docs/identifiers.txt;
 - the pages of checks/docs/plain.py have sentences of at most 30 words;
 - docs/CONTRACTS.md names each file of `specs/`;
-- commits since this rule have a subject of at most 72 characters, and no absolute path of a machine in their message
-  (checks/docs/commits.py).
+- commits since this rule have a subject of at most 72 characters, a blank line and a reason, and no absolute path of a
+  machine in their message (checks/docs/commits.py); of a shallow clone, those that it has.
 
 Each check must first detect planted mistakes. A check that fails without a message, or whose tool fails, counts as
 failed. One line per check, with what it found; the last line is "N passed, M failed". It takes a minute, and
@@ -274,7 +274,14 @@ WRONG = {
     ],
     unnamed: [('OfNoRow.antt', '')],
 }
-WRONG_MESSAGES = ('A' * 73 + '\n\nWhy.', "Merge branch 'main' of /work/main", 'Fix it\n\nSee (/home/a/b.c).')
+WRONG_MESSAGES = (
+    'A' * 73 + '\n\nWhy.',
+    "Merge branch 'main' of /work/main\n\nWhy.",
+    'Fix it\n\nSee (/home/a/b.c).',
+    'Fix it',
+    'Fix it\nWhy.',
+    'Fix it\n\nSigned-off-by: A <a@b.org>\n',
+)
 
 
 def is_clean(tool, paths):
@@ -287,16 +294,38 @@ def is_clean(tool, paths):
     return f'{len(paths)} files'
 
 
+def faults_of_commits(found):
+    return [f'{commit.name[:12]}: {fault}' for commit in found for fault in commits.faults(commit)]
+
+
 def commits_are_clean():
     for message in WRONG_MESSAGES:
-        check(list(commits.faults(message)), f'it does not detect {message!r}')
-    check(not list(commits.faults('Read /proc/self/mem and /usr/lib')), 'it refuses a path of every system')
-    messages = commits.messages()
-    if messages is None:
+        planted = commits.Commit('', [''], 0, message)
+        check(list(commits.faults(planted)), f'it does not detect {message!r}')
+    right = [('Fix it\n\nRead /proc/self/mem and /usr/lib.\n', ['']), ("Merge branch 'main'\n", ['', ''])]
+    for message, parents in right:
+        check(not list(commits.faults(commits.Commit('', parents, 0, message))), f'it refuses {message!r}')
+    found = commits.commits()
+    if found is None:
         return 'skipped: no history of git'
-    wrong = [f'{commit[:12]}: {fault}' for commit, message in messages.items() for fault in commits.faults(message)]
+    wrong = faults_of_commits(found)
     check(not wrong, '\n  '.join(wrong))
-    return f'{len(messages)} commits'
+    return f'{len(found)} commits'
+
+
+def shallow_clones_are_read():
+    """A shallow clone without history is refused only for the commits since this rule that it has."""
+    with tempfile.TemporaryDirectory() as workdir:
+        full, git = os.path.join(workdir, 'full'), ['git', '-c', 'user.name=a', '-c', 'user.email=a@b.org']
+        must([*git, 'init', '-q', full])
+        for message, seconds in (('First', -2), ('An older one', -1), ('Wrong', 1), ('Fix it\n\nWhy.', 2)):
+            env = {**os.environ, 'GIT_COMMITTER_DATE': f'@{commits.TIME_BEFORE + seconds} +0000'}
+            must([*git, '-C', full, 'commit', '-q', '--allow-empty', '-m', message], env=env)
+        for depth, names in ((1, []), (2, ['Wrong']), (3, ['Wrong'])):
+            clone = os.path.join(workdir, str(depth))
+            must([*git, 'clone', '-q', '--depth', str(depth), f'file://{full}', clone])
+            wrong = faults_of_commits(commits.commits(clone))
+            check([fault.split(': ')[-1] for fault in wrong] == names, f'a clone of {depth} commits: {wrong}')
 
 
 def empty_faults_count():
@@ -344,6 +373,7 @@ def check_wording(report, every):
     report.attempt('sentences', is_clean, plain.long_sentences, short)
     report.attempt('files of definitions', is_clean, unnamed, specs)
     report.attempt('commits', commits_are_clean)
+    report.attempt('commits of a shallow clone', shallow_clones_are_read)
 
 
 def main():
