@@ -66,9 +66,7 @@ def program(framed, workdir):
         os.path.join(C, name) for name in ('states.c', 'guards.c', 'streams.c')
     ]
     command = [
-        'gcc',
-        '-O1',
-        '-I',
+        *'gcc -O1 -I'.split(),
         os.path.join(C, 'include'),
         '-I',
         os.path.join(C, 'asm'),

@@ -66,10 +66,7 @@ def rsync_run(folder, choice, sender, receiver):
     done = run(
         sender,
         [
-            'rsync',
-            '-a',
-            '--checksum',
-            '--no-whole-file',
+            *'rsync -a --checksum --no-whole-file'.split(),
             f'--checksum-choice={choice}',
             '--stats',
             '-e',

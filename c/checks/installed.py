@@ -74,10 +74,7 @@ def with_fault(built, folder, file, text, other):
     must(['ar', 'x', '--output', objects, built.archive])
     must(
         [
-            'gcc',
-            '-O2',
-            '-fPIC',
-            '-I',
+            *'gcc -O2 -fPIC -I'.split(),
             built.include,
             '-I',
             os.path.join(C, 'asm'),

@@ -36,11 +36,7 @@ def lay_out(workdir, compiler):
     must(
         [
             compiler,
-            '-O2',
-            '-Wall',
-            '-Wextra',
-            '-Werror',
-            '-static-pie',
+            *'-O2 -Wall -Wextra -Werror -static-pie'.split(),
             '-DPROGRAM="shows"',
             os.path.join(C, 'launch.c'),
             '-o',

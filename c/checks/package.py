@@ -20,13 +20,10 @@ FOLDER = os.path.join(PREFIX, 'lib')
 # What of lintian is left: the second `lib` of the folder is meant, as in those of LLVM; xxh is no C, whose calls gcc
 # could fortify; a word that it takes for a misspelled one is code; what it takes for a library that needs no other is a
 # program, linked statically so that it starts without any; and the section .comment names the logic of the proofs.
-LEFT = (
-    'repeated-path-segment',
-    'hardening-no-fortify-functions',
-    'spelling-error-in-binary',
-    'shared-library-lacks-prerequisites',
-    'binary-has-unneeded-section',
-)
+LEFT = """
+    repeated-path-segment hardening-no-fortify-functions spelling-error-in-binary
+    shared-library-lacks-prerequisites binary-has-unneeded-section
+""".split()
 EXAMPLE = os.path.join(TOP, 'examples', 'c', 'hash-file.c')
 
 
@@ -65,16 +62,7 @@ def is_installed():
 def lintian_is_silent(package):
     """Except a warning and three hints: see LEFT."""
     output = must(
-        [
-            'lintian',
-            '--fail-on',
-            'none',
-            '--display-info',
-            '--pedantic',
-            '--suppress-tags',
-            ','.join(LEFT),
-            package.file,
-        ]
+        [*'lintian --fail-on none --display-info --pedantic --suppress-tags'.split(), ','.join(LEFT), package.file]
     )
     tags = [line for line in output.splitlines() if re.match('[EWIP]: ', line)]
     check(not tags, ' / '.join(tags))

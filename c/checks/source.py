@@ -430,9 +430,7 @@ def their_tests_pass(source, change=('', '')):
     compiler = f'{source.prefix}gcc -include string.h -DXXH3_MIDSIZE_MAX=240'
     return ran(
         [
-            'make',
-            '-s',
-            '-C',
+            *'make -s -C'.split(),
             folder,
             f'CC={compiler}',
             f'RUN_ENV={" ".join(source.run)}',

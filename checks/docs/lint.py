@@ -141,30 +141,10 @@ rustfmt = functools.partial(found, 'rustfmt', '--check', '-l', '--edition', '202
 def clippy(*roots):
     """Reads the root of each crate that needs no other crate. Those of the programs have no features."""
     features = [word for name in FEATURES for word in ('--cfg', f'feature="{name}"')]
+    command = 'clippy-driver --edition 2021 --crate-type lib --crate-name twox_hash --emit metadata -D warnings'.split()
     with tempfile.TemporaryDirectory() as workdir:
-        return sum(
-            (
-                found(
-                    'clippy-driver',
-                    '--edition',
-                    '2021',
-                    '--crate-type',
-                    'lib',
-                    '--crate-name',
-                    'twox_hash',
-                    *([] if '/programs/' in root else features),
-                    '--emit',
-                    'metadata',
-                    '--out-dir',
-                    workdir,
-                    '-D',
-                    'warnings',
-                    root,
-                )
-                for root in roots
-            ),
-            [],
-        )
+        command += ['--out-dir', workdir]
+        return sum((found(*command, *([] if '/programs/' in root else features), root) for root in roots), [])
 
 
 def typed(paths):

@@ -18,13 +18,7 @@ COLUMNS = ['part', 'source proved', 'machine code verified', 'tested', 'you trus
 PARTS = ['C library', 'C header', 'crate', 'programs by cargo', 'programs by `rt`', 'Python', 'Node']
 # The pages with short sentences.
 SHORT_SENTENCES = (
-    'README.md',
-    'SECURITY.md',
-    'CONTRIBUTING.md',
-    'docs/C.md',
-    'docs/RUST.md',
-    'docs/PYTHON.md',
-    'web/README.md',
+    *'README.md SECURITY.md CONTRIBUTING.md docs/C.md docs/RUST.md docs/PYTHON.md web/README.md'.split(),
     *PLATES,
     *MOST_OF_PAGE,
 )

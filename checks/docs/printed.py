@@ -18,11 +18,7 @@ from checks.lib.tools import TOP, text_of
 # repository.
 RELEASES = 'docs/RELEASES.md'
 PAGES = (
-    'README.md',
-    'python/README.md',
-    'rust/README.md',
-    'web/README.md',
-    'examples/README.md',
+    *'README.md python/README.md rust/README.md web/README.md examples/README.md'.split(),
     *sorted(os.path.join('docs', name) for name in os.listdir(os.path.join(TOP, 'docs')) if name.endswith('.md')),
 )
 SUITES = {'12': 'bookworm', '13': 'trixie'}

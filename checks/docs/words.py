@@ -17,30 +17,12 @@ LIKE_C = ('.rt', '.rs', '.c', '.h', '.js', '.mjs', '.ts', '.go', '.java', '.cpp'
 LIKE_SHELL = ('', '.sh', '.in', '.cmake', '.toml', '.txt', '.yml', '.ld')
 # Files whose strings users read: help texts, messages and exceptions; and folders in them that only developers see.
 NOT_READ = re.compile(r'/(checks|tests|bench_c)/')
-MESSAGES = (
-    'crates/xxhsum_*/src/*.rt',
-    'c/*',
-    'rust/build-library',
-    'rust/eraser/erase.py',
-    'rust/programs/src/bin/*',
-    'web/*',
-    'python/*.py',
-    'python/build',
-    'python/native/*',
-    'python/src/*',
-    'release/*',
-    'examples/*',
-)
+MESSAGES = """
+    crates/xxhsum_*/src/*.rt c/* rust/build-library rust/eraser/erase.py rust/programs/src/bin/* web/*
+    python/*.py python/build python/native/* python/src/* release/* examples/*
+""".split()
 # Files whose comments are documentation, in which "True if" is clearer than "Whether".
-DOCUMENTED = (
-    'crates/*/src/*.rt',
-    'rust/src/*',
-    'rust/programs/src/*',
-    'c/include/*',
-    'web/*.js',
-    'web/*.ts',
-    'python/src/*',
-)
+DOCUMENTED = 'crates/*/src/*.rt rust/src/* rust/programs/src/* c/include/* web/*.js web/*.ts python/src/*'.split()
 PUZZLE = re.compile(r'(?:Whether|What)\b')
 
 

@@ -153,12 +153,7 @@ class Cluster:
                 self.start(
                     'dask-worker',
                     self.address,
-                    '--nthreads',
-                    '1',
-                    '--no-nanny',
-                    '--host',
-                    '127.0.0.1',
-                    '--local-directory',
+                    *'--nthreads 1 --no-nanny --host 127.0.0.1 --local-directory'.split(),
                     self.workdir,
                     *QUIET,
                     library=library or self.library,

@@ -22,11 +22,7 @@ def built_so(workdir, name, file='', *change, **more):
     path = site(workdir, name, packed(folder, CFLAGS=FLAGS, **more)[1])
     must(
         [
-            '/usr/bin/gcc',
-            '-shared',
-            '-fPIC',
-            '-O1',
-            '-I',
+            *'/usr/bin/gcc -shared -fPIC -O1 -I'.split(),
             must([PYTHON, '-c', 'import sysconfig; ' 'print(sysconfig.get_path("include"))']).strip(),
             os.path.join(HERE, 'hostile.c'),
             '-o',

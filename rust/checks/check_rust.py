@@ -75,10 +75,7 @@ from checks.lib.tools import (
 HASHES = ('xxhash32', 'xxhash64', 'xxhash3_64', 'xxhash3_128')
 FEATURES = [
     '',
-    'xxhash32',
-    'xxhash64',
-    'xxhash3_64',
-    'xxhash3_128',
+    *HASHES,
     'xxhash32,xxhash64',
     'xxhash3_64,xxhash3_128,alloc',
     'xxhash3_64,std',
@@ -440,16 +437,9 @@ def package_is_whole(workspace):
     crate = os.path.join(unpacked, 'twox-hash-2.1.5')
     files = [os.path.relpath(f'{folder}/{name}', crate) for folder, _, names in os.walk(crate) for name in names]
     check(text_of(os.path.join(crate, 'LICENSE')) == text_of('LICENSE'), "LICENSE isn't that of the repository")
-    listed = {
-        'README.md',
-        'asm/x86-64.s',
-        'asm/x86-64-v3.s',
-        'asm/x86-64-v4.s',
-        'asm/aarch64.s',
-        'src/lib.rs',
-        'src/erased/twox_core.rs',
-        'src/kernels/source.rs',
-    }
+    sources = ('lib.rs', 'erased/twox_core.rs', 'kernels/source.rs')
+    assembly = ('x86-64', 'x86-64-v3', 'x86-64-v4', 'aarch64')
+    listed = {'README.md', *(f'src/{name}' for name in sources), *(f'asm/{name}.s' for name in assembly)}
     expected = re.compile(r'(src|tests)/[\w/]+\.rs$|asm/[\w.-]+\.s$|Cargo\.|LICENSE$|README\.md$')
     others = [name for name in files if not expected.match(name)]
     check(listed <= set(files) and not others, f'without {sorted(listed - set(files))}, with {others}')

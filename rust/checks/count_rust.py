@@ -22,10 +22,7 @@ def counted(workspace, program):
     os.makedirs(outs, exist_ok=True)
     names = must(
         [
-            'valgrind',
-            '-q',
-            '--tool=callgrind',
-            '--dump-after=mark',
+            *'valgrind -q --tool=callgrind --dump-after=mark'.split(),
             f'--callgrind-out-file={outs}/out',
             program,
             'count',

@@ -172,14 +172,9 @@ def library(right, workdir, name, own, changes=(), flags=(), level=3):
     features = [word for feature in FEATURES for word in ('--cfg', f'feature="{feature}"')]
     return ran(
         [
-            'rustc',
-            '--edition',
-            '2021',
-            '-Awarnings',
+            *'rustc --edition 2021 -Awarnings'.split(),
             f'-Copt-level={level}',
-            '--crate-type',
-            'lib',
-            '--crate-name',
+            *'--crate-type lib --crate-name'.split(),
             name,
             *features,
             *flags,
@@ -197,17 +192,11 @@ def differing(workdir, whole, seed):
     program = path.removesuffix('.rs')
     done = ran(
         [
-            'rustc',
-            '--edition',
-            '2021',
-            '-Awarnings',
-            '-Copt-level=1',
+            *'rustc --edition 2021 -Awarnings -Copt-level=1'.split(),
             path,
             '-L',
             workdir,
-            '--extern',
-            'plain',
-            '--extern',
+            *'--extern plain --extern'.split(),
             whole,
             '-o',
             program,

@@ -110,12 +110,7 @@ def run_tests(workdir):
     program = os.path.join(workdir, 'rattle_tests')
     done = ran(
         [
-            'rustc',
-            '--test',
-            '--edition',
-            '2021',
-            '-Awarnings',
-            '-Adeprecated',
+            *'rustc --test --edition 2021 -Awarnings -Adeprecated'.split(),
             *features,
             os.path.join(folder, 'src', 'lib.rs'),
             '-o',

@@ -40,11 +40,7 @@ def sum_of(workspace, target, flags=''):
     crate_type = 'staticlib' if TARGETS[target] else 'cdylib'
     command = [
         workspace.cargo_program,
-        'rustc',
-        '--release',
-        '-Z',
-        'build-std=core',
-        '--target',
+        *'rustc --release -Z build-std=core --target'.split(),
         target,
         '--crate-type',
         crate_type,

@@ -284,13 +284,7 @@ def windows_workspace(path):
     os.makedirs(folder)
     must(
         [
-            'x86_64-w64-mingw32-gcc',
-            '-shared',
-            '-O2',
-            '-x',
-            'c',
-            '-',
-            '-o',
+            *'x86_64-w64-mingw32-gcc -shared -O2 -x c - -o'.split(),
             os.path.join(folder, 'bcryptprimitives.dll'),
             '-ladvapi32',
         ],

@@ -169,10 +169,7 @@ class Chromium(ByDriver):
             "--headless=new",
             f"--user-data-dir={self.workdir}",
             f"--window-size={width},{height}",
-            "--disable-gpu",
-            "--hide-scrollbars",
-            "--force-device-scale-factor=1",
-            "--no-first-run",
+            *"--disable-gpu --hide-scrollbars --force-device-scale-factor=1 --no-first-run".split(),
             "--disable-dev-shm-usage",
         ]
         if os.geteuid() == 0:
@@ -229,11 +226,7 @@ class Firefox(Browser):
     def start(self, width, height):
         write(os.path.join(self.workdir, "user.js"), f'user_pref("marionette.port", {self.port});\n')
         self.spawn(
-            "firefox-esr",
-            "--headless",
-            "--marionette",
-            "--no-remote",
-            "--profile",
+            *"firefox-esr --headless --marionette --no-remote --profile".split(),
             self.workdir,
             f"--width={width}",
             f"--height={height}",

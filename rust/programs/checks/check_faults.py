@@ -100,14 +100,10 @@ HANDWRITTEN = {
 # A check that takes longer has detected something.
 SECONDS = 300
 MEMORY = 2 * 2**30
-QUICK = (
-    '--config',
-    'profile.release.lto=false',
-    '--config',
-    'profile.release.codegen-units=16',
-    '--config',
-    'profile.release.opt-level=1',
-)
+QUICK = """
+    --config profile.release.lto=false --config profile.release.codegen-units=16 --config
+    profile.release.opt-level=1
+""".split()
 
 
 def sites(folder):
