@@ -61,7 +61,6 @@ LONG_LINES = {
     'c/include/xxhash.h': 'the verifier has run over this file',
     'docs/api/contracts.py': 'the text of a page',
     'rust/checks/edits_page.py': 'the text of a page',
-    'rust/checks/planted_sources.py': 'sources in Rattle',
     'web/bench_c/large.py': 'scripts in JavaScript',
     'web/tests/*.py': 'scripts in JavaScript',
     'web/*.js': 'not wrapped yet',

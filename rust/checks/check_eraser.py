@@ -4,7 +4,7 @@
 
 - rust/src/erased and rust/programs/src/erased are the eraser's output for the crates, and a second reader (reader.py)
   explains each of their files;
-- each planted source (planted_sources.py) is refused for its reason, or erased; `case()` of each has the same value in
+- each planted source (planted_sources.txt) is refused for its reason, or erased; `case()` of each has the same value in
   Rattle, by `rt try`, and in Rust, compiled without and with overflow checks;
 - changed crates, in which an edit applies another number of times or to other code, are refused;
 - weakened erasers (weakened.py) are detected;
@@ -54,21 +54,20 @@ def is_explained(folder, tree):
 
 def check_planted(report, right, workdir):
     """The results of the eraser, of Rattle and of Rust for each planted source."""
-    rattle = differential.in_rattle(
-        {i: planted[-1] for i, planted in enumerate(PLANTED) if planted[2] is not None}, workdir
-    )
-    erased = {
-        i: right.results[planted[1]][1] for i, planted in enumerate(PLANTED) if right.results[planted[1]][0] == 'erased'
-    }
+    sources = {i: planted.source for i, planted in enumerate(PLANTED) if planted.value is not None}
+    rattle = differential.in_rattle(sources, workdir)
+    results = [right.results[planted.name] for planted in PLANTED]
+    erased = {i: text for i, (outcome, text) in enumerate(results) if outcome == 'erased'}
     rust = [
         differential.in_rust(erased, workdir, *flags)
         for flags in (['-O', '-Coverflow-checks=off'], ['-Coverflow-checks=on'])
     ]
     for i, planted in enumerate(PLANTED):
-        report.attempt(planted[1], is_right, right, *planted, rattle.get(i), [found.get(i) for found in rust])
+        report.attempt(planted.name, is_right, right, planted, rattle.get(i), [found.get(i) for found in rust])
 
 
-def is_right(right, file, name, value, reason, source, rattle, rust):
+def is_right(right, planted, rattle, rust):
+    file, name, value, reason, source = planted
     outcome, text = right.results[name]
     check(rattle == value, f'Rattle returns {rattle}, not {value}')
     check(outcome == ('refused' if reason else 'erased') and reason in text, f'{outcome}: {text}')
@@ -81,13 +80,13 @@ def check_changed(report, right):
     packages = right.eraser.packages
     for changes, package in (CHANGED_CRATES, packages.LIBRARY_PACKAGE), (CHANGED_PROGRAMS, packages.PROGRAM_PACKAGE):
         for change in changes:
-            report.attempt(f'a changed {change[0]}', is_refused, right, change, package)
+            report.attempt(f'a changed {change.file}', is_refused, right, change, package)
 
 
 def is_refused(right, change, package):
     message = right.changed(right.eraser, change, package)
     check(
-        isinstance(message, str) and change[-1] in message,
+        isinstance(message, str) and change.reason in message,
         f'{message}' if isinstance(message, str) else 'it was not noticed',
     )
 

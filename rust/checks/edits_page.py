@@ -84,7 +84,7 @@ def paths_of(eraser):
 
 def page(eraser, counts, callees):
     packages, names, own = eraser.packages, eraser.names, eraser.own
-    erased = sum(not reason for *_, reason, _ in PLANTED)
+    erased = sum(not planted.reason for planted in PLANTED)
     count = lambda table: str(sum(len(entries) for entries in table.values()))
     return TEXT.format(
         rules=counts['rules'],
