@@ -25,8 +25,6 @@ import shutil
 import sys
 import tempfile
 
-ASSEMBLY = os.path.dirname(os.path.abspath(__file__))
-TOP = os.path.dirname(ASSEMBLY)
 
 from assembly import compile as compiling
 from assembly import prefetch
@@ -36,7 +34,9 @@ from checks.lib.report import Fault, Report, check
 from assembly.same_bytes import compare, compare_sums
 from checks.lib import command
 from checks.lib.instruction_sets import sets_here
-from checks.lib.tools import ran, text_of, write
+from checks.lib.tools import TOP, ran, text_of, write
+
+ASSEMBLY = os.path.join(TOP, 'assembly')
 
 BUILDS = {'c': 'c/build', 'rust': 'rust/build-library'}
 SETS = {
@@ -365,7 +365,7 @@ def check_sums(report, folder, sets):
 
 
 def main():
-    parser = command.parser(__doc__, name='assembly/check')
+    parser = command.parser(__doc__)
     parser.add_argument(
         '--target', choices=('x86-64', 'aarch64'), default='x86-64', help='the processor of the assembly source'
     )

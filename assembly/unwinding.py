@@ -8,9 +8,8 @@ from assembly.eh_frame import Table
 from checks.lib.report import last_line, check
 from assembly.same_bytes import Object
 from assembly.text import Text
-from checks.lib.tools import ran, text_of, write
+from checks.lib.tools import TOP, ran, text_of, write
 
-TOP = os.path.dirname(os.path.dirname(os.path.abspath(__file__)))
 ASSEMBLY, C = os.path.join(TOP, 'assembly'), os.path.join(TOP, 'c')
 # On x86-64 the return address also has a number and a place.
 RETURN_ADDRESS = {62: {16: -8}}

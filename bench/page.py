@@ -7,19 +7,19 @@ With --check it checks that the page in docs is up to date; with a folder, it re
 the page marks a measurement as older than this version if that code has changed since. The tables of `rust/bench`,
 `rust/programs/bench`, `python/bench` and `web/bench` are copied from bench/data."""
 import math
-import os
 import re
 import statistics
 import string
 import sys
 from pathlib import Path
 
+from checks.lib.tools import TOP
+
 from bench import figures
 from bench import measured
 from bench import objects
 from checks.lib import command
 
-TOP = os.path.dirname(os.path.dirname(os.path.abspath(__file__)))
 SETS = ["x86-64-v2", "x86-64-v3"]
 PEERS = ["c_gcc", "c_clang", "c_shared", "xxhash_rust"]
 COLOURS = {"ours": "#c0392b", "c_gcc": "#2c3e50", "c_clang": "#2980b9", "c_shared": "#7f8c8d", "xxhash_rust": "#e67e22"}
@@ -300,7 +300,7 @@ def page(comments, parts):
 
 
 def main():
-    parser = command.parser(__doc__, name="bench/page")
+    parser = command.parser(__doc__)
     way = parser.add_mutually_exclusive_group()
     way.add_argument("--check", action="store_true", help="compare the page with the data, and write nothing")
     way.add_argument("--record", nargs="+", metavar="NAME", help="store the checksum of the code of these measurements")

@@ -41,7 +41,6 @@ with the reference's header compiled for that processor, the oracle's table, and
 
 It runs on Debian as root, installs missing packages and temporarily that of c/package, and changes nothing else
 outside its own folder. One line per check; the status is 1 if one failed. --quick makes a tenth of the calls."""
-import argparse
 import os
 import re
 import shutil
@@ -65,6 +64,7 @@ from c.checks import without_rt
 from assembly.check import check_texts
 from c.checks.file_program import file_program_agrees
 from c.checks.headers import EXAMPLE_C, by_cmake, cpp_by_cmake, package_path, static_by_pkg_config
+from checks.lib import command
 from checks.lib.report import Fault, Report, last_line, check
 from c.checks.sides import THEIRS, Side, run
 from c.checks.library import Built, sets_here
@@ -311,9 +311,7 @@ def check_all(report, quick):
 
 
 def main():
-    parser = argparse.ArgumentParser(
-        prog='c/check', description=__doc__, formatter_class=argparse.RawDescriptionHelpFormatter
-    )
+    parser = command.parser(__doc__)
     parser.add_argument(
         '--target',
         choices=('x86-64', 'aarch64', *source.TARGETS),

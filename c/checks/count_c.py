@@ -64,7 +64,7 @@ class Counter:
 
 
 def main():
-    command.parser(__doc__, name='c/count').parse_args()
+    command.parser(__doc__).parse_args()
     install_packages({**aarch64.PACKAGES, 'gcc': 'gcc', '/usr/include/stdio.h': 'libc6-dev'})
     with tempfile.TemporaryDirectory() as workdir:
         built = Built(workdir, 'aarch64', aarch64.TOOLS)

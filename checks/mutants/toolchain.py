@@ -11,9 +11,10 @@ import sys
 import tempfile
 import threading
 
+from checks.lib.tools import TOP
+
 from . import source
 
-TOP = os.path.dirname(os.path.dirname(os.path.dirname(os.path.abspath(__file__))))
 # rt's message for an edit at which the prover reached a limit of its own.
 BY_LIMIT = "only by a limit of the prover"
 # The functions of rt that this program calls. A new release may name these differently.

@@ -2,7 +2,8 @@
 import os
 import re
 
-TOP = os.path.dirname(os.path.dirname(os.path.dirname(os.path.abspath(__file__))))
+from checks.lib.tools import TOP
+
 CRATES = os.path.join(TOP, 'crates')
 # The crates that others call. Those of tests, evidence and benchmarks are left out.
 LISTED = """

@@ -22,7 +22,7 @@ MEASURE = os.path.join(os.path.dirname(os.path.abspath(__file__)), 'measure.py')
 
 
 def main():
-    parser = command.parser(__doc__, name='python/bench')
+    parser = command.parser(__doc__)
     parser.add_argument('--rounds', type=int, default=25, help='rounds, of which each figure is the median')
     parser.add_argument('--all', action='store_true', help='measure all algorithms and lengths')
     chosen = parser.parse_args()

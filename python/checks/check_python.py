@@ -19,13 +19,13 @@ minutes.
 
 It runs on Debian as root, installs missing packages, needs no rt, and changes nothing else outside its own folder.
 One line per check; the status is 1 if one failed."""
-import argparse
 import sys
 import tempfile
 
 
 from python.checks import environment
 
+from checks.lib import command
 from checks.lib.report import Fault, Report
 from checks.lib.tools import install_packages
 
@@ -91,9 +91,7 @@ def check_target(report, name, folder):
 
 
 def main():
-    parser = argparse.ArgumentParser(
-        prog='python/check', description=__doc__, formatter_class=argparse.RawDescriptionHelpFormatter
-    )
+    parser = command.parser(__doc__)
     parser.add_argument(
         '--target',
         choices=('x86-64', *targets.TARGETS),

@@ -163,7 +163,7 @@ def processor():
 
 
 def main():
-    parser = command.parser(__doc__, name='rust/bench')
+    parser = command.parser(__doc__)
     parser.add_argument('--turns', type=int, default=150, help='turns of a round')
     parser.add_argument('--rounds', type=int, default=3, help='rounds, each with other builds')
     parser.add_argument(

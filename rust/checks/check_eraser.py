@@ -19,8 +19,6 @@ import random
 import sys
 import tempfile
 
-HERE = os.path.dirname(os.path.abspath(__file__))
-RUST, TOP = os.path.dirname(HERE), os.path.dirname(os.path.dirname(HERE))
 
 from checks.lib import command
 from rust.checks import differential
@@ -31,9 +29,9 @@ from rust.checks import reader
 from rust.checks import weakened
 from rust.checks.planted_sources import CHANGED_CRATES, CHANGED_PROGRAMS, PLANTED
 from checks.lib.report import Report, check
-from checks.lib.tools import ran, text_of, write
+from checks.lib.tools import TOP, ran, text_of, write
 
-CRATES = os.path.join(TOP, 'crates')
+RUST, CRATES = os.path.join(TOP, 'rust'), os.path.join(TOP, 'crates')
 # What is erased, the eraser's option for it, and its tree.
 TREES = (
     ('library', (), os.path.join(RUST, 'src', 'erased'), reader.LIBRARY),
@@ -138,7 +136,7 @@ def is_noticed(notices, *what):
 
 
 def main():
-    parser = command.parser(__doc__, name='rust/checks/eraser')
+    parser = command.parser(__doc__)
     parser.add_argument('--all', action='store_true', help='also what takes long')
     parser.add_argument(
         '--seed', type=int, default=random.SystemRandom().randrange(1 << 32), help='the seed of random numbers'

@@ -38,8 +38,6 @@ import subprocess
 import sys
 import tempfile
 
-RUST = os.path.dirname(os.path.dirname(os.path.abspath(__file__)))
-TOP = os.path.dirname(RUST)
 
 from checks.lib import arm_roots
 from checks.lib import command
@@ -61,6 +59,7 @@ from rust.checks.workspace import (
 from rust.checks.sums import check_sums_of_targets
 from assembly.same_bytes import Object
 from checks.lib.tools import (
+    TOP,
     clean_copy,
     four_hashes,
     hide_rt,
@@ -71,6 +70,8 @@ from checks.lib.tools import (
     text_of,
     write,
 )
+
+RUST = os.path.join(TOP, 'rust')
 
 HASHES = ('xxhash32', 'xxhash64', 'xxhash3_64', 'xxhash3_128')
 FEATURES = [
@@ -605,7 +606,7 @@ def check_all(report, chosen, path):
 
 
 def main():
-    parser = command.parser(__doc__, name='rust/check')
+    parser = command.parser(__doc__)
     parser.add_argument(
         '--target',
         choices=('x86-64', 'aarch64', *FURTHER, 'sums'),

@@ -40,7 +40,7 @@ def total(path):
 
 
 def main():
-    parser = command.parser(__doc__, name='rust/count')
+    parser = command.parser(__doc__)
     parser.add_argument('--cpu', default='x86-64', help='the processor that the code is built for')
     parser.add_argument('--original', metavar='FOLDER', help='also count the sources of twox-hash 2.1.5 in this folder')
     chosen = parser.parse_args()

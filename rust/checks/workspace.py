@@ -5,12 +5,12 @@ import shutil
 import subprocess
 import sys
 
-RUST = os.path.dirname(os.path.dirname(os.path.abspath(__file__)))
-TOP = os.path.dirname(RUST)
 
 from checks.lib import arm_roots
 from checks.lib.report import last_line, check
-from checks.lib.tools import install, ran, text_of, write
+from checks.lib.tools import TOP, install, ran, text_of, write
+
+RUST = os.path.join(TOP, 'rust')
 
 CRATES = '/usr/share/cargo/registry'
 PACKAGES = {

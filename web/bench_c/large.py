@@ -9,12 +9,12 @@ import os
 import sys
 import tempfile
 
-WEB = os.path.dirname(os.path.dirname(os.path.abspath(__file__)))
-TOP = os.path.dirname(WEB)
 
 from web.tests.browser import Chromium, Firefox, WebKit
 from web.tests.page import Served
-from checks.lib.tools import write
+from checks.lib.tools import TOP, write
+
+WEB = os.path.join(TOP, "web")
 
 MIB = 1 << 20
 # As streams.js reads: four chunks ahead.
