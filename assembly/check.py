@@ -25,15 +25,12 @@ import shutil
 import sys
 import tempfile
 
-
 from assembly import compile as compiling
-from assembly import prefetch
-from assembly import unwinding
-from assembly import wide
-from checks.lib.report import Fault, Report, check
+from assembly import prefetch, unwinding, wide
 from assembly.same_bytes import compare, compare_sums
 from checks.lib import command
 from checks.lib.instruction_sets import sets_here
+from checks.lib.report import Fault, Report, check
 from checks.lib.tools import TOP, ran, text_of, write
 
 ASSEMBLY = os.path.join(TOP, 'assembly')

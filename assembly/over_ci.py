@@ -8,7 +8,6 @@ It proves only the crate of the folder. `rt` itself uses no library of `rt ci`, 
 import os
 import sys
 
-
 from checks.mutants import toolchain
 
 

@@ -5,9 +5,9 @@ import re
 
 from assembly import frames
 from assembly.eh_frame import Table
-from checks.lib.report import last_line, check
 from assembly.same_bytes import Object
 from assembly.text import Text
+from checks.lib.report import check, last_line
 from checks.lib.tools import TOP, ran, text_of, write
 
 ASSEMBLY, C = os.path.join(TOP, 'assembly'), os.path.join(TOP, 'c')

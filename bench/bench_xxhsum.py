@@ -12,10 +12,9 @@ import subprocess
 import tempfile
 import time
 
+from bench import rounds
 from checks.lib import command
 from checks.lib.tools import TOP
-
-from bench import rounds
 
 HASHES = {"XXH32": "-H0", "XXH64": "-H1", "XXH3-64": "-H3", "XXH3-128": "-H2"}
 ROUNDS = 9

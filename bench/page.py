@@ -13,12 +13,9 @@ import string
 import sys
 from pathlib import Path
 
-from checks.lib.tools import TOP
-
-from bench import figures
-from bench import measured
-from bench import objects
+from bench import figures, measured, objects
 from checks.lib import command
+from checks.lib.tools import TOP
 
 SETS = ["x86-64-v2", "x86-64-v3"]
 PEERS = ["c_gcc", "c_clang", "c_shared", "xxhash_rust"]

@@ -11,8 +11,7 @@ import statistics
 import subprocess
 import sys
 
-from bench import figures
-from bench import measured
+from bench import figures, measured
 
 MIB = 1 << 20
 

@@ -9,7 +9,7 @@ import tempfile
 from typing import NamedTuple
 
 from checks.lib.debian_apt import sources
-from checks.lib.report import Fault, last_line, check
+from checks.lib.report import Fault, check, last_line
 from checks.lib.tools import TOP, install_packages, must, ran, text_of, write
 
 HEADER, CODE = text_of('c/include/xxhash.h'), text_of('c/source/xxhash.c')

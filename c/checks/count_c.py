@@ -8,9 +8,8 @@ minus those around a call. An instruction is not a time. It installs missing pac
 import os
 import tempfile
 
-
 from c.checks import aarch64
-from c.checks.library import C, Built
+from c.checks.library import Built, C
 from checks.lib import command
 from checks.lib.tools import install_packages, must, text_of
 

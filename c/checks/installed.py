@@ -3,9 +3,9 @@ import os
 import shutil
 import subprocess
 
-from checks.lib.report import check
-from c.checks.sides import THEIRS
 from c.checks.library import C
+from c.checks.sides import THEIRS
+from checks.lib.report import check
 from checks.lib.tools import must, ran, text_of, write
 
 HEADER = '/usr/include/xxhash.h'

@@ -2,8 +2,8 @@
 import os
 import subprocess
 
-from checks.lib.report import check
 from c.checks.library import C
+from checks.lib.report import check
 from checks.lib.tools import must, write
 
 SHOWS = '''#include <stdio.h>

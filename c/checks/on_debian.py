@@ -14,11 +14,10 @@ import shutil
 import tempfile
 from typing import NamedTuple
 
+from c.checks.library import Built, C
 from checks.lib.report import check
-from c.checks.library import C, Built
-from checks.lib.tools import clean_copy, install_packages, text_of
-
 from checks.lib.roots import TAKEN, new_base, new_root
+from checks.lib.tools import clean_copy, install_packages, text_of
 
 PACKAGES = {
     'debootstrap': 'debootstrap',

@@ -9,9 +9,9 @@ import subprocess
 from c.checks import clients
 from c.checks.file_program import file_program_agrees
 from c.checks.launcher import OLD, SETS
-from checks.lib.report import last_line, check
-from c.checks.sides import THEIRS, Side, others, run
 from c.checks.library import C, sets_here, sets_of_library
+from c.checks.sides import THEIRS, Side, others, run
+from checks.lib.report import check, last_line
 from checks.lib.tools import TOP, bytes_of, must, ran, write
 
 NAME = 'twox-hash'

@@ -2,8 +2,8 @@
 import os
 import subprocess
 
-from checks.lib.report import check
 from c.checks.library import C
+from checks.lib.report import check
 from checks.lib.tools import bytes_of, must, ran
 
 # What release 0.8.3 has in addition to the names of 0.8.1, on x86-64.

@@ -27,6 +27,7 @@ import io
 import os
 import re
 import tempfile
+
 import tomllib
 
 from checks.lib import command

@@ -11,7 +11,7 @@ import re
 import subprocess
 from typing import NamedTuple, Optional
 
-from checks.lib.report import Fault, last_line, check
+from checks.lib.report import Fault, check, last_line
 from checks.lib.tools import TOP, text_of
 
 # The commands of RELEASES run in the folder of the archives, and those of every other page at the top of the

@@ -2,11 +2,8 @@
 import re
 import statistics
 
+from bench import measured, objects, page
 from checks.lib.tools import text_of
-
-from bench import measured
-from bench import objects
-from bench import page
 
 PAGE, SECTION = 'README.md', '## Speed'
 RATIO = r'(?<![\d.])\d+\.\d\d(?!\d|\.\d)'

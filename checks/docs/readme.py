@@ -27,6 +27,7 @@ import glob
 import os
 import re
 import subprocess
+
 import tomllib
 
 from checks.lib import command

@@ -5,7 +5,7 @@ import shutil
 import subprocess
 from typing import Iterator, Union
 
-from checks.lib.report import last_line, check
+from checks.lib.report import check, last_line
 from checks.lib.tools import QUIET, must, ran, write
 
 MIRROR, SECURITY = 'http://deb.debian.org/debian', 'http://deb.debian.org/debian-security'

@@ -7,11 +7,7 @@ function, and docs/MANUAL.md, which has the manual pages:
 import os
 
 from checks.lib import command
-
-
-from docs.api import contracts
-from docs.api import listing
-from docs.api import manual
+from docs.api import contracts, listing, manual
 from docs.api.rattle import LISTED, TOP, Crate, text_of
 
 LIST = os.path.join(TOP, 'docs', 'api.txt')

@@ -12,11 +12,9 @@ import subprocess
 import sys
 import tempfile
 
-
-from python.checks import environment
-
 from checks.lib import command
 from checks.lib.tools import install_packages
+from python.checks import environment
 
 MEASURE = os.path.join(os.path.dirname(os.path.abspath(__file__)), 'measure.py')
 

@@ -22,20 +22,10 @@ One line per check; the status is 1 if one failed."""
 import sys
 import tempfile
 
-
-from python.checks import environment
-
 from checks.lib import command
 from checks.lib.report import Fault, Report
 from checks.lib.tools import install_packages
-
-from python.checks import builds
-from python.checks import planted
-from python.checks import programs
-from python.checks import sanitized
-from python.checks import suite
-from python.checks import targets
-from python.checks import typed
+from python.checks import builds, environment, planted, programs, sanitized, suite, targets, typed
 
 PACKAGES = {
     **environment.PACKAGES,

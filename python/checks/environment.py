@@ -3,8 +3,7 @@ import glob
 import os
 import shutil
 
-
-from checks.lib.report import Fault, last_line, check
+from checks.lib.report import Fault, check, last_line
 from checks.lib.tools import TOP, ran
 
 PYTHON_FOLDER = os.path.join(TOP, 'python')

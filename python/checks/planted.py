@@ -1,7 +1,7 @@
 """Wrong builds, each of which the tests must detect."""
 import os
 
-from checks.lib.report import last_line, check
+from checks.lib.report import check, last_line
 from checks.lib.tools import replace_once, text_of, write
 from python.checks.environment import copied, packed, site
 from python.checks.suite import first_failure, tests

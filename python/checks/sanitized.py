@@ -1,7 +1,7 @@
 """The C of the package under AddressSanitizer and UndefinedBehaviorSanitizer, called with hostile buffers (fuzz.py)."""
 import os
 
-from checks.lib.report import last_line, check
+from checks.lib.report import check, last_line
 from checks.lib.tools import replace_once
 from python.checks.environment import PYTHON, PYTHON_FOLDER, copied, must, packed, run, site
 

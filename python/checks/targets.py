@@ -3,12 +3,12 @@ import os
 from typing import NamedTuple
 
 from checks.lib.arm_roots import debian_root
-from python.checks.builds import text_is_proved
-from python.checks.planted import noticed
 from checks.lib.report import check
-from python.checks.environment import copied, packed, run, site
-from python.checks.suite import pass_all, tests
 from checks.lib.tools import replace_once
+from python.checks.builds import text_is_proved
+from python.checks.environment import copied, packed, run, site
+from python.checks.planted import noticed
+from python.checks.suite import pass_all, tests
 
 
 class Target(NamedTuple):

@@ -6,13 +6,13 @@ import os
 import re
 import shlex
 import shutil
+
 import tomllib
 
-from release.parts import by_cargo
-from release.parts import provenance
 from checks.lib.arm_roots import debian_root
-from release.parts.packing import read_tar, tree_of, write_tar
 from checks.lib.tools import bytes_of, must
+from release.parts import by_cargo, provenance
+from release.parts.packing import read_tar, tree_of, write_tar
 
 PREFIX = 'usr/lib/twox-hash'
 EXAMPLES = tuple(f'examples/{name}' for name in ('c', 'cmake', 'cpp', 'go', 'java', 'python'))

@@ -26,15 +26,13 @@ import subprocess
 import sys
 import tempfile
 
-
-from release.parts import outputs
-from release.parts import on_arm
 from c.checks import on_debian
 from checks.docs import printed
 from checks.lib import command
 from checks.lib.report import Fault, Report
 from checks.lib.roots import new_base, new_root
 from checks.lib.tools import install_packages
+from release.parts import on_arm, outputs
 from release.parts.trials import BOTH, TRIALS, headings_without_trial, installation
 
 PACKAGES = {

@@ -25,12 +25,9 @@ import shutil
 import sys
 import tempfile
 
-
-from release.parts import archives
-from release.parts import provenance
-from release.parts import written
-from release.parts.commit import Commit
 from checks.lib.tools import TOP, install_packages, missing_packages, write
+from release.parts import archives, provenance, written
+from release.parts.commit import Commit
 
 PACKAGES_WITHOUT_RT = {
     'gcc': 'gcc',

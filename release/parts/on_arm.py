@@ -4,7 +4,7 @@ import glob
 import os
 
 from checks.lib.arm_roots import debian_root
-from checks.lib.report import last_line, check
+from checks.lib.report import check, last_line
 from checks.lib.tools import TOP, four_hashes, install_packages, must, ran
 
 NAME = '64-bit ARM, under qemu'

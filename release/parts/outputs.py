@@ -10,10 +10,10 @@ import tarfile
 import tempfile
 import zipfile
 
+from checks.lib.report import check, last_line
+from checks.lib.tools import TOP, bytes_of, flip_bit, must, ran, text_of, write
 from release.parts import written
 from release.parts.packing import read_tar
-from checks.lib.report import last_line, check
-from checks.lib.tools import TOP, bytes_of, flip_bit, must, ran, text_of, write
 
 # The programs that make the assembly sources, and their targets.
 TEXTS = {'c/build': ('x86-64', 'aarch64'), 'rust/build-library': ('x86-64', 'aarch64')}

@@ -22,10 +22,8 @@ import subprocess
 import tempfile
 from statistics import geometric_mean, median
 
-
-from rust.checks.workspace import Workspace, install_packages, must
 from checks.lib import command
-
+from rust.checks.workspace import Workspace, install_packages, must
 
 # Ways to compile: a name and flags of rustc. Each is built with these further flags and codegen units.
 ALGORITHMS = (

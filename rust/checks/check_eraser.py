@@ -19,17 +19,11 @@ import random
 import sys
 import tempfile
 
-
 from checks.lib import command
-from rust.checks import differential
-from rust.checks import edits_page
-from rust.checks import numbers_of_items
-from rust.checks import rattle_tests
-from rust.checks import reader
-from rust.checks import weakened
-from rust.checks.planted_sources import CHANGED_CRATES, CHANGED_PROGRAMS, PLANTED
 from checks.lib.report import Report, check
 from checks.lib.tools import TOP, ran, text_of, write
+from rust.checks import differential, edits_page, numbers_of_items, rattle_tests, reader, weakened
+from rust.checks.planted_sources import CHANGED_CRATES, CHANGED_PROGRAMS, PLANTED
 
 RUST, CRATES = os.path.join(TOP, 'rust'), os.path.join(TOP, 'crates')
 # What is erased, the eraser's option for it, and its tree.

@@ -38,26 +38,10 @@ import subprocess
 import sys
 import tempfile
 
-
-from checks.lib import arm_roots
-from checks.lib import command
 from assembly.check import SETS, check_sums, check_texts
-from checks.lib.report import Fault, Report, last_line, check
-from rust.checks.workspace import (
-    ARM_PACKAGES,
-    FURTHER,
-    OLDER_PACKAGES,
-    SOURCE_PACKAGES,
-    ArmWorkspace,
-    Workspace,
-    SourceWorkspace,
-    errors_of,
-    has,
-    install_packages,
-    must,
-)
-from rust.checks.sums import check_sums_of_targets
 from assembly.same_bytes import Object
+from checks.lib import arm_roots, command
+from checks.lib.report import Fault, Report, check, last_line
 from checks.lib.tools import (
     TOP,
     clean_copy,
@@ -69,6 +53,20 @@ from checks.lib.tools import (
     short_reads,
     text_of,
     write,
+)
+from rust.checks.sums import check_sums_of_targets
+from rust.checks.workspace import (
+    ARM_PACKAGES,
+    FURTHER,
+    OLDER_PACKAGES,
+    SOURCE_PACKAGES,
+    ArmWorkspace,
+    SourceWorkspace,
+    Workspace,
+    errors_of,
+    has,
+    install_packages,
+    must,
 )
 
 RUST = os.path.join(TOP, 'rust')

@@ -9,9 +9,8 @@ import os
 import re
 import tempfile
 
-
-from rust.checks.workspace import Workspace, install_packages, must
 from checks.lib import command
+from rust.checks.workspace import Workspace, install_packages, must
 
 CALLS = 50
 

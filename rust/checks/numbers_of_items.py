@@ -5,9 +5,9 @@ import os
 import shutil
 import subprocess
 
-from rust.checks.erasers import RUST
-from checks.lib.report import last_line, check
+from checks.lib.report import check, last_line
 from checks.lib.tools import ran, text_of, write
+from rust.checks.erasers import RUST
 
 CALLS, SECONDS = 10_000, 120
 FEATURES = ('xxhash32', 'xxhash64', 'xxhash3_64', 'xxhash3_128', 'std', 'alloc')

@@ -4,9 +4,9 @@ import re
 import shutil
 from collections import Counter
 
-from rust.checks.erasers import CRATES, RUST, Eraser
-from checks.lib.report import last_line, check
+from checks.lib.report import check, last_line
 from checks.lib.tools import ran, write
+from rust.checks.erasers import CRATES, RUST, Eraser
 
 TESTS = ('core_tests', 'twox_tests', 'plain_tests')
 # A file of a crate that only tests call in Rust.

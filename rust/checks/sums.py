@@ -3,7 +3,7 @@ compiled over Rust's core library, which is built from Debian's sources, and lin
 sum is that of the same calls by the reference's header."""
 import os
 
-from checks.lib.report import last_line, check
+from checks.lib.report import check, last_line
 from checks.lib.tools import ran, text_of, write
 from rust.checks.workspace import SOURCE_PACKAGES, SourceWorkspace, errors_of, install_packages, must
 

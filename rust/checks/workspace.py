@@ -5,9 +5,8 @@ import shutil
 import subprocess
 import sys
 
-
 from checks.lib import arm_roots
-from checks.lib.report import last_line, check
+from checks.lib.report import check, last_line
 from checks.lib.tools import TOP, install, ran, text_of, write
 
 RUST = os.path.join(TOP, 'rust')

@@ -7,10 +7,9 @@ import shutil
 import sys
 import tempfile
 
-
+from checks.lib.tools import TOP, write
 from web.tests.browser import Chromium, Firefox, WebKit
 from web.tests.page import Requests, Served
-from checks.lib.tools import TOP, write
 
 WEB = os.path.join(TOP, "web")
 

@@ -9,10 +9,9 @@ import os
 import sys
 import tempfile
 
-
+from checks.lib.tools import TOP, write
 from web.tests.browser import Chromium, Firefox, WebKit
 from web.tests.page import Served
-from checks.lib.tools import TOP, write
 
 WEB = os.path.join(TOP, "web")
 

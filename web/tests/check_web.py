@@ -20,15 +20,12 @@ import subprocess
 import sys
 import tempfile
 
-
-from web.tests import list_checks
-from web.tests import module_checks
-from web.tests import page_checks
-from web.tests.browser import Chromium, Firefox, WebKit, mini_browser
-from web.tests.page import Page, Served
 from checks.lib import command
 from checks.lib.report import Report, check
 from checks.lib.tools import TOP, clean_copy, hide_rt, install, ran
+from web.tests import list_checks, module_checks, page_checks
+from web.tests.browser import Chromium, Firefox, WebKit, mini_browser
+from web.tests.page import Page, Served
 
 PACKAGES = {
     "node": "nodejs",

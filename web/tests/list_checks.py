@@ -3,9 +3,9 @@ import os
 import subprocess
 import time
 
-from web.tests.module_checks import WEB
 from checks.lib.report import Fault, check
 from checks.lib.tools import text_of, write
+from web.tests.module_checks import WEB
 from web.tests.values import SOME_BYTES, XXHSUM, line_of, reference
 
 ENDINGS = {"xxh32": "xxh32", "xxh64": "xxh64", "xxh3_64": "xxh3", "xxh3_128": "xxh128"}

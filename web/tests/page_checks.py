@@ -8,10 +8,10 @@ import tempfile
 import threading
 import time
 
-from web.tests.module_checks import WEB
-from web.tests.page import Page, Requests, Served, serve
 from checks.lib.report import check
 from checks.lib.tools import write
+from web.tests.module_checks import WEB
+from web.tests.page import Page, Requests, Served, serve
 from web.tests.values import SOME_BYTES, reference, vectors
 
 MIB = 1 << 20

@@ -19,13 +19,11 @@ import subprocess
 import sys
 import tempfile
 
-
 from checks.lib import command
-from rust.programs.checks import random_runs
-from rust.programs.checks import refused
-from checks.lib.report import Fault, Report, last_line, check
+from checks.lib.report import Fault, Report, check, last_line
 from checks.lib.tools import TOP, text_of, write
 from rust.checks.workspace import Workspace
+from rust.programs.checks import random_runs, refused
 
 RUST = os.path.join(TOP, 'rust')
 PROGRAMS = os.path.join(RUST, 'programs')

@@ -22,14 +22,11 @@ import re
 import sys
 import tempfile
 
-
 from checks.lib import command
-from rust.programs.checks import random_runs
-from rust.programs.checks import refused
-from rust.programs.checks import targets
-from checks.lib.report import Fault, Report, last_line, check
-from rust.checks.workspace import DEBIANS_RUST, Workspace, errors_of
+from checks.lib.report import Fault, Report, check, last_line
 from checks.lib.tools import TOP, clean_copy, hide_rt, install_packages, ran
+from rust.checks.workspace import DEBIANS_RUST, Workspace, errors_of
+from rust.programs.checks import random_runs, refused, targets
 
 PACKAGES = {'gcc': 'gcc', '/usr/include/stdio.h': 'libc6-dev', 'xxhsum': 'xxhash'}
 PROGRAMS = ('xxh', 'xxhsum')
