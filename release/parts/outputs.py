@@ -107,7 +107,7 @@ def members(path):
     elif path.endswith(('.gz', '.tgz', '.crate')):
         found = read_tar(path)
     elif path.endswith('.deb'):
-        packed = subprocess.run(['dpkg-deb', '--fsys-tarfile', path], stdout=subprocess.PIPE, test=True).stdout
+        packed = subprocess.run(['dpkg-deb', '--fsys-tarfile', path], stdout=subprocess.PIPE, check=True).stdout
         with tarfile.open(fileobj=io.BytesIO(packed)) as archive:
             found = {
                 it.name: (oct(it.mode), it.linkname, it.isfile() and archive.extractfile(it).read()) for it in archive
