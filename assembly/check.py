@@ -28,6 +28,7 @@ import tempfile
 from assembly import compile as compiling
 from assembly import prefetch, unwinding, wide
 from assembly.same_bytes import compare, compare_sums
+from assembly.webassembly import clang_of_kit
 from checks.lib import command
 from checks.lib.instruction_sets import sets_here
 from checks.lib.report import Fault, Report, check
@@ -220,7 +221,6 @@ def other_modules_are_refused(library, name):
 
 def is_refused(module, args, annotated, is_wide):
     """True if a module is refused when this text is presented as the annotated one."""
-    kit = os.path.dirname(os.path.dirname(os.path.realpath(shutil.which('rt'))))
     here, with_changes = os.getcwd(), compiling.with_changes
     with tempfile.TemporaryDirectory() as workdir:
         os.chdir(workdir)
@@ -228,9 +228,7 @@ def is_refused(module, args, annotated, is_wide):
             file.write(module)
         compiling.with_changes = lambda text, wide: annotated if wide == is_wide else with_changes(text, wide)
         try:
-            compiling.run_clang(
-                os.path.join(kit, 'toolchain', 'bin', 'clang'), '', is_wide and os.path.join(workdir, 'wide'), *args
-            )
+            compiling.run_clang(clang_of_kit(), '', is_wide and os.path.join(workdir, 'wide'), *args)
         except SystemExit as why:
             return 'is not the one that was proved' in str(why)
         finally:

@@ -17,14 +17,12 @@ def run_rt(verb, *args):
     for below in crate.below():
         if not toolchain.is_built(below):
             sys.exit(f'{name}: rt ci left no library {below.name} of what its files say now')
-    flags, arguments = args, ()
-    if '--' in args:
-        flags, arguments = args[: args.index('--')], args[args.index('--') + 1 :]
-    flags = [*toolchain.one_job(), *flags]
+    at = args.index('--') if '--' in args else len(args)
+    flags, arguments = [*toolchain.one_job(), *args[:at]], [*args[at + 1 :]]
     if verb == 'lib':
         return crate.build_static(flags)
     crate.held = []  # rt's locks, which it releases before it runs the program
-    return crate.run(flags, list(arguments))
+    return crate.run(flags, arguments)
 
 
 def main():

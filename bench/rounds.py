@@ -38,8 +38,8 @@ def programs(workdir, file_size):
     times = {}
     with open(os.path.join(workdir, "programs.txt")) as lines:
         for line in lines:
-            way, algorithm, ours, theirs = line.split()
-            times.setdefault((algorithm, way), []).append((float(ours), float(theirs)))
+            way, algorithm, *seconds = line.split()
+            times.setdefault((algorithm, way), []).append(tuple(map(float, seconds)))
     for (algorithm, way), pairs in times.items():
         ours, theirs = zip(*pairs)
         ratios = [b / a for a, b in pairs]

@@ -171,8 +171,8 @@ def symbols_are_its_own(copy):
 def plain_symbols_are_detected(workdir):
     """An object that is compiled without XXH_NAMESPACE, and one with another one."""
     for name, flags, fault in (
-        ('plain', [], 'plain.o has XXH128, '),
-        ('other', ['-DXXH_NAMESPACE=MY_'], 'no name LZ4_XXH'),
+        ('plain', (), 'plain.o has XXH128, '),
+        ('other', ('-DXXH_NAMESPACE=MY_',), 'no name LZ4_XXH'),
     ):
         path = os.path.join(workdir, f'{name}.o')
         must(['gcc', *flags, '-I', 'c/include', '-c', 'c/source/xxhash.c', '-o', path], cwd=TOP)

@@ -132,8 +132,8 @@ def features_are_known(built):
     here = 3 if 'avx512f' in flags else 2 if 'avx2' in flags else 1
     others = {'Nehalem': 1, 'max': 2, 'max,-avx2': 1, 'max,-xsave': 1}
     for args, expected in (
-        ([], here),
-        *((['qemu-x86_64', '-cpu', name], expected) for name, expected in others.items()),
+        ((), here),
+        *((('qemu-x86_64', '-cpu', name), expected) for name, expected in others.items()),
     ):
         found = subprocess.run([*args, path], stderr=subprocess.DEVNULL).returncode
         check(found == expected, f'{args}: {found} in place of {expected}')

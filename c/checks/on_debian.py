@@ -12,7 +12,7 @@ import os
 import re
 import shutil
 import tempfile
-from typing import NamedTuple
+from typing import NamedTuple, Optional
 
 from c.checks.library import Built, C
 from checks.lib.report import check
@@ -37,7 +37,7 @@ class Script(NamedTuple):
     name: str
     releases: list[str]
     packages: list[str]
-    source: str
+    source: Optional[str]
 
 
 def scripts():

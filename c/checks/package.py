@@ -171,7 +171,7 @@ def both_builds_run(package, v3):
     note = file_program_agrees(PREFIX)
     if not v3:
         return note
-    for args, build in (([], SETS[v3]), (OLD, SETS[0])):
+    for args, build in (((), SETS[v3]), (tuple(OLD), SETS[0])):
         path = os.path.join(PREFIX, 'libexec', NAME, build, 'xxhsum')
         os.rename(path, path + '.away')
         done = subprocess.run([*args, os.path.join(PREFIX, 'bin', 'xxhsum'), EXAMPLE], capture_output=True, text=True)

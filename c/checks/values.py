@@ -51,7 +51,7 @@ def freed_states_are_refused(program, their_path, path, count):
     """Memory that held a state and was freed is no state, with the content that free leaves or overwrites."""
     return '; '.join(
         calls_agree(program, their_path, path, count, '--freed', **variables)
-        for variables in ({}, {'MALLOC_PERTURB_': '170'})
+        for variables in (dict[str, str](), {'MALLOC_PERTURB_': '170'})
     )
 
 

@@ -6,6 +6,7 @@ import resource
 import subprocess
 import threading
 import time
+from typing import Optional
 
 COUNTS = re.compile(r"(\d+) passed, (\d+) failed")
 
@@ -21,7 +22,8 @@ class Part:
 
     def __init__(self, top, title, least, *args):
         self.title, self.least, self.args = title, least, args
-        self.began, self.ended, self.lines = time.monotonic(), None, queue.SimpleQueue()
+        self.began = self.ended = time.monotonic()
+        self.lines: queue.SimpleQueue[Optional[str]] = queue.SimpleQueue()
         pipe = subprocess.PIPE
         self.process = subprocess.Popen(
             args, cwd=top, stdin=pipe, stdout=pipe, stderr=subprocess.STDOUT, text=True, errors="replace"
@@ -65,5 +67,5 @@ class Part:
             status and not failed and f"it ended with status {status}",
             passed + failed < self.least and f"it has {passed + failed} checks, and {self.least} at least are expected",
         )
-        message = "; ".join(filter(None, why))
+        message = "; ".join(str(part) for part in why if part)
         return passed, failed or int(bool(message)), message

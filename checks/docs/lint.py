@@ -179,7 +179,7 @@ def long_functions(*paths):
         for node in ast.walk(ast.parse(text_of(path))):
             if isinstance(node, (ast.FunctionDef, ast.AsyncFunctionDef)) and not is_one_of(path, LONG_FUNCTIONS):
                 first = node.body[1] if ast.get_docstring(node) and node.body[1:] else node.body[0]
-                count = node.body[0].lineno - node.lineno + node.end_lineno - first.lineno + 1
+                count = node.body[0].lineno - node.lineno + (node.end_lineno or 0) - first.lineno + 1
                 if count > MOST_LINES:
                     yield f'{path}:{node.lineno}: {node.name} has {count} lines'
 

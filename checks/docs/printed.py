@@ -99,7 +99,9 @@ def commands(section):
             if is_whole(text):
                 shown = SHOWN.search(line)
                 if text.strip() and not text.lstrip().startswith('#'):
-                    yield Command(f'{section.page}:{number}: {line.strip()[:90]}', text, shown and shown[1].strip())
+                    yield Command(
+                        f'{section.page}:{number}: {line.strip()[:90]}', text, shown[1].strip() if shown else None
+                    )
                 text = ''
         check(not text.strip(), f'{section.page}:{block.line}: the shell waits for more')
 

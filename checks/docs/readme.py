@@ -29,6 +29,7 @@ import re
 import subprocess
 
 import tomllib
+from typing import Callable, Iterable
 
 from checks.lib import command
 from checks.lib.report import Report
@@ -395,7 +396,7 @@ def main():
     parser.add_argument('--write', action='store_true', help='write the tables of speed into README.md first')
     if parser.parse_args().write:
         write(os.path.join(TOP, ratios.PAGE), ratios.with_tables(text_of(ratios.PAGE)))
-    checks = (
+    checks: tuple[Callable[[], Iterable[str]], ...] = (
         quotes_that_differ,
         helps_that_explain_too_little,
         links_that_lead_nowhere,
@@ -421,7 +422,7 @@ def main():
         mutants_of_verifier_that_differ,
     )
     report = Report()
-    for faults in [list(check()) for check in checks]:
+    for faults in [list(find()) for find in checks]:
         print(*faults, sep='\n', end='\n' * bool(faults))
         report.count(not faults, bool(faults))
     return report.end()

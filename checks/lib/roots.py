@@ -64,7 +64,8 @@ class Root:
 
     def copy(self, source: str, name: str) -> None:
         """Copies a file or a folder of this machine to the archives."""
-        (shutil.copytree if os.path.isdir(source) else shutil.copy)(source, self.at(f'{TAKEN}/{name}'))
+        target = self.at(f'{TAKEN}/{name}')
+        shutil.copytree(source, target) if os.path.isdir(source) else shutil.copy(source, target)
 
     def files(self) -> set[str]:
         """All files except those that an installation may leave behind."""

@@ -10,6 +10,7 @@ import shutil
 import sys
 import tempfile
 import threading
+from typing import Any
 
 from checks.lib.tools import TOP
 
@@ -24,7 +25,7 @@ USED = ("checked", "must_fail", "read_edit", "unread", "rtlib")
 def load():
     path = shutil.which("rt") or sys.exit("wrong-bodies: there is no rt")
     loader = importlib.machinery.SourceFileLoader("rt", os.path.realpath(path))
-    module = importlib.util.module_from_spec(importlib.util.spec_from_loader("rt", loader))
+    module: Any = importlib.util.module_from_spec(importlib.util.spec_from_loader("rt", loader))
     loader.exec_module(module)
     lost = [name for name in USED if not hasattr(module, name)]
     if lost:

@@ -26,8 +26,8 @@ from .terminals import EMPTY_ROW, ONE_ROW, ROW_END, run
 
 # One seed, so that each run draws the lists of the run before.
 SEED = 20261124
-SHAPES = [[], ['--tag'], ['--little-endian']]
-CHECKED = [[], ['--strict'], ['--warn'], ['--quiet'], ['--status'], ['--little-endian']]
+SHAPES: list[list[str]] = [[], ['--tag'], ['--little-endian']]
+CHECKED: list[list[str]] = [[], ['--strict'], ['--warn'], ['--quiet'], ['--status'], ['--little-endian']]
 MIB = 2**20
 # A line of a check about a name of the list.
 MESSAGE = re.compile(rb"^stdin:\d+: Could not open or read '.*': .*$", re.M)
@@ -94,7 +94,7 @@ def lists_of_each_other(programs):
     count = 0
     for maker in programs:
         for algorithm in HASHES:
-            for shape in ([], ['--tag']):
+            for shape in SHAPES[:2]:
                 out, err, status = same(programs, ['-c'], found(maker, [algorithm, *shape, *names])[0])
                 check(
                     not status and out.count(b': OK\n') == len(names), f'{algorithm} {shape}: {out!r:.300} {err!r:.300}'
@@ -118,7 +118,7 @@ def names_of_each_byte(programs):
     names = [b'n' + it + b'm' for it in bytes_of_names]
     for name in names:
         write(name, name)
-    for args in ([], ['--tag'], ['-H3']):
+    for args in ((), ('--tag',), ('-H3',)):
         same(programs, ['-c'], same(programs, [*args, *names])[0])
     return f'{len(names)} names'
 
@@ -240,7 +240,7 @@ def main():
 def write_files():
     """Writes the files of the table that a list can name."""
     for file_name, text in FILES.items():
-        file_name = file_name.encode() if isinstance(file_name, str) else file_name
+        file_name = os.fsencode(file_name)
         # No list can contain a name with a newline, and one with a hyphen in front would be an option.
         if not is_odd(file_name) and not set(b'/\n\r') & set(file_name) and file_name[:1] != b'-':
             write(file_name, text)

@@ -14,6 +14,7 @@ import subprocess
 import tempfile
 import threading
 import time
+from typing import Union
 
 from checks.lib.tools import TOP, must, write
 
@@ -92,7 +93,7 @@ def run(program, args, terminals=('err',), given=os.devnull, settings=SETTINGS):
     ends = {name: Ends(name in terminals) for name in ('out', 'err')}
     keyboard = pty.openpty() if 'in' in terminals else (os.open(given, os.O_RDONLY),)
     try:
-        status = subprocess.run(
+        status: Union[int, str] = subprocess.run(
             [program, *args],
             stdin=keyboard[-1],
             stdout=ends['out'].theirs,

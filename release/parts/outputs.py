@@ -9,6 +9,7 @@ import subprocess
 import tarfile
 import tempfile
 import zipfile
+from typing import Any
 
 from checks.lib.report import check, last_line
 from checks.lib.tools import TOP, bytes_of, flip_bit, must, ran, text_of, write
@@ -101,6 +102,7 @@ def change_is_noticed(workdir, folder):
 
 def members(path):
     """The content of an archive, except its provenance."""
+    found: dict[str, Any]
     if path.endswith('.whl'):
         with zipfile.ZipFile(path) as archive:
             found = {name: archive.read(name) for name in archive.namelist()}

@@ -23,7 +23,7 @@ def sums(folder, names):
 
 
 def kit_folder():
-    return os.path.dirname(os.path.dirname(os.path.realpath(shutil.which('rt'))))
+    return os.path.dirname(os.path.dirname(os.path.realpath(must(['which', 'rt']).strip())))
 
 
 def kit():

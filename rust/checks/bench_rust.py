@@ -147,10 +147,10 @@ def print_counts(tables, peers):
     for title, runs_by_case in tables:
         for at, peer in enumerate(peers):
             found = {key: ratios(runs)[at] for key, runs in runs_by_case.items()}
-            name, of = min(found, key=found.get)
+            (name, of), lowest = min(found.items(), key=lambda item: item[1])
             print(
                 f'{title}, {peer}: {len(found)} rows, geometric mean {geometric_mean(found.values()):.2f}, '
-                f'{sum(ratio < 0.95 for ratio in found.values())} below 0.95, the lowest {found[name, of]:.2f} '
+                f'{sum(ratio < 0.95 for ratio in found.values())} below 0.95, the lowest {lowest:.2f} '
                 f'({name}, {of})'
             )
 

@@ -48,9 +48,10 @@ def sum_of(workspace, target, flags=''):
     done = ran(command, cwd=folder, env=environment)
     check(done.returncode == 0, last_line(errors_of(done.stdout)))
     build_dir = os.path.join(workspace.path, 'target', target, 'release')
-    if not TARGETS[target]:
+    compilers = TARGETS[target]
+    if not compilers:
         return must(['node', os.path.join(SUMS, 'main.mjs'), os.path.join(build_dir, 'sums.wasm')]).strip()
-    (name, _, emulator), program = TARGETS[target], os.path.join(build_dir, 'sum')
+    (name, _, emulator), program = compilers, os.path.join(build_dir, 'sum')
     must(
         [
             f'{name}-gcc' if name else 'gcc',

@@ -4,6 +4,7 @@ import re
 import shutil
 import subprocess
 import sys
+from typing import Optional
 
 from checks.lib import arm_roots
 from checks.lib.report import check, last_line
@@ -91,7 +92,7 @@ class Workspace:
     """The check's own folder: a copy of the crate's sources and assembly source, and cargo's output."""
 
     cargo_program = 'cargo'
-    target = None
+    target: Optional[str] = None
     # The suffix of programs' names.
     ending = ''
 

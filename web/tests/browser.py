@@ -44,8 +44,8 @@ class Browser:
         raise NotImplementedError
 
     def spawn(self, *args, **more):
-        quiet = dict(stdin=subprocess.DEVNULL, stdout=subprocess.DEVNULL, stderr=subprocess.DEVNULL)
-        self.process = subprocess.Popen(args, start_new_session=True, **quiet, **more)
+        none = subprocess.DEVNULL
+        self.process = subprocess.Popen(args, start_new_session=True, stdin=none, stdout=none, stderr=none, **more)
 
     def until(self, attempt, what, errors):
         """The result of the attempt, once there is one."""

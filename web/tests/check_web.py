@@ -22,7 +22,7 @@ import tempfile
 
 from checks.lib import command
 from checks.lib.report import Report, check
-from checks.lib.tools import TOP, clean_copy, hide_rt, install, ran
+from checks.lib.tools import TOP, clean_copy, hide_rt, install, missing_packages, ran
 from web.tests import list_checks, module_checks, page_checks
 from web.tests.browser import Chromium, Firefox, WebKit, mini_browser
 from web.tests.page import Page, Served
@@ -44,11 +44,11 @@ COPY = "TWOX_HASH_WEB_CHECK_COPY"
 
 
 def install_missing():
-    missing = [package for command, package in PACKAGES.items() if not shutil.which(command)]
+    missing = missing_packages(PACKAGES)
     if not module_checks.jsc():
-        missing.append("libjavascriptcoregtk-4.0-bin")
+        missing.add("libjavascriptcoregtk-4.0-bin")
     if not mini_browser():
-        missing.append("libwebkit2gtk-4.1-0")
+        missing.add("libwebkit2gtk-4.1-0")
     install(missing)
 
 

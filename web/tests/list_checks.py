@@ -138,7 +138,7 @@ def checked(page, rows, counts):
 def checksum_file(page):
     """Lines of xxhsum in each of its forms: of an unchanged file, of a changed one, and of one that is not chosen."""
     for number, (algorithm, args) in enumerate(
-        [(algorithm, args) for algorithm in XXHSUM for args in ([], ["--tag"], ["--tag", "--little-endian"])]
+        [(algorithm, args) for algorithm in XXHSUM for args in ((), ("--tag",), ("--tag", "--little-endian"))]
     ):
         names = [f"right{number}.bin", f"changed{number}.bin", f"absent (1) {number}.bin"]
         paths = [page.file(name, name.encode() * 100) for name in names]

@@ -25,7 +25,7 @@ class Requests(serve.Handler):
     before_worker = b""
     withheld = None
     changed = ("", b"")
-    bundles = None
+    bundles = ""
 
     def do_GET(self):
         Requests.asked.append(self.path)

@@ -5,6 +5,7 @@ import http.server
 import os
 import subprocess
 import tempfile
+from typing import Any
 import threading
 import time
 
@@ -437,7 +438,8 @@ def which_module(page):
 def reads_by_itself(page):
     """A file of several chunks if the hashing thread has no reader thread, and if that one can't be loaded."""
     path = page.file("pieces.bin", bytes(i % 251 for i in range(MIB)), 20 * MIB)
-    for lack in {"line": b"delete globalThis.Worker;\n"}, {"withheld": "/web/reader_worker.js"}:
+    lacks: list[dict[str, Any]] = [{"line": b"delete globalThis.Worker;\n"}, {"withheld": "/web/reader_worker.js"}]
+    for lack in lacks:
         with Lacking(page, **lack):
             page.choose(path)
             check(page.digests("pieces.bin") == reference(path), (lack, page.card("pieces.bin")))

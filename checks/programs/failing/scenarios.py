@@ -1,7 +1,7 @@
 """The scenarios of checks/failing_calls: the arguments of a run, its streams, and the expected result if one step
 fails."""
 import os
-from typing import Callable, NamedTuple
+from typing import Callable, NamedTuple, Optional
 
 from . import worlds
 from .worlds import COMMENT, JUNK, Fault, Outcome, good, wrong
@@ -27,7 +27,7 @@ class Scenario(NamedTuple):
 
     name: str
     args: tuple
-    outcome: Callable
+    outcome: Optional[Callable]
     given: str = ''
     program: str = 'xxhsum'
     out: str = 'pipe'
