@@ -1,6 +1,6 @@
 """Proves crates from nothing, and lists the functions whose proofs take the longest:
 
-    checks/slowest [--most N] [--test] CRATE..
+    checks/slowest [--test] CRATE..
 
 A function's time is from the end of the proof before it to the end of its own, in one process. So it includes that
 of the lemmas that it is the first to need, and the first one's that of the start. --test includes a crate's tests.
@@ -14,6 +14,7 @@ import time
 from checks.lib import command
 from checks.mutants import toolchain
 
+MOST = 10
 ENDED = re.compile(r"checked (\S+), \d+ of \d+")
 
 
@@ -37,7 +38,6 @@ def times(crate, is_test):
 
 def main():
     parser = command.parser(__doc__)
-    parser.add_argument("--most", type=int, default=10, help="functions that are listed of each crate")
     parser.add_argument("--test", action="store_true", help="also prove the crates' tests")
     parser.add_argument("crates", nargs="+", metavar="CRATE", help="the crates to prove")
     given = parser.parse_args()
@@ -49,5 +49,5 @@ def main():
             toolchain.build_library(below)
         found, whole = times(crate, given.test)
         print(f"{name}: {len(found)} functions, {whole:.0f} s")
-        for function, took in sorted(found.items(), key=lambda it: -it[1])[: given.most]:
+        for function, took in sorted(found.items(), key=lambda it: -it[1])[:MOST]:
             print(f"  {took:5.1f} s  {function.partition('::')[2]}", flush=True)

@@ -29,7 +29,7 @@ import re
 import subprocess
 
 import tomllib
-from typing import Callable, Iterable
+from typing import Callable, Iterable, NamedTuple, Optional
 
 from checks.lib import command
 from checks.lib.report import Report
@@ -37,11 +37,20 @@ from checks.lib.tools import TOP, text_of, write
 
 from . import plain, ratios
 
-# A page, a source that it quotes, the beginning of the quoted part, and its end, if it isn't the end of the source.
+
+class Quote(NamedTuple):
+    """A part of a source in a page. Without an `end` it is the end of the source."""
+
+    page: str
+    source: str
+    start: str
+    end: Optional[str] = None
+
+
 QUOTES = [
-    ('CALLING.md', 'crates/example/src/main.rt', 'use std::io;', None),
-    ('CALLING.md', 'crates/calling/src/callers.rt', '/// XXH64 of two', '\n}\n'),
-    ('docs/C.md', 'examples/c/three-ways.c', '#include <stdio.h>', None),
+    Quote('CALLING.md', 'crates/example/src/main.rt', 'use std::io;'),
+    Quote('CALLING.md', 'crates/calling/src/callers.rt', '/// XXH64 of two', '\n}\n'),
+    Quote('docs/C.md', 'examples/c/three-ways.c', '#include <stdio.h>'),
 ]
 # A file, and its text before and after the project's version.
 VERSIONS = [
@@ -244,13 +253,21 @@ def figures_that_differ():
             yield f'{page} does not have what checks/lines-to-believe or oracle/lines-to-trust counts: {count}'
 
 
-def runs_of_verifier():
-    """The program with its options, the commit, the date and the last line of each run in oracle/runs.tsv."""
-    return [line.split('\t') for line in text_of('oracle/runs.tsv').splitlines()[1:]]
+class VerifierRun(NamedTuple):
+    """A line of oracle/runs.tsv: a program of oracle/ with its options, and the last line that it printed."""
+
+    command: str
+    commit: str
+    day: str
+    end: str
+
+
+def runs_of_verifier() -> list[VerifierRun]:
+    return [VerifierRun(*line.split('\t')) for line in text_of('oracle/runs.tsv').splitlines()[1:]]
 
 
 def table_of_runs():
-    rows = [f'| `oracle/{command}` | `{commit}` | {day} | {end} |' for command, commit, day, end in runs_of_verifier()]
+    rows = [f'| `oracle/{it.command}` | `{it.commit}` | {it.day} | {it.end} |' for it in runs_of_verifier()]
     return '\n'.join(['', '| program | commit | date | last line |', '|---|---|---|---|', *rows, ''])
 
 
@@ -260,7 +277,7 @@ def runs_that_differ():
     if table_of_runs() not in text_of('docs/VERIFICATION.md'):
         yield f'docs/VERIFICATION.md does not have the table of oracle/runs.tsv:{table_of_runs()}'
     ends = dict(re.findall(r'^- `oracle/([\w-]+)`.*`(\d+ passed, 0 failed)`$', text_of('README.md'), re.M))
-    recorded = {command: end for command, _, _, end in runs_of_verifier() if command in ends}
+    recorded = {it.command: it.end for it in runs_of_verifier() if it.command in ends}
     if ends != recorded:
         yield f'README.md has {ends}, and oracle/runs.tsv {recorded}'
 

@@ -1,6 +1,6 @@
 """Compares two `xxhsum` programs on inputs that are too long for a table of cases.
 
-    checks/xxhsum-large ORIGINAL OURS [--lists N] [--files N] [--gib N] [--only WORD]
+    checks/xxhsum-large ORIGINAL OURS [--lists N] [--files N] [--only WORD]
 
 The inputs are lists of random lines, some of them damaged, for both programs to check; lists that one of them made,
 for the other; the lines of checks/lines.json; names of each byte; many small files; and a long pipe. A file that
@@ -28,7 +28,7 @@ from .terminals import EMPTY_ROW, ONE_ROW, ROW_END, run
 SEED = 20261124
 SHAPES: list[list[str]] = [[], ['--tag'], ['--little-endian']]
 CHECKED: list[list[str]] = [[], ['--strict'], ['--warn'], ['--quiet'], ['--status'], ['--little-endian']]
-MIB = 2**20
+MIB, PIPE_GIB = 2**20, 5
 # A line of a check about a name of the list.
 MESSAGE = re.compile(rb"^stdin:\d+: Could not open or read '.*': .*$", re.M)
 
@@ -143,19 +143,19 @@ def small_files(programs, count):
     return f'{count} files of 4 KiB'
 
 
-def long_pipe(programs, gib):
+def long_pipe(programs):
     block = random.Random(SEED).randbytes(MIB)
     lines = []
     for program in programs:
         with subprocess.Popen(
             [program, '-H2', '-'], stdin=subprocess.PIPE, stdout=subprocess.PIPE, stderr=subprocess.DEVNULL
         ) as done:
-            for _ in range(1024 * gib):
+            for _ in range(1024 * PIPE_GIB):
                 done.stdin.write(block)
             done.stdin.close()
             lines.append(done.stdout.read())
     check(lines[0] == lines[1] != b'', repr(lines))
-    return f'{gib} GiB'
+    return f'{PIPE_GIB} GiB'
 
 
 def shrinking_file(programs):
@@ -208,7 +208,6 @@ def main():
     parser.add_argument('programs', nargs=2, metavar='PROGRAM', help='the original, and ours')
     parser.add_argument('--lists', type=int, default=10000, help='random lists')
     parser.add_argument('--files', type=int, default=100000, help='small files')
-    parser.add_argument('--gib', type=int, default=5, help='the length of the pipe')
     given = parser.parse_args()
     parts = {
         'lists that one makes and the other checks': (lists_of_each_other,),
@@ -217,7 +216,7 @@ def main():
         'names of each byte': (names_of_each_byte,),
         'names that are not UTF-8': (refused_names,),
         'many small files': (small_files, given.files),
-        'a long pipe': (long_pipe, given.gib),
+        'a long pipe': (long_pipe,),
         'a file that shrinks': (shrinking_file,),
         'progress on a terminal': (progress,),
     }
