@@ -60,8 +60,6 @@ LONG_LINES = {
     'assembly/eh_frame.py': 'the verifier tests mutants of this file',
     'assembly/same_bytes.py': 'the verifier tests mutants of this file',
     'c/include/xxhash.h': 'the verifier has run over this file',
-    'docs/api/contracts.py': 'the text of a page',
-    'rust/checks/edits_page.py': 'the text of a page',
     'web/bench_c/large.py': 'scripts in JavaScript',
     'web/tests/*.py': 'scripts in JavaScript',
     'web/*.js': 'not wrapped yet',

@@ -86,7 +86,7 @@ def is_refused(right, change, package):
 def page_is_written(right, counts, writes=False):
     text = edits_page.page(right.eraser, counts, len(listed_callees(right.eraser.stored)))
     if writes:
-        write(edits_page.PAGE, text)
+        write(os.path.join(TOP, edits_page.PAGE), text)
     check(text_of(edits_page.PAGE) == text, 'run rust/checks/eraser --page')
 
 
