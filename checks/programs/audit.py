@@ -94,8 +94,10 @@ def line_of(name, word, other=None):
 
 def slow_audit(before, after):
     """The report of the audit: names in both lists by name, then the others by name, and the count of each class."""
-    both, others, counts = [], [], collections.Counter()
-    gone, come, stayed = collections.defaultdict(list), collections.defaultdict(list), {}
+    both: list[tuple[bytes, ...]] = []
+    others: list[tuple[bytes, ...]] = []
+    counts, stayed = collections.Counter[str](), dict[bytes, bytes]()
+    gone, come = collections.defaultdict(list), collections.defaultdict(list)
     for name, text in sorted(before.items()):
         if name not in after:
             gone[text].append(name)
@@ -241,11 +243,12 @@ class Audits:
 
 def main():
     parser = command.parser(__doc__)
-    parser.add_argument('ours', type=os.path.abspath, help='our program')
+    parser.add_argument('ours', help='our program')
     parser.add_argument('--files', type=int, default=100000, help='files of the tree')
     given, report = parser.parse_args(), Report()
+    ours = os.path.abspath(given.ours)
     with tempfile.TemporaryDirectory() as workdir, contextlib.chdir(workdir):
-        audits = Audits(given.ours, given.files, report)
+        audits = Audits(ours, given.files, report)
         audits.unchanged()
         audits.changed()
         audits.print_memory()

@@ -373,7 +373,7 @@ def is_built_alone(workspace):
     tools = os.path.join(workspace.path, 'tools')
     os.makedirs(tools)
     for name in ('cargo', 'rustc'):
-        os.symlink(shutil.which(name), os.path.join(tools, name))
+        os.symlink(shutil.which(name) or name, os.path.join(tools, name))
     workspace.must(workspace.rust, 'build', '--release', environment=workspace.environment(PATH=tools))
 
 
