@@ -7,7 +7,7 @@ from typing import Iterator, NamedTuple, Optional
 from checks.lib.tools import TOP, must, ran
 
 LONGEST_SUBJECT = 72
-# The last commit before this rule, and its time, by which a shallow clone without it tells older commits.
+# The last commit before this rule, and its time, by which older commits are left out of a shallow clone without it.
 BEFORE = '872982a251efeeba082410f927f93f55cc7e1717'
 TIME_BEFORE = 1796068798
 # Folders that every system has aren't a machine's own.

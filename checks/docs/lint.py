@@ -205,6 +205,8 @@ WRONG = {
     mypy: [
         ('wrong.py', 'import os\n\n\ndef f():\n    return os.no_such_name\n'),
         ('wrong.py', 'def f(a):\n    return a\n\n\nf(1, 2)\n'),
+        ('wrong.py', "import subprocess\n\nsubprocess.run(['true'], test=True)\n"),
+        ('wrong.py', "import os\n\nos.listdir([''])\n"),
     ],
     arguments_without_help: [('wrong.py', "parser.add_argument('--all', action='store_true')\n")],
     long_functions: [
