@@ -39,8 +39,9 @@ def commits(folder: str = TOP) -> Optional[list[Commit]]:
     if not os.path.exists(os.path.join(folder, '.git')):
         return None
     git = ['git', '-C', folder]
-    is_known = ran([*git, 'cat-file', '-e', BEFORE]).returncode == 0
-    text = must([*git, 'log', '-z', '--format=%H%n%P%n%ct%n%B', 'HEAD', *([f'^{BEFORE}'] if is_known else [])])
+    is_shallow = must([*git, 'rev-parse', '--is-shallow-repository']).strip() == 'true'
+    has_older = not is_shallow and ran([*git, 'cat-file', '-e', BEFORE]).returncode == 0
+    text = must([*git, 'log', '-z', '--format=%H%n%P%n%ct%n%B', 'HEAD', *([f'^{BEFORE}'] if has_older else [])])
     fields = [entry.split('\n', 3) for entry in text.split('\0') if entry]
     found = [Commit(name, parents.split(), int(time), message) for name, parents, time, message in fields]
-    return [commit for commit in found if is_known or commit.time > TIME_BEFORE]
+    return [commit for commit in found if has_older or commit.time > TIME_BEFORE]

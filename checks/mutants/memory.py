@@ -116,9 +116,11 @@ def without_sample(refusals):
     return {its_sum: why for its_sum, why in refusals.items() if rng.random() >= SAMPLED}
 
 
-def write(rows):
+def write(refusals):
     """Adds refusals to the repository's list: (edit, its checksum, reason)."""
-    toolchain.write(WRITTEN, HEAD + "".join(f"{name} {half(its_sum)} {why}\n" for name, its_sum, why in sorted(rows)))
+    toolchain.write(
+        WRITTEN, HEAD + "".join(f"{name} {half(its_sum)} {why}\n" for name, its_sum, why in sorted(refusals))
+    )
 
 
 def files_of(crate, part, ending):
