@@ -112,13 +112,25 @@ EVIDENCE = '\n'.join(
     [f'| {" | ".join(COLUMNS)} |', '|---|---|---|---|---|', *(f'| {part} | 1 | 2 | 3 | 4 |' for part in PARTS), '']
 )
 PLATE = '# c/\n\n```sh\nmake\n```\n\n- **Trusts:** gcc.\n- **Takes:** 1 s.\n'
-# For each rule a page and a text that breaks it, and one that does not.
+# For each rule a page, texts that break it, and one that does not.
 PLANTED = {
-    long_sections: ('README.md', '## One\n\n' + 'word ' * 151, '## One\n\n' + 'word ' * 150 + '\n### Two\n\nword\n'),
-    long_pages: ('docs/RECIPES.md', 'word ' * 901, 'word ' * 900),
-    evidence_that_lacks: ('README.md', EVIDENCE.replace('| Node | 1 |', '| Node | |'), EVIDENCE),
-    plates_that_lack: ('c/README.md', PLATE.replace('Trusts', 'Likes'), PLATE),
-    blocks_not_run: ('docs/RECIPES.md', '<!-- not run: slow -->\n```sh\ntrue\n```\n', '```sh\ntrue\n```\n'),
+    long_sections: ('README.md', ['## One\n\n' + 'word ' * 151], '## One\n\n' + 'word ' * 150 + '\n### Two\n\nword\n'),
+    long_pages: ('docs/RECIPES.md', ['word ' * 901], 'word ' * 900),
+    evidence_that_lacks: (
+        'README.md',
+        [EVIDENCE.replace('| Node | 1 |', '| Node | |'), EVIDENCE.replace('| crate |', '| box |')],
+        EVIDENCE,
+    ),
+    plates_that_lack: (
+        'c/README.md',
+        [PLATE.replace('Trusts', 'Likes'), PLATE + 'a\n' * 20, PLATE.replace('make\n', '')],
+        PLATE,
+    ),
+    blocks_not_run: (
+        'docs/RECIPES.md',
+        ['<!-- not run: slow -->\n```sh\ntrue\n```\n', '```c\nint a;\n```\n'],
+        '```sh\ntrue\n```\n',
+    ),
 }
 
 
@@ -128,16 +140,7 @@ def faults(name: str, text: str) -> Iterator[str]:
 
 
 def planted() -> Iterator[str]:
-    """Each rule detects its planted page, and accepts the other."""
-    for rule, (name, wrong, right) in PLANTED.items():
-        if not list(rule(name, wrong)):
-            yield f'{rule.__name__} does not detect a planted page'
+    """Each rule detects its planted pages, and accepts the other."""
+    for rule, (name, wrongs, right) in PLANTED.items():
+        yield from (f'{rule.__name__} does not detect {text!r:.60}' for text in wrongs if not list(rule(name, text)))
         yield from (f'{rule.__name__} refuses a planted page: {fault}' for fault in rule(name, right))
-    if not list(blocks_not_run('docs/RECIPES.md', '```c\nint a;\n```\n')):
-        yield 'blocks_not_run does not detect a block of another language'
-    if not list(evidence_that_lacks('README.md', EVIDENCE.replace('| crate |', '| box |'))):
-        yield 'evidence_that_lacks does not detect a missing part'
-    if not list(plates_that_lack('c/README.md', PLATE + 'a\n' * 20)) or not list(
-        plates_that_lack('c/README.md', PLATE.replace('make\n', ''))
-    ):
-        yield 'plates_that_lack does not detect a long plate, or one without a command'

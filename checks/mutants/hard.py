@@ -54,14 +54,9 @@ def tried(crate, chosen):
             batch = list({it.function: it for it in reversed(waiting)}.values())
             waiting = [it for it in waiting if it not in batch]
             outcome = outcomes_of(crate, batch, cache)
-            found.update(
-                {
-                    f"{crate.name}/{it.name}": UNKNOWN
-                    if outcome[it] == OPEN and not proved.get(it.function)
-                    else outcome[it]
-                    for it in batch
-                }
-            )
+            for it in batch:
+                is_unknown = outcome[it] == OPEN and not proved.get(it.function)
+                found[f"{crate.name}/{it.name}"] = UNKNOWN if is_unknown else outcome[it]
     for name, outcome in sorted(found.items()):
         if outcome != OPEN:
             print(f"{name}: {outcome}")

@@ -30,9 +30,8 @@ def main(given):
         memory.write(refusals(trials))
     refused = [well for trial in trials for well, _ in trial.results.values()]
     used = resource.getrusage(resource.RUSAGE_CHILDREN)
-    remembered, reasons = sum(len(it.remembered) for it in trials), [
-        reasons for it in trials for _, reasons in it.results.values()
-    ]
+    remembered = sum(len(it.remembered) for it in trials)
+    reasons = [reason for trial in trials for _, reason in trial.results.values()]
     weak = "; ".join(f"{sum(phrase in it for it in reasons)} {phrase}" for phrase in WEAK)
     print(f"{len(reasons)} wrong bodies, {remembered} of whose refusals were remembered; {weak}")
     print(f"{used.ru_utime + used.ru_stime:.0f} seconds of processor time")

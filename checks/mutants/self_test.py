@@ -44,7 +44,7 @@ def main(jobs, chosen):
     lost = places_lost()
     print(
         *(f"an edit of a copy of {name} lands elsewhere" for name in lost),
-        f"{passed + 2 - len(lost)} passed, " f"{failed + len(lost)} failed",
+        f"{passed + 2 - len(lost)} passed, {failed + len(lost)} failed",
         sep="\n",
     )
     return 1 if failed or lost else 0
