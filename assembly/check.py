@@ -25,18 +25,16 @@ import shutil
 import sys
 import tempfile
 
-ASSEMBLY = os.path.dirname(os.path.abspath(__file__))
-TOP = os.path.dirname(ASSEMBLY)
-
 from assembly import compile as compiling
-from assembly import prefetch
-from assembly import unwinding
-from assembly import wide
-from checks.lib.report import Fault, Report, check
+from assembly import prefetch, unwinding, wide
 from assembly.same_bytes import compare, compare_sums
+from assembly.webassembly import clang_of_kit
 from checks.lib import command
 from checks.lib.instruction_sets import sets_here
-from checks.lib.tools import ran, text_of, write
+from checks.lib.report import Fault, Report, check
+from checks.lib.tools import TOP, ran, text_of, write
+
+ASSEMBLY = os.path.join(TOP, 'assembly')
 
 BUILDS = {'c': 'c/build', 'rust': 'rust/build-library'}
 SETS = {
@@ -223,7 +221,6 @@ def other_modules_are_refused(library, name):
 
 def is_refused(module, args, annotated, is_wide):
     """True if a module is refused when this text is presented as the annotated one."""
-    kit = os.path.dirname(os.path.dirname(os.path.realpath(shutil.which('rt'))))
     here, with_changes = os.getcwd(), compiling.with_changes
     with tempfile.TemporaryDirectory() as workdir:
         os.chdir(workdir)
@@ -231,9 +228,7 @@ def is_refused(module, args, annotated, is_wide):
             file.write(module)
         compiling.with_changes = lambda text, wide: annotated if wide == is_wide else with_changes(text, wide)
         try:
-            compiling.run_clang(
-                os.path.join(kit, 'toolchain', 'bin', 'clang'), '', is_wide and os.path.join(workdir, 'wide'), *args
-            )
+            compiling.run_clang(clang_of_kit(), '', is_wide and os.path.join(workdir, 'wide'), *args)
         except SystemExit as why:
             return 'is not the one that was proved' in str(why)
         finally:
@@ -365,7 +360,7 @@ def check_sums(report, folder, sets):
 
 
 def main():
-    parser = command.parser(__doc__, name='assembly/check')
+    parser = command.parser(__doc__)
     parser.add_argument(
         '--target', choices=('x86-64', 'aarch64'), default='x86-64', help='the processor of the assembly source'
     )

@@ -20,8 +20,7 @@ import subprocess
 import sys
 import tempfile
 
-from assembly import prefetch
-from assembly import wide
+from assembly import prefetch, wide
 
 FOR_X86_64 = ['-mbranches-within-32B-boundaries']
 

@@ -8,25 +8,21 @@ It proves only the crate of the folder. `rt` itself uses no library of `rt ci`, 
 import os
 import sys
 
-TOP = os.path.dirname(os.path.dirname(os.path.abspath(__file__)))
-
-from checks.mutants import kit
+from checks.mutants import toolchain
 
 
 def run_rt(verb, *args):
     name = os.path.basename(os.getcwd())
-    crate = kit.crates().get(name) or sys.exit(__doc__)
+    crate = toolchain.crates().get(name) or sys.exit(__doc__)
     for below in crate.below():
-        if not kit.is_built(below):
+        if not toolchain.is_built(below):
             sys.exit(f'{name}: rt ci left no library {below.name} of what its files say now')
-    flags, arguments = args, ()
-    if '--' in args:
-        flags, arguments = args[: args.index('--')], args[args.index('--') + 1 :]
-    flags = [*kit.one_job(), *flags]
+    at = args.index('--') if '--' in args else len(args)
+    flags, arguments = [*toolchain.one_job(), *args[:at]], [*args[at + 1 :]]
     if verb == 'lib':
         return crate.build_static(flags)
     crate.held = []  # rt's locks, which it releases before it runs the program
-    return crate.run(flags, list(arguments))
+    return crate.run(flags, arguments)
 
 
 def main():

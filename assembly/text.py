@@ -156,14 +156,15 @@ class Text:
         leaving = {at for at, *_ in self.object.relocations_of(self.sections[section])}
         numbers, steps = {instruction.at: number for number, instruction in enumerate(instructions)}, []
         for instruction in instructions:
-            target = (
-                re.search(r'\b([0-9a-f]+) <.*>$', instruction.text) if processor.jumps.match(instruction.text) else None
-            )
-            is_outside = target and any(
-                at in leaving for at in range(instruction.at, instruction.at + len(instruction.raw))
-            )
-            inside = target and not is_outside and numbers[int(target[1], 16) - self.sections[section].address]
-            steps.append(frames.Step(instruction.text, frames.OUTSIDE if is_outside else inside))
+            is_jump = processor.jumps.match(instruction.text)
+            jump = re.search(r'\b([0-9a-f]+) <.*>$', instruction.text) if is_jump else None
+            own = range(instruction.at, instruction.at + len(instruction.raw))
+            target = None
+            if jump and any(at in leaving for at in own):
+                target = frames.OUTSIDE
+            elif jump:
+                target = numbers[int(jump[1], 16) - self.sections[section].address]
+            steps.append(frames.Step(instruction.text, target))
         return steps
 
     def label(self, section, at):

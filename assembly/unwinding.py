@@ -5,12 +5,11 @@ import re
 
 from assembly import frames
 from assembly.eh_frame import Table
-from checks.lib.report import last_line, check
 from assembly.same_bytes import Object
 from assembly.text import Text
-from checks.lib.tools import ran, text_of, write
+from checks.lib.report import check, last_line
+from checks.lib.tools import TOP, ran, text_of, write
 
-TOP = os.path.dirname(os.path.dirname(os.path.abspath(__file__)))
 ASSEMBLY, C = os.path.join(TOP, 'assembly'), os.path.join(TOP, 'c')
 # On x86-64 the return address also has a number and a place.
 RETURN_ADDRESS = {62: {16: -8}}
@@ -66,9 +65,7 @@ def program(framed, workdir):
         os.path.join(C, name) for name in ('states.c', 'guards.c', 'streams.c')
     ]
     command = [
-        'gcc',
-        '-O1',
-        '-I',
+        *'gcc -O1 -I'.split(),
         os.path.join(C, 'include'),
         '-I',
         os.path.join(C, 'asm'),

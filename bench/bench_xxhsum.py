@@ -6,7 +6,6 @@ and draws docs/SPEED.md:
 OURS_V2 and OURS_V3 are the program as `c/install --cpu` builds it for each instruction set. The input is in the page
 cache: a file of 1 GiB by each hash, and 100,000 files of 4 KiB by two. All programs take turns, in rounds; a ratio
 is the original's best time over ours. --quick uses a sixteenth of the bytes and files, and writes nothing."""
-import argparse
 import os
 import platform
 import subprocess
@@ -14,8 +13,9 @@ import tempfile
 import time
 
 from bench import rounds
+from checks.lib import command
+from checks.lib.tools import TOP
 
-TOP = os.path.dirname(os.path.dirname(os.path.abspath(__file__)))
 HASHES = {"XXH32": "-H0", "XXH64": "-H1", "XXH3-64": "-H3", "XXH3-128": "-H2"}
 ROUNDS = 9
 MIB = 1 << 20
@@ -43,7 +43,7 @@ def lay_out(mebibytes, files):
 
 
 def main():
-    parser = argparse.ArgumentParser(description=__doc__, formatter_class=argparse.RawDescriptionHelpFormatter)
+    parser = command.parser(__doc__)
     parser.add_argument("programs", nargs=3, metavar="PROGRAM", help="the programs to compare")
     parser.add_argument("--quick", action="store_true", help="hash less")
     given = parser.parse_args()

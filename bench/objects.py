@@ -6,7 +6,8 @@ import glob
 import hashlib
 import os
 
-TOP = os.path.dirname(os.path.dirname(os.path.abspath(__file__)))
+from checks.lib.tools import TOP
+
 FILE = f"{TOP}/bench/data/objects.tsv"
 LIBRARY = [f"crates/{it}/src/**/*.rt" for it in ("twox_words", "twox_plain", "twox_core", "twox_hash", "bench_exports")]
 CRATE = ["rust/src/**/*.rs", "rust/asm/*.s"]

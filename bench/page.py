@@ -1,4 +1,4 @@
-"""Draws docs/SPEED.md and docs/speed.svg from bench/data:
+"""Draws docs/SPEED.md, from bench/speed.md.in, and docs/speed.svg from bench/data:
 
     bench/page [--check | FOLDER | --record NAME..]
 
@@ -7,18 +7,16 @@ With --check it checks that the page in docs is up to date; with a folder, it re
 the page marks a measurement as older than this version if that code has changed since. The tables of `rust/bench`,
 `rust/programs/bench`, `python/bench` and `web/bench` are copied from bench/data."""
 import math
-import os
 import re
 import statistics
+import string
 import sys
 from pathlib import Path
 
-from bench import figures
-from bench import measured
-from bench import objects
+from bench import figures, measured, objects
 from checks.lib import command
+from checks.lib.tools import TOP
 
-TOP = os.path.dirname(os.path.dirname(os.path.abspath(__file__)))
 SETS = ["x86-64-v2", "x86-64-v3"]
 PEERS = ["c_gcc", "c_clang", "c_shared", "xxhash_rust"]
 COLOURS = {"ours": "#c0392b", "c_gcc": "#2c3e50", "c_clang": "#2980b9", "c_shared": "#7f8c8d", "xxhash_rust": "#e67e22"}
@@ -26,6 +24,7 @@ STREAMS = ("inlined", "called")
 FORMS = {"oneshot": "one-shot", "inlined": "chunks, inlined", "called": "chunks, called", "stream": "chunks"}
 KIB, MIB = 1 << 10, 1 << 20
 DATA = f"{TOP}/bench/data"
+TEMPLATE = f"{TOP}/bench/speed.md.in"
 LOWEST = 4
 
 # The lines of a table: the name, the forms, and the sizes from and to.
@@ -273,91 +272,9 @@ def picture(rows, names):
 
 
 def page(comments, parts):
-    text = f"""# Speed
-
-A ratio is a peer's time divided by ours: above 1, this library is faster. A cell has the median over hashes and sizes, and the range. Each measurement is compared with the **fastest peer**: the reference library's header by gcc (`c_gcc`) or by clang (`c_clang`), Debian's shared library (`c_shared`), or the Rust crate `xxhash-rust`. [bench/data](../bench/data) has all {sum(map(len, parts.values()))} measurements of libraries.
-
-The line below each table has the date, the commit and the processor. It ends with "Older than this version" if the measured code, by its checksum in [bench/data/objects.tsv](../bench/data/objects.tsv), is not the code of this version.
-
-#SUMMARY
-![throughput over the length](speed.svg)
-
-## The lowest ratios
-
-#LOWEST
-Causes found for XXH3-64 one-shots at x86-64-v2: 64-bit immediates (32 and 64 bytes), constants and stores of the derived secret (256 bytes), and the length of a caller's secret (4 to 16 bytes).
-
-#TWOX_HASH
-## The library for C
-
-The time of Debian's `libxxhash.so.0` divided by that of ours, for which the loader selects x86-64-v4 here, both in one process.
-
-#SHARED
-Debian's functions `.._dispatch` use AVX-512. The same ratio, if both use it (ours only for chunks of 2 KiB and more):
-
-#DISPATCH
-## The C header
-
-The time of Debian's `xxhash.h` 0.8.1 divided by that of ours, both inlined into one program: at -O2 and -O3, for x86-64-v2 and x86-64-v3 (`bench/header`).
-
-#HEADER
-## Through cargo
-
-A measurement is one call with one length. A cell has the median over measurements, and the range.
-
-#CARGO
-#CARGO_COUNTS
-The time of `get` in a `HashMap` of 1,024 keys, divided by that with SipHash, the standard library's default. Below 1, the hasher is faster.
-
-#CARGO_MAPS
-Where the crate is slower:
-
-- XXH32 and XXH64 have the same loop as `twox-hash`, with more code before and after it (0.87 for XXH32 of 32 bytes, in one chunk).
-- Streams of XXH3 in chunks of 1 to 64 bytes check more per chunk than `xxhash-rust` (0.65 for chunks of 1 byte).
-- Compiled for this processor, `RawHasher` (0.70 to 0.93) and XXH32 (0.81 to 0.94) are slower in short chunks. The cause is unknown.
-- Without assembly source, one-shots of XXH3 of 16 KiB take 0.89 to 0.92, and chunks of 4,096 bytes 0.86.
-- A string is written in two parts. Above 8 bytes, the processor waits for the stores of both before the hash reads them.
-
-`xxhash-rust` does not detect the processor for more than 240 bytes.
-
-## Programs
-
-`xxh` and Debian's `xxhsum`, which uses AVX-512 if the processor has it: wall time, 1 GiB in the page cache.
-
-#PROGRAMS
-`xxhsum` and the same program, on files in the page cache: the original's best time divided by ours, by `bench/xxhsum`.
-
-#XXHSUM
-## Programs by cargo
-
-The other program's time divided by that of `xxhsum` as cargo builds it. The files are in memory.
-
-#CARGO_PROGRAMS
-## Python
-
-The time of Debian's python3-xxhash divided by ours: the least and the greatest ratio of the four hashes.
-
-#PYTHON
-`many` takes 12.4 ns for a row of 16 bytes into a buffer and 64 ns into a list; the original in a loop takes 235 ns.
-
-## Browsers and Node
-
-The time of the reference library's header divided by ours, called from JavaScript: with vectors, and without. Each module is compared with the fastest build of releases 0.8.1 and 0.8.3 by clang 14 and 19, with vectors also 0.8.3's NEON code over SIMDe.
-
-#WEB
-## 64-bit ARM, in instructions
-
-Instructions of the reference's header, by gcc 12 -O3, divided by ours for one call, counted under qemu by `c/count`. These are not times.
-
-#ARM
-## How it was measured
-
-#SAID
-- One process measures all peers in turns. A figure is the median of eight rounds, a round the best of many turns of 0.025 ms or of one call, in three passes over all measurements.
-- Each peer is called through a pointer to a function, and compares the length with the buffer of 64 MiB, as ours does. Debian's library needs one more call, and is built for plain x86-64.
-"""
     day = when("measured", comments[0], "library")
     blocks = {
+        "COUNT": [str(sum(map(len, parts.values())))],
         "SUMMARY": summary(parts, best) + day,
         "TWOX_HASH": twox_hash(parts) + day,
         "LOWEST": lowest(parts) + day,
@@ -375,11 +292,12 @@ Instructions of the reference's header, by gcc 12 -O3, divided by ours for one c
         "ARM": arm(),
         "SAID": [f"- {it}" for it in comments],
     }
-    return "\n".join(line for it in text.rstrip("\n").split("\n") for line in blocks.get(it[1:], [it])) + "\n"
+    template = string.Template(Path(TEMPLATE).read_text())
+    return template.substitute({name: "\n".join(lines) for name, lines in blocks.items()})
 
 
 def main():
-    parser = command.parser(__doc__, name="bench/page")
+    parser = command.parser(__doc__)
     way = parser.add_mutually_exclusive_group()
     way.add_argument("--check", action="store_true", help="compare the page with the data, and write nothing")
     way.add_argument("--record", nargs="+", metavar="NAME", help="store the checksum of the code of these measurements")

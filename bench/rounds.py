@@ -11,8 +11,7 @@ import statistics
 import subprocess
 import sys
 
-from bench import figures
-from bench import measured
+from bench import figures, measured
 
 MIB = 1 << 20
 
@@ -39,8 +38,8 @@ def programs(workdir, file_size):
     times = {}
     with open(os.path.join(workdir, "programs.txt")) as lines:
         for line in lines:
-            way, algorithm, ours, theirs = line.split()
-            times.setdefault((algorithm, way), []).append((float(ours), float(theirs)))
+            way, algorithm, *seconds = line.split()
+            times.setdefault((algorithm, way), []).append(tuple(map(float, seconds)))
     for (algorithm, way), pairs in times.items():
         ours, theirs = zip(*pairs)
         ratios = [b / a for a, b in pairs]

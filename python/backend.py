@@ -26,17 +26,10 @@ SETS = {'x86_64': {f'x86-64-v{k}': f'v{k}_' for k in (2, 3, 4)}, 'aarch64': {'aa
 # The other machines whose names differ: by GNU's name, in a wheel's tag and in the names of Debian's folders.
 TAGS, FOLDERS = {'arm': 'armv7l', 'powerpc64le': 'ppc64le'}, {'i686': 'i386'}
 PROVED = [*(f'asm/{name}.s' for sets in SETS.values() for name in sets), 'asm/state_sizes.h', 'include/xxhash.h']
-FLAGS = [
-    '-std=c11',
-    '-O2',
-    '-g0',
-    '-fPIC',
-    '-fvisibility=hidden',
-    '-Wall',
-    '-Wextra',
-    '-Wno-cast-function-type',
-    '-Wno-missing-field-initializers',
-]
+FLAGS = """
+    -std=c11 -O2 -g0 -fPIC -fvisibility=hidden -Wall -Wextra -Wno-cast-function-type
+    -Wno-missing-field-initializers
+""".split()
 # The interface of this Python, as in tags of wheels: cp311, or cp311d of a debug build. And the limited one: a file
 # built with it serves each CPython from 3.11 on, with slower calls.
 ABI = 'cp' + sysconfig.get_config_var('SOABI').split('-')[1]

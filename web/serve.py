@@ -11,16 +11,7 @@ import webbrowser
 
 TOP = os.path.dirname(os.path.dirname(os.path.realpath(__file__)))
 PORT = 8000
-PUBLIC = (
-    "/web/",
-    "/docs/",
-    "/crates/",
-    "/README.md",
-    "/CALLING.md",
-    "/CONTRIBUTING.md",
-    "/LICENSE",
-    "/oracle/vectors.txt",
-)
+PUBLIC = tuple("/web/ /docs/ /crates/ /README.md /CALLING.md /CONTRIBUTING.md /LICENSE /oracle/vectors.txt".split())
 
 
 def is_public(path):

@@ -3,16 +3,12 @@ import functools
 import os
 import tempfile
 
-from c.checks import clients
-from c.checks import headers
-from c.checks import installed
-from c.checks import package
-from c.checks import values
-from checks.lib.arm_roots import TOOLS, debian_root
 from assembly.check import check_texts
-from c.checks.library import C, Built
-from checks.lib.report import check
+from c.checks import clients, headers, installed, package, values
+from c.checks.library import Built, C
 from c.checks.sides import EmulatedSide, run
+from checks.lib.arm_roots import TOOLS, debian_root
+from checks.lib.report import check
 from checks.lib.tools import TOP, install_packages, must, replace_once, text_of, write
 
 HEADER = '/usr/include/xxhash.h'

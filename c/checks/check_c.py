@@ -41,7 +41,6 @@ with the reference's header compiled for that processor, the oracle's table, and
 
 It runs on Debian as root, installs missing packages and temporarily that of c/package, and changes nothing else
 outside its own folder. One line per check; the status is 1 if one failed. --quick makes a tenth of the calls."""
-import argparse
 import os
 import re
 import shutil
@@ -50,26 +49,28 @@ import subprocess
 import sys
 import tempfile
 
-
-from c.checks import aarch64
-from c.checks import clients
-from c.checks import copies
-from c.checks import headers
-from c.checks import launcher
-from c.checks import installed
-from c.checks import on_debian
-from c.checks import package
-from c.checks import source
-from c.checks import source_package
-from c.checks import without_rt
 from assembly.check import check_texts
+from c.checks import (
+    aarch64,
+    clients,
+    copies,
+    headers,
+    installed,
+    launcher,
+    on_debian,
+    package,
+    source,
+    source_package,
+    without_rt,
+)
 from c.checks.file_program import file_program_agrees
 from c.checks.headers import EXAMPLE_C, by_cmake, cpp_by_cmake, package_path, static_by_pkg_config
-from checks.lib.report import Fault, Report, last_line, check
-from c.checks.sides import THEIRS, Side, run
 from c.checks.library import Built, sets_here
-from checks.lib.tools import TOP, four_hashes, install_packages, must, short_reads, text_of, write
+from c.checks.sides import THEIRS, Side, run
 from c.checks.values import calls_agree, calls_notice, calls_program, freed_states_are_refused, names_are_theirs
+from checks.lib import command
+from checks.lib.report import Fault, Report, check, last_line
+from checks.lib.tools import TOP, four_hashes, install_packages, must, short_reads, text_of, write
 
 HIDDEN = 'glibc.cpu.hwcaps=-AVX2_Usable,-AVX2'
 AVX512_HIDDEN = 'glibc.cpu.hwcaps=-AVX512F_Usable,-AVX512F'
@@ -311,9 +312,7 @@ def check_all(report, quick):
 
 
 def main():
-    parser = argparse.ArgumentParser(
-        prog='c/check', description=__doc__, formatter_class=argparse.RawDescriptionHelpFormatter
-    )
+    parser = command.parser(__doc__)
     parser.add_argument(
         '--target',
         choices=('x86-64', 'aarch64', *source.TARGETS),

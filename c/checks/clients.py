@@ -9,8 +9,8 @@ import tempfile
 import time
 from typing import NamedTuple, Optional
 
-from checks.lib.report import Fault, last_line, check
-from c.checks.sides import Side, loaded, run, check_library
+from c.checks.sides import Side, check_library, loaded, run
+from checks.lib.report import Fault, check, last_line
 from checks.lib.tools import free_port, write
 
 HERE = os.path.dirname(os.path.abspath(__file__))
@@ -66,10 +66,7 @@ def rsync_run(folder, choice, sender, receiver):
     done = run(
         sender,
         [
-            'rsync',
-            '-a',
-            '--checksum',
-            '--no-whole-file',
+            *'rsync -a --checksum --no-whole-file'.split(),
             f'--checksum-choice={choice}',
             '--stats',
             '-e',

@@ -9,7 +9,7 @@ import tempfile
 from typing import NamedTuple
 
 from checks.lib.debian_apt import sources
-from checks.lib.report import Fault, last_line, check
+from checks.lib.report import Fault, check, last_line
 from checks.lib.tools import TOP, install_packages, must, ran, text_of, write
 
 HEADER, CODE = text_of('c/include/xxhash.h'), text_of('c/source/xxhash.c')
@@ -171,8 +171,8 @@ def symbols_are_its_own(copy):
 def plain_symbols_are_detected(workdir):
     """An object that is compiled without XXH_NAMESPACE, and one with another one."""
     for name, flags, fault in (
-        ('plain', [], 'plain.o has XXH128, '),
-        ('other', ['-DXXH_NAMESPACE=MY_'], 'no name LZ4_XXH'),
+        ('plain', (), 'plain.o has XXH128, '),
+        ('other', ('-DXXH_NAMESPACE=MY_',), 'no name LZ4_XXH'),
     ):
         path = os.path.join(workdir, f'{name}.o')
         must(['gcc', *flags, '-I', 'c/include', '-c', 'c/source/xxhash.c', '-o', path], cwd=TOP)

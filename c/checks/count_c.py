@@ -8,9 +8,8 @@ minus those around a call. An instruction is not a time. It installs missing pac
 import os
 import tempfile
 
-
 from c.checks import aarch64
-from c.checks.library import C, Built
+from c.checks.library import Built, C
 from checks.lib import command
 from checks.lib.tools import install_packages, must, text_of
 
@@ -43,9 +42,7 @@ class Counter:
                 self.root,
                 '-plugin',
                 self.plugin,
-                '-d',
-                'plugin',
-                '-D',
+                *'-d plugin -D'.split(),
                 log,
                 self.program,
                 library,
@@ -66,7 +63,7 @@ class Counter:
 
 
 def main():
-    command.parser(__doc__, name='c/count').parse_args()
+    command.parser(__doc__).parse_args()
     install_packages({**aarch64.PACKAGES, 'gcc': 'gcc', '/usr/include/stdio.h': 'libc6-dev'})
     with tempfile.TemporaryDirectory() as workdir:
         built = Built(workdir, 'aarch64', aarch64.TOOLS)

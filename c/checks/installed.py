@@ -3,9 +3,9 @@ import os
 import shutil
 import subprocess
 
-from checks.lib.report import check
-from c.checks.sides import THEIRS
 from c.checks.library import C
+from c.checks.sides import THEIRS
+from checks.lib.report import check
 from checks.lib.tools import must, ran, text_of, write
 
 HEADER = '/usr/include/xxhash.h'
@@ -74,10 +74,7 @@ def with_fault(built, folder, file, text, other):
     must(['ar', 'x', '--output', objects, built.archive])
     must(
         [
-            'gcc',
-            '-O2',
-            '-fPIC',
-            '-I',
+            *'gcc -O2 -fPIC -I'.split(),
             built.include,
             '-I',
             os.path.join(C, 'asm'),
@@ -135,8 +132,8 @@ def features_are_known(built):
     here = 3 if 'avx512f' in flags else 2 if 'avx2' in flags else 1
     others = {'Nehalem': 1, 'max': 2, 'max,-avx2': 1, 'max,-xsave': 1}
     for args, expected in (
-        ([], here),
-        *((['qemu-x86_64', '-cpu', name], expected) for name, expected in others.items()),
+        ((), here),
+        *((('qemu-x86_64', '-cpu', name), expected) for name, expected in others.items()),
     ):
         found = subprocess.run([*args, path], stderr=subprocess.DEVNULL).returncode
         check(found == expected, f'{args}: {found} in place of {expected}')

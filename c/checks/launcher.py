@@ -2,8 +2,8 @@
 import os
 import subprocess
 
-from checks.lib.report import check
 from c.checks.library import C
+from checks.lib.report import check
 from checks.lib.tools import must, write
 
 SHOWS = '''#include <stdio.h>
@@ -36,11 +36,7 @@ def lay_out(workdir, compiler):
     must(
         [
             compiler,
-            '-O2',
-            '-Wall',
-            '-Wextra',
-            '-Werror',
-            '-static-pie',
+            *'-O2 -Wall -Wextra -Werror -static-pie'.split(),
             '-DPROGRAM="shows"',
             os.path.join(C, 'launch.c'),
             '-o',

@@ -3,7 +3,7 @@ import os
 import shutil
 
 from checks.lib.instruction_sets import C, sets_here, sets_of_library
-from checks.lib.report import last_line, check
+from checks.lib.report import check, last_line
 from checks.lib.tools import must, ran
 
 

@@ -12,13 +12,12 @@ import os
 import re
 import shutil
 import tempfile
-from typing import NamedTuple
+from typing import NamedTuple, Optional
 
+from c.checks.library import Built, C
 from checks.lib.report import check
-from c.checks.library import C, Built
-from checks.lib.tools import clean_copy, install_packages, text_of
-
 from checks.lib.roots import TAKEN, new_base, new_root
+from checks.lib.tools import clean_copy, install_packages, text_of
 
 PACKAGES = {
     'debootstrap': 'debootstrap',
@@ -38,7 +37,7 @@ class Script(NamedTuple):
     name: str
     releases: list[str]
     packages: list[str]
-    source: str
+    source: Optional[str]
 
 
 def scripts():

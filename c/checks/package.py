@@ -9,9 +9,9 @@ import subprocess
 from c.checks import clients
 from c.checks.file_program import file_program_agrees
 from c.checks.launcher import OLD, SETS
-from checks.lib.report import last_line, check
-from c.checks.sides import THEIRS, Side, others, run
 from c.checks.library import C, sets_here, sets_of_library
+from c.checks.sides import THEIRS, Side, others, run
+from checks.lib.report import check, last_line
 from checks.lib.tools import TOP, bytes_of, must, ran, write
 
 NAME = 'twox-hash'
@@ -20,13 +20,10 @@ FOLDER = os.path.join(PREFIX, 'lib')
 # What of lintian is left: the second `lib` of the folder is meant, as in those of LLVM; xxh is no C, whose calls gcc
 # could fortify; a word that it takes for a misspelled one is code; what it takes for a library that needs no other is a
 # program, linked statically so that it starts without any; and the section .comment names the logic of the proofs.
-LEFT = (
-    'repeated-path-segment',
-    'hardening-no-fortify-functions',
-    'spelling-error-in-binary',
-    'shared-library-lacks-prerequisites',
-    'binary-has-unneeded-section',
-)
+LEFT = """
+    repeated-path-segment hardening-no-fortify-functions spelling-error-in-binary
+    shared-library-lacks-prerequisites binary-has-unneeded-section
+""".split()
 EXAMPLE = os.path.join(TOP, 'examples', 'c', 'hash-file.c')
 
 
@@ -65,16 +62,7 @@ def is_installed():
 def lintian_is_silent(package):
     """Except a warning and three hints: see LEFT."""
     output = must(
-        [
-            'lintian',
-            '--fail-on',
-            'none',
-            '--display-info',
-            '--pedantic',
-            '--suppress-tags',
-            ','.join(LEFT),
-            package.file,
-        ]
+        [*'lintian --fail-on none --display-info --pedantic --suppress-tags'.split(), ','.join(LEFT), package.file]
     )
     tags = [line for line in output.splitlines() if re.match('[EWIP]: ', line)]
     check(not tags, ' / '.join(tags))
@@ -183,7 +171,7 @@ def both_builds_run(package, v3):
     note = file_program_agrees(PREFIX)
     if not v3:
         return note
-    for args, build in (([], SETS[v3]), (OLD, SETS[0])):
+    for args, build in (((), SETS[v3]), (tuple(OLD), SETS[0])):
         path = os.path.join(PREFIX, 'libexec', NAME, build, 'xxhsum')
         os.rename(path, path + '.away')
         done = subprocess.run([*args, os.path.join(PREFIX, 'bin', 'xxhsum'), EXAMPLE], capture_output=True, text=True)

@@ -1,6 +1,7 @@
 """Prints hashes of the module xxhash over inputs of many lengths: at once, in chunks, of copies, after a reset.
 Debian's python3 runs it, on one library or another."""
 import random
+
 import xxhash
 
 ALGORITHMS = ('xxh32', 'xxh64', 'xxh3_64', 'xxh3_128')

@@ -5,9 +5,9 @@ import os
 import re
 import tempfile
 
-from checks.lib.debian_apt import sources
 from c.checks.library import C
-from checks.lib.report import last_line, check
+from checks.lib.debian_apt import sources
+from checks.lib.report import check, last_line
 from checks.lib.tools import TOP, bytes_of, four_hashes, install_packages, must, ran, replace_once, text_of, write
 
 HEADER, SOURCE = os.path.join(C, 'include', 'xxhash.h'), os.path.join(C, 'source', 'xxhash.c')
@@ -430,9 +430,7 @@ def their_tests_pass(source, change=('', '')):
     compiler = f'{source.prefix}gcc -include string.h -DXXH3_MIDSIZE_MAX=240'
     return ran(
         [
-            'make',
-            '-s',
-            '-C',
+            *'make -s -C'.split(),
             folder,
             f'CC={compiler}',
             f'RUN_ENV={" ".join(source.run)}',

@@ -6,12 +6,11 @@ import os
 import re
 import tempfile
 
-from checks.lib.report import Fault, last_line, check
-from checks.lib.tools import clean_copy, install_packages, replace_once
 from c.checks.values import names_are_theirs
-
 from checks.docs.printed import section_of
+from checks.lib.report import Fault, check, last_line
 from checks.lib.roots import TAKEN, new_base, new_root
+from checks.lib.tools import clean_copy, install_packages, replace_once
 
 SUITE = 'bookworm'
 PACKAGES = {'debootstrap': 'debootstrap', 'nm': 'binutils'}

@@ -2,8 +2,8 @@
 import os
 import subprocess
 
-from checks.lib.report import check
 from c.checks.library import C
+from checks.lib.report import check
 from checks.lib.tools import bytes_of, must, ran
 
 # What release 0.8.3 has in addition to the names of 0.8.1, on x86-64.
@@ -51,7 +51,7 @@ def freed_states_are_refused(program, their_path, path, count):
     """Memory that held a state and was freed is no state, with the content that free leaves or overwrites."""
     return '; '.join(
         calls_agree(program, their_path, path, count, '--freed', **variables)
-        for variables in ({}, {'MALLOC_PERTURB_': '170'})
+        for variables in (dict[str, str](), {'MALLOC_PERTURB_': '170'})
     )
 
 

@@ -6,14 +6,11 @@ import shutil
 import tempfile
 import time
 
-from c.checks import aarch64
-from checks.lib import arm_roots
-from c.checks import launcher
-from c.checks import installed
-from c.checks import values
-from checks.lib.report import Fault, last_line, check
-from c.checks.sides import THEIRS, Side
+from c.checks import aarch64, installed, launcher, values
 from c.checks.library import Built
+from c.checks.sides import THEIRS, Side
+from checks.lib import arm_roots
+from checks.lib.report import Fault, check, last_line
 from checks.lib.tools import clean_copy, hide_rt, install_packages, must, path_without, ran, text_of, write
 
 PACKAGES = {

@@ -19,18 +19,42 @@ import time
 
 from checks.lib import command
 from checks.lib.report import Report
-from checks.lib.tools import TOP, ran, text_of
+from checks.lib.tools import TOP, text_of
 
 from .parts import Part
 
-# Checks over symbols, which need no proof: they use the processors that the proofs leave idle.
-FOR_ALL_BYTES = [
-    ("the definitions beside the reference's code", 32, "oracle/symbolic"),
-    ("the C header beside the definitions", 120, "oracle/symbolic --headers c/include"),
-    ("the C source as gcc and clang compile it, beside the definitions", 72, "oracle/c-object"),
-    ("the assembly text beside the definitions", 140, "oracle/machine-text"),
-    ("the crate's calls, as rustc compiles them, beside the definitions", 95, "oracle/rust-object"),
-    ("the modules for browsers beside the definitions", 53, "oracle/modules"),
+# Each part: its title, its minimum number of checks, and its command.
+BESIDE_PROOFS = [
+    ("the library for C without rt", 22, "c/check --without-rt"),
+    ("the cargo crate without rt", 37, "rust/check --without-rt"),
+    ("the eraser, and the source that it wrote", 402, "rust/checks/eraser"),
+    ("scripts, and what is no Rattle", 20, "checks/lint"),
+    ("the commands of the pages, as they are printed", 6, "checks/pages"),
+    ("what the gate has to notice", 11, "checks/planted"),
+    # Over symbols, for all bytes: they use the processors that the proofs leave idle.
+    ("the definitions beside the reference's code", 32, "nice -n10 oracle/symbolic"),
+    ("the C header beside the definitions", 120, "nice -n10 oracle/symbolic --headers c/include"),
+    ("the C source as gcc and clang compile it, beside the definitions", 72, "nice -n10 oracle/c-object"),
+    ("the assembly text beside the definitions", 140, "nice -n10 oracle/machine-text"),
+    ("the crate's calls, as rustc compiles them, beside the definitions", 95, "nice -n10 oracle/rust-object"),
+    ("the modules for browsers beside the definitions", 53, "nice -n10 oracle/modules"),
+]
+BEFORE_PROOFS = [
+    ("the table beside the reference library", 4, "oracle/make-vectors --check"),
+    ("proofs of outside vectors, beside the table", 5, "oracle/make-proofs --check"),
+]
+AFTER_PROOFS = [
+    ("the assembly text beside what is proved", 48, "assembly/check --of-ci"),
+    ("the modules for browsers beside what is proved", 2, "web/build --of-ci"),
+    ("the check of wrong bodies, on planted ones", 23, "checks/wrong-bodies --self-test twox_words xxhsum_options"),
+    ("both programs, as cargo builds them", 1170, "rust/programs/check --of-ci"),
+]
+XXHSUM = "crates/xxhsum/out/xxhsum"
+OF_PROGRAMS = [
+    ("the program `xxh`", 196, "checks/program --of-ci"),
+    ("the program `xxhsum`", 993, f"checks/xxhsum --stored {XXHSUM} {XXHSUM}.by-rattle"),
+    ("many names, files, reads and arguments", 16, f"checks/xxhsum-many {XXHSUM} {XXHSUM}.by-rattle"),
+    ("failing system calls", 1200, f"checks/failing_calls --readdir {XXHSUM} crates/xxh/out/xxh"),
 ]
 
 
@@ -60,55 +84,20 @@ def copied(workdir):
     return top
 
 
-def args_for_ci(workdir, anew):
-    """Arguments by which `rt ci` also proves what this machine has kept. Release 13b keeps nothing, and prints its
-    usage for such an argument."""
-    return [] if ran(["rt", "ci", *anew], cwd=workdir).stdout.startswith("usage:") else anew
-
-
 def parts(top, anew):
     """Runs the parts, each with the minimum number of its checks, and returns their results. Parts that are started
     before they are followed run in parallel with the others. `anew` are the arguments for `rt ci`."""
-    yield Part(top, "what the pages quote", 23, "checks/readme").follow()
-    wrong_bodies = Part(top, "wrong bodies, beside and after the proofs", 1115, "checks/wrong-bodies", "--beside-ci")
-    beside = [
-        Part(top, "the library for C without rt", 22, "c/check", "--without-rt"),
-        Part(top, "the cargo crate without rt", 37, "rust/check", "--without-rt"),
-        Part(top, "the eraser, and the source that it wrote", 402, "rust/checks/eraser"),
-        Part(top, "scripts, and what is no Rattle", 18, "checks/lint"),
-        Part(top, "the commands of the pages, as they are printed", 6, "checks/pages"),
-        Part(top, "what the gate has to notice", 11, "checks/planted"),
-        *(
-            Part(top, f"{what}, for all bytes", least, "nice", "-n10", *command.split())
-            for what, least, command in FOR_ALL_BYTES
-        ),
-    ]
-    yield Part(top, "the table beside the reference library", 4, "oracle/make-vectors", "--check").follow()
-    yield Part(top, "proofs of outside vectors, beside the table", 5, "oracle/make-proofs", "--check").follow()
-    yield Part(top, "proofs, tests and programs", 36, "rt", "ci", *anew).follow(hearer=wrong_bodies)
-    after = [
-        Part(top, "the assembly text beside what is proved", 48, "assembly/check", "--of-ci"),
-        Part(top, "the modules for browsers beside what is proved", 2, "web/build", "--of-ci"),
-        Part(
-            top,
-            "the check of wrong bodies, on planted ones",
-            23,
-            "checks/wrong-bodies",
-            "--self-test",
-            "twox_words",
-            "xxhsum_options",
-        ),
-        Part(top, "both programs, as cargo builds them", 1170, "rust/programs/check", "--of-ci"),
-    ]
-    yield Part(top, "the program `xxh`", 196, "checks/program", "--of-ci").follow()
-    xxhsum = "crates/xxhsum/out/xxhsum"
-    yield Part(top, "the program `xxhsum`", 993, "checks/xxhsum", "--stored", xxhsum, f"{xxhsum}.by-rattle").follow()
-    yield Part(
-        top, "many names, files, reads and arguments", 16, "checks/xxhsum-many", xxhsum, f"{xxhsum}.by-rattle"
-    ).follow()
-    yield Part(
-        top, "failing system calls", 1200, "checks/failing_calls", "--readdir", xxhsum, "crates/xxh/out/xxh"
-    ).follow()
+
+    def started(title, least, line, *more):
+        return Part(top, title, least, *line.split(), *more)
+
+    yield started("what the pages quote", 23, "checks/readme").follow()
+    wrong_bodies = started("wrong bodies, beside and after the proofs", 1115, "checks/wrong-bodies --beside-ci")
+    beside = [started(*part) for part in BESIDE_PROOFS]
+    yield from (started(*part).follow() for part in BEFORE_PROOFS)
+    yield started("proofs, tests and programs", 36, "rt ci", *anew).follow(hearer=wrong_bodies)
+    after = [started(*part) for part in AFTER_PROOFS]
+    yield from (started(*part).follow() for part in OF_PROGRAMS)
     for part in [*beside, *after[:2], wrong_bodies, *after[2:]]:
         yield part.follow()
 
@@ -121,7 +110,7 @@ def main():
     with tempfile.TemporaryDirectory(prefix="checks-all-") as workdir:
         if anew:
             os.environ["XDG_CACHE_HOME"] = f"{workdir}/cache"
-        summaries, passed, failed = zip(*parts(copied(workdir), args_for_ci(workdir, anew)))
+        summaries, passed, failed = zip(*parts(copied(workdir), anew))
     print("", *summaries, sep="\n")
     print(f"in all: {(time.monotonic() - began) / 60:.1f} minutes, {memory.most - memory.start_value:.1f} GB of memory")
     report.count(sum(passed), sum(failed))

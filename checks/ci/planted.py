@@ -110,8 +110,8 @@ def main():
     report = Report()
     for name, args in PARTS.items():
         report.attempt(name, is_judged, *args)
-    for name, args in TESTS.items():
-        report.attempt(name, is_counted, *args)
+    for name, test in TESTS.items():
+        report.attempt(name, is_counted, *test)
     report.attempt('an installation waits for another one', installation_waits)
     report.attempt('an installation after one that was killed', killed_installation, 'touch repaired', True)
     report.attempt('one that dpkg can not complete', killed_installation, 'exit 1', False)

@@ -84,7 +84,7 @@ def main():
     began, report = time.monotonic(), Report()
     with concurrent.futures.ThreadPoolExecutor(AT_A_TIME) as pool:
         jobs = {
-            name: pool.submit(vectors if name == 'vectors' else lambda it=name: tests_of(it))
+            name: pool.submit(vectors) if name == 'vectors' else pool.submit(tests_of, name)
             for name in ['vectors', *known]
             if not named or name in named
         }

@@ -1,12 +1,12 @@
 """The words of checks/docs/identifiers.txt in identifiers of Python, shell, C and JavaScript: names are split at `_`
 and at capital letters."""
-import collections
 import fnmatch
 import functools
 import io
 import os
 import re
 import tokenize
+from typing import Iterator
 
 from checks.lib.tools import text_of
 
@@ -49,7 +49,7 @@ def names_of_python(text):
             yield from ((token.start[0], name) for value in VALUE.findall(token.string) for name in NAME.findall(value))
 
 
-def names_of(path, text):
+def names_of(path: str, text: str) -> Iterator[tuple[int, str]]:
     """(line, name) of each identifier of a source."""
     ending = os.path.splitext(path)[1]
     if ending in ('.py', '.pyi') or ending == '' and re.match(r'#!.*python3', text):
@@ -63,7 +63,7 @@ def names_of(path, text):
                 yield from ((number, name) for group in found.groups() if group for name in group.split())
 
 
-def found(path):
+def found(path: str) -> Iterator[tuple[int, str, str]]:
     """(line, name, word) of each identifier with a word of the list, also of those that are allowed."""
     for number, name in names_of(path, text_of(path)):
         for part in PART.findall(name):
@@ -71,15 +71,15 @@ def found(path):
                 yield number, name, part.lower()
 
 
-def is_allowed(path, word):
+def is_allowed(path: str, word: str) -> bool:
     name = words.name_of(path)
     return any(fnmatch.fnmatch(name, pattern) and (word in names or '*' in names) for pattern, names in lists()[1])
 
 
-def wrong_names(*paths):
+def wrong_names(*paths: str) -> Iterator[str]:
     """Each identifier with a word of the list, once in a file."""
     for path in paths:
-        lines = collections.OrderedDict()
+        lines: dict[str, int] = {}
         for number, name, word in found(path):
             if not is_allowed(path, word):
                 lines.setdefault(name, number)

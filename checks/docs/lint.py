@@ -8,12 +8,13 @@
   files of LONG_LINES;
 - pages, comments, help texts and error messages have none of the words of checks/docs/words.txt, and doc comments
   don't begin with "Whether" or "What";
-- each argument of a command has a help text;
+- each argument of a command has a help text, and no function of Python has more than 40 lines, except in the files of
+  LONG_FUNCTIONS;
 - identifiers of Python, shell, C and JavaScript have none of the words of checks/docs/identifiers.txt;
 - the pages of checks/docs/plain.py have sentences of at most 30 words;
 - docs/CONTRACTS.md names each file of `specs/`;
-- commits since this rule have a subject of at most 72 characters, and no absolute path of a machine in their message
-  (checks/docs/commits.py).
+- commits since this rule have a subject of at most 72 characters, a blank line and a reason, and no absolute path of a
+  machine in their message (checks/docs/commits.py); of a shallow clone, those that it has.
 
 Each check must first detect planted mistakes. A check that fails without a message, or whose tool fails, counts as
 failed. One line per check, with what it found; the last line is "N passed, M failed". It takes a minute, and
@@ -26,6 +27,7 @@ import io
 import os
 import re
 import tempfile
+
 import tomllib
 
 from checks.lib import command
@@ -58,20 +60,14 @@ LONG_LINES = {
     'assembly/eh_frame.py': 'the verifier tests mutants of this file',
     'assembly/same_bytes.py': 'the verifier tests mutants of this file',
     'c/include/xxhash.h': 'the verifier has run over this file',
-    'checks/mutants/kit.py': 'each refusal of refused.txt has a checksum of this file',
-    'checks/mutants/proofs.py': 'each refusal of refused.txt has a checksum of this file',
-    'checks/mutants/source.py': 'each refusal of refused.txt has a checksum of this file',
-    'checks/mutants/trial.py': 'each refusal of refused.txt has a checksum of this file',
-    'bench/page.py': 'the text of a page',
-    'docs/api/contracts.py': 'the text of a page',
-    'rust/checks/edits_page.py': 'the text of a page',
-    'rust/checks/planted_sources.py': 'sources in Rattle',
     'web/bench_c/large.py': 'scripts in JavaScript',
     'web/tests/*.py': 'scripts in JavaScript',
     'web/*.js': 'not wrapped yet',
     'web/*.mjs': 'not wrapped yet',
     'web/*.ts': 'not wrapped yet',
 }
+MOST_LINES = 40
+LONG_FUNCTIONS = ('oracle/*', 'checks/programs/cases*.py')
 FEATURES = ('random', 'xxhash32', 'xxhash64', 'xxhash3_64', 'xxhash3_128', 'std', 'alloc')
 
 
@@ -118,11 +114,7 @@ def sources(paths):
 
 def documented(paths):
     """The sources whose comments are documentation."""
-    return [
-        path
-        for path in sources(paths)
-        if any(fnmatch.fnmatch(os.path.relpath(path, TOP), it) for it in words.DOCUMENTED)
-    ]
+    return [path for path in sources(paths) if is_one_of(path, words.DOCUMENTED)]
 
 
 def found(*command):
@@ -147,30 +139,10 @@ rustfmt = functools.partial(found, 'rustfmt', '--check', '-l', '--edition', '202
 def clippy(*roots):
     """Reads the root of each crate that needs no other crate. Those of the programs have no features."""
     features = [word for name in FEATURES for word in ('--cfg', f'feature="{name}"')]
+    command = 'clippy-driver --edition 2021 --crate-type lib --crate-name twox_hash --emit metadata -D warnings'.split()
     with tempfile.TemporaryDirectory() as workdir:
-        return sum(
-            (
-                found(
-                    'clippy-driver',
-                    '--edition',
-                    '2021',
-                    '--crate-type',
-                    'lib',
-                    '--crate-name',
-                    'twox_hash',
-                    *([] if '/programs/' in root else features),
-                    '--emit',
-                    'metadata',
-                    '--out-dir',
-                    workdir,
-                    '-D',
-                    'warnings',
-                    root,
-                )
-                for root in roots
-            ),
-            [],
-        )
+        command += ['--out-dir', workdir]
+        return sum((found(*command, *([] if '/programs/' in root else features), root) for root in roots), [])
 
 
 def typed(paths):
@@ -179,10 +151,13 @@ def typed(paths):
     return [path for path in paths if not excluded.match(os.path.relpath(path, TOP))]
 
 
+def is_one_of(path, patterns):
+    return any(fnmatch.fnmatch(words.name_of(path), pattern) for pattern in patterns)
+
+
 def long_lines(*paths):
     for path in paths:
-        name = words.name_of(path)
-        if not any(fnmatch.fnmatch(name, pattern) for pattern in LONG_LINES):
+        if not is_one_of(path, LONG_LINES):
             for number, line in enumerate(text_of(path).splitlines(), 1):
                 if len(line) > MOST_COLUMNS:
                     yield f'{path}:{number}: {len(line)} columns'
@@ -194,6 +169,17 @@ def arguments_without_help(*paths):
             if isinstance(node, ast.Call) and getattr(node.func, 'attr', '') == 'add_argument':
                 if not any(word.arg == 'help' for word in node.keywords):
                     yield f'{path}:{node.lineno}: an argument without help'
+
+
+def long_functions(*paths):
+    """Each function with too many lines, its docstring not counted."""
+    for path in paths:
+        for node in ast.walk(ast.parse(text_of(path))):
+            if isinstance(node, (ast.FunctionDef, ast.AsyncFunctionDef)) and not is_one_of(path, LONG_FUNCTIONS):
+                first = node.body[1] if ast.get_docstring(node) and node.body[1:] else node.body[0]
+                count = node.body[0].lineno - node.lineno + (node.end_lineno or 0) - first.lineno + 1
+                if count > MOST_LINES:
+                    yield f'{path}:{node.lineno}: {node.name} has {count} lines'
 
 
 def node(*paths):
@@ -219,8 +205,14 @@ WRONG = {
     mypy: [
         ('wrong.py', 'import os\n\n\ndef f():\n    return os.no_such_name\n'),
         ('wrong.py', 'def f(a):\n    return a\n\n\nf(1, 2)\n'),
+        ('wrong.py', "import subprocess\n\nsubprocess.run(['true'], test=True)\n"),
+        ('wrong.py', "import os\n\nos.listdir([''])\n"),
     ],
     arguments_without_help: [('wrong.py', "parser.add_argument('--all', action='store_true')\n")],
+    long_functions: [
+        ('wrong.py', 'def f():\n' + '    f()\n' * MOST_LINES),
+        ('wrong.py', 'class A:\n    async def f(self):\n        """Doc."""\n' + '        f()\n' * MOST_LINES),
+    ],
     long_lines: [(f'wrong{ending}', 'x' * 121) for ending in ('.py', '.sh', '.c', '.js')],
     rustfmt: [('wrong.rs', 'fn  main(){}\n')],
     clippy: [('wrong.rs', 'pub fn one(a: bool) -> bool { a == true }\n')],
@@ -262,7 +254,14 @@ WRONG = {
     ],
     unnamed: [('OfNoRow.antt', '')],
 }
-WRONG_MESSAGES = ('A' * 73 + '\n\nWhy.', "Merge branch 'main' of /work/main", 'Fix it\n\nSee (/home/a/b.c).')
+WRONG_MESSAGES = (
+    'A' * 73 + '\n\nWhy.',
+    "Merge branch 'main' of /work/main\n\nWhy.",
+    'Fix it\n\nSee (/home/a/b.c).',
+    'Fix it',
+    'Fix it\nWhy.',
+    'Fix it\n\nSigned-off-by: A <a@b.org>\n',
+)
 
 
 def is_clean(tool, paths):
@@ -275,16 +274,38 @@ def is_clean(tool, paths):
     return f'{len(paths)} files'
 
 
+def faults_of_commits(found):
+    return [f'{commit.name[:12]}: {fault}' for commit in found for fault in commits.faults(commit)]
+
+
 def commits_are_clean():
     for message in WRONG_MESSAGES:
-        check(list(commits.faults(message)), f'it does not detect {message!r}')
-    check(not list(commits.faults('Read /proc/self/mem and /usr/lib')), 'it refuses a path of every system')
-    messages = commits.messages()
-    if messages is None:
+        planted = commits.Commit('', [''], 0, message)
+        check(list(commits.faults(planted)), f'it does not detect {message!r}')
+    right = [('Fix it\n\nRead /proc/self/mem and /usr/lib.\n', ['']), ("Merge branch 'main'\n", ['', ''])]
+    for message, parents in right:
+        check(not list(commits.faults(commits.Commit('', parents, 0, message))), f'it refuses {message!r}')
+    found = commits.commits()
+    if found is None:
         return 'skipped: no history of git'
-    wrong = [f'{commit[:12]}: {fault}' for commit, message in messages.items() for fault in commits.faults(message)]
+    wrong = faults_of_commits(found)
     check(not wrong, '\n  '.join(wrong))
-    return f'{len(messages)} commits'
+    return f'{len(found)} commits'
+
+
+def shallow_clones_are_read():
+    """A shallow clone without history is refused only for the commits since this rule that it has."""
+    with tempfile.TemporaryDirectory() as workdir:
+        full, git = os.path.join(workdir, 'full'), ['git', '-c', 'user.name=a', '-c', 'user.email=a@b.org']
+        must([*git, 'init', '-q', full])
+        for message, seconds in (('First', -2), ('An older one', -1), ('Wrong', 1), ('Fix it\n\nWhy.', 2)):
+            env = {**os.environ, 'GIT_COMMITTER_DATE': f'@{commits.TIME_BEFORE + seconds} +0000'}
+            must([*git, '-C', full, 'commit', '-q', '--allow-empty', '-m', message], env=env)
+        for depth, names in ((1, []), (2, ['Wrong']), (3, ['Wrong'])):
+            clone = os.path.join(workdir, str(depth))
+            must([*git, 'clone', '-q', '--depth', str(depth), f'file://{full}', clone])
+            wrong = faults_of_commits(commits.commits(clone))
+            check([fault.split(': ')[-1] for fault in wrong] == names, f'a clone of {depth} commits: {wrong}')
 
 
 def empty_faults_count():
@@ -314,6 +335,7 @@ def check_code(report, every):
     report.attempt('black', is_clean, black, python)
     report.attempt('mypy', is_clean, mypy, typed(python))
     report.attempt('help of arguments', is_clean, arguments_without_help, typed(python))
+    report.attempt('lengths of functions', is_clean, long_functions, python)
     report.attempt('rustfmt', is_clean, rustfmt, rust)
     report.attempt('clippy', is_clean, clippy, roots)
     report.attempt('node', is_clean, node, [path for path in every if path.endswith(('.js', '.mjs'))])
@@ -331,6 +353,7 @@ def check_wording(report, every):
     report.attempt('sentences', is_clean, plain.long_sentences, short)
     report.attempt('files of definitions', is_clean, unnamed, specs)
     report.attempt('commits', commits_are_clean)
+    report.attempt('commits of a shallow clone', shallow_clones_are_read)
 
 
 def main():

@@ -18,11 +18,10 @@ import tempfile
 
 from checks.lib import command
 from checks.lib.report import Fault, Report
+from checks.lib.roots import CLONE, Root
 from checks.lib.tools import clean_copy, install_packages, must
 
 from . import printed
-
-from checks.lib.roots import CLONE, Root
 
 # Sections that must fail: each is wrong in one way.
 PLANTED = {

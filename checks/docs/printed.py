@@ -9,20 +9,16 @@ Java lacks the interface -->."""
 import os
 import re
 import subprocess
-from typing import NamedTuple, Optional
+from typing import Iterable, Iterator, NamedTuple, Optional
 
-from checks.lib.report import Fault, last_line, check
+from checks.lib.report import Fault, check, last_line
 from checks.lib.tools import TOP, text_of
 
 # The commands of RELEASES run in the folder of the archives, and those of every other page at the top of the
 # repository.
 RELEASES = 'docs/RELEASES.md'
 PAGES = (
-    'README.md',
-    'python/README.md',
-    'rust/README.md',
-    'web/README.md',
-    'examples/README.md',
+    *'README.md python/README.md rust/README.md web/README.md examples/README.md'.split(),
     *sorted(os.path.join('docs', name) for name in os.listdir(os.path.join(TOP, 'docs')) if name.endswith('.md')),
 )
 SUITES = {'12': 'bookworm', '13': 'trixie'}
@@ -62,7 +58,7 @@ class Command(NamedTuple):
     shown: Optional[str]
 
 
-def sections(page, suite, text=None):
+def sections(page: str, suite: str, text: Optional[str] = None) -> list[Section]:
     """The sections of a page that have commands, in its form for a release of Debian."""
     text = text_of(page) if text is None else text
     found = [Section(page, '', [], set())]
@@ -77,24 +73,24 @@ def sections(page, suite, text=None):
     return [it for it in found if it.blocks]
 
 
-def section_of(page, heading, suite):
+def section_of(page: str, heading: str, suite: str) -> Section:
     for section in sections(page, suite):
         if section.heading == heading:
             return section
     raise Fault(f'{page} has no commands below {heading}')
 
 
-def is_run(section):
+def is_run(section: Section) -> bool:
     return not all(block.reason for block in section.blocks)
 
 
-def is_whole(text):
+def is_whole(text: str) -> bool:
     """True if a shell accepts these lines without waiting for more, such as the end of a here-document."""
     done = subprocess.run(['bash', '-n'], input=text, capture_output=True, text=True, env={**os.environ, 'LC_ALL': 'C'})
     return done.returncode == 0 and 'here-document' not in done.stderr and not text.endswith('\\\n')
 
 
-def commands(section):
+def commands(section: Section) -> Iterator[Command]:
     """The commands of a section that can be run."""
     for block in section.blocks:
         text = ''
@@ -103,12 +99,14 @@ def commands(section):
             if is_whole(text):
                 shown = SHOWN.search(line)
                 if text.strip() and not text.lstrip().startswith('#'):
-                    yield Command(f'{section.page}:{number}: {line.strip()[:90]}', text, shown and shown[1].strip())
+                    yield Command(
+                        f'{section.page}:{number}: {line.strip()[:90]}', text, shown[1].strip() if shown else None
+                    )
                 text = ''
         check(not text.strip(), f'{section.page}:{block.line}: the shell waits for more')
 
 
-def script(typed):
+def script(typed: Iterable[Command]) -> str:
     """A script of bash that runs the commands unchanged. It ends at the first that fails, and prints each one's
     status."""
     lines = [
@@ -119,7 +117,7 @@ def script(typed):
     return '\n'.join(lines) + '\n'
 
 
-def is_printed(out, shown):
+def is_printed(out: str, shown: str) -> bool:
     """True if a line of the output matches the page."""
     pattern = '.*'.join(map(re.escape, shown.split('..')))
     return any(re.fullmatch(pattern, line.strip()) for line in out.splitlines())

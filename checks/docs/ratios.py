@@ -1,12 +1,10 @@
 """The tables of speed in README.md, computed from bench/data, and the ratios in its sentences."""
 import re
 import statistics
+from typing import Iterator, NamedTuple
 
+from bench import measured, objects, page
 from checks.lib.tools import text_of
-
-from bench import measured
-from bench import objects
-from bench import page
 
 PAGE, SECTION = 'README.md', '## Speed'
 RATIO = r'(?<![\d.])\d+\.\d\d(?!\d|\.\d)'
@@ -33,45 +31,47 @@ def numbers(cells, pattern=RATIO):
     return [float(it) for cell in cells for it in re.findall(pattern, cell)]
 
 
-def speeds():
-    """For each line of the table of speed: the product, the peer, the median or another mean, the lowest ratio, the
-    file of the data and the name of the measured code."""
-    parts = libraries()
-    ratios = {
-        **{name: [it.peers['c_shared'].median for it in parts[name]] for name in ('c', 'dispatch')},
-        **{name: list(map(page.best, parts[name])) for name in page.SETS},
-    }
-    middle = lambda values: f'{statistics.median(values):.2f}'
-    yield 'C library', "Debian's `libxxhash`", middle(ratios['c']), ratios['c'], 'c', 'c'
-    yield 'C library, AVX-512', 'its `.._dispatch`', middle(ratios['dispatch']), ratios['dispatch'], 'c', 'dispatch'
-    values = numbers(row[2] for row in rows_of('header'))
-    yield 'C header', "Debian's `xxhash.h`", middle(values), values, 'header', 'header'
+class Speed(NamedTuple):
+    """A line of the table of speed. `data` is the file of bench/data, `code` the measured code, and `mean` another one
+    than the median."""
+
+    product: str
+    peer: str
+    ratios: list[float]
+    data: str
+    code: str
+    mean: str = ''
+
+    def middle(self) -> str:
+        return self.mean or f'{statistics.median(self.ratios):.2f}'
+
+
+def speeds() -> Iterator[Speed]:
+    parts, counts = libraries(), {row[0]: row[1:] for row in rows_of('cargo_counts')}
+    library, dispatch = ([it.peers['c_shared'].median for it in parts[name]] for name in ('c', 'dispatch'))
+    yield Speed('C library', "Debian's `libxxhash`", library, 'c', 'c')
+    yield Speed('C library, AVX-512', 'its `.._dispatch`', dispatch, 'c', 'dispatch')
+    yield Speed('C header', "Debian's `xxhash.h`", numbers(row[2] for row in rows_of('header')), 'header', 'header')
     for name in page.SETS:
-        yield f'functions, {name}', 'fastest of four', middle(ratios[name]), ratios[name], 'measured', 'library'
-    counts = {row[0]: row[1:] for row in rows_of('cargo_counts')}
+        yield Speed(f'functions, {name}', 'fastest of four', list(map(page.best, parts[name])), 'measured', 'library')
     for peer in ('twox-hash', 'xxhash-rust'):
         _, mean, _, lowest = counts[f'plain, beside `{peer}`']
-        yield 'crate', f'`{peer}`', f'{mean} (mean)', numbers([lowest]), 'cargo', 'cargo'
-    by_cargo, by_rt = rows_of('cargo_programs')[1:], rows_of('xxhsum')
-    for title, values, data in (
-        ('`xxhsum` by cargo', numbers(row[2] for row in by_cargo), 'cargo_programs'),
-        *(
-            (f'`xxhsum` by `rt`, {name}', numbers(row[at] for row in by_rt), 'xxhsum')
-            for at, name in enumerate(page.SETS, 2)
-        ),
-    ):
-        yield title, "Debian's `xxhsum`", middle(values), values, data, data
-    values = numbers(cell for row in rows_of('python')[1:] for cell in row[1:])
-    yield 'Python', "Debian's python3-xxhash", 'not stored', values, 'python', 'python'
-    values = numbers(cell for row in rows_of('web')[1:] for cell in row[1:])
-    yield 'Node, Chromium', "`xxhash.h` as WebAssembly", middle(values), values, 'web', 'web'
+        yield Speed('crate', f'`{peer}`', numbers([lowest]), 'cargo', 'cargo', f'{mean} (mean)')
+    debians, (by_cargo, by_rt) = "Debian's `xxhsum`", (rows_of(name) for name in ('cargo_programs', 'xxhsum'))
+    programs = numbers(row[2] for row in by_cargo[1:])
+    yield Speed('`xxhsum` by cargo', debians, programs, 'cargo_programs', 'cargo_programs')
+    for at, name in enumerate(page.SETS, 2):
+        yield Speed(f'`xxhsum` by `rt`, {name}', debians, numbers(row[at] for row in by_rt), 'xxhsum', 'xxhsum')
+    python, web = (numbers(cell for row in rows_of(name)[1:] for cell in row[1:]) for name in ('python', 'web'))
+    yield Speed('Python', "Debian's python3-xxhash", python, 'python', 'python', 'not stored')
+    yield Speed('Node, Chromium', "`xxhash.h` as WebAssembly", web, 'web', 'web')
 
 
 def table_of_speed():
     lines = []
-    for product, peer, mean, ratios, data, code in speeds():
-        day = page.origin(data)[2] + ' †' * objects.is_older(code)
-        lines.append([product, peer, mean, f'{min(ratios):.2f}', day])
+    for it in speeds():
+        day = page.origin(it.data)[2] + ' †' * objects.is_older(it.code)
+        lines.append([it.product, it.peer, it.middle(), f'{min(it.ratios):.2f}', day])
     return '\n'.join(page.markdown(['product', 'peer', 'median', 'lowest', 'date'], lines))
 
 
@@ -101,8 +101,9 @@ def sentence_of_web():
 
 def sentences_of_c():
     """The ratios of the library and of the header, as parts of sentences."""
-    for _, peer, middle, values, *_ in (it for it in speeds() if it[0] in ('C library', 'C header')):
-        yield f'{middle} times as fast as {peer} in the median, {min(values):.2f} times at worst'
+    for it in speeds():
+        if it.product in ('C library', 'C header'):
+            yield f'{it.middle()} times as fast as {it.peer} in the median, {min(it.ratios):.2f} times at worst'
 
 
 def that_differ(text=None):

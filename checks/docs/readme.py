@@ -27,7 +27,9 @@ import glob
 import os
 import re
 import subprocess
+
 import tomllib
+from typing import Callable, Iterable, Iterator, NamedTuple, Optional
 
 from checks.lib import command
 from checks.lib.report import Report
@@ -35,11 +37,20 @@ from checks.lib.tools import TOP, text_of, write
 
 from . import plain, ratios
 
-# A page, a source that it quotes, the beginning of the quoted part, and its end, if it isn't the end of the source.
+
+class Quote(NamedTuple):
+    """A part of a source in a page. Without an `end` it is the end of the source."""
+
+    page: str
+    source: str
+    start: str
+    end: Optional[str] = None
+
+
 QUOTES = [
-    ('CALLING.md', 'crates/example/src/main.rt', 'use std::io;', None),
-    ('CALLING.md', 'crates/calling/src/callers.rt', '/// XXH64 of two', '\n}\n'),
-    ('docs/C.md', 'examples/c/three-ways.c', '#include <stdio.h>', None),
+    Quote('CALLING.md', 'crates/example/src/main.rt', 'use std::io;'),
+    Quote('CALLING.md', 'crates/calling/src/callers.rt', '/// XXH64 of two', '\n}\n'),
+    Quote('docs/C.md', 'examples/c/three-ways.c', '#include <stdio.h>'),
 ]
 # A file, and its text before and after the project's version.
 VERSIONS = [
@@ -242,13 +253,21 @@ def figures_that_differ():
             yield f'{page} does not have what checks/lines-to-believe or oracle/lines-to-trust counts: {count}'
 
 
-def runs_of_verifier():
-    """The program with its options, the commit, the date and the last line of each run in oracle/runs.tsv."""
-    return [line.split('\t') for line in text_of('oracle/runs.tsv').splitlines()[1:]]
+class VerifierRun(NamedTuple):
+    """A line of oracle/runs.tsv: a program of oracle/ with its options, and the last line that it printed."""
+
+    command: str
+    commit: str
+    day: str
+    end: str
+
+
+def runs_of_verifier() -> list[VerifierRun]:
+    return [VerifierRun(*line.split('\t')) for line in text_of('oracle/runs.tsv').splitlines()[1:]]
 
 
 def table_of_runs():
-    rows = [f'| `oracle/{command}` | `{commit}` | {day} | {end} |' for command, commit, day, end in runs_of_verifier()]
+    rows = [f'| `oracle/{it.command}` | `{it.commit}` | {it.day} | {it.end} |' for it in runs_of_verifier()]
     return '\n'.join(['', '| program | commit | date | last line |', '|---|---|---|---|', *rows, ''])
 
 
@@ -258,7 +277,7 @@ def runs_that_differ():
     if table_of_runs() not in text_of('docs/VERIFICATION.md'):
         yield f'docs/VERIFICATION.md does not have the table of oracle/runs.tsv:{table_of_runs()}'
     ends = dict(re.findall(r'^- `oracle/([\w-]+)`.*`(\d+ passed, 0 failed)`$', text_of('README.md'), re.M))
-    recorded = {command: end for command, _, _, end in runs_of_verifier() if command in ends}
+    recorded = {it.command: it.end for it in runs_of_verifier() if it.command in ends}
     if ends != recorded:
         yield f'README.md has {ends}, and oracle/runs.tsv {recorded}'
 
@@ -288,21 +307,25 @@ def dates_that_differ():
         yield from differ(text_of('docs/SPEED.md'))
 
 
+def undetected(what: str, wrong: Iterable[str], right: Iterable[str] = ()) -> Iterator[str]:
+    """A fault of a rule that finds nothing in a planted text, or something in a right one."""
+    if not list(wrong) or list(right):
+        yield f'{what} is not detected, or a right one is refused'
+
+
 def planted_dates():
     """A table without a processor, an unknown commit and changed code are detected."""
     table, line = '| a |\n|---|\n| 1 |\n\n', 'Measured on 2026-01-01, at commit `01234567`'
-    if not list(tables_without_date(f'{table}{line}.')) or list(tables_without_date(f'{table}{line}, on a machine.')):
-        yield 'a table without a processor is not detected'
-    is_cloned = os.path.exists(os.path.join(TOP, '.git'))
-    if bool(list(commits_that_are_nowhere(f'{line}, on a machine.'))) != is_cloned or list(
-        commits_that_are_nowhere(f'{line}. Older than this version.')
-    ):
-        yield 'a commit that is not in the history is not detected'
-    sums = {'web': ratios.objects.checksum('web')}
-    if ratios.page.age('web', sums) or 'Older than' not in ratios.page.age('web', {'web': '0' * 64}) + ratios.page.age(
-        'web', {'web': 'unknown'}
-    ):
-        yield 'measured code that has changed is not detected'
+    wrong, right = (tables_without_date(f'{table}{line}{end}') for end in ('.', ', on a machine.'))
+    yield from undetected('a table without a processor', wrong, right)
+    if os.path.exists(os.path.join(TOP, '.git')):
+        wrong, right = (
+            commits_that_are_nowhere(line + end) for end in (', on a machine.', '. Older than this version.')
+        )
+        yield from undetected('a commit that is not in the history', wrong, right)
+    for checksum in ('0' * 64, 'unknown'):
+        ages = (ratios.page.age('web', {'web': it}) for it in (checksum, ratios.objects.checksum('web')))
+        yield from undetected('measured code that has changed', *ages)
 
 
 def tables_that_repeat():
@@ -338,18 +361,13 @@ def planted_tables():
     known = f'{ratios.table_of_speed()}\n{ratios.table_of_hashes()}\n{ratios.SECTION}\n'
     if ratios.with_tables(known.replace('| crate |', '| box |')) != known:
         yield 'the tables of a README are not written'
-    if (
-        len(list(ratios.that_differ(''))) != 2
-        or list(ratios.that_differ(known))
-        or not list(ratios.that_differ(f'{known}It is 9.87.\n'))
-    ):
-        yield 'a README without the tables of speed, or with another ratio, is accepted'
-    if not list(words_over_the_limit(['word ' * (MOST_WORDS + 1)])) or list(
-        words_over_the_limit([known, 'word ' * (MOST_WORDS - 2)])
-    ):
-        yield 'pages with too many words are accepted, or generated tables count'
-    if len(list(ratios.counts_that_differ(''))) != 2:
-        yield 'a README without the counts of measurements is accepted'
+    if len(list(ratios.that_differ(''))) != 2 or len(list(ratios.counts_that_differ(''))) != 2:
+        yield 'a README without the tables of speed or the counts of measurements is accepted'
+    yield from undetected('another ratio', ratios.that_differ(f'{known}It is 9.87.\n'), ratios.that_differ(known))
+    wrong, right = (
+        words_over_the_limit(texts) for texts in (['word ' * (MOST_WORDS + 1)], [known, 'word ' * (MOST_WORDS - 2)])
+    )
+    yield from undetected('a number of words over the limit', wrong, right)
 
 
 def ratios_that_differ():
@@ -394,7 +412,7 @@ def main():
     parser.add_argument('--write', action='store_true', help='write the tables of speed into README.md first')
     if parser.parse_args().write:
         write(os.path.join(TOP, ratios.PAGE), ratios.with_tables(text_of(ratios.PAGE)))
-    checks = (
+    checks: tuple[Callable[[], Iterable[str]], ...] = (
         quotes_that_differ,
         helps_that_explain_too_little,
         links_that_lead_nowhere,
@@ -420,7 +438,7 @@ def main():
         mutants_of_verifier_that_differ,
     )
     report = Report()
-    for faults in [list(check()) for check in checks]:
+    for faults in [list(find()) for find in checks]:
         print(*faults, sep='\n', end='\n' * bool(faults))
         report.count(not faults, bool(faults))
     return report.end()

@@ -5,42 +5,29 @@ import io
 import os
 import re
 import tokenize
+from typing import Iterator
 
 from checks.lib.tools import TOP, text_of
 
 LIST = 'checks/docs/words.txt'
 # Code in a page, and in a comment.
 CODE = re.compile(r'^```.*?^```$|`[^`\n]*`|(?<=\])\([^)\n]*\)', re.M | re.S)
+# What no reader of a page in HTML sees.
+HTML = re.compile(r'<script.*?</script>|<style.*?</style>|<[^>]*>', re.S)
 # A value in a message.
 VALUE = re.compile(r'\$?\{[^{}]*\}|\$\w+')
 LIKE_C = ('.rt', '.rs', '.c', '.h', '.js', '.mjs', '.ts', '.go', '.java', '.cpp', '.css')
 LIKE_SHELL = ('', '.sh', '.in', '.cmake', '.toml', '.txt', '.yml', '.ld')
 # Files whose strings users read: help texts, messages and exceptions; and folders in them that only developers see.
 NOT_READ = re.compile(r'/(checks|tests|bench_c)/')
-MESSAGES = (
-    'crates/xxhsum_*/src/*.rt',
-    'c/*',
-    'rust/build-library',
-    'rust/eraser/erase.py',
-    'rust/programs/src/bin/*',
-    'web/*',
-    'python/*.py',
-    'python/build',
-    'python/native/*',
-    'python/src/*',
-    'release/*',
-    'examples/*',
-)
+MESSAGES = """
+    crates/xxhsum_*/src/*.rt c/* rust/build-library rust/eraser/erase.py rust/programs/src/bin/* web/*
+    python/*.py python/build python/native/* python/src/* release/* examples/*
+""".split()
 # Files whose comments are documentation, in which "True if" is clearer than "Whether".
-DOCUMENTED = (
-    'crates/*/src/*.rt',
-    'rust/src/*',
-    'rust/programs/src/*',
-    'c/include/*',
-    'web/*.js',
-    'web/*.ts',
-    'python/src/*',
-)
+DOCUMENTED = 'crates/*/src/*.rt rust/src/* rust/programs/src/* c/include/* web/*.js web/*.ts python/src/*'.split()
+# Lines with their numbers.
+Lines = list[tuple[int, str]]
 PUZZLE = re.compile(r'(?:Whether|What)\b')
 
 
@@ -63,16 +50,16 @@ def lists():
     return patterns, [(path, set(words.split(', '))) for path, words, _ in rows[1]]
 
 
-def without_code(text):
-    """The text, whose lines stay in place."""
-    return CODE.sub(lambda code: re.sub(r'[^\n]', ' ', code[0]), text)
+def without(pattern: re.Pattern[str], text: str) -> str:
+    """The text without what the pattern finds. Its lines stay in place."""
+    return pattern.sub(lambda found: re.sub(r'[^\n]', ' ', found[0]), text)
 
 
-def is_allowed(name, word):
+def is_allowed(name: str, word: str) -> bool:
     return any(fnmatch.fnmatch(name, path) and (word.lower() in words or '*' in words) for path, words in lists()[1])
 
 
-def of_python(text):
+def of_python(text: str) -> tuple[Lines, Lines]:
     """(line, text) of each comment, docstring and other string of Python."""
     comments, strings, before = [], [], tokenize.NEWLINE
     for token in tokenize.generate_tokens(io.StringIO(text).readline):
@@ -85,34 +72,21 @@ def of_python(text):
     return comments, strings
 
 
-def of_lines(text, mark, blocks):
+def of_lines(text: str, mark: str, blocks: bool) -> tuple[Lines, Lines]:
     """(line, text) of each comment and string of a language with this mark of comments. A mark in a string is none."""
     comments, strings, is_inside = [], [], False
     for number, line in enumerate(text.splitlines(), 1):
-        comment = line if is_inside else ''
-        if blocks:
-            start = re.match(r'\s*/\*', line)
-            comment = comment or (line if start else '')
-            is_inside = (is_inside or bool(start)) and '*/' not in line
-        found = (
-            None
-            if comment
-            else next(
-                (
-                    it
-                    for it in re.finditer(rf'(?:^|(?<=\s))(?:{mark})(?=[\s/!*]|$)', line)
-                    if line[: it.start()].count('"') % 2 == 0
-                ),
-                None,
-            )
-        )
-        code = '' if comment else line[: found.start()] if found else line
-        comments.append((number, comment or (line[found.start() :] if found else '')))
-        strings += [(number, it[0]) for it in re.finditer(r'"(?:\\.|[^"\\])*"|\'[^\']*\s[^\']*\'', code)]
+        is_comment = is_inside or blocks and bool(re.match(r'\s*/\*', line))
+        is_inside = is_comment and '*/' not in line
+        marks = re.finditer(rf'(?:^|(?<=\s))(?:{mark})(?=[\s/!*]|$)', line)
+        starts = (it.start() for it in marks if line[: it.start()].count('"') % 2 == 0)
+        start = 0 if is_comment else next(starts, len(line))
+        comments.append((number, line[start:]))
+        strings += [(number, it[0]) for it in re.finditer(r'"(?:\\.|[^"\\])*"|\'[^\']*\s[^\']*\'', line[:start])]
     return comments, strings
 
 
-def parts_of(path, text):
+def parts_of(path: str, text: str) -> tuple[Lines, Lines]:
     """The comments and the strings of a source, as pairs of a line and a text."""
     ending = os.path.splitext(path)[1]
     if ending in ('.py', '.pyi') or ending == '' and re.match(r'#!.*python3', text):
@@ -120,35 +94,25 @@ def parts_of(path, text):
     if ending == '.antt':
         return of_lines(text, '--', False)
     if ending == '.html':
-        return [], [
-            (
-                1,
-                re.sub(
-                    r'<script.*?</script>|<style.*?</style>|<[^>]*>',
-                    lambda it: re.sub(r'[^\n]', ' ', it[0]),
-                    text,
-                    flags=re.S,
-                ),
-            )
-        ]
+        return [], [(1, without(HTML, text))]
     return of_lines(text, r'//|/\*', True) if ending in LIKE_C else of_lines(text, '#', False)
 
 
-def is_page(name):
+def is_page(name: str) -> bool:
     return name.endswith(('.md', '.1'))
 
 
-def name_of(path):
+def name_of(path: str) -> str:
     """The path of a file from the top, or the name of one that is elsewhere."""
     return os.path.relpath(path, TOP) if path.startswith(TOP + os.sep) else os.path.basename(path)
 
 
-def lines_with_words(*paths):
+def lines_with_words(*paths: str) -> Iterator[str]:
     """Each use of a word of the list, with its line."""
     for path in paths:
         name, text = name_of(path), text_of(path)
         if is_page(name):
-            parts, scope = [(1, without_code(text))], 'pages'
+            parts, scope = [(1, without(CODE, text))], 'pages'
         else:
             comments, strings = parts_of(path, text)
             is_read = (
@@ -157,14 +121,14 @@ def lines_with_words(*paths):
                 and any(fnmatch.fnmatch(name, it) for it in MESSAGES)
             )
             strings = [(line, VALUE.sub(' ', it)) for line, it in strings] if is_read else []
-            parts, scope = [(line, without_code(it)) for line, it in comments + strings], 'comments'
+            parts, scope = [(line, without(CODE, it)) for line, it in comments + strings], 'comments'
         for line, part in parts:
             for found in lists()[0][scope].finditer(part):
                 if not is_allowed(name, found[0]):
                     yield f'{path}:{line + part.count(chr(10), 0, found.start())}: {found[0]}'
 
 
-def puzzles(*paths):
+def puzzles(*paths: str) -> Iterator[str]:
     """Each doc comment that begins with a word that a reader has to solve."""
     for path in paths:
         before = ''

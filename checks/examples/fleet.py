@@ -36,6 +36,7 @@ import sys
 import tempfile
 import threading
 import time
+from typing import Any
 
 from checks.lib import command
 from checks.lib.report import Fault, Report, check
@@ -83,8 +84,10 @@ def write_tree(tree):
     for number in range(FILES):
         folder = os.path.join(tree, f'folder {number // 100}')
         os.makedirs(folder, exist_ok=True)
-        name = {0: 'stdin', 1: '(a) = b', 2: '  two spaces', 3: 'größe €'}
-        write(os.path.join(folder, name.get(number % 100, f'file-{number}')), chance.randbytes(chance.randrange(4001)))
+        special = {0: 'stdin', 1: '(a) = b', 2: '  two spaces', 3: 'größe €'}
+        write(
+            os.path.join(folder, special.get(number % 100, f'file-{number}')), chance.randbytes(chance.randrange(4001))
+        )
     os.mkdir(os.path.join(tree, 'names'))
     for byte in BYTES:
         write(os.path.join(tree, 'names', f'{chr(byte)}\\'), bytes([byte]))
@@ -122,7 +125,9 @@ class Cluster:
 
     def __init__(self, workdir, library):
         self.workdir, self.library = workdir, library
-        self.run_as = {'user': NOBODY, 'group': NOBODY, 'extra_groups': []} if os.geteuid() == 0 else {}
+        self.run_as: dict[str, Any] = {}
+        if os.geteuid() == 0:
+            self.run_as = {'user': NOBODY, 'group': NOBODY, 'extra_groups': []}
         port = str(free_port())
         self.address, self.processes, self.workers, self.preloaded = 'tcp://127.0.0.1:' + port, [], [], None
         self.start('dask-scheduler', '--host', '127.0.0.1', '--port', port, *QUIET)
@@ -153,12 +158,7 @@ class Cluster:
                 self.start(
                     'dask-worker',
                     self.address,
-                    '--nthreads',
-                    '1',
-                    '--no-nanny',
-                    '--host',
-                    '127.0.0.1',
-                    '--local-directory',
+                    *'--nthreads 1 --no-nanny --host 127.0.0.1 --local-directory'.split(),
                     self.workdir,
                     *QUIET,
                     library=library or self.library,

@@ -5,7 +5,7 @@ import shutil
 import subprocess
 from typing import Iterator, Union
 
-from checks.lib.report import last_line, check
+from checks.lib.report import check, last_line
 from checks.lib.tools import QUIET, must, ran, write
 
 MIRROR, SECURITY = 'http://deb.debian.org/debian', 'http://deb.debian.org/debian-security'
@@ -64,7 +64,8 @@ class Root:
 
     def copy(self, source: str, name: str) -> None:
         """Copies a file or a folder of this machine to the archives."""
-        (shutil.copytree if os.path.isdir(source) else shutil.copy)(source, self.at(f'{TAKEN}/{name}'))
+        target = self.at(f'{TAKEN}/{name}')
+        shutil.copytree(source, target) if os.path.isdir(source) else shutil.copy(source, target)
 
     def files(self) -> set[str]:
         """All files except those that an installation may leave behind."""

@@ -3,7 +3,7 @@ import glob
 import os
 import re
 
-from . import edits, kit, source
+from . import edits, source, toolchain
 
 CLAUSE = re.compile(r"\s*ensures(?: (\w+))? \{")
 
@@ -23,7 +23,7 @@ def main(files):
 def public_functions(crate):
     """The functions with a body that callers may call and that have clauses: file, function, names of its clauses."""
     for file in sorted(glob.glob(f"{crate.folder}/src/**/*.rt", recursive=True)):
-        path, lines = os.path.relpath(file, crate.folder), kit.read(file).split("\n")
+        path, lines = os.path.relpath(file, crate.folder), toolchain.read(file).split("\n")
         for it in source.functions(path, lines):
             clauses = [found[1] or "result" for found in map(CLAUSE.match, lines[it.head : it.first]) if found]
             if clauses and re.match(r"\s*pub (?!\()", lines[it.head]):

@@ -6,14 +6,14 @@ import os
 import re
 import shutil
 
-from . import edits, kit
+from . import edits, toolchain
 
 
 def with_copies(crate, tried, folder):
     """The crate, written to the folder with its copies, and the functions that other changed ones may call. The
     further edits of a function now change its copies, and the first too if it may be called, since callers of a
     refused function may have no line of their own."""
-    for part in kit.rt.rtlib.PARTS:
+    for part in toolchain.rt.rtlib.PARTS:
         if os.path.isdir(f"{crate.folder}/{part}"):
             shutil.copytree(f"{crate.folder}/{part}", f"{folder}/{part}")
     twin = copy.copy(crate)
@@ -36,8 +36,8 @@ def is_called(function, name, bodies):
 
 
 def text_of_body(crate, edit):
-    lines = kit.read(f"{crate.folder}/{edit.path}").split("\n")
-    return "\n".join(lines[edit.body.first:edit.body.last])
+    lines = toolchain.read(f"{crate.folder}/{edit.path}").split("\n")
+    return "\n".join(lines[edit.body.first : edit.body.last])
 
 
 def give_copies(folder, its, first):
@@ -53,11 +53,11 @@ def add_copy(folder, edit, number):
     """Adds a copy of the function that the edit changes: its name, its position, and its offset in characters. Or
     None."""
     name = f"{edit.body.name}_copy_{number}"
-    found = edit.body.copied(kit.read(f"{folder}/{edit.path}").rstrip("\n").split("\n"), name)
+    found = edit.body.copied(toolchain.read(f"{folder}/{edit.path}").rstrip("\n").split("\n"), name)
     if not found:
         return None
     body, lines = found
-    kit.write(f"{folder}/{edit.path}", "\n".join(lines) + "\n")
+    toolchain.write(f"{folder}/{edit.path}", "\n".join(lines) + "\n")
     name = f"{edit.function.rpartition('::')[0]}::{name}"
     copy_answers(folder, edit.function, name)
     # The brace may be on the line of `fn`, which the copy's longer name makes longer.
@@ -72,4 +72,6 @@ def copy_answers(folder, function, name):
     old, new = (f"{folder}/{edits.proof_folder(it)}" for it in (function, name))
     for file in os.listdir(old) if os.path.isdir(old) else ():
         os.makedirs(new, exist_ok=True)
-        kit.write(new + file, kit.read(old + file).replace(edits.proof_module(function), edits.proof_module(name)))
+        toolchain.write(
+            new + file, toolchain.read(old + file).replace(edits.proof_module(function), edits.proof_module(name))
+        )

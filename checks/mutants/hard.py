@@ -6,7 +6,7 @@ import os
 import re
 import tempfile
 
-from . import edits, kit, memory
+from . import edits, memory, toolchain
 from .proofs import Built
 from .trial import BY_ANSWERS
 
@@ -21,7 +21,7 @@ def main(given, files):
     Built(files, given.jobs)
     found = {}
     for crate, paths in files.items():
-        names = kit.names_of_functions(crate)
+        names = toolchain.names_of_functions(crate)
         chosen = [edits.Edit(path, crate, names) for path in paths if f"{crate.name}/{edit_name(path)}" in weak]
         if chosen:
             found.update(tried(crate, chosen))
@@ -37,7 +37,7 @@ def edit_name(path):
 
 def names_of_weak():
     """The edits with such a refusal in the repository's list."""
-    return set(re.findall(rf"^(\S+) [0-9a-f]{{32}} {re.escape(BY_ANSWERS)}", kit.read(memory.WRITTEN), re.M))
+    return set(re.findall(rf"^(\S+) [0-9a-f]{{32}} {re.escape(BY_ANSWERS)}", toolchain.read(memory.WRITTEN), re.M))
 
 
 def tried(crate, chosen):
@@ -45,23 +45,18 @@ def tried(crate, chosen):
     found = {f"{crate.name}/{it.name}": NOTHING for it in chosen if not it.function}
     waiting = [it for it in chosen if it.function]
     with tempfile.TemporaryDirectory(prefix="wrong-bodies-hard-") as workdir:
-        stored = f"{workdir}/kept"
-        os.makedirs(stored)
+        cache = f"{workdir}/cache"
+        os.makedirs(cache)
         functions = list(dict.fromkeys(it.function for it in waiting))
-        kit.check(crate, {}, stored, functions)
-        proved = proved_without_answers(crate, functions, {}, stored)
+        toolchain.check(crate, {}, cache, functions)
+        proved = proved_without_answers(crate, functions, {}, cache)
         while waiting:
             batch = list({it.function: it for it in reversed(waiting)}.values())
             waiting = [it for it in waiting if it not in batch]
-            outcome = outcomes_of(crate, batch, stored)
-            found.update(
-                {
-                    f"{crate.name}/{it.name}": UNKNOWN
-                    if outcome[it] == OPEN and not proved.get(it.function)
-                    else outcome[it]
-                    for it in batch
-                }
-            )
+            outcome = outcomes_of(crate, batch, cache)
+            for it in batch:
+                is_unknown = outcome[it] == OPEN and not proved.get(it.function)
+                found[f"{crate.name}/{it.name}"] = UNKNOWN if is_unknown else outcome[it]
     for name, outcome in sorted(found.items()):
         if outcome != OPEN:
             print(f"{name}: {outcome}")
@@ -69,31 +64,29 @@ def tried(crate, chosen):
     return found
 
 
-def outcomes_of(crate, batch, stored):
+def outcomes_of(crate, batch, cache):
     """The results of these edits, one of a function."""
-    proved = proved_without_answers(crate, [it.function for it in batch], {it.function: it for it in batch}, stored)
+    proved = proved_without_answers(crate, [it.function for it in batch], {it.function: it for it in batch}, cache)
     outcomes = {True: SURVIVES, False: OPEN, None: NOTHING}
     return {it: outcomes[proved[it.function]] for it in batch}
 
 
-def proved_without_answers(crate, functions, changed, stored):
+def proved_without_answers(crate, functions, changed, cache):
     """True for each function that is proved without its answers, with its edit if it has one, False for others, None
     without a verdict: by one check, and if that has no verdict of all, by one of each."""
     texts = {
         **edits.texts_with(crate, [changed[it] for it in functions if it in changed]),
         **{path: NO_ANSWERS for it in functions for path in answers_of(crate, it)},
     }
-    with kit.no_file_written(), kit.copy_of(stored) as copy:
-        status, lines = kit.check(crate, texts, copy, functions)
-    statuses = {it[2]: it[3] for it in map(kit.LINE.fullmatch, lines) if it}
+    with toolchain.no_file_written(), toolchain.copy_of(cache) as copy:
+        status, lines = toolchain.check(crate, texts, copy, functions)
+    statuses = {it[2]: it[3] for it in map(toolchain.LINE.fullmatch, lines) if it}
     if status in (0, 1) and all(it in statuses for it in functions):
         return {it: statuses[it].startswith("proved") for it in functions}
     if len(functions) == 1:
         return {functions[0]: None}
     return {
-        it: outcome
-        for one in functions
-        for it, outcome in proved_without_answers(crate, [one], changed, stored).items()
+        it: outcome for one in functions for it, outcome in proved_without_answers(crate, [one], changed, cache).items()
     }
 
 

@@ -2,7 +2,7 @@
 proofs in the same way. This machine remembers in a folder what it has seen refused. The repository remembers in
 refused.txt the refusals of a run with --write, for machines that remember nothing; each run tries a random part of
 them again. A user with write access can make an edit pass as refused until it is drawn: `--anew` uses nothing that
-was kept."""
+was cached."""
 import glob
 import hashlib
 import os
@@ -10,7 +10,7 @@ import random
 import re
 import tempfile
 
-from . import kit, source
+from . import source, toolchain
 
 HERE = os.path.dirname(os.path.abspath(__file__))
 FOLDER = os.path.join(os.environ.get("XDG_CACHE_HOME") or os.path.expanduser("~/.cache"), "twox_hash", "wrong-bodies")
@@ -21,7 +21,7 @@ HEAD = (
 # The part of the repository's list that is tried again.
 SAMPLED = 0.1
 # The modules that determine whether an edit is refused. Those that choose edits and print results don't.
-JUDGES = ("copies", "edits", "kit", "proofs", "source", "trial")
+JUDGES = ("copies", "edits", "toolchain", "proofs", "source", "trial")
 
 
 def half(its_sum):
@@ -40,7 +40,7 @@ class Memory:
         """The message for the edit of this checksum when it was refused, or None."""
         path = os.path.join(FOLDER, its_sum)
         if not self.is_fresh and os.path.exists(path):
-            return kit.read(path)
+            return toolchain.read(path)
         return self.written.get(half(its_sum))
 
     def keep(self, its_sum, reason):
@@ -54,15 +54,15 @@ class Memory:
         """The checksum of the edit, of the toolchain and of this program, of the statements of the crate and those
         below, and of the one body that the edit changes with its proof answers, or if it changes no single one, of
         all bodies and proof answers of the crate. Comment lines are left out."""
-        text = kit.read(f"{crate.folder}/{edit.path}").split("\n") if edit.function else []
+        text = toolchain.read(f"{crate.folder}/{edit.path}").split("\n") if edit.function else []
         own = code_of("\n".join(text[edit.body.head : edit.body.last + 1])) if edit.function else self.bodies(crate)
         answers = self.answers(crate, edit.function.split("::")[-1] if edit.function else "")
         stated = map(self.stated, [crate, *crate.below()])
-        return sum_of([self.machinery(), edit.name, kit.read(edit.file), own, answers, *stated])
+        return sum_of([self.machinery(), edit.name, toolchain.read(edit.file), own, answers, *stated])
 
     def machinery(self):
         judges = [f"{HERE}/{name}.py" for name in JUDGES]
-        return self.known("the kit and this program", lambda: [kit.identity(), *map(kit.read, judges)])
+        return self.known("the kit and this program", lambda: [toolchain.identity(), *map(toolchain.read, judges)])
 
     def bodies(self, crate):
         return self.known(f"bodies of {crate.name}", lambda: map(code_in, files_of(crate, "src", "rt")))
@@ -82,7 +82,7 @@ class Memory:
 
         def texts():
             for path in files_of(crate, "src", "rt"):
-                yield code_of(source.without_bodies(os.path.relpath(path, crate.folder), kit.read(path)))
+                yield code_of(source.without_bodies(os.path.relpath(path, crate.folder), toolchain.read(path)))
             yield from map(code_in, files_of(crate, "specs", "antt"))
             yield from (code_in(it) for it in files_of(crate, "proofs", "antt") if is_lemmas(crate, it))
 
@@ -96,7 +96,7 @@ class Memory:
 
 
 def code_in(path):
-    return code_of(kit.read(path))
+    return code_of(toolchain.read(path))
 
 
 def code_of(text):
@@ -107,7 +107,7 @@ def code_of(text):
 
 def refusals_written():
     """The repository's list: the reason of each refusal, by half of its checksum. Other lines are ignored."""
-    return dict(re.findall(r"^\S+ ([0-9a-f]{32}) (.+)$", kit.read(WRITTEN), re.M))
+    return dict(re.findall(r"^\S+ ([0-9a-f]{32}) (.+)$", toolchain.read(WRITTEN), re.M))
 
 
 def without_sample(refusals):
@@ -116,9 +116,11 @@ def without_sample(refusals):
     return {its_sum: why for its_sum, why in refusals.items() if rng.random() >= SAMPLED}
 
 
-def write(rows):
+def write(refusals):
     """Adds refusals to the repository's list: (edit, its checksum, reason)."""
-    kit.write(WRITTEN, HEAD + "".join(f"{name} {half(its_sum)} {why}\n" for name, its_sum, why in sorted(rows)))
+    toolchain.write(
+        WRITTEN, HEAD + "".join(f"{name} {half(its_sum)} {why}\n" for name, its_sum, why in sorted(refusals))
+    )
 
 
 def files_of(crate, part, ending):

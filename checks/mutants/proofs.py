@@ -4,7 +4,7 @@ import re
 import sys
 import threading
 
-from . import kit
+from . import toolchain
 
 # rt ci's message for a crate that it has proved, now or in an earlier run on this machine.
 PROVED = re.compile(r"rt: (\w+) (?:proved$|is kept:)")
@@ -17,8 +17,10 @@ class Built:
 
     def __init__(self, crates, jobs):
         self.jobs = jobs
-        for it in dict.fromkeys(library for crate in crates for library in [*crate.below(), crate] if kit.is_library(library)):
-            kit.build_library(it)
+        for it in dict.fromkeys(
+            library for crate in crates for library in [*crate.below(), crate] if toolchain.is_library(library)
+        ):
+            toolchain.build_library(it)
 
     def at_a_time(self):
         """The number of checks that may run."""
@@ -30,7 +32,7 @@ class Built:
 
     def stands_for(self, crate):
         """True if the unchanged crate is proved, or must be at the end."""
-        return kit.is_library(crate)
+        return toolchain.is_library(crate)
 
 
 class Heard:

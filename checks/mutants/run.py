@@ -8,16 +8,16 @@ import sys
 import tempfile
 import time
 
-from . import aims, edits, hard, kit, memory, source
+from . import aims, edits, hard, memory, source, toolchain
 from .proofs import Built, Heard
 from .trial import BY_ANSWERS, BY_NAMES, Trial
 
 # Refusals that show little of a contract.
-WEAK = (BY_ANSWERS, BY_NAMES, kit.BY_LIMIT)
+WEAK = (BY_ANSWERS, BY_NAMES, toolchain.BY_LIMIT)
 
 
 def main(given):
-    os.chdir(kit.TOP)
+    os.chdir(toolchain.TOP)
     with tempfile.TemporaryDirectory(prefix="wrong-bodies-edits-") as workdir:
         files = {it: found for it in chosen_crates(given) if (found := edits.files_of(it, workdir))}
         if given.unaimed:
@@ -28,11 +28,10 @@ def main(given):
         trials = try_all(files, proofs, given.jobs, lambda it: print_result(it, given.v), memory.Memory(given.anew))
     if given.write:
         memory.write(refusals(trials))
-    refused = [well for trial in trials for well, _ in trial.said.values()]
+    refused = [well for trial in trials for well, _ in trial.results.values()]
     used = resource.getrusage(resource.RUSAGE_CHILDREN)
-    remembered, reasons = sum(len(it.remembered) for it in trials), [
-        reasons for it in trials for _, reasons in it.said.values()
-    ]
+    remembered = sum(len(it.remembered) for it in trials)
+    reasons = [reason for trial in trials for _, reason in trial.results.values()]
     weak = "; ".join(f"{sum(phrase in it for it in reasons)} {phrase}" for phrase in WEAK)
     print(f"{len(reasons)} wrong bodies, {remembered} of whose refusals were remembered; {weak}")
     print(f"{used.ru_utime + used.ru_stime:.0f} seconds of processor time")
@@ -45,7 +44,7 @@ def refusals(trials):
     return [
         (f"{trial.crate.name}/{edit.name.removesuffix('.edit')}", trial.sums[edit], weakness(why))
         for trial in trials
-        for edit, (well, why) in trial.said.items()
+        for edit, (well, why) in trial.results.items()
         if well
     ]
 
@@ -55,7 +54,7 @@ def weakness(text):
 
 
 def chosen_crates(given):
-    crates = kit.crates()
+    crates = toolchain.crates()
     unknown = [it for it in given.crates if it not in crates]
     if unknown:
         sys.exit(f"wrong-bodies: crates.txt has no {unknown[0]}")
@@ -65,7 +64,7 @@ def chosen_crates(given):
 
 def print_result(trial, is_verbose):
     """Prints the results of a crate's edits."""
-    verdicts = sorted(trial.said.items(), key=lambda of: of[0].name)
+    verdicts = sorted(trial.results.items(), key=lambda of: of[0].name)
     for edit, (well, why) in verdicts:
         if is_verbose or not well:
             print(f"{trial.crate.name}/{edit.name}: {'refused' if well else 'FAILED'}: {why[:300]}")
@@ -98,7 +97,7 @@ def try_all(files, proofs, jobs, print_end, remembered):
             for trial in [it for it in waiting if proofs.has(it.crate) or is_last]:
                 waiting.remove(trial)
                 ready.append((trial, trial.begin if proofs.has(trial.crate) else trial.give_up))
-            ready.sort(key=lambda it: (it[0].kept_files is not None, -it[0].seconds(), -len(it[0].files)))
+            ready.sort(key=lambda it: (it[0].cached_files is not None, -it[0].seconds(), -len(it[0].files)))
             while ready and len(running) < proofs.at_a_time():
                 trial, check = ready.pop(0)
                 running[pool.submit(check)] = trial
@@ -119,9 +118,9 @@ def try_all(files, proofs, jobs, print_end, remembered):
 def next_checks(trial, at_work):
     """The trial's next checks. First, by itself, that of their common part, since they begin with what it keeps; then
     the separate ones, each of which may take minutes, and the batches; finally the end."""
-    if trial.is_ended or at_work and trial.kept_files is None:
+    if trial.is_ended or at_work and trial.cached_files is None:
         return []
-    if trial.kept_files is None and trial.has_more():
+    if trial.cached_files is None and trial.has_more():
         return [trial.prove]
     started = [functools.partial(trial.try_alone, *it) for it in trial.taken_alone()]
     while batch := trial.batch():
@@ -131,7 +130,7 @@ def next_checks(trial, at_work):
 
 def print_progress(trials):
     if sys.stderr.isatty():
-        verdicts = [well for it in trials for well, _ in it.said.values()]
+        verdicts = [well for it in trials for well, _ in it.results.values()]
         whole = sum(len(it.files) for it in trials)
         print(
             f"\r{len(verdicts)} of {whole} tried, {verdicts.count(False)} not refused ",
@@ -143,27 +142,27 @@ def print_progress(trials):
 
 def has_changed(crate, since):
     """True if the crate's own files, or what it may depend on in its libraries, have changed since the revision."""
-    own = os.path.relpath(crate.folder, kit.TOP)
+    own = os.path.relpath(crate.folder, toolchain.TOP)
     if git("diff", "--name-only", since, "--", own) or git("ls-files", "-o", "--exclude-standard", "--", own):
         return True
     return any(has_other_contracts(it, since) for it in crate.below())
 
 
 def has_other_contracts(library, since):
-    folder = os.path.relpath(library.folder, kit.TOP)
+    folder = os.path.relpath(library.folder, toolchain.TOP)
     if git("diff", "--name-only", since, "--", f"{folder}/specs"):
         return True
     for path in git("diff", "--name-only", since, "--", f"{folder}/src").split():
         inside = os.path.relpath(path, folder)
         old = git("show", f"{since}:{path}", is_needed=False)
-        new = kit.read(path) if os.path.exists(path) else ""
+        new = toolchain.read(path) if os.path.exists(path) else ""
         if source.without_bodies(inside, old) != source.without_bodies(inside, new):
             return True
     return False
 
 
 def git(*args, is_needed=True):
-    ran = subprocess.run(["git", *args], cwd=kit.TOP, capture_output=True, text=True)
+    ran = subprocess.run(["git", *args], cwd=toolchain.TOP, capture_output=True, text=True)
     if ran.returncode and is_needed:
         sys.exit(f"wrong-bodies: git {args[0]}: {ran.stderr.strip()}")
     return ran.stdout if not ran.returncode else ""

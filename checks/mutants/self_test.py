@@ -7,7 +7,7 @@ import re
 import tempfile
 import types
 
-from . import copies, edits, kit, proofs, run, source
+from . import copies, edits, proofs, run, source, toolchain
 from .memory import Memory
 from .trial import BY_ANSWERS, BY_NAMES
 
@@ -33,7 +33,7 @@ fn second(a: u64) -> u64
 
 
 def main(jobs, chosen):
-    crates, names = kit.crates(), sorted(file.removesuffix(".edits") for file in os.listdir(PLANTED))
+    crates, names = toolchain.crates(), sorted(file.removesuffix(".edits") for file in os.listdir(PLANTED))
     with tempfile.TemporaryDirectory() as workdir:
         files = {
             crates[name]: sorted(edits.written(f"{PLANTED}/{name}.edits", f"{workdir}/{name}"))
@@ -44,7 +44,7 @@ def main(jobs, chosen):
     lost = places_lost()
     print(
         *(f"an edit of a copy of {name} lands elsewhere" for name in lost),
-        f"{passed + 2 - len(lost)} passed, " f"{failed + len(lost)} failed",
+        f"{passed + 2 - len(lost)} passed, {failed + len(lost)} failed",
         sep="\n",
     )
     return 1 if failed or lost else 0
@@ -62,8 +62,8 @@ def tried(files, jobs):
     for trial in run.try_all(
         files, proofs.Built(files, jobs), jobs, lambda it: None, Memory(is_fresh=True, keeps=False)
     ):
-        for edit, (refused, reason) in trial.said.items():
-            expected = re.search(r"^expected: (.*)$", kit.read(edit.file), re.M)[1].split(" or ")
+        for edit, (refused, reason) in trial.results.items():
+            expected = re.search(r"^expected: (.*)$", toolchain.read(edit.file), re.M)[1].split(" or ")
             found = verdict(refused, reason)
             # A refusal of a batch has its function's own words; everything else has rt's words.
             in_batches += found == "refused" and REFUSED not in reason
@@ -82,9 +82,9 @@ def places_lost():
     lost = []
     for number, it in enumerate(source.functions("src/lib.rt", FUNCTIONS.rstrip("\n").split("\n")), 1):
         with tempfile.TemporaryDirectory() as workdir:
-            kit.write(f"{workdir}/lib.rt", FUNCTIONS)
+            toolchain.write(f"{workdir}/lib.rt", FUNCTIONS)
             edit = types.SimpleNamespace(body=it, path="lib.rt", function=f"crate::{it.name}")
             _, _, by = copies.add_copy(workdir, edit, 1)
-            at, text = FUNCTIONS.index(f"+ {number}") + by, kit.read(f"{workdir}/lib.rt")
+            at, text = FUNCTIONS.index(f"+ {number}") + by, toolchain.read(f"{workdir}/lib.rt")
         lost += [it.name] if text[at : at + 3] != f"+ {number}" else []
     return lost

@@ -20,7 +20,9 @@ class Function:
     def copied(self, lines, name):
         """The function under another name at the end of its file's lines, with these. Or None: the methods of a
         trait are in one block, and a symbol is exported once."""
-        attributes = list(itertools.takewhile(lambda it: it.lstrip().startswith(("#[", "//")), reversed(lines[:self.head])))
+        attributes = list(
+            itertools.takewhile(lambda it: it.lstrip().startswith(("#[", "//")), reversed(lines[: self.head]))
+        )
         if not all(it.header for it in self.owners) or len(self.owners) > 1 or "no_mangle" in "".join(attributes):
             return None
         before = [*lines, *(self.owners[0].header if self.owners else ()), *reversed(attributes)]
@@ -28,7 +30,7 @@ class Function:
         copy = Function(self.module, self.owners, name, self.head + down, self.first + down, self.last + down)
         head = re.sub(rf"\bfn {self.name}\b", f"fn {name}", lines[self.head], count=1)
         after = ["}"] if self.owners else []
-        return copy, [*before, head, *lines[self.head + 1:self.last + 1], *after]
+        return copy, [*before, head, *lines[self.head + 1 : self.last + 1], *after]
 
     def checked_name(self, names):
         """Its name in a check, if only one of `names` fits. A method is in the module of its type, possibly above."""
@@ -50,21 +52,25 @@ def name_of_type(type_, variables, has_arguments=True):
     type_ = re.sub(r"'\w+\s*", "", type_).strip()
     for start, word in (("&mut ", "RefMut"), ("&", "Ref")):
         if type_.startswith(start):
-            return word + name_of_type(type_[len(start):], variables)
+            return word + name_of_type(type_[len(start) :], variables)
     if type_.startswith("["):
         element, is_array, _ = type_[1:-1].partition(";")
         return ("Array" if is_array else "Slice") + name_of_type(element, variables)
     name, _, inner = type_.partition("<")
     name = name.split("::")[-1].strip()
     arguments = [it.strip() for it in inner.rpartition(">")[0].split(",")] if has_arguments else []
-    return name[:1].upper() + name[1:] + "".join(name_of_type(it, variables) for it in arguments if it and it not in variables)
+    return (
+        name[:1].upper()
+        + name[1:]
+        + "".join(name_of_type(it, variables) for it in arguments if it and it not in variables)
+    )
 
 
 def owner_of_impl(text):
     """The prefix of a method's name: `SavedState::`, or with a trait `SavedStateDebug::`."""
     generics = re.match(r"<((?:[^<>]|<[^<>]*>)*)>", text)
     variables = re.findall(r"(?:^|,)\s*(?:const )?(\w+)", re.sub(r"<[^<>]*>", "", generics[1])) if generics else []
-    text = text[generics.end():] if generics else text
+    text = text[generics.end() :] if generics else text
     trait, _, type_ = re.split(r" where\b|\{", text)[0].strip().rpartition(" for ")
     return name_of_type(type_, variables, bool(trait)) + (name_of_type(trait, variables) if trait else "") + "::"
 
@@ -79,7 +85,7 @@ class Owner:
 
 def functions(path, lines):
     """The functions of the file that have a body."""
-    module = [it for it in path[len("src/"):-len(".rt")].split("/") if it not in ("lib", "main", "mod")]
+    module = [it for it in path[len("src/") : -len(".rt")].split("/") if it not in ("lib", "main", "mod")]
     owners = []
     for at, line in enumerate(lines):
         head = HEAD.match(line)
@@ -95,10 +101,10 @@ def functions(path, lines):
         elif head[2] == "impl":
             opening = next(i for i in range(at, last) if lines[i].endswith("{"))
             # What the block brings into scope is at its beginning.
-            inside = itertools.takewhile(lambda it: it.startswith(head[1] + "    ghost use "), lines[opening + 1:])
-            header = [*lines[at:opening + 1], *inside]
+            inside = itertools.takewhile(lambda it: it.startswith(head[1] + "    ghost use "), lines[opening + 1 :])
+            header = [*lines[at : opening + 1], *inside]
             is_of_trait = re.search(r" for \S", " ".join(header).partition(" where ")[0])
-            name = owner_of_impl(" ".join([head[3], *lines[at + 1:at + 9]]))
+            name = owner_of_impl(" ".join([head[3], *lines[at + 1 : at + 9]]))
             owners = [*owners, Owner(name, last, () if is_of_trait else header)]
         else:
             owners = [*owners, Owner(word + "::", last)]

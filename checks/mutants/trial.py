@@ -7,7 +7,7 @@ import sys
 import threading
 import time
 
-from . import edits, kit
+from . import edits, toolchain
 from .copies import with_copies
 
 # Maximum number of edits that share a check: a long batch fills one processor while others idle.
@@ -26,37 +26,37 @@ OWN_GOALS = re.compile(r"no proof: expected .*`search` did not prove ")
 
 
 class Trial:
-    def __init__(self, crate, room, files, is_proved, memory):
-        self.crate, self.room, self.files, self.is_proved, self.memory = crate, room, files, is_proved, memory
-        self.kept = f"{room}/kept"
+    def __init__(self, crate, workdir, files, is_proved, memory):
+        self.crate, self.workdir, self.files, self.is_proved, self.memory = crate, workdir, files, is_proved, memory
+        self.cache = f"{workdir}/cache"
         # The crate with its copies, and the changed functions that others may call.
         self.twin, self.called = None, []
         self.lock = threading.Lock()
-        self.waiting, self.alone, self.said, self.is_ended = [], [], {}, False
+        self.waiting, self.alone, self.results, self.is_ended = [], [], {}, False
         # The edits with a remembered refusal, and the checksum under which that of each other one will be stored.
         self.remembered, self.sums = set(), {}
-        # What the check of the unchanged crate has kept, once it has ended, if there is one.
-        self.kept_files = None
+        # The proofs that the check of the unchanged crate has cached, once it has ended, if there is one.
+        self.cached_files = None
         # Each check: its time, and its edits.
         self.checks = []
 
     def begin(self):
         """Sorts the edits of the crate."""
-        names = kit.names_of_functions(self.crate)
+        names = toolchain.names_of_functions(self.crate)
         for it in (edits.Edit(file, self.crate, names) for file in self.files):
             self.sums[it] = self.memory.sum_of(it, self.crate)
-            if said := self.memory.recall(self.sums[it]):
-                self.said[it] = True, said
+            if message := self.memory.recall(self.sums[it]):
+                self.results[it] = True, message
                 self.remembered.add(it)
             elif it.function:
                 self.waiting.append(it)
             else:
                 self.alone.append((it, "it changes no body, or more than one"))
-        self.twin, self.called = with_copies(self.crate, self.waiting, f"{self.room}/crate")
+        self.twin, self.called = with_copies(self.crate, self.waiting, f"{self.workdir}/crate")
 
     def give_up(self):
         """Reports that none was tried, if the crate isn't proved."""
-        self.said = {edits.Edit(it, self.crate, set()): (False, "the crate is not proved") for it in self.files}
+        self.results = {edits.Edit(it, self.crate, set()): (False, "the crate is not proved") for it in self.files}
         self.is_ended = True
 
     def has_more(self):
@@ -72,27 +72,29 @@ class Trial:
         keeps."""
         named = [it.refused_by for it, _ in self.alone if it.refused_by]
         self.check_as_it_stands(self.twin, dict.fromkeys([*self.called, *named, *self.controls(self.waiting)]))
-        self.kept_files = kit.listing(self.kept)
+        self.cached_files = toolchain.listing(self.cache)
 
     def controls(self, batch):
         """The copies that show that those of these edits are proved if no edit changes them."""
         return list(dict.fromkeys(it.control for it in batch if it.control))
 
     def check_as_it_stands(self, crate, only):
-        os.makedirs(self.kept, exist_ok=True)
-        status, lines = self.timed("as it stands", kit.check, crate, {}, self.kept, only)
+        os.makedirs(self.cache, exist_ok=True)
+        status, lines = self.timed("as it stands", toolchain.check, crate, {}, self.cache, only)
         if status:
-            why = [it for it in lines if kit.PLACE.match(it) or ": not proved" in it or ": no proof" in it] or lines[-5:]
+            why = [
+                it for it in lines if toolchain.PLACE.match(it) or ": not proved" in it or ": no proof" in it
+            ] or lines[-5:]
             sys.exit("\n".join([f"wrong-bodies: {crate.name} is not proved as it stands", *why[:5]]))
 
     def check(self, what, crate, texts, only):
-        """Checks the crate with these texts over a copy of the kept work."""
-        with kit.no_file_written(), kit.copy_of(self.kept) as kept:
-            return self.timed(what, kit.check, crate, texts, kept, only)
+        """Checks the crate with these texts over a copy of the cached proofs."""
+        with toolchain.no_file_written(), toolchain.copy_of(self.cache) as cache:
+            return self.timed(what, toolchain.check, crate, texts, cache, only)
 
-    def timed(self, what, work, *words):
+    def timed(self, what, work, *args):
         began = time.monotonic()
-        result = work(*words)
+        result = work(*args)
         with self.lock:
             self.checks.append((time.monotonic() - began, what))
         return result
@@ -101,15 +103,15 @@ class Trial:
         return sum(took for took, _ in self.checks)
 
     def end(self):
-        """Checks that no check of an edit has changed the kept work, and proves the whole crate over it if nothing
+        """Checks that no check of an edit has changed the cached proofs, and proves the whole crate over it if nothing
         else has."""
-        if kit.listing(self.kept) != (self.kept_files or {}):
+        if toolchain.listing(self.cache) != (self.cached_files or {}):
             sys.exit(f"wrong-bodies: {self.crate.name}: a check of an edit has changed the work that others begin with")
         if not self.is_proved:
             self.check_as_it_stands(self.crate, ())
-        for it, (well, said) in self.said.items():
+        for it, (well, message) in self.results.items():
             if well and it not in self.remembered:
-                self.memory.keep(self.sums[it], said)
+                self.memory.keep(self.sums[it], message)
         self.is_ended = True
 
     def batch(self):
@@ -143,7 +145,11 @@ class Trial:
         texts = edits.texts_with(self.twin, batch)
         status, lines = self.check(f"{len(batch)} edits", self.twin, texts, [it.function for it in batch])
         with self.lock:
-            if status not in (0, 1) or not lines[-1].startswith("only=") or any(kit.is_front_end_error(it, texts) for it in lines):
+            if (
+                status not in (0, 1)
+                or not lines[-1].startswith("only=")
+                or any(toolchain.is_front_end_error(it, texts) for it in lines)
+            ):
                 self.without_verdict(batch, lines)
             else:
                 self.judge(batch, lines)
@@ -151,93 +157,107 @@ class Trial:
     def without_verdict(self, batch, lines):
         """The check has no verdict on any edit. Those at whose places it has errors are tried separately, the others
         again."""
-        places = [(it[1], int(it[2]) - 1) for it in map(kit.PLACE.match, lines) if it]
+        places = [(it[1], int(it[2]) - 1) for it in map(toolchain.PLACE.match, lines) if it]
         named = [it for it in batch if any(it.path == path and it.body.has_inside(line) for path, line in places)]
         self.alone += [(it, "a check with it has no verdict") for it in named or batch]
         self.waiting += [it for it in batch if named and it not in named]
 
     def judge(self, batch, lines):
-        says = {it[2]: it[3] for it in map(kit.LINE.fullmatch, lines) if it}
+        messages = {it[2]: it[3] for it in map(toolchain.LINE.fullmatch, lines) if it}
         functions = {it.function for it in batch}
-        errors = [it for it in map(kit.PLACE.match, lines) if it]
-        goals = [it for it in map(kit.OPEN_GOAL.match, lines) if it]
+        errors = [it for it in map(toolchain.PLACE.match, lines) if it]
+        goals = [it for it in map(toolchain.OPEN_GOAL.match, lines) if it]
         # Each function that no edit changes is a control: it is proved, or would be except for its callees.
         of_values = [it for it in errors if not GONE.search(it[3])]
-        loose = [name for name, said in says.items() if name not in functions and not is_well(name, said, of_values)]
+        loose = [
+            name
+            for name, message in messages.items()
+            if name not in functions and not is_well(name, message, of_values)
+        ]
         if loose:
             self.alone += [(it, f"{loose[0]}, which no edit changes, is not proved either") for it in batch]
             return
         for it in batch:
-            said = says.get(it.function, "nothing")
+            message = messages.get(it.function, "nothing")
             own = [error for error in errors if error[1].startswith(edits.proof_folder(it.function))]
             open_goals = [goal[0] for goal in goals if goal[1] == it.path and it.body.has_inside(int(goal[2]) - 1)]
-            if why := refusal(said, own, open_goals):
-                self.said[it] = True, why
-            elif not it.apart and (hidden_by := called(it.function, says) & functions - {it.function}):
+            if why := refusal(message, own, open_goals):
+                self.results[it] = True, why
+            elif not it.apart and (hidden_by := called(it.function, messages) & functions - {it.function}):
                 it.apart = hidden_by
                 self.waiting.append(it)
             else:
-                self.alone.append((it, f"its line in a check with others: {said}"))
+                self.alone.append((it, f"its line in a check with others: {message}"))
 
     def try_alone(self, edit, why):
-        status, said = self.by_one(edit, why) if edit.refused_by else (None, None)
-        if said:
-            self.said[edit] = True, said
+        status, message = self.by_one(edit, why) if edit.refused_by else (None, None)
+        if message:
+            self.results[edit] = True, message
             return
         # What its function's own check has let through is tried from nothing at once.
-        copied = contextlib.nullcontext() if status == 0 else kit.copy_of(self.kept)
-        with kit.no_file_written(), copied as kept:
-            refused, said = self.timed(f"{edit.name} as rt must-fail does", kit.try_alone, self.crate, edit.file, kept)
-        if refused and OF_AN_ANSWER.search(said) and BY_NAMES not in said:
-            said = f"{BY_ANSWERS}: {said}"
+        copied = contextlib.nullcontext() if status == 0 else toolchain.copy_of(self.cache)
+        with toolchain.no_file_written(), copied as cache:
+            refused, message = self.timed(
+                f"{edit.name} as rt must-fail does", toolchain.try_alone, self.crate, edit.file, cache
+            )
+        if refused and OF_AN_ANSWER.search(message) and BY_NAMES not in message:
+            message = f"{BY_ANSWERS}: {message}"
         with self.lock:
-            self.said[edit] = refused, f"{said} ({why})"
+            self.results[edit] = refused, f"{message} ({why})"
 
     def by_one(self, edit, why):
         """The status of a check of only the edit's function, or of the one that it names, and what refuses the edit
         there."""
-        texts, _ = kit.rt.read_edit(edit.file, self.crate.folder)
+        texts, _ = toolchain.rt.read_edit(edit.file, self.crate.folder)
         if not texts:
             return None, None
         status, lines = self.check(f"{edit.name} alone: {why}", self.crate, texts, [edit.refused_by])
-        says = {it[2]: it[3] for it in map(kit.LINE.fullmatch, lines) if it}
-        said = says.get(edit.refused_by, "")
-        if status != 1 or not lines[-1].startswith("only=") or any(kit.is_front_end_error(it, texts) for it in lines):
+        messages = {it[2]: it[3] for it in map(toolchain.LINE.fullmatch, lines) if it}
+        message = messages.get(edit.refused_by, "")
+        if (
+            status != 1
+            or not lines[-1].startswith("only=")
+            or any(toolchain.is_front_end_error(it, texts) for it in lines)
+        ):
             return status, None
-        errors = [it for it in map(kit.PLACE.match, lines) if it]
-        why = refusal(said, errors, [it[0] for it in map(kit.OPEN_GOAL.match, lines) if it])
+        errors = [it for it in map(toolchain.PLACE.match, lines) if it]
+        why = refusal(message, errors, [it[0] for it in map(toolchain.OPEN_GOAL.match, lines) if it])
         # A check of the whole crate has this error too, so `rt must-fail` would report the edit as refused, with this
         # message.
-        by_names = [f"{BY_NAMES}: {it[0]}" for it in errors if said.startswith("not proved")]
+        by_names = [f"{BY_NAMES}: {it[0]}" for it in errors if message.startswith("not proved")]
         return status, why or next(iter(by_names), None)
 
 
-def refusal(said, errors, open_goals):
+def refusal(message, errors, open_goals):
     """Why a function is refused, by its line in a check, the errors of its proof answers, and its open goals; or
     None. A goal counts only if every proof answer still fits: another shape of a body gives goals other names, and
     proof answers other goals."""
     of_values = [it[0] for it in errors if not GONE.search(it[3])]
-    is_open = OWN_GOALS.match(said) or said.startswith("not proved") and open_goals
+    is_open = OWN_GOALS.match(message) or message.startswith("not proved") and open_goals
     if is_open and not errors:
-        return said if OWN_GOALS.match(said) else open_goals[0]
-    if is_open or said.startswith("not proved") and of_values:
+        return message if OWN_GOALS.match(message) else open_goals[0]
+    if is_open or message.startswith("not proved") and of_values:
         return f"{BY_ANSWERS}: {[*of_values, *(it[0] for it in errors)][0]}"
     return None
 
 
-def called(name, says):
+def called(name, messages):
     """The functions that a function's line blames, those that their lines blame, and so on."""
     found, left = set(), [name]
     while left:
-        blamed = re.findall(r"`([^`]+)`", says.get(left.pop(), "").partition("it calls ")[2])
+        blamed = re.findall(r"`([^`]+)`", messages.get(left.pop(), "").partition("it calls ")[2])
         left += [it for it in blamed if it not in found]
         found.update(blamed)
     return found
 
 
-def is_well(name, said, errors):
+def is_well(name, message, errors):
     """True if a function is proved, or would be except for its callees: its line names no goal, and its folder has
     no error."""
-    if said.startswith(("proved", "assumed")):
+    if message.startswith(("proved", "assumed")):
         return True
-    return "it calls" in said and not OWN_GOALS.match(said) and not any(it[1].startswith(edits.proof_folder(name)) for it in errors)
+    return (
+        "it calls" in message
+        and not OWN_GOALS.match(message)
+        and not any(it[1].startswith(edits.proof_folder(name)) for it in errors)
+    )

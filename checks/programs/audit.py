@@ -94,8 +94,10 @@ def line_of(name, word, other=None):
 
 def slow_audit(before, after):
     """The report of the audit: names in both lists by name, then the others by name, and the count of each class."""
-    both, others, counts = [], [], collections.Counter()
-    gone, come, stayed = collections.defaultdict(list), collections.defaultdict(list), {}
+    both: list[tuple[bytes, ...]] = []
+    others: list[tuple[bytes, ...]] = []
+    counts, stayed = collections.Counter[str](), dict[bytes, bytes]()
+    gone, come = collections.defaultdict(list), collections.defaultdict(list)
     for name, text in sorted(before.items()):
         if name not in after:
             gone[text].append(name)
@@ -126,6 +128,7 @@ def slow_audit(before, after):
 
 
 def lay_out(before, after):
+    """Changes the files of the current folder."""
     for name in set(before) - set(after):
         os.unlink(name)
     for name, text in after.items():
@@ -133,112 +136,125 @@ def lay_out(before, after):
             write(name, text)
 
 
+class Audits:
+    """The audits of a tree in the current folder, in order: each test uses what those before it have written."""
+
+    def __init__(self, ours, count, report):
+        self.ours, self.report, self.rng = ours, report, random.Random(SEED)
+        self.before = {name_of(n): b'file %d' % (n // 3 * 3 if n % 100 < 3 else n) for n in range(count)}
+        self.after = change(self.before, self.rng)
+        self.names = [name + b'\0' for name in self.after]
+        self.expected = slow_audit(self.before, self.after)
+        # The lines of the list, and the result of the audit of the changed tree.
+        self.lines, self.actual = [], None
+
+    def record(self, name, condition, note=''):
+        self.report.record(name, None if condition else 'it is otherwise', note)
+
+    def audit(self, args, names=b''):
+        return found(self.ours, ['--audit', *args], names)
+
+    def audit_of(self, lines, names):
+        """The result for a list of these lines."""
+        write('other', b''.join(lines))
+        return self.audit(['--files0-from', './other'], b''.join(names))
+
+    def unchanged(self):
+        lay_out({}, self.before)
+        names = b''.join(name + b'\0' for name in self.before)
+        text, *rest = found(self.ours, ['-H3', '--files0-from', '-'], names)
+        self.lines = text.splitlines(keepends=True)
+        is_complete = rest == [b'', 0] and len(self.lines) == len(self.before)
+        self.record('the list of the tree, by names that end in NUL', is_complete)
+        write('list', text)
+        same = self.audit(['--files0-from', './list'], names)
+        self.record('a tree that stayed', same == (slow_audit(self.before, self.before), b'', 0))
+
+    def changed(self):
+        lay_out(self.before, self.after)
+        self.actual = self.audit(['--files0-from', './list'], b''.join(self.names))
+        note = self.expected.splitlines()[-1].decode()
+        self.record('a tree that was changed', self.actual == (self.expected, b'', 1), note)
+
+    def print_memory(self):
+        write('names', b''.join(self.names))
+        write('none', b'')
+        none, peak = (
+            peak_of([self.ours, '--audit', '--status', '--files0-from', *it])
+            for it in (['./none', './none'], ['./list', './names'])
+        )
+        size = len(b''.join(self.lines + self.names)) / len(self.before)
+        print(
+            f'memory: {(peak - none) / len(self.before):.0f} bytes a line and a name, of which the list and the names '
+            f'are {size:.0f}'
+        )
+
+    def other_orders(self):
+        self.rng.shuffle(self.names)
+        self.rng.shuffle(self.lines)
+        joined = [line for job in (2, 0, 1) for line in sorted(self.lines)[job::3]]
+        for title, lines in (('the lines in another order', self.lines), ('the lines of three jobs, joined', joined)):
+            self.record(title, self.audit_of(lines, self.names) == self.actual)
+        classes = re.compile(rb'(?m): (?:same|changed|new|missing)$')
+        out, *rest = self.audit_of(self.lines, [b'./' + name for name in self.names])
+        self.record(
+            'names that begin with ./',
+            out.splitlines()[-1:] == self.actual[0].splitlines()[-1:]
+            and rest == [b'', 1]
+            and sorted(classes.findall(out)) == sorted(classes.findall(self.actual[0])),
+        )
+
+    def few_names(self):
+        few = sorted(self.after)[:500]
+        part = self.audit(['--files0-from', './list'], b''.join(name + b'\0' for name in few))
+        self.record('names that are words', self.audit(['./list', *few]) == part)
+        few = [name for name in few if b'\n' not in name]
+        write('names', b''.join(name + b'\n' for name in few))
+        by_lines = self.audit(['--files-from', './list', './names'])
+        self.record('names that are lines', by_lines == self.audit(['./list', *few]))
+
+    def quiet(self):
+        names = b''.join(self.names)
+        out = self.audit(['-q', '--files0-from', './list'], names)[0]
+        lines = self.actual[0].splitlines(keepends=True)
+        self.record('-q leaves out what is the same', out == b''.join(x for x in lines if not x.endswith(b': same\n')))
+        silent = self.audit(['--status', '--files0-from', './list'], names)
+        self.record('--status says nothing', silent == (b'', b'', 1))
+
+    def bad_lists(self):
+        lines, names, twice = self.lines, self.names, b'duplicate name'
+        digest, name = lines[1].split(b'  ')[0], lines[0].split(b'  ', 1)[1]
+        for title, bad_lines, named, message in (
+            ('a line that stands twice', [lines[0], *lines], names, twice),
+            ('a name that stands twice', lines, [names[0], *names], twice),
+            ('a name that stands twice, once with ./', lines, [b'./' + names[0], *names], twice),
+            ('a list that breaks off', [*lines[:-1], lines[-1][:-1].rsplit(b'  ', 1)[0], b'\n'], names, b'Improperly'),
+            ('two digests of a name', [lines[0], digest, b'  ', name], names[:1], twice),
+        ):
+            out, err, status = self.audit_of(bad_lines, named)
+            self.record(title, out == b'' and message in err and status == 1)
+        out, err, status = self.audit(['./nowhere', 'd0/0'])
+        self.record('a list that is not there', out == b'' and b'./nowhere' in err and status == 1)
+
+    def planted(self):
+        for title, plant in PLANTED.items():
+            self.record('noticed: ' + title, plant(self.actual[0]) != self.expected)
+
+
 def main():
     parser = command.parser(__doc__)
     parser.add_argument('ours', help='our program')
     parser.add_argument('--files', type=int, default=100000, help='files of the tree')
-    given = parser.parse_args()
+    given, report = parser.parse_args(), Report()
     ours = os.path.abspath(given.ours)
-    rng = random.Random(SEED)
-    report = Report()
-
-    def record(name, is_right, note=''):
-        report.record(name, None if is_right else 'it is otherwise', note)
-
-    def run(args, given=b''):
-        return found(ours, args, given)
-
     with tempfile.TemporaryDirectory() as workdir, contextlib.chdir(workdir):
-        before = {
-            name_of(number): b'file %d' % (number // 3 * 3 if number % 100 < 3 else number)
-            for number in range(given.files)
-        }
-        for name, text in before.items():
-            write(name, text)
-        names = b''.join(name + b'\0' for name in before)
-        listed = run(['-H3', '--files0-from', '-'], names)
-        lines = listed[0].splitlines(keepends=True)
-        record('the list of the tree, by names that end in NUL', listed[1:] == (b'', 0) and len(lines) == len(before))
-        write('list', listed[0])
-        same = run(['--audit', '--files0-from', './list'], names)
-        record('a tree that stayed', same == (slow_audit(before, before), b'', 0))
-
-        after = change(before, rng)
-        lay_out(before, after)
-        names = [name + b'\0' for name in after]
-        expected = slow_audit(before, after)
-        changed_finding = run(['--audit', '--files0-from', './list'], b''.join(names))
-        record('a tree that was changed', changed_finding == (expected, b'', 1), expected.splitlines()[-1].decode())
-        write('names', b''.join(names))
-        write('none', b'')
-        none, peak = (
-            peak_of([ours, '--audit', '--status', '--files0-from', *it])
-            for it in (['./none', './none'], ['./list', './names'])
-        )
-        print(
-            f'memory: {(peak - none) / len(before):.0f} bytes a line and a name, of which the list and the names are '
-            f'{(len(listed[0]) + len(b"".join(names))) / len(before):.0f}'
-        )
-
-        rng.shuffle(names)
-        rng.shuffle(lines)
-        joined = [line for job in (2, 0, 1) for line in sorted(lines)[job::3]]
-        for word, listed_lines in (('the lines in another order', lines), ('the lines of three jobs, joined', joined)):
-            write('other', b''.join(listed_lines))
-            record(word, run(['--audit', '--files0-from', './other'], b''.join(names)) == changed_finding)
-        write('other', b''.join(lines))
-        dotted = run(['--audit', '--files0-from', './other'], b''.join(b'./' + name for name in names))
-        record(
-            'names that begin with ./',
-            dotted[0].splitlines()[-1:] == changed_finding[0].splitlines()[-1:]
-            and dotted[1:] == (b'', 1)
-            and sorted(re.findall(rb'(?m): (?:same|changed|new|missing)$', dotted[0]))
-            == sorted(re.findall(rb'(?m): (?:same|changed|new|missing)$', changed_finding[0])),
-        )
-        few = sorted(after)[:500]
-        args = run(['--audit', './list', *few])
-        part = run(['--audit', '--files0-from', './list'], b''.join(name + b'\0' for name in few))
-        record('names that are words', args == part)
-        write('names', b''.join(name + b'\n' for name in few if b'\n' not in name))
-        by_lines = run(['--audit', '--files-from', './list', './names'])
-        part = run(['--audit', './list', *[name for name in few if b'\n' not in name]])
-        record('names that are lines', by_lines == part)
-        quiet = run(['--audit', '-q', '--files0-from', './list'], b''.join(names))[0]
-        record(
-            '-q leaves out what is the same',
-            quiet
-            == b''.join(
-                line for line in changed_finding[0].splitlines(keepends=True) if not line.endswith(b': same\n')
-            ),
-        )
-        silent = run(['--audit', '--status', '--files0-from', './list'], b''.join(names))
-        record('--status says nothing', silent == (b'', b'', 1))
-
-        bad = {
-            'a line that stands twice': (lines[0] + b''.join(lines), b''.join(names), b'duplicate name'),
-            'a name that stands twice': (b''.join(lines), b''.join([names[0], *names]), b'duplicate name'),
-            'a name that stands twice, once with ./': (
-                b''.join(lines),
-                b''.join([b'./' + names[0], *names]),
-                b'duplicate name',
-            ),
-            'a list that breaks off': (
-                b''.join(lines)[:-1].rsplit(b'  ', 1)[0] + b'\n',
-                b''.join(names),
-                b'Improperly',
-            ),
-            'two digests of a name': (
-                lines[0] + lines[1].split(b'  ')[0] + b'  ' + lines[0].split(b'  ', 1)[1],
-                names[0],
-                b'duplicate name',
-            ),
-        }
-        for word, (text, named, message) in bad.items():
-            write('other', text)
-            answer = run(['--audit', '--files0-from', './other'], named)
-            record(word, answer[0] == b'' and message in answer[1] and answer[2] == 1)
-        answer = run(['--audit', './nowhere', 'd0/0'])
-        record('a list that is not there', answer[0] == b'' and b'./nowhere' in answer[1] and answer[2] == 1)
-        for word, plant in PLANTED.items():
-            record('noticed: ' + word, plant(changed_finding[0]) != expected)
+        audits = Audits(ours, given.files, report)
+        audits.unchanged()
+        audits.changed()
+        audits.print_memory()
+        audits.other_orders()
+        audits.few_names()
+        audits.quiet()
+        audits.bad_lists()
+        audits.planted()
     return report.end()

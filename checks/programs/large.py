@@ -1,6 +1,6 @@
 """Compares two `xxhsum` programs on inputs that are too long for a table of cases.
 
-    checks/xxhsum-large ORIGINAL OURS [--lists N] [--files N] [--gib N] [--only WORD]
+    checks/xxhsum-large ORIGINAL OURS [--lists N] [--files N] [--only WORD]
 
 The inputs are lists of random lines, some of them damaged, for both programs to check; lists that one of them made,
 for the other; the lines of checks/lines.json; names of each byte; many small files; and a long pipe. A file that
@@ -26,9 +26,9 @@ from .terminals import EMPTY_ROW, ONE_ROW, ROW_END, run
 
 # One seed, so that each run draws the lists of the run before.
 SEED = 20261124
-SHAPES = [[], ['--tag'], ['--little-endian']]
-CHECKED = [[], ['--strict'], ['--warn'], ['--quiet'], ['--status'], ['--little-endian']]
-MIB = 2**20
+SHAPES: list[list[str]] = [[], ['--tag'], ['--little-endian']]
+CHECKED: list[list[str]] = [[], ['--strict'], ['--warn'], ['--quiet'], ['--status'], ['--little-endian']]
+MIB, PIPE_GIB = 2**20, 5
 # A line of a check about a name of the list.
 MESSAGE = re.compile(rb"^stdin:\d+: Could not open or read '.*': .*$", re.M)
 
@@ -94,7 +94,7 @@ def lists_of_each_other(programs):
     count = 0
     for maker in programs:
         for algorithm in HASHES:
-            for shape in ([], ['--tag']):
+            for shape in SHAPES[:2]:
                 out, err, status = same(programs, ['-c'], found(maker, [algorithm, *shape, *names])[0])
                 check(
                     not status and out.count(b': OK\n') == len(names), f'{algorithm} {shape}: {out!r:.300} {err!r:.300}'
@@ -118,7 +118,7 @@ def names_of_each_byte(programs):
     names = [b'n' + it + b'm' for it in bytes_of_names]
     for name in names:
         write(name, name)
-    for args in ([], ['--tag'], ['-H3']):
+    for args in ((), ('--tag',), ('-H3',)):
         same(programs, ['-c'], same(programs, [*args, *names])[0])
     return f'{len(names)} names'
 
@@ -143,19 +143,19 @@ def small_files(programs, count):
     return f'{count} files of 4 KiB'
 
 
-def long_pipe(programs, gib):
+def long_pipe(programs):
     block = random.Random(SEED).randbytes(MIB)
     lines = []
     for program in programs:
         with subprocess.Popen(
             [program, '-H2', '-'], stdin=subprocess.PIPE, stdout=subprocess.PIPE, stderr=subprocess.DEVNULL
         ) as done:
-            for _ in range(1024 * gib):
+            for _ in range(1024 * PIPE_GIB):
                 done.stdin.write(block)
             done.stdin.close()
             lines.append(done.stdout.read())
     check(lines[0] == lines[1] != b'', repr(lines))
-    return f'{gib} GiB'
+    return f'{PIPE_GIB} GiB'
 
 
 def shrinking_file(programs):
@@ -208,7 +208,6 @@ def main():
     parser.add_argument('programs', nargs=2, metavar='PROGRAM', help='the original, and ours')
     parser.add_argument('--lists', type=int, default=10000, help='random lists')
     parser.add_argument('--files', type=int, default=100000, help='small files')
-    parser.add_argument('--gib', type=int, default=5, help='the length of the pipe')
     given = parser.parse_args()
     parts = {
         'lists that one makes and the other checks': (lists_of_each_other,),
@@ -217,7 +216,7 @@ def main():
         'names of each byte': (names_of_each_byte,),
         'names that are not UTF-8': (refused_names,),
         'many small files': (small_files, given.files),
-        'a long pipe': (long_pipe, given.gib),
+        'a long pipe': (long_pipe,),
         'a file that shrinks': (shrinking_file,),
         'progress on a terminal': (progress,),
     }
@@ -240,7 +239,7 @@ def main():
 def write_files():
     """Writes the files of the table that a list can name."""
     for file_name, text in FILES.items():
-        file_name = file_name.encode() if isinstance(file_name, str) else file_name
+        file_name = os.fsencode(file_name)
         # No list can contain a name with a newline, and one with a hyphen in front would be an option.
         if not is_odd(file_name) and not set(b'/\n\r') & set(file_name) and file_name[:1] != b'-':
             write(file_name, text)

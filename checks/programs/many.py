@@ -203,6 +203,6 @@ def main():
             for name, case in CASES.items():
                 if given.only in name:
                     report.attempt(f'{os.path.basename(program)}, {name}', case, program, names)
-        for title, (script, case) in PLANTED.items() if not given.only else ():
-            report.attempt(f'planted, {title}', is_detected, script, case, programs[0], names)
+        for title, planted in PLANTED.items() if not given.only else ():
+            report.attempt(f'planted, {title}', is_detected, *planted, programs[0], names)
     return report.end()

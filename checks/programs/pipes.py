@@ -196,7 +196,7 @@ def limited_file(program, folder):
     if not MOST < limit < len(whole) < 2 * MOST:
         return f'the last of two writes has to be short, and there are {len(whole)} bytes'
     if (done.returncode, done.stderr) != (1, LOST) or written != whole[:limit]:
-        return f'status {done.returncode}, {len(written)} bytes, {done.stderr}'
+        return f'status {done.returncode}, {len(written)} bytes, {done.stderr!r}'
     return None
 
 

@@ -2,33 +2,37 @@
 import fcntl
 import os
 import subprocess
+from typing import Optional, Sequence, Union
 
 from checks.lib.tools import write
 
+# Arguments of a run, and its output, errors and status.
+Args = Sequence[Union[str, bytes]]
+Result = tuple[bytes, bytes, int]
 # Messages of the system are in English.
 SETTINGS = {**os.environ, 'LC_ALL': 'C'}
 # The options of the algorithms.
 HASHES = ('-H0', '-H1', '-H2', '-H3')
 
 
-def found(program, args, given=b'', seconds=None):
+def found(program: str, args: Args, given: bytes = b'', seconds: Optional[float] = None) -> Result:
     """The output, the errors and the status of a run with this standard input."""
     done = subprocess.run([program, *args], input=given, capture_output=True, timeout=seconds, check=False)
     return done.stdout, done.stderr, done.returncode
 
 
-def escaped(text):
+def escaped(text: bytes) -> bytes:
     """Escapes backslashes and line ends, as lines of lists do."""
     return text.replace(b'\\', b'\\\\').replace(b'\n', b'\\n').replace(b'\r', b'\\r')
 
 
-def marked(text):
+def marked(text: bytes) -> bytes:
     """Escapes a text that begins a line, which then begins with a backslash."""
     shown = escaped(text)
     return shown if shown == text else b'\\' + shown
 
 
-def is_utf8(text):
+def is_utf8(text: bytes) -> bool:
     try:
         text.decode()
         return True
@@ -50,7 +54,7 @@ ON_DISK = (
 )
 
 
-def on_small_disk(program, args, folder, given=b''):
+def on_small_disk(program: str, args: Args, folder: str, given: bytes = b'') -> Result:
     """A run whose output is a file on a disk of 64 KiB: what the file has, the errors and the status."""
     disk, copy = os.path.join(folder, 'disk'), os.path.join(folder, 'copy')
     os.makedirs(disk, exist_ok=True)
@@ -67,7 +71,7 @@ def on_small_disk(program, args, folder, given=b''):
         return file.read(), done.stderr, done.returncode
 
 
-def no_small_disk(folder):
+def no_small_disk(folder: str) -> str:
     """Why no disk can be mounted, or nothing."""
     done = subprocess.run(
         [*ON_DISK, 'true'], stderr=subprocess.PIPE, text=True, env={**SETTINGS, 'DISK': folder}, check=False
@@ -81,7 +85,7 @@ def without_waiting(file):
     return file
 
 
-def into_full_pipe(program, args, folder, given=b''):
+def into_full_pipe(program: str, args: Args, folder: str, given: bytes = b'') -> Result:
     """A run into a pipe that doesn't wait and that nobody reads: what the pipe has, the errors and the status."""
     ours, theirs = os.pipe()
     done = subprocess.run(
@@ -98,6 +102,6 @@ def into_full_pipe(program, args, folder, given=b''):
         return file.read(), done.stderr, done.returncode
 
 
-def plant(path, real, script):
+def plant(path: str, real: str, script: str) -> None:
     """Writes a program that does what the script does with the real one, $REAL."""
     write(path, f'#!/bin/sh\nREAL={real}\n{script}\n', 0o755)

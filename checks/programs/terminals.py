@@ -14,6 +14,7 @@ import subprocess
 import tempfile
 import threading
 import time
+from typing import Union
 
 from checks.lib.tools import TOP, must, write
 
@@ -92,7 +93,7 @@ def run(program, args, terminals=('err',), given=os.devnull, settings=SETTINGS):
     ends = {name: Ends(name in terminals) for name in ('out', 'err')}
     keyboard = pty.openpty() if 'in' in terminals else (os.open(given, os.O_RDONLY),)
     try:
-        status = subprocess.run(
+        status: Union[int, str] = subprocess.run(
             [program, *args],
             stdin=keyboard[-1],
             stdout=ends['out'].theirs,
@@ -326,57 +327,50 @@ def combinations_over(program, long, settings):
         )
 
 
-def rows_over(program, short, long, lists, settings):
-    """Each test by its name: its function and arguments. The files have `hello`, and LONG bytes; one of the lists
-    names the long file, and one has a wrong digest for it."""
+def progress_cases(program, short, long, lists):
+    """Runs with progress, and without any."""
     (names, digests), folder = lists, os.path.dirname(long)
-    failing, tebibyte = {**settings, 'CLOCK_FAILS': '1'}, TEBIBYTE_AND_MORE
+    cases = {
+        'progress of input': (['-'], OF_INPUT, long),
+        'progress of input, -H2': (['-H2', '-'], OF_INPUT, long),
+        'progress of a file': (['-H3', long], OF_FILE, short),
+        'progress below a folder': (['-rH3', folder], OF_FILE, short),
+        'progress of the names in a list': (['-H3', '--files-from', names], OF_FILE, short),
+        'progress of an audit': (['--audit', digests, long], OF_FILE, short),
+        'progress of an audit below a folder': (['-r', '--audit', digests, folder], OF_FILE, short),
+        'progress of an audit of the names in a list': (['--audit', '--files-from', digests, names], OF_FILE, short),
+        'no progress below a folder under -q': (['-qrH3', folder], NOTHING, short),
+        'no progress of an audit under -q': (['-q', '--audit', digests, long], NOTHING, short),
+        'no progress of an audit under --status': (['--status', '--audit', digests, long], NOTHING, short),
+        'no progress under -q': (['-q', '-'], NOTHING, long),
+        'no progress of a file under -q': (['-qH3', long], NOTHING, short),
+        'no progress under --status': (['--status', '-'], NOTHING, long),
+        'no progress of a short file': ([short], NOTHING, short),
+    }
+    return {name: (shows, program, *case) for name, case in cases.items()}
+
+
+def time_cases(program, settings):
+    """The rate and the time left, by a known clock."""
+    tebibyte = TEBIBYTE_AND_MORE
     first = [line_of_progress(count, tebibyte) for count in (STEP, 2 * STEP, 3 * STEP)]
-    of_short, refused = (b'26c7827d889f6da3  stdin\n', b'', 0), (b'', b'Wrong parameters\n', 1)
+    unknown = [line_of_progress(STEP, LONG, RATE_OF_NO_TIME)]
+    failing, going_back = ({**settings, name: '1'} for name in ('CLOCK_FAILS', 'CLOCK_GOES_BACK'))
     return {
-        'progress of input': (shows, program, ['-'], OF_INPUT, long),
-        'progress of input, -H2': (shows, program, ['-H2', '-'], OF_INPUT, long),
-        'progress of a file': (shows, program, ['-H3', long], OF_FILE, short),
-        'progress below a folder': (shows, program, ['-rH3', folder], OF_FILE, short),
-        'progress of the names in a list': (shows, program, ['-H3', '--files-from', names], OF_FILE, short),
-        'progress of an audit': (shows, program, ['--audit', digests, long], OF_FILE, short),
-        'progress of an audit below a folder': (shows, program, ['-r', '--audit', digests, folder], OF_FILE, short),
-        'progress of an audit of the names in a list': (
-            shows,
-            program,
-            ['--audit', '--files-from', digests, names],
-            OF_FILE,
-            short,
-        ),
-        'no progress below a folder under -q': (shows, program, ['-qrH3', folder], NOTHING, short),
-        'no progress of an audit under -q': (shows, program, ['-q', '--audit', digests, long], NOTHING, short),
-        'no progress of an audit under --status': (
-            shows,
-            program,
-            ['--status', '--audit', digests, long],
-            NOTHING,
-            short,
-        ),
-        'no progress under -q': (shows, program, ['-q', '-'], NOTHING, long),
-        'no progress of a file under -q': (shows, program, ['-qH3', long], NOTHING, short),
-        'no progress under --status': (shows, program, ['--status', '-'], NOTHING, long),
-        'no progress of a short file': (shows, program, [short], NOTHING, short),
         'the rate and the time left': (keeps_time, program),
         'the rate and the time left of more than a tebibyte': (begins_with, program, tebibyte, first, settings),
-        'the rate by a clock that fails': (
-            begins_with,
-            program,
-            LONG,
-            [line_of_progress(STEP, LONG, RATE_OF_NO_TIME)],
-            failing,
-        ),
-        'the rate by a clock that goes back': (
-            begins_with,
-            program,
-            LONG,
-            [line_of_progress(STEP, LONG, RATE_OF_NO_TIME)],
-            {**settings, 'CLOCK_GOES_BACK': '1'},
-        ),
+        'the rate by a clock that fails': (begins_with, program, LONG, unknown, failing),
+        'the rate by a clock that goes back': (begins_with, program, LONG, unknown, going_back),
+    }
+
+
+def terminal_cases(program, short, long, lists, settings):
+    """Each test by its name: its function and arguments. The files have `hello`, and LONG bytes; one of the lists
+    names the long file, and one has a wrong digest for it."""
+    of_short, refused = (b'26c7827d889f6da3  stdin\n', b'', 0), (b'', b'Wrong parameters\n', 1)
+    return {
+        **progress_cases(program, short, long, lists),
+        **time_cases(program, settings),
         'no progress on a dumb terminal': (shows_of, program, STEP, NOTHING, {**settings, 'TERM': 'dumb'}),
         'SIGINT clears the line of progress': (clears_at, program, signal.SIGINT, SETTINGS),
         'SIGTERM clears the line of progress': (clears_at, program, signal.SIGTERM, SETTINGS),
@@ -407,7 +401,7 @@ def cases_on_terminals(program, names=None):
         ):
             write(path, text)
         settings = known_clock(workdir)
-        for name, (check, *given) in rows_over(program, short, long, (names_list, digests), settings).items():
+        for name, (check, *given) in terminal_cases(program, short, long, (names_list, digests), settings).items():
             if names is None or name in names:
                 yield name, check(*given, settings) if check is shows else check(*given)
 

@@ -10,10 +10,10 @@ STATED = ('theorems', 'xxhsum_theorems')
 CLAUSE = re.compile(r'\s*(requires|ensures)\b\s*(\w+)?')
 # A definition, by the word before or behind `pub`.
 DEFINED = re.compile(r'^(?:(?:abbrev|unfoldable|data|record) pub|pub (?:data|record)) ([^\s:]+)', re.M)
-HEAD = """# Contracts
-
-Each function that has a contract, with its clauses by name, and the files of definitions that contracts cite. A clause without a name is shown as `ensures`. Written by `docs/api/make`.
-"""
+HEAD = (
+    '# Contracts\n\nEach function that has a contract, with its clauses by name, and the files of definitions that '
+    'contracts cite. A clause without a name is shown as `ensures`. Written by `docs/api/make`.\n'
+)
 
 
 def clauses(item):

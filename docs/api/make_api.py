@@ -4,13 +4,10 @@ function, and docs/MANUAL.md, which has the manual pages:
     docs/api/make [--check]
 
 --check checks that they are up to date. It reads only the sources and takes a second."""
-import argparse
 import os
 
-
-from docs.api import contracts
-from docs.api import listing
-from docs.api import manual
+from checks.lib import command
+from docs.api import contracts, listing, manual
 from docs.api.rattle import LISTED, TOP, Crate, text_of
 
 LIST = os.path.join(TOP, 'docs', 'api.txt')
@@ -27,9 +24,7 @@ def differs(path, text):
 
 
 def main():
-    parser = argparse.ArgumentParser(
-        prog='docs/api/make', description=__doc__, formatter_class=argparse.RawDescriptionHelpFormatter
-    )
+    parser = command.parser(__doc__)
     parser.add_argument('--check', action='store_true', help='compare the files, and write none')
     texts = {LIST: listing.text([Crate(name) for name in LISTED]), CONTRACTS: contracts.text(), MANUAL: manual.text()}
     if parser.parse_args().check:

@@ -2,28 +2,14 @@
 import os
 import re
 
-TOP = os.path.dirname(os.path.dirname(os.path.dirname(os.path.abspath(__file__))))
+from checks.lib.tools import TOP
+
 CRATES = os.path.join(TOP, 'crates')
 # The crates that others call. Those of tests, evidence and benchmarks are left out.
-LISTED = (
-    'twox_words',
-    'twox_plain',
-    'twox_core',
-    'twox_hash',
-    'xxh_io',
-    'xxh_program',
-    'xxhsum_line',
-    'xxhsum_options',
-    'xxhsum_audit',
-    'xxhsum_fs',
-    'xxhsum_output',
-    'xxhsum_program',
-    'xxhsum_app',
-    'twox_exports',
-    'twox_c',
-    'twox_web',
-    'twox_rust',
-)
+LISTED = """
+    twox_words twox_plain twox_core twox_hash xxh_io xxh_program xxhsum_line xxhsum_options xxhsum_audit
+    xxhsum_fs xxhsum_output xxhsum_program xxhsum_app twox_exports twox_c twox_web twox_rust
+""".split()
 ITEM = re.compile(
     r'(?P<pub>pub )?(?:const |unsafe |extern "C" )*'
     r'(?P<kind>fn|struct|enum|trait|const|static|type|mod|use|impl)\b\s*(?P<name>\w*)'

@@ -12,17 +12,15 @@ import subprocess
 import sys
 import tempfile
 
-
-from python.checks import environment
-
 from checks.lib import command
 from checks.lib.tools import install_packages
+from python.checks import environment
 
 MEASURE = os.path.join(os.path.dirname(os.path.abspath(__file__)), 'measure.py')
 
 
 def main():
-    parser = command.parser(__doc__, name='python/bench')
+    parser = command.parser(__doc__)
     parser.add_argument('--rounds', type=int, default=25, help='rounds, of which each figure is the median')
     parser.add_argument('--all', action='store_true', help='measure all algorithms and lengths')
     chosen = parser.parse_args()

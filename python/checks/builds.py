@@ -4,12 +4,11 @@ import re
 import tarfile
 import zipfile
 
+from assembly.same_bytes import Object, compare_sums
 from checks.lib.report import check
 from checks.lib.tools import write
-from python.checks.environment import DEBIANS, PATH, PYTHON, PYTHON_FOLDER, TOP, copied, must, run
-from assembly.same_bytes import Object, compare_sums
-
 from python import backend
+from python.checks.environment import DEBIANS, PATH, PYTHON, PYTHON_FOLDER, TOP, copied, must, run
 
 OF_TABLE = '-m unittest tests.test_values tests.test_objects tests.test_many tests.test_files'.split()
 

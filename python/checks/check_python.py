@@ -19,23 +19,13 @@ minutes.
 
 It runs on Debian as root, installs missing packages, needs no rt, and changes nothing else outside its own folder.
 One line per check; the status is 1 if one failed."""
-import argparse
 import sys
 import tempfile
 
-
-from python.checks import environment
-
+from checks.lib import command
 from checks.lib.report import Fault, Report
 from checks.lib.tools import install_packages
-
-from python.checks import builds
-from python.checks import planted
-from python.checks import programs
-from python.checks import sanitized
-from python.checks import suite
-from python.checks import targets
-from python.checks import typed
+from python.checks import builds, environment, planted, programs, sanitized, suite, targets, typed
 
 PACKAGES = {
     **environment.PACKAGES,
@@ -91,9 +81,7 @@ def check_target(report, name, folder):
 
 
 def main():
-    parser = argparse.ArgumentParser(
-        prog='python/check', description=__doc__, formatter_class=argparse.RawDescriptionHelpFormatter
-    )
+    parser = command.parser(__doc__)
     parser.add_argument(
         '--target',
         choices=('x86-64', *targets.TARGETS),

@@ -3,11 +3,10 @@ import glob
 import os
 import shutil
 
-PYTHON_FOLDER = os.path.dirname(os.path.dirname(os.path.abspath(__file__)))
-TOP = os.path.dirname(PYTHON_FOLDER)
+from checks.lib.report import Fault, check, last_line
+from checks.lib.tools import TOP, ran
 
-from checks.lib.report import Fault, last_line, check
-from checks.lib.tools import ran
+PYTHON_FOLDER = os.path.join(TOP, 'python')
 
 PYTHON, DEBUG = '/usr/bin/python3', '/usr/bin/python3-dbg'
 DEBIANS = '/usr/lib/python3/dist-packages'

@@ -1,7 +1,7 @@
 """The C of the package under AddressSanitizer and UndefinedBehaviorSanitizer, called with hostile buffers (fuzz.py)."""
 import os
 
-from checks.lib.report import last_line, check
+from checks.lib.report import check, last_line
 from checks.lib.tools import replace_once
 from python.checks.environment import PYTHON, PYTHON_FOLDER, copied, must, packed, run, site
 
@@ -22,11 +22,7 @@ def built_so(workdir, name, file='', *change, **more):
     path = site(workdir, name, packed(folder, CFLAGS=FLAGS, **more)[1])
     must(
         [
-            '/usr/bin/gcc',
-            '-shared',
-            '-fPIC',
-            '-O1',
-            '-I',
+            *'/usr/bin/gcc -shared -fPIC -O1 -I'.split(),
             must([PYTHON, '-c', 'import sysconfig; ' 'print(sysconfig.get_path("include"))']).strip(),
             os.path.join(HERE, 'hostile.c'),
             '-o',

@@ -4,7 +4,7 @@ import os
 import re
 import shutil
 
-from checks.lib.report import Fault, last_line, check
+from checks.lib.report import Fault, check, last_line
 from checks.lib.tools import text_of, write
 from python.checks.environment import DEBUG, PYTHON, PYTHON_FOLDER, copied, must, packed, run, site
 

@@ -3,12 +3,12 @@ import os
 from typing import NamedTuple
 
 from checks.lib.arm_roots import debian_root
-from python.checks.builds import text_is_proved
-from python.checks.planted import noticed
 from checks.lib.report import check
-from python.checks.environment import copied, packed, run, site
-from python.checks.suite import pass_all, tests
 from checks.lib.tools import replace_once
+from python.checks.builds import text_is_proved
+from python.checks.environment import copied, packed, run, site
+from python.checks.planted import Mistake, noticed
+from python.checks.suite import pass_all, tests
 
 
 class Target(NamedTuple):
@@ -27,17 +27,17 @@ TARGETS = {
     'i386': Target('i386', 'i686-linux-gnu-', 'qemu-i386', 'i686', 'source'),
     's390x': Target('s390x', 's390x-linux-gnu-', 'qemu-s390x', 's390x', 'source'),
 }
-# Mistakes that these processors show: the file, the text that is there once, its replacement, the tests.
+# Mistakes that these processors show.
 FAULTS = {
     's390x': [
-        (
+        Mistake(
             'bytes are swapped on each processor',
             'python/native/values.c',
             'if (IS_LITTLE_ENDIAN) word',
             'word',
             'values',
         ),
-        (
+        Mistake(
             'a saved state in one byte order',
             'python/src/twox_hash/_states.py',
             "'=5QI4xQ32s'",
@@ -45,7 +45,9 @@ FAULTS = {
             'objects',
         ),
     ],
-    'i386': [('a mark of 32 bits', 'python/native/source.c', '.mark = mark,', '.mark = (size_t)mark,', 'objects')],
+    'i386': [
+        Mistake('a mark of 32 bits', 'python/native/source.c', '.mark = mark,', '.mark = (size_t)mark,', 'objects')
+    ],
 }
 # Fewer objects are made, since each step takes ten times as long.
 FEWER = {'TWOX_HASH_OBJECTS': '10000', 'timeout': 7200}
@@ -75,12 +77,12 @@ class Emulated:
         )
         self.python = (f'/usr/bin/{target.emulator}', '-L', self.root, f'{self.root}/usr/bin/python3.11')
 
-    def built(self, name, *change):
-        """The wheel's files, with a change of the sources."""
+    def built(self, name, mistake=None):
+        """The wheel's files, with a mistake in the sources."""
         clone = os.path.join(self.workdir, name)
         folder = copied(clone)
-        if change:
-            replace_once(os.path.join(clone, change[0]), *change[1:])
+        if mistake:
+            replace_once(os.path.join(clone, mistake.file), mistake.old, mistake.new)
         wheel = packed(folder, CC=f'{self.target.tools}gcc', CFLAGS=f'-idirafter {self.root}/usr/include')[1]
         check(wheel.endswith(f'linux_{self.target.machine}.whl'), f'the wheel is {wheel}')
         return site(self.workdir, name, wheel)
@@ -97,9 +99,9 @@ def tests_pass(emulated):
     return pass_all(path, python=emulated.python, **FEWER)
 
 
-def notices(emulated, number, path, text, other, name):
-    built = emulated.built(f'planted-{number}', path, text, other)
-    return noticed(tests(built, name, python=emulated.python, **FEWER))
+def notices(emulated, number, mistake):
+    built = emulated.built(f'planted-{number}', mistake)
+    return noticed(tests(built, mistake.tests, python=emulated.python, **FEWER))
 
 
 def check_all(report, name, workdir):
@@ -114,5 +116,5 @@ def check_all(report, name, workdir):
         )
     emulated = Emulated(target, workdir)
     report.attempt(f'the tests on {name} under qemu', tests_pass, emulated)
-    for number, (what, *plan) in enumerate(FAULTS.get(name, [])):
-        report.attempt(f'noticed: {what}', notices, emulated, number, *plan)
+    for number, mistake in enumerate(FAULTS.get(name, [])):
+        report.attempt(f'noticed: {mistake.name}', notices, emulated, number, mistake)

@@ -2,7 +2,7 @@
 import os
 import re
 
-from checks.lib.report import last_line, check
+from checks.lib.report import check, last_line
 from checks.lib.tools import write
 from python.checks.environment import PYTHON, must, run
 

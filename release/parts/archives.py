@@ -6,13 +6,13 @@ import os
 import re
 import shlex
 import shutil
+
 import tomllib
 
-from release.parts import by_cargo
-from release.parts import provenance
 from checks.lib.arm_roots import debian_root
-from release.parts.packing import read_tar, tree_of, write_tar
 from checks.lib.tools import bytes_of, must
+from release.parts import by_cargo, provenance
+from release.parts.packing import read_tar, tree_of, write_tar
 
 PREFIX = 'usr/lib/twox-hash'
 EXAMPLES = tuple(f'examples/{name}' for name in ('c', 'cmake', 'cpp', 'go', 'java', 'python'))
@@ -83,9 +83,7 @@ def installed(commit, machine):
         return None
     must(
         [
-            'make',
-            '-s',
-            '-C',
+            *'make -s -C'.split(),
             commit.path('c'),
             f'CC={tools}gcc',
             f'out=out/release-{machine}',
@@ -99,10 +97,7 @@ def installed(commit, machine):
     must(
         [
             tools + 'strip',
-            '--strip-debug',
-            '--enable-deterministic-archives',
-            '-R',
-            '.comment',
+            *'--strip-debug --enable-deterministic-archives -R .comment'.split(),
             *(path for path in files if path.endswith('.a')),
         ]
     )
@@ -132,9 +127,7 @@ def static_programs(commit):
         path = os.path.join(commit.workdir, f'{name}-static')
         must(
             [
-                'gcc',
-                '-static',
-                '-s',
+                *'gcc -static -s'.split(),
                 commit.path('crates', name, 'out', f'{name}.o'),
                 f'{kit}/c/liblibc_c.a',
                 f'{kit}/c/libos_c.a',

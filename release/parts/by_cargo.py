@@ -4,8 +4,8 @@ import os
 import shutil
 
 from checks.lib.arm_roots import debian_root
-from release.parts.packing import tree_of
 from checks.lib.tools import must
+from release.parts.packing import tree_of
 
 TARGETS = {'x86_64': 'x86_64-unknown-linux-gnu', 'aarch64': 'aarch64-unknown-linux-gnu'}
 COMPILERS = {'x86_64': 'gcc', 'aarch64': 'aarch64-linux-gnu-gcc'}

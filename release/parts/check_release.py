@@ -18,7 +18,6 @@
 trials whose names contain the word. It runs on Debian as root, installs missing packages, and changes nothing else
 outside a folder of its own. It needs some 8 GB there. One line per check; the last is "N passed, M failed", and the
 status is 1 if one failed."""
-import argparse
 import concurrent.futures
 import functools
 import os
@@ -27,16 +26,13 @@ import subprocess
 import sys
 import tempfile
 
-HERE = os.path.dirname(os.path.dirname(os.path.abspath(__file__)))
-TOP = os.path.dirname(HERE)
-
-from release.parts import outputs
-from release.parts import on_arm
 from c.checks import on_debian
 from checks.docs import printed
+from checks.lib import command
 from checks.lib.report import Fault, Report
 from checks.lib.roots import new_base, new_root
 from checks.lib.tools import install_packages
+from release.parts import on_arm, outputs
 from release.parts.trials import BOTH, TRIALS, headings_without_trial, installation
 
 PACKAGES = {
@@ -105,9 +101,7 @@ def check_all(report, workdir, chosen):
 
 
 def main():
-    parser = argparse.ArgumentParser(
-        prog='release/check', description=__doc__, formatter_class=argparse.RawDescriptionHelpFormatter
-    )
+    parser = command.parser(__doc__)
     parser.add_argument('--gate', metavar='LOG', help='the log of checks/all, as for release/make')
     parser.add_argument('--made', metavar='FOLDER', help='test the files of this folder, and make none')
     parser.add_argument('--only', metavar='WORD', default='', help='the trials whose names contain the word')

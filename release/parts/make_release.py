@@ -25,14 +25,9 @@ import shutil
 import sys
 import tempfile
 
-HERE = os.path.dirname(os.path.dirname(os.path.abspath(__file__)))
-TOP = os.path.dirname(HERE)
-
-from release.parts import archives
-from release.parts import provenance
-from release.parts import written
+from checks.lib.tools import TOP, install_packages, missing_packages, write
+from release.parts import archives, provenance, written
 from release.parts.commit import Commit
-from checks.lib.tools import install_packages, missing_packages, write
 
 PACKAGES_WITHOUT_RT = {
     'gcc': 'gcc',
@@ -80,11 +75,11 @@ def make(folder, log, without_rt):
 
 
 def main():
-    parser = argparse.ArgumentParser(prog='release/make', usage='release/make [--gate LOG | --without-rt] [FOLDER]')
+    parser = argparse.ArgumentParser('release/make', usage='release/make [--gate LOG | --without-rt] [FOLDER]')
     way = parser.add_mutually_exclusive_group()
     way.add_argument('--gate', metavar='LOG', help='also make the programs that rt proves, if checks/all ended so')
     way.add_argument('--without-rt', action='store_true', help='make what needs no rt')
-    parser.add_argument('folder', nargs='?', default=os.path.join(HERE, 'out'), help='where the files go')
+    parser.add_argument('folder', nargs='?', default=os.path.join(TOP, 'release', 'out'), help='where the files go')
     chosen = parser.parse_args()
     folder = os.path.abspath(chosen.folder)
     written.earlier_files(folder)

@@ -4,7 +4,7 @@ import glob
 import os
 
 from checks.lib.arm_roots import debian_root
-from checks.lib.report import last_line, check
+from checks.lib.report import check, last_line
 from checks.lib.tools import TOP, four_hashes, install_packages, must, ran
 
 NAME = '64-bit ARM, under qemu'
@@ -33,7 +33,7 @@ def library(workdir, folder, stem):
     environment = {**os.environ, 'PKG_CONFIG_PATH': os.path.join(prefix, 'lib', 'pkgconfig')}
     flags = must(['pkg-config', '--cflags', '--libs', 'libxxhash'], env=environment).split()
     source = os.path.join(prefix, 'examples', 'c', 'hash-file.c')
-    for name, more in (('shared', []), ('static', ['-static'])):
+    for name, more in (('shared', ()), ('static', ('-static',))):
         program = os.path.join(workdir, f'hash-file-{name}')
         must(['aarch64-linux-gnu-gcc', *more, source, *flags, '-o', program])
         out = run([program, LICENSE], '/usr/aarch64-linux-gnu', LD_LIBRARY_PATH=os.path.join(prefix, 'lib'))

@@ -9,11 +9,12 @@ import subprocess
 import tarfile
 import tempfile
 import zipfile
+from typing import Any
 
+from checks.lib.report import check, last_line
+from checks.lib.tools import TOP, bytes_of, flip_bit, must, ran, text_of, write
 from release.parts import written
 from release.parts.packing import read_tar
-from checks.lib.report import last_line, check
-from checks.lib.tools import TOP, bytes_of, flip_bit, must, ran, text_of, write
 
 # The programs that make the assembly sources, and their targets.
 TEXTS = {'c/build': ('x86-64', 'aarch64'), 'rust/build-library': ('x86-64', 'aarch64')}
@@ -101,13 +102,14 @@ def change_is_noticed(workdir, folder):
 
 def members(path):
     """The content of an archive, except its provenance."""
+    found: dict[str, Any]
     if path.endswith('.whl'):
         with zipfile.ZipFile(path) as archive:
             found = {name: archive.read(name) for name in archive.namelist()}
     elif path.endswith(('.gz', '.tgz', '.crate')):
         found = read_tar(path)
     elif path.endswith('.deb'):
-        packed = subprocess.run(['dpkg-deb', '--fsys-tarfile', path], stdout=subprocess.PIPE, test=True).stdout
+        packed = subprocess.run(['dpkg-deb', '--fsys-tarfile', path], stdout=subprocess.PIPE, check=True).stdout
         with tarfile.open(fileobj=io.BytesIO(packed)) as archive:
             found = {
                 it.name: (oct(it.mode), it.linkname, it.isfile() and archive.extractfile(it).read()) for it in archive

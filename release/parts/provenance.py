@@ -12,17 +12,10 @@ VERDICT = re.compile(r'^logic=')
 CRATE = re.compile(r'^== (\w+)$')
 COUNTS = re.compile(r'^\d+ passed, \d+ failed$')
 # The toolchain files that make the programs and the assembly source, below its folder.
-KIT_FILES = (
-    'bin/rattle',
-    'bin/rattle-link',
-    'bin/rt',
-    'bin/rtlib.py',
-    'toolchain/bin/clang',
-    'toolchain/bin/ld.lld',
-    'rattle/logic/antt-project.json',
-    'c/liblibc_c.a',
-    'c/libos_c.a',
-)
+KIT_FILES = """
+    bin/rattle bin/rattle-link bin/rt bin/rtlib.py toolchain/bin/clang toolchain/bin/ld.lld
+    rattle/logic/antt-project.json c/liblibc_c.a c/libos_c.a
+""".split()
 
 
 def sums(folder, names):
@@ -30,7 +23,7 @@ def sums(folder, names):
 
 
 def kit_folder():
-    return os.path.dirname(os.path.dirname(os.path.realpath(shutil.which('rt'))))
+    return os.path.dirname(os.path.dirname(os.path.realpath(must(['which', 'rt']).strip())))
 
 
 def kit():

@@ -5,12 +5,12 @@ import os
 import re
 from typing import Any, Callable, NamedTuple, Optional
 
-from release.parts import outputs
 from checks.docs import printed
-from release.parts.packing import read_tar
 from checks.lib.report import Fault, check
 from checks.lib.roots import CLONE, TAKEN
 from checks.lib.tools import TOP, four_hashes, must, text_of
+from release.parts import outputs
+from release.parts.packing import read_tar
 
 LICENSE = os.path.join(TOP, 'LICENSE')
 OURS = {'The library for C': '/opt/{stem}-c-x86_64/lib/', 'The Debian package': '/usr/lib/twox-hash/lib/'}

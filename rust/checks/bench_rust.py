@@ -22,10 +22,8 @@ import subprocess
 import tempfile
 from statistics import geometric_mean, median
 
-
-from rust.checks.workspace import Workspace, install_packages, must
 from checks.lib import command
-
+from rust.checks.workspace import Workspace, install_packages, must
 
 # Ways to compile: a name and flags of rustc. Each is built with these further flags and codegen units.
 ALGORITHMS = (
@@ -149,10 +147,10 @@ def print_counts(tables, peers):
     for title, runs_by_case in tables:
         for at, peer in enumerate(peers):
             found = {key: ratios(runs)[at] for key, runs in runs_by_case.items()}
-            name, of = min(found, key=found.get)
+            (name, of), lowest = min(found.items(), key=lambda item: item[1])
             print(
                 f'{title}, {peer}: {len(found)} rows, geometric mean {geometric_mean(found.values()):.2f}, '
-                f'{sum(ratio < 0.95 for ratio in found.values())} below 0.95, the lowest {found[name, of]:.2f} '
+                f'{sum(ratio < 0.95 for ratio in found.values())} below 0.95, the lowest {lowest:.2f} '
                 f'({name}, {of})'
             )
 
@@ -163,7 +161,7 @@ def processor():
 
 
 def main():
-    parser = command.parser(__doc__, name='rust/bench')
+    parser = command.parser(__doc__)
     parser.add_argument('--turns', type=int, default=150, help='turns of a round')
     parser.add_argument('--rounds', type=int, default=3, help='rounds, each with other builds')
     parser.add_argument(

@@ -4,7 +4,7 @@
 
 - rust/src/erased and rust/programs/src/erased are the eraser's output for the crates, and a second reader (reader.py)
   explains each of their files;
-- each planted source (planted_sources.py) is refused for its reason, or erased; `case()` of each has the same value in
+- each planted source (planted_sources.txt) is refused for its reason, or erased; `case()` of each has the same value in
   Rattle, by `rt try`, and in Rust, compiled without and with overflow checks;
 - changed crates, in which an edit applies another number of times or to other code, are refused;
 - weakened erasers (weakened.py) are detected;
@@ -19,21 +19,13 @@ import random
 import sys
 import tempfile
 
-HERE = os.path.dirname(os.path.abspath(__file__))
-RUST, TOP = os.path.dirname(HERE), os.path.dirname(os.path.dirname(HERE))
-
 from checks.lib import command
-from rust.checks import differential
-from rust.checks import edits_page
-from rust.checks import numbers_of_items
-from rust.checks import rattle_tests
-from rust.checks import reader
-from rust.checks import weakened
-from rust.checks.planted_sources import CHANGED_CRATES, CHANGED_PROGRAMS, PLANTED
 from checks.lib.report import Report, check
-from checks.lib.tools import ran, text_of, write
+from checks.lib.tools import TOP, ran, text_of, write
+from rust.checks import differential, edits_page, numbers_of_items, rattle_tests, reader, weakened
+from rust.checks.planted_sources import CHANGED_CRATES, CHANGED_PROGRAMS, PLANTED
 
-CRATES = os.path.join(TOP, 'crates')
+RUST, CRATES = os.path.join(TOP, 'rust'), os.path.join(TOP, 'crates')
 # What is erased, the eraser's option for it, and its tree.
 TREES = (
     ('library', (), os.path.join(RUST, 'src', 'erased'), reader.LIBRARY),
@@ -54,21 +46,20 @@ def is_explained(folder, tree):
 
 def check_planted(report, right, workdir):
     """The results of the eraser, of Rattle and of Rust for each planted source."""
-    rattle = differential.in_rattle(
-        {i: planted[-1] for i, planted in enumerate(PLANTED) if planted[2] is not None}, workdir
-    )
-    erased = {
-        i: right.results[planted[1]][1] for i, planted in enumerate(PLANTED) if right.results[planted[1]][0] == 'erased'
-    }
+    sources = {i: planted.source for i, planted in enumerate(PLANTED) if planted.value is not None}
+    rattle = differential.in_rattle(sources, workdir)
+    results = [right.results[planted.name] for planted in PLANTED]
+    erased = {i: text for i, (outcome, text) in enumerate(results) if outcome == 'erased'}
     rust = [
         differential.in_rust(erased, workdir, *flags)
         for flags in (['-O', '-Coverflow-checks=off'], ['-Coverflow-checks=on'])
     ]
     for i, planted in enumerate(PLANTED):
-        report.attempt(planted[1], is_right, right, *planted, rattle.get(i), [found.get(i) for found in rust])
+        report.attempt(planted.name, is_right, right, planted, rattle.get(i), [found.get(i) for found in rust])
 
 
-def is_right(right, file, name, value, reason, source, rattle, rust):
+def is_right(right, planted, rattle, rust):
+    file, name, value, reason, source = planted
     outcome, text = right.results[name]
     check(rattle == value, f'Rattle returns {rattle}, not {value}')
     check(outcome == ('refused' if reason else 'erased') and reason in text, f'{outcome}: {text}')
@@ -81,13 +72,13 @@ def check_changed(report, right):
     packages = right.eraser.packages
     for changes, package in (CHANGED_CRATES, packages.LIBRARY_PACKAGE), (CHANGED_PROGRAMS, packages.PROGRAM_PACKAGE):
         for change in changes:
-            report.attempt(f'a changed {change[0]}', is_refused, right, change, package)
+            report.attempt(f'a changed {change.file}', is_refused, right, change, package)
 
 
 def is_refused(right, change, package):
     message = right.changed(right.eraser, change, package)
     check(
-        isinstance(message, str) and change[-1] in message,
+        isinstance(message, str) and change.reason in message,
         f'{message}' if isinstance(message, str) else 'it was not noticed',
     )
 
@@ -95,7 +86,7 @@ def is_refused(right, change, package):
 def page_is_written(right, counts, writes=False):
     text = edits_page.page(right.eraser, counts, len(listed_callees(right.eraser.stored)))
     if writes:
-        write(edits_page.PAGE, text)
+        write(os.path.join(TOP, edits_page.PAGE), text)
     check(text_of(edits_page.PAGE) == text, 'run rust/checks/eraser --page')
 
 
@@ -139,7 +130,7 @@ def is_noticed(notices, *what):
 
 
 def main():
-    parser = command.parser(__doc__, name='rust/checks/eraser')
+    parser = command.parser(__doc__)
     parser.add_argument('--all', action='store_true', help='also what takes long')
     parser.add_argument(
         '--seed', type=int, default=random.SystemRandom().randrange(1 << 32), help='the seed of random numbers'

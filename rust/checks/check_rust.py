@@ -38,29 +38,12 @@ import subprocess
 import sys
 import tempfile
 
-RUST = os.path.dirname(os.path.dirname(os.path.abspath(__file__)))
-TOP = os.path.dirname(RUST)
-
-from checks.lib import arm_roots
-from checks.lib import command
 from assembly.check import SETS, check_sums, check_texts
-from checks.lib.report import Fault, Report, last_line, check
-from rust.checks.workspace import (
-    ARM_PACKAGES,
-    FURTHER,
-    OLDER_PACKAGES,
-    SOURCE_PACKAGES,
-    ArmWorkspace,
-    Workspace,
-    SourceWorkspace,
-    errors_of,
-    has,
-    install_packages,
-    must,
-)
-from rust.checks.sums import check_sums_of_targets
 from assembly.same_bytes import Object
+from checks.lib import arm_roots, command
+from checks.lib.report import Fault, Report, check, last_line
 from checks.lib.tools import (
+    TOP,
     clean_copy,
     four_hashes,
     hide_rt,
@@ -71,14 +54,27 @@ from checks.lib.tools import (
     text_of,
     write,
 )
+from rust.checks.sums import check_sums_of_targets
+from rust.checks.workspace import (
+    ARM_PACKAGES,
+    FURTHER,
+    OLDER_PACKAGES,
+    SOURCE_PACKAGES,
+    ArmWorkspace,
+    SourceWorkspace,
+    Workspace,
+    errors_of,
+    has,
+    install_packages,
+    must,
+)
+
+RUST = os.path.join(TOP, 'rust')
 
 HASHES = ('xxhash32', 'xxhash64', 'xxhash3_64', 'xxhash3_128')
 FEATURES = [
     '',
-    'xxhash32',
-    'xxhash64',
-    'xxhash3_64',
-    'xxhash3_128',
+    *HASHES,
     'xxhash32,xxhash64',
     'xxhash3_64,xxhash3_128,alloc',
     'xxhash3_64,std',
@@ -377,7 +373,7 @@ def is_built_alone(workspace):
     tools = os.path.join(workspace.path, 'tools')
     os.makedirs(tools)
     for name in ('cargo', 'rustc'):
-        os.symlink(shutil.which(name), os.path.join(tools, name))
+        os.symlink(shutil.which(name) or name, os.path.join(tools, name))
     workspace.must(workspace.rust, 'build', '--release', environment=workspace.environment(PATH=tools))
 
 
@@ -440,16 +436,9 @@ def package_is_whole(workspace):
     crate = os.path.join(unpacked, 'twox-hash-2.1.5')
     files = [os.path.relpath(f'{folder}/{name}', crate) for folder, _, names in os.walk(crate) for name in names]
     check(text_of(os.path.join(crate, 'LICENSE')) == text_of('LICENSE'), "LICENSE isn't that of the repository")
-    listed = {
-        'README.md',
-        'asm/x86-64.s',
-        'asm/x86-64-v3.s',
-        'asm/x86-64-v4.s',
-        'asm/aarch64.s',
-        'src/lib.rs',
-        'src/erased/twox_core.rs',
-        'src/kernels/source.rs',
-    }
+    sources = ('lib.rs', 'erased/twox_core.rs', 'kernels/source.rs')
+    assembly = ('x86-64', 'x86-64-v3', 'x86-64-v4', 'aarch64')
+    listed = {'README.md', *(f'src/{name}' for name in sources), *(f'asm/{name}.s' for name in assembly)}
     expected = re.compile(r'(src|tests)/[\w/]+\.rs$|asm/[\w.-]+\.s$|Cargo\.|LICENSE$|README\.md$')
     others = [name for name in files if not expected.match(name)]
     check(listed <= set(files) and not others, f'without {sorted(listed - set(files))}, with {others}')
@@ -615,7 +604,7 @@ def check_all(report, chosen, path):
 
 
 def main():
-    parser = command.parser(__doc__, name='rust/check')
+    parser = command.parser(__doc__)
     parser.add_argument(
         '--target',
         choices=('x86-64', 'aarch64', *FURTHER, 'sums'),

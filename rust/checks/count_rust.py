@@ -9,9 +9,8 @@ import os
 import re
 import tempfile
 
-
-from rust.checks.workspace import Workspace, install_packages, must
 from checks.lib import command
+from rust.checks.workspace import Workspace, install_packages, must
 
 CALLS = 50
 
@@ -22,10 +21,7 @@ def counted(workspace, program):
     os.makedirs(outs, exist_ok=True)
     names = must(
         [
-            'valgrind',
-            '-q',
-            '--tool=callgrind',
-            '--dump-after=mark',
+            *'valgrind -q --tool=callgrind --dump-after=mark'.split(),
             f'--callgrind-out-file={outs}/out',
             program,
             'count',
@@ -43,7 +39,7 @@ def total(path):
 
 
 def main():
-    parser = command.parser(__doc__, name='rust/count')
+    parser = command.parser(__doc__)
     parser.add_argument('--cpu', default='x86-64', help='the processor that the code is built for')
     parser.add_argument('--original', metavar='FOLDER', help='also count the sources of twox-hash 2.1.5 in this folder')
     chosen = parser.parse_args()

@@ -3,9 +3,9 @@ import os
 import re
 import subprocess
 
-from rust.checks.erasers import RUST
-from checks.lib.report import last_line, check
+from checks.lib.report import check, last_line
 from checks.lib.tools import write
+from rust.checks.erasers import RUST
 
 ROOT = (
     '#![tactic(auto)]\n\n{modules}\nuse std::io;\n\n'

@@ -1,44 +1,10 @@
 """docs/EDITS.md: the rows of the eraser's tables of edits, and how many rules, sources and weakened erasers there
 are."""
-import os
-
-from rust.checks.erasers import RUST
+from checks.lib.tools import text_of
 from rust.checks.planted_sources import CHANGED_CRATES, CHANGED_PROGRAMS, PLANTED
 from rust.checks.scenarios import SCENARIOS
 
-PAGE = os.path.join(os.path.dirname(RUST), 'docs', 'EDITS.md')
-TEXT = '''# What the eraser edits
-
-Written by `rust/checks/eraser --page`. [`rust/erase`](RUST.md) removes contracts. What else differs in the erased source is on this page: {rows} edits of code, and names.
-
-The eraser has {rules} rules that refuse a form, and {callees} functions of the toolchain's library that sources may call. {planted} planted sources ({erased} erased with the same value in both languages, {refused} refused), {changed} changed crates and {scenarios} scenarios detect each of {weakened} weakened erasers.
-
-## Edits
-
-Each applies exactly as often as stated, or the eraser stops.
-
-{edits}
-## Items of the crate's own
-
-For its compiler and its processors the crate has other forms of {items} items. The body of each function is a call of the crate's function with the same arguments. What that function has to do is stated by the proved contract of the item in its place. Crates with and without these forms have the same hashes for 10,000 inputs (`rust/checks/eraser --all`).
-
-{own}
-## Names of Rattle's library
-
-Rattle's standard library has modules that Rust's lacks. Their paths lead to replacements by hand.
-
-{paths}
-Files import {prelude} from `crate::rattle::prelude`. Files below `{twice}` are compiled for two sets of vectors, and take them from the module above.
-
-## Modules of the crate's own
-
-| Module | In its place | Reason |
-|---|---|---|
-{modules}
-## Attributes and bounds
-
-rustc inlines {inlined} functions otherwise than the toolchain: a function with target features holds the code of what it calls only if that is inlined, and rustc calls a function of another crate through a table of addresses. {bounded} functions have the bound `{bound}` that is on their types in Rattle, because the types of the original have no bounds.
-'''
+PAGE, TEMPLATE = 'docs/EDITS.md', 'rust/checks/edits.md.in'
 
 
 def cell(text):
@@ -84,9 +50,9 @@ def paths_of(eraser):
 
 def page(eraser, counts, callees):
     packages, names, own = eraser.packages, eraser.names, eraser.own
-    erased = sum(not reason for *_, reason, _ in PLANTED)
+    erased = sum(not planted.reason for planted in PLANTED)
     count = lambda table: str(sum(len(entries) for entries in table.values()))
-    return TEXT.format(
+    return text_of(TEMPLATE).format(
         rules=counts['rules'],
         callees=callees,
         rows=len(packages.LIBRARY_PACKAGE.edits) + len(packages.PROGRAM_PACKAGE.edits),

@@ -5,9 +5,9 @@ import os
 import shutil
 import subprocess
 
-from rust.checks.erasers import RUST
-from checks.lib.report import last_line, check
+from checks.lib.report import check, last_line
 from checks.lib.tools import ran, text_of, write
+from rust.checks.erasers import RUST
 
 CALLS, SECONDS = 10_000, 120
 FEATURES = ('xxhash32', 'xxhash64', 'xxhash3_64', 'xxhash3_128', 'std', 'alloc')
@@ -172,14 +172,9 @@ def library(right, workdir, name, own, changes=(), flags=(), level=3):
     features = [word for feature in FEATURES for word in ('--cfg', f'feature="{feature}"')]
     return ran(
         [
-            'rustc',
-            '--edition',
-            '2021',
-            '-Awarnings',
+            *'rustc --edition 2021 -Awarnings'.split(),
             f'-Copt-level={level}',
-            '--crate-type',
-            'lib',
-            '--crate-name',
+            *'--crate-type lib --crate-name'.split(),
             name,
             *features,
             *flags,
@@ -197,17 +192,11 @@ def differing(workdir, whole, seed):
     program = path.removesuffix('.rs')
     done = ran(
         [
-            'rustc',
-            '--edition',
-            '2021',
-            '-Awarnings',
-            '-Copt-level=1',
+            *'rustc --edition 2021 -Awarnings -Copt-level=1'.split(),
             path,
             '-L',
             workdir,
-            '--extern',
-            'plain',
-            '--extern',
+            *'--extern plain --extern'.split(),
             whole,
             '-o',
             program,

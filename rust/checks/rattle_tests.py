@@ -4,9 +4,9 @@ import re
 import shutil
 from collections import Counter
 
-from rust.checks.erasers import CRATES, RUST, Eraser
-from checks.lib.report import last_line, check
+from checks.lib.report import check, last_line
 from checks.lib.tools import ran, write
+from rust.checks.erasers import CRATES, RUST, Eraser
 
 TESTS = ('core_tests', 'twox_tests', 'plain_tests')
 # A file of a crate that only tests call in Rust.
@@ -110,12 +110,7 @@ def run_tests(workdir):
     program = os.path.join(workdir, 'rattle_tests')
     done = ran(
         [
-            'rustc',
-            '--test',
-            '--edition',
-            '2021',
-            '-Awarnings',
-            '-Adeprecated',
+            *'rustc --test --edition 2021 -Awarnings -Adeprecated'.split(),
             *features,
             os.path.join(folder, 'src', 'lib.rs'),
             '-o',

@@ -10,19 +10,10 @@ from dataclasses import dataclass
 from checks.lib.tools import text_of
 
 CRATES = ('twox_words', 'twox_plain', 'twox_core', 'twox_hash')
-OF_PROGRAMS = (
-    'xxh_io',
-    'xxh_program',
-    'xxh',
-    'xxhsum_line',
-    'xxhsum_options',
-    'xxhsum_audit',
-    'xxhsum_fs',
-    'xxhsum_output',
-    'xxhsum_program',
-    'xxhsum_app',
-    'xxhsum',
-)
+OF_PROGRAMS = """
+    xxh_io xxh_program xxh xxhsum_line xxhsum_options xxhsum_audit xxhsum_fs xxhsum_output xxhsum_program
+    xxhsum_app xxhsum
+""".split()
 SAVED = ('saved_text', 'xxhash32/saved', 'xxhash64/saved')
 BRACKETS = {'(': ')', '[': ']', '{': '}'}
 LITERAL = re.compile(

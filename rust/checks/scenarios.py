@@ -3,8 +3,8 @@ import os
 import tempfile
 from types import SimpleNamespace
 
-from rust.checks.erasers import limits
 from checks.lib.tools import write
+from rust.checks.erasers import limits
 
 CASE = {'case/src/lib.rt': 'pub fn f() { }'}
 

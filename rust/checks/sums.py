@@ -3,7 +3,7 @@ compiled over Rust's core library, which is built from Debian's sources, and lin
 sum is that of the same calls by the reference's header."""
 import os
 
-from checks.lib.report import last_line, check
+from checks.lib.report import check, last_line
 from checks.lib.tools import ran, text_of, write
 from rust.checks.workspace import SOURCE_PACKAGES, SourceWorkspace, errors_of, install_packages, must
 
@@ -40,11 +40,7 @@ def sum_of(workspace, target, flags=''):
     crate_type = 'staticlib' if TARGETS[target] else 'cdylib'
     command = [
         workspace.cargo_program,
-        'rustc',
-        '--release',
-        '-Z',
-        'build-std=core',
-        '--target',
+        *'rustc --release -Z build-std=core --target'.split(),
         target,
         '--crate-type',
         crate_type,
@@ -52,9 +48,10 @@ def sum_of(workspace, target, flags=''):
     done = ran(command, cwd=folder, env=environment)
     check(done.returncode == 0, last_line(errors_of(done.stdout)))
     build_dir = os.path.join(workspace.path, 'target', target, 'release')
-    if not TARGETS[target]:
+    compilers = TARGETS[target]
+    if not compilers:
         return must(['node', os.path.join(SUMS, 'main.mjs'), os.path.join(build_dir, 'sums.wasm')]).strip()
-    (name, _, emulator), program = TARGETS[target], os.path.join(build_dir, 'sum')
+    (name, _, emulator), program = compilers, os.path.join(build_dir, 'sum')
     must(
         [
             f'{name}-gcc' if name else 'gcc',

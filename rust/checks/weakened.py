@@ -132,14 +132,14 @@ class Right:
 
     def __init__(self):
         self.eraser, self.known, self.spans_of_changed = Eraser(), {}, {}
-        self.spans = spans_of(self.eraser, {name: source for _, name, *_, source in PLANTED})
+        self.spans = spans_of(self.eraser, {it.name: it.source for it in PLANTED})
         self.results = self.planted(self.eraser)
         self.scenarios = {name: run(self.eraser) for name, run in SCENARIOS.items()}
         self.texts = self.eraser.erase.sources(CRATES, self.eraser.packages.PROGRAM_PACKAGE)
         self.tokens = self.eraser.tokens.toolchain_tokens(self.texts)
 
     def planted(self, eraser):
-        return {name: eraser.one(file, source, self.spans[name]) for file, name, _, _, source in PLANTED}
+        return {it.name: eraser.one(it.file, it.source, self.spans[it.name]) for it in PLANTED}
 
     def of(self, package):
         """The sources that a package reads, and their tokens."""
@@ -212,9 +212,9 @@ class Right:
     def noticed(self, changed):
         """What detects an eraser with these changes, or ''."""
         eraser = Eraser(**changed)
-        for file, name, _, _, source in PLANTED:
-            if eraser.one(file, source, self.spans[name]) != self.results[name]:
-                return f'"{name}"'
+        for it in PLANTED:
+            if eraser.one(it.file, it.source, self.spans[it.name]) != self.results[it.name]:
+                return f'"{it.name}"'
         for name, run in SCENARIOS.items():
             if run(eraser) != self.scenarios[name]:
                 return f'the scenario "{name}"'
@@ -225,10 +225,10 @@ class Right:
         ):
             for change in changes:
                 if self.changed_file(eraser, change, package) != self.changed_file(self.eraser, change, package):
-                    return f'a changed {change[0]}'
+                    return f'a changed {change.file}'
             tree = self.changed(eraser, changes[0], package)
-            if not isinstance(tree, str) or changes[0][-1] not in tree:
-                return f'a changed {changes[0][0]}'
+            if not isinstance(tree, str) or changes[0].reason not in tree:
+                return f'a changed {changes[0].file}'
             texts, spans = self.of(package)
             tree = eraser.tree(texts, spans, package)
             if isinstance(tree, str) or any(there(package, name) != text for name, text in tree.items()):

@@ -4,13 +4,13 @@ import re
 import shutil
 import subprocess
 import sys
-
-RUST = os.path.dirname(os.path.dirname(os.path.abspath(__file__)))
-TOP = os.path.dirname(RUST)
+from typing import Optional
 
 from checks.lib import arm_roots
-from checks.lib.report import last_line, check
-from checks.lib.tools import install, ran, text_of, write
+from checks.lib.report import check, last_line
+from checks.lib.tools import TOP, install, ran, text_of, write
+
+RUST = os.path.join(TOP, 'rust')
 
 CRATES = '/usr/share/cargo/registry'
 PACKAGES = {
@@ -92,7 +92,7 @@ class Workspace:
     """The check's own folder: a copy of the crate's sources and assembly source, and cargo's output."""
 
     cargo_program = 'cargo'
-    target = None
+    target: Optional[str] = None
     # The suffix of programs' names.
     ending = ''
 
@@ -284,13 +284,7 @@ def windows_workspace(path):
     os.makedirs(folder)
     must(
         [
-            'x86_64-w64-mingw32-gcc',
-            '-shared',
-            '-O2',
-            '-x',
-            'c',
-            '-',
-            '-o',
+            *'x86_64-w64-mingw32-gcc -shared -O2 -x c - -o'.split(),
             os.path.join(folder, 'bcryptprimitives.dll'),
             '-ladvapi32',
         ],

@@ -12,12 +12,13 @@ form is refused with its file and line (forms.py, items.py), and so is a call of
 (stored.py), for which changed crates are proved; with --of-ci it reads the libraries that `rt ci` has proved and left
 in the same tree. Without `rt`, --check compares the checksums of stored.txt: it succeeds if nothing has changed, and
 else refuses."""
-import argparse
 import os
 import re
 import shutil
 import sys
 from collections import Counter
+
+from checks.lib import command
 
 RUST = os.path.dirname(os.path.dirname(os.path.abspath(__file__)))
 
@@ -182,9 +183,7 @@ def run(chosen, package, folder, is_own):
 
 
 def main():
-    parser = argparse.ArgumentParser(
-        prog='rust/erase', description=__doc__, formatter_class=argparse.RawDescriptionHelpFormatter
-    )
+    parser = command.parser(__doc__)
     parser.add_argument(
         '--programs',
         dest='package',

@@ -24,19 +24,9 @@ PROGRAM_KEYWORDS = {'loop'}
 PROGRAM_MACROS = {'json', 'matches', 'vec', 'write'}
 PROGRAM_STD = {'cmp', 'env', 'fs', 'io', 'process', 'rt'}
 # Methods that a trait adds to a type of the standard library. None may be a method that the type has, now or later.
-ADDED_METHODS = {
-    'first_u32',
-    'last_u32',
-    'first_u64',
-    'last_u64',
-    'upper_half',
-    'lower_half',
-    'into_u32',
-    'into_u64',
-    'into_u128',
-    'as_ref',
-    'as_mut',
-}
+ADDED_METHODS = """
+    first_u32 last_u32 first_u64 last_u64 upper_half lower_half into_u32 into_u64 into_u128 as_ref as_mut
+""".split()
 # Methods that a type may have twice: its own and those of Rust's trait `Hasher`, and of `Debug` and `Display`.
 TWICE = {'write', 'finish', 'fmt'}
 # The types whose size is tested, with `repr(C)` and fields with the same layout in both languages.

@@ -7,19 +7,10 @@ from rust.eraser.names import LIBRARY_PATHS, LIBRARY_PRELUDE, MODULES, PROGRAM_P
 
 RUST = os.path.dirname(os.path.dirname(os.path.abspath(__file__)))
 LIBRARY = ('twox_words', 'twox_plain', 'twox_core', 'twox_hash')
-PROGRAMS = (
-    'xxh_io',
-    'xxh_program',
-    'xxh',
-    'xxhsum_line',
-    'xxhsum_options',
-    'xxhsum_audit',
-    'xxhsum_fs',
-    'xxhsum_output',
-    'xxhsum_program',
-    'xxhsum_app',
-    'xxhsum',
-)
+PROGRAMS = """
+    xxh_io xxh_program xxh xxhsum_line xxhsum_options xxhsum_audit xxhsum_fs xxhsum_output xxhsum_program
+    xxhsum_app xxhsum
+""".split()
 # For JSON, for which the library uses serde. The programs have them in modules of the library's names.
 SAVED = frozenset({'twox_plain/src/saved_text.rt', *(f'twox_plain/src/xxhash{bits}/saved.rt' for bits in (32, 64))})
 # Written for neither.

@@ -7,12 +7,11 @@ import shutil
 import sys
 import tempfile
 
-WEB = os.path.dirname(os.path.dirname(os.path.abspath(__file__)))
-TOP = os.path.dirname(WEB)
-
+from checks.lib.tools import TOP, write
 from web.tests.browser import Chromium, Firefox, WebKit
 from web.tests.page import Requests, Served
-from checks.lib.tools import write
+
+WEB = os.path.join(TOP, "web")
 
 
 class Isolated(Requests):

@@ -9,12 +9,11 @@ import os
 import sys
 import tempfile
 
-WEB = os.path.dirname(os.path.dirname(os.path.abspath(__file__)))
-TOP = os.path.dirname(WEB)
-
+from checks.lib.tools import TOP, write
 from web.tests.browser import Chromium, Firefox, WebKit
 from web.tests.page import Served
-from checks.lib.tools import write
+
+WEB = os.path.join(TOP, "web")
 
 MIB = 1 << 20
 # As streams.js reads: four chunks ahead.

@@ -44,8 +44,8 @@ class Browser:
         raise NotImplementedError
 
     def spawn(self, *args, **more):
-        quiet = dict(stdin=subprocess.DEVNULL, stdout=subprocess.DEVNULL, stderr=subprocess.DEVNULL)
-        self.process = subprocess.Popen(args, start_new_session=True, **quiet, **more)
+        none = subprocess.DEVNULL
+        self.process = subprocess.Popen(args, start_new_session=True, stdin=none, stdout=none, stderr=none, **more)
 
     def until(self, attempt, what, errors):
         """The result of the attempt, once there is one."""
@@ -169,10 +169,7 @@ class Chromium(ByDriver):
             "--headless=new",
             f"--user-data-dir={self.workdir}",
             f"--window-size={width},{height}",
-            "--disable-gpu",
-            "--hide-scrollbars",
-            "--force-device-scale-factor=1",
-            "--no-first-run",
+            *"--disable-gpu --hide-scrollbars --force-device-scale-factor=1 --no-first-run".split(),
             "--disable-dev-shm-usage",
         ]
         if os.geteuid() == 0:
@@ -229,11 +226,7 @@ class Firefox(Browser):
     def start(self, width, height):
         write(os.path.join(self.workdir, "user.js"), f'user_pref("marionette.port", {self.port});\n')
         self.spawn(
-            "firefox-esr",
-            "--headless",
-            "--marionette",
-            "--no-remote",
-            "--profile",
+            *"firefox-esr --headless --marionette --no-remote --profile".split(),
             self.workdir,
             f"--width={width}",
             f"--height={height}",

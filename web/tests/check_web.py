@@ -13,7 +13,6 @@ Then, except with --without-rt, that a new build of the proved code gives the sa
 --node also tests another Node, for example an older one. --picture also writes docs/page.png. --only runs only the
 checks of the page whose names contain the word, on the files of this folder. Missing packages are installed by
 apt-get. The values are those of oracle/vectors.txt and of Debian's xxhsum. It ends everything that it starts."""
-import argparse
 import os
 import shutil
 import signal
@@ -21,16 +20,12 @@ import subprocess
 import sys
 import tempfile
 
-HERE = os.path.dirname(os.path.dirname(os.path.abspath(__file__)))
-TOP = os.path.dirname(HERE)
-
-from web.tests import list_checks
-from web.tests import module_checks
-from web.tests import page_checks
+from checks.lib import command
+from checks.lib.report import Report, check
+from checks.lib.tools import TOP, clean_copy, hide_rt, install, missing_packages, ran
+from web.tests import list_checks, module_checks, page_checks
 from web.tests.browser import Chromium, Firefox, WebKit, mini_browser
 from web.tests.page import Page, Served
-from checks.lib.report import Report, check
-from checks.lib.tools import clean_copy, hide_rt, install, ran
 
 PACKAGES = {
     "node": "nodejs",
@@ -49,11 +44,11 @@ COPY = "TWOX_HASH_WEB_CHECK_COPY"
 
 
 def install_missing():
-    missing = [package for command, package in PACKAGES.items() if not shutil.which(command)]
+    missing = missing_packages(PACKAGES)
     if not module_checks.jsc():
-        missing.append("libjavascriptcoregtk-4.0-bin")
+        missing.add("libjavascriptcoregtk-4.0-bin")
     if not mini_browser():
-        missing.append("libwebkit2gtk-4.1-0")
+        missing.add("libwebkit2gtk-4.1-0")
     install(missing)
 
 
@@ -106,15 +101,13 @@ def check_copy(checks):
 
 
 def regenerated():
-    done = ran([os.path.join(HERE, "build")])
+    done = ran([os.path.join(TOP, "web", "build")])
     check(done.returncode == 0, done.stdout.strip()[-400:])
     return done.stdout.strip().splitlines()[-1]
 
 
 def main():
-    parser = argparse.ArgumentParser(
-        prog="web/check", description=__doc__, formatter_class=argparse.RawDescriptionHelpFormatter
-    )
+    parser = command.parser(__doc__)
     parser.add_argument("--without-rt", action="store_true", help="only what needs no rt, with rt hidden")
     parser.add_argument("--node", action="append", default=[], metavar="PROGRAM", help="also test this Node")
     parser.add_argument("--picture", action="store_true", help="also write docs/page.png")

@@ -3,9 +3,9 @@ import os
 import subprocess
 import time
 
-from web.tests.module_checks import WEB
 from checks.lib.report import Fault, check
 from checks.lib.tools import text_of, write
+from web.tests.module_checks import WEB
 from web.tests.values import SOME_BYTES, XXHSUM, line_of, reference
 
 ENDINGS = {"xxh32": "xxh32", "xxh64": "xxh64", "xxh3_64": "xxh3", "xxh3_128": "xxh128"}
@@ -15,13 +15,10 @@ return { rows: [...item.querySelectorAll("ol li")].map((it) => [it.children[0].t
     counts: item.querySelector(".counts").textContent, hint: !item.querySelector(".hint").hidden };"""
 
 
-def check_expected(page):
-    """Every correct way to write a digest, and the same with its last digit changed."""
-    page.set_key("1234")
-    page.choose(page.file("some.txt", b"some bytes"))
-    page.digests("some.txt")
+def written_digests():
+    """Every correct way to write a digest, and the name of its hash."""
     short, plain, narrow, wide = (SOME_BYTES[algorithm] for algorithm in ("xxh32", "xxh64", "xxh3_64", "xxh3_128"))
-    rows = [
+    return [
         (short, "XXH32"),
         (plain.upper(), "XXH64"),
         (narrow, "XXH3, 64 bits"),
@@ -35,7 +32,14 @@ def check_expected(page):
         ("XXH3, 64 bits " + narrow, "XXH3, 64 bits"),
         (f"XXH64_LE (x) = {bytes.fromhex(plain)[::-1].hex()}", "XXH64"),
     ]
-    for text, name in rows:
+
+
+def check_expected(page):
+    """Every correct way to write a digest, and the same with its last digit changed."""
+    page.set_key("1234")
+    page.choose(page.file("some.txt", b"some bytes"))
+    page.digests("some.txt")
+    for text, name in written_digests():
         page.set_field("expected", text)
         page.browser.wait(
             "return document.getElementById('verdict').textContent === arguments[0]",
@@ -54,9 +58,9 @@ def check_expected(page):
             page.text_of(".card .verdicts") == "Different from the expected digest, with seed 1234",
             page.text_of(".card .verdicts"),
         )
-    page.set_field("expected", f"XXH64 {narrow}")
+    page.set_field("expected", f"XXH64 {SOME_BYTES['xxh3_64']}")
     page.browser.wait("return document.getElementById('verdict').textContent.startsWith('Different')", seconds=5)
-    return f"{len(rows)} ways to write one"
+    return f"{len(written_digests())} ways to write one"
 
 
 def no_digest(page):
@@ -134,7 +138,7 @@ def checked(page, rows, counts):
 def checksum_file(page):
     """Lines of xxhsum in each of its forms: of an unchanged file, of a changed one, and of one that is not chosen."""
     for number, (algorithm, args) in enumerate(
-        [(algorithm, args) for algorithm in XXHSUM for args in ([], ["--tag"], ["--tag", "--little-endian"])]
+        [(algorithm, args) for algorithm in XXHSUM for args in ((), ("--tag",), ("--tag", "--little-endian"))]
     ):
         names = [f"right{number}.bin", f"changed{number}.bin", f"absent (1) {number}.bin"]
         paths = [page.file(name, name.encode() * 100) for name in names]

@@ -14,25 +14,9 @@ from web.tests.values import long_digests
 HERE = os.path.dirname(os.path.abspath(__file__))
 WEB = os.path.dirname(HERE)
 PACKAGED = [
-    "LICENSE",
-    "README.md",
-    "SHA256SUMS",
-    "inline.d.ts",
-    "inline.js",
-    "node.d.ts",
-    "node.js",
-    "node_hash.js",
-    "package.json",
-    "streams.d.ts",
-    "streams.js",
-    "twox_hash.d.ts",
-    "twox_hash.js",
-    "twox_hash.wasm",
-    "twox_hash_simd.wasm",
-    "xxhash_wasm.d.ts",
-    "xxhash_wasm.js",
-    "out/modules.js",
-    "out/modules.cjs",
+    *"LICENSE README.md SHA256SUMS inline.d.ts inline.js node.d.ts node.js node_hash.js package.json".split(),
+    *"streams.d.ts streams.js twox_hash.d.ts twox_hash.js twox_hash.wasm twox_hash_simd.wasm".split(),
+    *"xxhash_wasm.d.ts xxhash_wasm.js out/modules.js out/modules.cjs".split(),
     *(
         f"out/{name}.{end}"
         for name in ("inline", "node", "node_hash", "streams", "twox_hash", "xxhash_wasm")
@@ -262,9 +246,7 @@ def bundles_for_node(folder, node):
                 [
                     "esbuild",
                     app,
-                    "--bundle",
-                    "--platform=node",
-                    "--log-level=error",
+                    *"--bundle --platform=node --log-level=error".split(),
                     f"--format={form}",
                     f"--outfile={bundled}",
                 ],

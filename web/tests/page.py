@@ -2,11 +2,10 @@
 import os
 import threading
 
-from web.tests.module_checks import WEB
 from checks.lib.report import check
 from checks.lib.tools import bytes_of
-
 from web import serve
+from web.tests.module_checks import WEB
 
 # The content of a card of the list: its state, its texts and its digests.
 CARD = """const item = [...document.querySelectorAll(".card")].find((it) => it.querySelector(".name").textContent === arguments[0]);
@@ -26,7 +25,7 @@ class Requests(serve.Handler):
     before_worker = b""
     withheld = None
     changed = ("", b"")
-    bundles = None
+    bundles = ""
 
     def do_GET(self):
         Requests.asked.append(self.path)

@@ -5,13 +5,14 @@ import http.server
 import os
 import subprocess
 import tempfile
+from typing import Any
 import threading
 import time
 
-from web.tests.module_checks import WEB
-from web.tests.page import Page, Requests, Served, serve
 from checks.lib.report import check
 from checks.lib.tools import write
+from web.tests.module_checks import WEB
+from web.tests.page import Page, Requests, Served, serve
 from web.tests.values import SOME_BYTES, reference, vectors
 
 MIB = 1 << 20
@@ -437,7 +438,8 @@ def which_module(page):
 def reads_by_itself(page):
     """A file of several chunks if the hashing thread has no reader thread, and if that one can't be loaded."""
     path = page.file("pieces.bin", bytes(i % 251 for i in range(MIB)), 20 * MIB)
-    for lack in {"line": b"delete globalThis.Worker;\n"}, {"withheld": "/web/reader_worker.js"}:
+    lacks: list[dict[str, Any]] = [{"line": b"delete globalThis.Worker;\n"}, {"withheld": "/web/reader_worker.js"}]
+    for lack in lacks:
         with Lacking(page, **lack):
             page.choose(path)
             check(page.digests("pieces.bin") == reference(path), (lack, page.card("pieces.bin")))
@@ -451,48 +453,24 @@ def no_webassembly(page):
     check(shown[0] is False and "WebAssembly is not available here" in shown[1] and shown[2] is True, shown)
 
 
+# Files of a tree that serve.py serves, files that it doesn't, and names that are no file or elsewhere.
+PUBLIC = "web/index.html docs/C.md docs/api/x crates/x/src/lib.rt README.md LICENSE oracle/vectors.txt".split()
+PRIVATE = "README.md.orig docs.bak/x web-old/x LICENSE2 oracle/vectors.txt~ oracle/check .git/config".split()
+NO_FILES = "README.md/x web/outside web/../.git/config docs/%2e%2e/.git/config".split()
+
+
 def served_and_no_more(folder):
     """Without a browser: from a tree of its own, serve.py serves the listed files, and none with the same beginning
     or elsewhere."""
-    public = [
-        "web/index.html",
-        "docs/C.md",
-        "docs/api/x",
-        "crates/x/src/lib.rt",
-        "README.md",
-        "LICENSE",
-        "oracle/vectors.txt",
-    ]
-    others = [
-        "README.md.orig",
-        "README.md/x",
-        "docs.bak/x",
-        "web-old/x",
-        "LICENSE2",
-        "oracle/vectors.txt~",
-        "oracle/check",
-        ".git/config",
-        "web/outside",
-        "web/../.git/config",
-        "docs/%2e%2e/.git/config",
-    ]
     top, before = os.path.join(folder, "served"), serve.TOP
-    for name in [
-        *public,
-        "README.md.orig",
-        "docs.bak/x",
-        "web-old/x",
-        "LICENSE2",
-        "oracle/vectors.txt~",
-        "oracle/check",
-        ".git/config",
-    ]:
+    for name in PUBLIC + PRIVATE:
         write(os.path.join(top, name), name)
     os.symlink("../.git/config", os.path.join(top, "web", "outside"))
     serve.TOP = os.path.realpath(top)
     try:
         with Served(None, serve.Handler) as address:
-            wrong = [name for name in public + others if (status_of(address, name) == 200) != (name in public)]
+            served = [name for name in PUBLIC + PRIVATE + NO_FILES if status_of(address, name) == 200]
+            wrong = sorted({*served} ^ {*PUBLIC})
             wrong += [name for name in ("web/", "docs/", "web") if status_of(address, name) not in (200, 301)]
     finally:
         serve.TOP = before

@@ -1,4 +1,7 @@
-import hashlib, io, lz4.frame
+import hashlib
+import io
+
+import lz4.frame
 
 data = bytes(i * i >> 9 & 255 for i in range(1000000))
 for content in (False, True):

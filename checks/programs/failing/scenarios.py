@@ -1,7 +1,7 @@
 """The scenarios of checks/failing_calls: the arguments of a run, its streams, and the expected result if one step
 fails."""
 import os
-from typing import Callable, NamedTuple
+from typing import Callable, NamedTuple, Optional
 
 from . import worlds
 from .worlds import COMMENT, JUNK, Fault, Outcome, good, wrong
@@ -27,7 +27,7 @@ class Scenario(NamedTuple):
 
     name: str
     args: tuple
-    outcome: Callable
+    outcome: Optional[Callable]
     given: str = ''
     program: str = 'xxhsum'
     out: str = 'pipe'
@@ -85,7 +85,7 @@ def of_input(world):
     ]
 
 
-def of_checks(world):
+def lists_to_check(world):
     lists = {
         'good': [good(world, 'a'), good(world, 'long'), good(world, 'e')],
         'mixed': [JUNK, good(world, 'same'), wrong('d/other'), wrong('gone'), good(world, 'd/inner')],
@@ -94,14 +94,18 @@ def of_checks(world):
     }
     for name, lines in lists.items():
         world.write(name, ''.join(line.text for line in lines).encode())
+    return lists
+
+
+def of_checks(world):
+    lists = lists_to_check(world)
 
     def scenario(name, args, names, **more):
         chosen = {it: lists[it] for it in names}
         return Scenario(name, (*args, *names), lambda fault: worlds.all_checked(world, chosen, fault, **more))
 
     def of_stdin(fault):
-        as_list = fault and fault._replace(name='stdin' if fault.name == INPUT else fault.name)
-        return worlds.checked(world, 'stdin', lists['mixed'], as_list)
+        return worlds.checked(world, 'stdin', lists['mixed'], of_list_on_stdin(fault))
 
     def silently(fault):
         return worlds.all_checked(world, {'good': lists['good']}, fault)._replace(out='')
@@ -167,62 +171,62 @@ def of_one_pipe(world):
     ]
 
 
-def of_trees(world):
-    """Folders, lists of names and audits."""
+def of_list_on_stdin(fault):
+    """The fault, which names standard input as the message of a list does."""
+    return fault and fault._replace(name='stdin' if fault.name == INPUT else fault.name)
+
+
+def of_folders(world):
+    def below(name, *names):
+        return Scenario(name, ('-r', *names), lambda fault: worlds.digests_below(world, [*names], fault))
+
+    return [
+        below('files below a folder', 'd'),
+        below('files below folders, and a file', 'one', 'a', 'd'),
+        below('a missing name among folders', 'gone', 'one'),
+    ]
+
+
+def of_lists_of_names(world):
     listed = {'listed': ['a', 'long', 'gone'], 'more': ['e', 'd/inner']}
     for name, names in listed.items():
         world.write(name, ''.join(f'{it}\n' for it in names).encode())
     world.write('ended', b''.join(it.encode() + b'\0' for it in listed['listed']))
-    entries = {
-        'a': world.digest('a'),
-        'e': world.digest('e'),
-        'b c': '0' * 16,
-        'old': world.digest('long'),
-        'lost': '1' * 16,
-    }
+
+    def lists(name, args, chosen):
+        return Scenario(name, (*args, *chosen), lambda fault: worlds.digests_listed(world, chosen, fault))
+
+    def names_of_input(fault):
+        return worlds.digests_listed(world, {'stdin': listed['listed']}, of_list_on_stdin(fault))
+
+    return [
+        lists('names of a list', ('--files-from',), {'listed': listed['listed']}),
+        lists('names of two lists', ('--files-from',), listed),
+        lists('names that NULs end', ('--files0-from',), {'ended': listed['listed']}),
+        Scenario('names of the input', ('--files-from',), names_of_input, 'listed'),
+    ]
+
+
+def of_audits(world):
+    digests = {name: world.digest(name) for name in ('a', 'e')}
+    entries = {**digests, 'b c': '0' * 16, 'old': world.digest('long'), 'lost': '1' * 16}
     names = ['a', 'e', 'b c', 'long', 'd/inner', 'd/sub/deep']
     below = {name: world.digest(name) for name in ('d/inner', 'd/other', 'd/sub/deep', 'd/sub/last')}
     for name, contents in (('lines', entries), ('below', below)):
         world.write(name, ''.join(f'{value}  {it}\n' for it, value in contents.items()).encode())
     world.write('names', b''.join(it.encode() + b'\0' for it in names))
 
-    def lists(name, args, chosen, **more):
-        return Scenario(name, (*args, *chosen), lambda fault: worlds.digests_listed(world, chosen, fault), **more)
-
-    def names_of_input(fault):
-        as_list = fault and fault._replace(name='stdin' if fault.name == INPUT else fault.name)
-        return worlds.digests_listed(world, {'stdin': listed['listed']}, as_list)
+    def audit(name, listed, lines, chosen):
+        args = ('--audit', listed, *chosen)
+        return Scenario(name, args, lambda fault: worlds.audited(world, listed, lines, chosen, fault))
 
     def listed_audit(fault):
         message = worlds.unread_list({'names': []}, fault)
         return Outcome('', message, 1) if message else worlds.audited(world, 'lines', entries, names, fault)
 
     return [
-        Scenario('files below a folder', ('-r', 'd'), lambda fault: worlds.digests_below(world, ['d'], fault)),
-        Scenario(
-            'files below folders, and a file',
-            ('-r', 'one', 'a', 'd'),
-            lambda fault: worlds.digests_below(world, ['one', 'a', 'd'], fault),
-        ),
-        Scenario(
-            'a missing name among folders',
-            ('-r', 'gone', 'one'),
-            lambda fault: worlds.digests_below(world, ['gone', 'one'], fault),
-        ),
-        lists('names of a list', ('--files-from',), {'listed': listed['listed']}),
-        lists('names of two lists', ('--files-from',), listed),
-        lists('names that NULs end', ('--files0-from',), {'ended': listed['listed']}),
-        Scenario('names of the input', ('--files-from',), names_of_input, 'listed'),
-        Scenario(
-            'an audit',
-            ('--audit', 'lines', *names),
-            lambda fault: worlds.audited(world, 'lines', entries, names, fault),
-        ),
-        Scenario(
-            'an audit of what stayed',
-            ('--audit', 'below', *below),
-            lambda fault: worlds.audited(world, 'below', below, list(below), fault),
-        ),
+        audit('an audit', 'lines', entries, names),
+        audit('an audit of what stayed', 'below', below, list(below)),
         Scenario(
             'an audit below a folder',
             ('-r', '--audit', 'below', 'd'),
@@ -291,7 +295,7 @@ def of_xxh(world):
     ]
 
 
-GROUPS = of_names, of_input, of_checks, of_one_pipe, of_trees, of_streams, of_xxh
+GROUPS = (of_names, of_input, of_checks, of_one_pipe, of_folders, of_lists_of_names, of_audits, of_streams, of_xxh)
 
 
 def input_of(scenario, world):

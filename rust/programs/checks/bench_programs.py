@@ -66,7 +66,7 @@ def measure(report, programs, mebibytes, files):
 
 
 def main():
-    parser = command.parser(__doc__, name='rust/programs/bench')
+    parser = command.parser(__doc__)
     parser.add_argument('programs', nargs=3, metavar='PROGRAM', help='the programs to compare')
     parser.add_argument('--quick', action='store_true', help='hash less')
     chosen, report = parser.parse_args(), Report()

@@ -19,16 +19,14 @@ import subprocess
 import sys
 import tempfile
 
-HERE = os.path.dirname(os.path.abspath(__file__))
-PROGRAMS = os.path.dirname(HERE)
-RUST, TOP = os.path.dirname(PROGRAMS), os.path.dirname(os.path.dirname(PROGRAMS))
-
 from checks.lib import command
-from rust.programs.checks import random_runs
-from rust.programs.checks import refused
-from checks.lib.report import Fault, Report, last_line, check
-from checks.lib.tools import text_of, write
+from checks.lib.report import Fault, Report, check, last_line
+from checks.lib.tools import TOP, text_of, write
 from rust.checks.workspace import Workspace
+from rust.programs.checks import random_runs, refused
+
+RUST = os.path.join(TOP, 'rust')
+PROGRAMS = os.path.join(RUST, 'programs')
 
 RULES = (
     (r' < ', ' <= '),
@@ -100,14 +98,10 @@ HANDWRITTEN = {
 # A check that takes longer has detected something.
 SECONDS = 300
 MEMORY = 2 * 2**30
-QUICK = (
-    '--config',
-    'profile.release.lto=false',
-    '--config',
-    'profile.release.codegen-units=16',
-    '--config',
-    'profile.release.opt-level=1',
-)
+QUICK = """
+    --config profile.release.lto=false --config profile.release.codegen-units=16 --config
+    profile.release.opt-level=1
+""".split()
 
 
 def sites(folder):
@@ -240,7 +234,7 @@ def attempt(workspace, folder, site, right, report, only, name=''):
 
 
 def main():
-    parser = command.parser(__doc__, name='rust/programs/checks/faults')
+    parser = command.parser(__doc__)
     parser.add_argument('--count', metavar='N', type=int, default=30, help='how many faults are tried')
     parser.add_argument('--seed', metavar='N', type=int, default=1, help='the seed of the choice')
     parser.add_argument('--only', metavar='WORD', default='', help='the faults whose line contains the word')

@@ -22,16 +22,11 @@ import re
 import sys
 import tempfile
 
-HERE = os.path.dirname(os.path.dirname(os.path.abspath(__file__)))
-RUST, TOP = os.path.dirname(HERE), os.path.dirname(os.path.dirname(HERE))
-
 from checks.lib import command
-from rust.programs.checks import random_runs
-from rust.programs.checks import refused
-from rust.programs.checks import targets
-from checks.lib.report import Fault, Report, last_line, check
+from checks.lib.report import Fault, Report, check, last_line
+from checks.lib.tools import TOP, clean_copy, hide_rt, install_packages, ran
 from rust.checks.workspace import DEBIANS_RUST, Workspace, errors_of
-from checks.lib.tools import clean_copy, hide_rt, install_packages, ran
+from rust.programs.checks import random_runs, refused, targets
 
 PACKAGES = {'gcc': 'gcc', '/usr/include/stdio.h': 'libc6-dev', 'xxhsum': 'xxhash'}
 PROGRAMS = ('xxh', 'xxhsum')
@@ -152,7 +147,7 @@ def check_here(report, chosen, path):
 
 
 def main():
-    parser = command.parser(__doc__, name='rust/programs/check')
+    parser = command.parser(__doc__)
     parser.add_argument(
         '--of-ci', action='store_true', help='compare with the programs that rt ci has proved in this tree'
     )

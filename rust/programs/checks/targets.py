@@ -3,9 +3,9 @@ import os
 import re
 import shutil
 
-from checks.lib.report import last_line, check
-from rust.checks.workspace import ARM_PACKAGES, FURTHER, SOURCE_PACKAGES, ArmWorkspace, install_packages
+from checks.lib.report import check, last_line
 from checks.lib.tools import TOP, must, ran, write
+from rust.checks.workspace import ARM_PACKAGES, FURTHER, SOURCE_PACKAGES, ArmWorkspace, install_packages
 
 PROGRAMS = ('xxh', 'xxhsum')
 RIGHT = re.compile(r'(\d+) (?:cases|rows on \w+) as expected, (\d+) otherwise')

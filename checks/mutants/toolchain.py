@@ -10,24 +10,26 @@ import shutil
 import sys
 import tempfile
 import threading
+from typing import Any
+
+from checks.lib.tools import TOP
 
 from . import source
 
-TOP = os.path.dirname(os.path.dirname(os.path.dirname(os.path.abspath(__file__))))
 # rt's message for an edit at which the prover reached a limit of its own.
 BY_LIMIT = "only by a limit of the prover"
 # The functions of rt that this program calls. A new release may name these differently.
-USED = ("checked", "must_fail", "read_edit", "unread", "rtlib")
+USED = ("checked", "must_fail", "read_edit", "unread", "rtlib", "REFUSED", "AT_LIMIT")
 
 
 def load():
     path = shutil.which("rt") or sys.exit("wrong-bodies: there is no rt")
     loader = importlib.machinery.SourceFileLoader("rt", os.path.realpath(path))
-    module = importlib.util.module_from_spec(importlib.util.spec_from_loader("rt", loader))
+    module: Any = importlib.util.module_from_spec(importlib.util.spec_from_loader("rt", loader))
     loader.exec_module(module)
     lost = [name for name in USED if not hasattr(module, name)]
     if lost:
-        sys.exit(f"wrong-bodies: this kit's rt has no {', '.join(lost)}")
+        sys.exit(f"wrong-bodies: this rt has no {', '.join(lost)}")
     # Its first call sets a signal's handler, which only the main thread may do.
     module.rtlib.guarded()
     module.rtlib.guarded = with_closed_files(module.rtlib.guarded)
@@ -61,20 +63,22 @@ def is_closed_now():
 
 
 def no_file_written():
-    """Meanwhile a check over kept work writes no file. Its proofs are not kept; and if it can't keep them, rattle
+    """Meanwhile a check over cached proofs writes no file. Its own are not cached; and if it can't cache them, rattle
     doesn't load all modules a second time, which it does to print the file that each refused function wants."""
     return closed(True)
 
 
 def with_whole_messages(checked):
     """A check whose output has each message on one line. The prover continues in a further line, which begins with a
-    space, if a message has a long name; rt reads line by line, and so does everything here. A check over no kept work
-    writes files in any case: it can't use a library's build without."""
-    def check(crate, texts, flags, kept):
-        with closed(is_closed_now() and kept is not None):
-            ran = checked(crate, texts, flags, kept)
+    space, if a message has a long name; rt reads line by line, and so does everything here. A check without cached
+    proofs writes files in any case: it can't use a library's build without."""
+
+    def check(crate, texts, flags, cache):
+        with closed(is_closed_now() and cache is not None):
+            ran = checked(crate, texts, flags, cache)
         ran.stdout = re.sub(r"\n +", " ", ran.stdout)
         return ran
+
     return check
 
 
@@ -106,26 +110,26 @@ def write(path, text):
         file.write(text)
 
 
-def check(crate, texts, kept, only=()):
-    """Checks the crate with these texts in place of its own, over the kept work, if there is any: its status and its
-    lines."""
-    words = [*one_job(), *(word for name in only for word in ("--only", name))]
-    ran = rt.checked(crate, texts, words, kept)
+def check(crate, texts, cache, only=()):
+    """Checks the crate with these texts in place of its own, over the cached proofs, if there are any: its status and
+    its lines."""
+    args = [*one_job(), *(arg for name in only for arg in ("--only", name))]
+    ran = rt.checked(crate, texts, args, cache)
     # An error of the machine is no refusal.
     if unusable := UNUSABLE.search(ran.stdout):
-        sys.exit(f"wrong-bodies: {crate.name}: a library that was built can't be used, so nothing is known: {unusable[0][:200]}")
+        sys.exit(f"wrong-bodies: {crate.name}: a built library can't be used: {unusable[0][:200]}")
     return ran.returncode, ran.stdout.rstrip("\n").split("\n")
 
 
 @contextlib.contextmanager
-def copy_of(kept):
-    """A copy of kept work, or None if there is none. Proofs are linked: a check replaces such a file, and writes
+def copy_of(cache):
+    """A copy of cached proofs, or None if there are none. Proofs are linked: a check replaces such a file, and writes
     into none."""
-    if not os.path.isdir(kept):
+    if not os.path.isdir(cache):
         yield None
         return
-    with tempfile.TemporaryDirectory(dir=os.path.dirname(kept)) as room:
-        yield shutil.copytree(kept, f"{room}/kept", copy_function=linked_or_copied)
+    with tempfile.TemporaryDirectory(dir=os.path.dirname(cache)) as workdir:
+        yield shutil.copytree(cache, f"{workdir}/cache", copy_function=linked_or_copied)
 
 
 def linked_or_copied(file, to):
@@ -141,18 +145,18 @@ def listing(folder):
     return {it: (found.st_ino, found.st_size, found.st_mtime_ns) for it in files for found in [os.lstat(it)]}
 
 
-def try_alone(crate, edit_file, kept):
-    """True if the prover refuses the edit, with a message: over kept work, if there is any, and if that passes from
-    nothing."""
-    came_to, said = rt.must_fail(crate, edit_file, one_job(), kept)
-    if kept and not is_refusal(came_to):
-        came_to, said = rt.must_fail(crate, edit_file, one_job())
-    return is_refusal(came_to), said.partition(": ")[2]
+def try_alone(crate, edit_file, cache):
+    """True if the prover refuses the edit, with a message: over cached proofs, if there are any, and if that passes
+    from nothing."""
+    outcome, message = rt.must_fail(crate, edit_file, one_job(), cache)
+    if cache and not is_refusal(outcome):
+        outcome, message = rt.must_fail(crate, edit_file, one_job())
+    return is_refusal(outcome), message.partition(": ")[2]
 
 
-def is_refusal(came_to):
-    """rt's result for an edit: release 13b returns a flag, and release 13f a result."""
-    return came_to if isinstance(came_to, bool) else came_to in (rt.REFUSED, rt.AT_LIMIT)
+def is_refusal(outcome):
+    """True for rt's outcomes of an edit that isn't proved."""
+    return outcome in (rt.REFUSED, rt.AT_LIMIT)
 
 
 def is_built(crate):
