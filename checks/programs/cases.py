@@ -88,7 +88,7 @@ def one_unread(out):
     return ours(out + b'1 listed file could not be read\n', status=1)
 
 
-def audited(*lines, err=b''):
+def audited(*lines, err=b'', end=b'\n'):
     """An audit prints these lines, and how many there are of each class. It ends with 0 if no file has changed. The
     first `: ` of a line ends its name."""
     args = [line.split(b': ', 1)[1] for line in lines]
@@ -98,7 +98,7 @@ def audited(*lines, err=b''):
     }
     counts = b', '.join(b'%d %s' % (number, word) for word, number in numbers.items())
     is_well = not err and numbers[b'same'] == len(lines)
-    return ours(b''.join(line + b'\n' for line in (*lines, counts)), err, 0 if is_well else 1)
+    return ours(b''.join(line + end for line in (*lines, counts)), err, 0 if is_well else 1)
 
 
 def gen(count):
@@ -779,12 +779,67 @@ def lines_with_nuls():
         ),
         Case('-z and a missing file', ('-z', 'gone', 'a'), expected=ours(raw(X64, 'a'), GONE, 1)),
         *(
-            Case(name, args, expected=fails([b"Wrong parameters: '-z' with '-c' or '--audit'"]))
+            Case(name, args, expected=fails([b"Wrong parameters: '-z' with '-c'"]))
             for name, args in (
                 ('-z with -c', ('-z', '-c', 'good')),
                 ('-c with --zero', ('-c', '--zero', 'good')),
-                ('-z with --audit', ('-z', '--audit', 'good', 'a')),
+                ('-c and --audit with -z', ('-cz', '--audit', 'good', 'a')),
             )
+        ),
+    ]
+
+
+def audits_with_nuls():
+    """-z of an audit: records that end with a NUL, with unchanged names, and messages that are still lines."""
+    lines = X64 + b'  a\n' + WRONG + b'  *star\n' + EMPTY + b'  e\n' + X64 + b'  old\n' + X64_LE + b'  lost\n'
+    listed = {'lines': lines}
+    changed = (b'*star: changed', b'a: same', b'e: same', b'(p): moved from\0old', b'b c: new', b'lost: missing')
+    gone = one_line(b"Error: Could not open 'no\nfile': No such file or directory. ")
+    names = ('--audit', 'lines', 'a', 'e', 'b c', '(p)', '*star')
+    counts = b'1 same, 0 changed, 1 moved, 1 copied, 0 new, 0 missing, 0 unreadable\0'
+    odd = {'lines': GOOD + b'\\' + X64 + b'  old\\nname\n', 'y: z': HELLO}
+    return [
+        Case('-z with --audit', ('-z', '--audit', 'good', 'a'), expected=audited(b'a: same', end=b'\0')),
+        Case('-z and an audit', ('-z', *names), files=listed, expected=audited(*changed, end=b'\0')),
+        Case(
+            '--zero and an audit, quiet',
+            ('-q', '--zero', *names),
+            files=listed,
+            expected=ours(
+                b'\0'.join((changed[0], *changed[3:]))
+                + b'\x002 same, 1 changed, 1 moved, 0 copied, 1 new, 1 missing, 0 unreadable\0',
+                status=1,
+            ),
+        ),
+        Case('-z and an audit, status', ('-z', '--status', *names), files=listed, expected=ours(b'', status=1)),
+        Case(
+            '-z and an audit of odd names',
+            ('-z', '--audit', 'lines', 'a', 'line\nfeed', 'y: z'),
+            files=odd,
+            expected=ours(b'a: same\0line\nfeed: moved from\0old\nname\0y: z: copy of\0a\0' + counts, status=1),
+        ),
+        Case(
+            '-z and an audit of a missing file',
+            ('-z', '--audit', 'good', 'a', 'no\nfile'),
+            expected=audited(b'a: same', b'no\nfile: unreadable', err=gone, end=b'\0'),
+        ),
+        Case(
+            '-z and an audit of names that NULs end',
+            ('-z', '--audit', '--files0-from', 'lines'),
+            files=listed,
+            given=b'*star\0b c\0a\0(p)\0e',
+            expected=audited(*changed, end=b'\0'),
+        ),
+        Case(
+            '-z and an audit of a folder',
+            shell='mkdir -p t/b; cp a "t/b/l\ne"; cp e t/a; "$X" -rH3 t >list; mv t/b/l*e t/m; "$X" -rz --audit list t',
+            expected=audited(b't/a: same', b't/m: moved from\0t/b/l\ne', end=b'\0'),
+        ),
+        Case(
+            '-z and an audit of a malformed list',
+            ('-z', '--audit', 'lines', 'a'),
+            files={'lines': b'l\n'},
+            expected=fails([b'lines:1: Error: Improperly formatted checksum line.']),
         ),
     ]
 
@@ -1234,6 +1289,7 @@ CASES = (
     + tagged_lines()
     + missing_files()
     + lines_with_nuls()
+    + audits_with_nuls()
     + several_lists()
     + ends()
     + trees()

@@ -11,7 +11,7 @@ for program in xxhsum xxh32sum xxh64sum xxh128sum xxh3sum
     complete -c $program -l files0-from -d 'the same, with a NUL after each name'
     complete -c $program -l tag -d 'print BSD-style checksum lines'
     complete -c $program -l little-endian -d 'print digests with the least significant byte first'
-    complete -c $program -s z -l zero -d 'end each line with NUL, and disable escaping; not with -c or --audit'
+    complete -c $program -s z -l zero -d 'end each line with NUL, and disable escaping; not with -c'
     complete -c $program -l binary -d 'ignored: files are read as they are'
     complete -c $program -s q -l quiet -d 'no progress; with -c: don\'t print OK for each successfully verified file'
     complete -c $program -l status -d 'no progress; with -c: don\'t print anything, the exit status shows success'

@@ -64,11 +64,11 @@ abbrev pub leaves_input : Options → List (List ℕ) → Bool
 leaves_input options names =
     have_input names || (options.takes_terminal && nat_lt (lists_before options) (length names))
 
--- The run with these options. Its names are the arguments from index `at` on. `-z` is refused with `-c` or `--audit`.
--- `-r` is refused with `-c`, with lists of names, or without a name. `-` is refused with names.
+-- The run with these options. Its names are the arguments from index `at` on. `-z` is refused with `-c`. `-r` is
+-- refused with `-c`, with lists of names, or without a name. `-` is refused with names.
 abbrev pub run_from : Options → ℕ → List (List ℕ) → ParsedArgs
 run_from options at names =
-    if options.ends_in_nul && (options.checks || options.audits) then NulsInList
+    if options.ends_in_nul && options.checks then NulsInList
     else if options.walks && (options.checks || are_listed options.names_from) then WalkBesideLists
     else if options.walks && nat_le (length names) (lists_audited options) then WalkOfNothing
     else if leaves_input options names then InputBesideNames

@@ -93,7 +93,7 @@ pub const ROWS: [(u8, &str, Action, &str); 20] = [
         b'z',
         "zero",
         Action::EndsInNul,
-        "          end each line with NUL, and disable escaping; not with -c or --audit",
+        "          end each line with NUL, and disable escaping; not with -c",
     ),
     (
         b'-',

@@ -56,8 +56,7 @@ answer_text program words Help = usage_text program
 answer_text program words Benchmark = one_line (concat (program ∷ NO_BENCHMARK.now ∷ []))
 answer_text program words (WrongOption at) =
     wrong_text (concat (codes "Wrong parameters: '" ∷ get_or words at [] ∷ codes "'" ∷ [])) program
-answer_text program words NulsInList =
-    wrong_text (codes "Wrong parameters: '-z' with '-c' or '--audit'") program
+answer_text program words NulsInList = wrong_text (codes "Wrong parameters: '-z' with '-c'") program
 answer_text program words WalkBesideLists =
     wrong_text (codes "Wrong parameters: '-r' with '-c' or lists of names") program
 answer_text program words WalkOfNothing = wrong_text (codes "Wrong parameters: '-r' without a FILE") program

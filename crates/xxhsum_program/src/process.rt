@@ -176,11 +176,7 @@ pub fn eprint_answer<E: Sink>(program: &[u8], words: &[Vec<u8>], parsed: ParsedA
             );
         }
         ParsedArgs::NulsInList => {
-            eprint_wrong(
-                &[b"Wrong parameters: '-z' with '-c' or '--audit'"],
-                program,
-                err,
-            );
+            eprint_wrong(&[b"Wrong parameters: '-z' with '-c'"], program, err);
         }
         ParsedArgs::WalkBesideLists => {
             eprint_wrong(

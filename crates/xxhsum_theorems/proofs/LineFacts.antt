@@ -1,4 +1,4 @@
--- Proves that lists, duplicate names and audits are written as whole lines.
+-- Proves that lists, duplicate names and audits are written as whole lines, and audits as whole records with `-z`.
 use Rattle.std.proofs.Common.{◌≡◌, ◌≢◌, ℕ, zero, suc, ◌+◌, ◌/◌, ◌%◌, ◌==◌, Bool, true, false, List, [], ◌∷◌, ◌++◌, Option, Some, None, inl, inr, refl, sym, ap, ◌∙◌, subst, append-nil, append_assoc, arith, codes, decimal, length, nat_eq, nat_lt, if◌then◌else◌}
 use Rattle.std.specs.Fmt.{digit_glyph, digits, digits_onto}
 use Rattle.std.proofs.lemmas.List.Folds.{concat-append}
@@ -6,8 +6,8 @@ use Rattle.xxhsum_app.specs.Names.{ListNone}
 use Rattle.xxhsum_app.specs.ReadList.{IsFault, ListSaysNothing, SourceSaysNothing}
 use Rattle.xxhsum_app.specs.Report.{class_text, counts_text, is_same, remarks_of, report_text, shown_text, shown_texts}
 use Rattle.xxhsum_app.specs.Texts.{Breaks, HasNoText, LackText}
-use Rattle.xxhsum_audit.specs.Found.{Found}
-use Rattle.xxhsum_audit.specs.Text.{Remark, RemarkIsOneLine, remark_text}
+use Rattle.xxhsum_audit.specs.Found.{Changed, Copied, Found, Missing, Moved, New, Same}
+use Rattle.xxhsum_audit.specs.Text.{Classed, HasNoNul, OtherLacks, Remark, RemarkIsOneLine, Unreadable, other_record, remark_text, told_name, told_other, told_words}
 use Rattle.xxhsum_audit.specs.declared.verdict.Class.{Class}
 use Rattle.xxhsum_audit.specs.declared.verdict.Class.TheVariants as Of
 use Rattle.xxhsum_line.proofs.LackFacts.{lacks_both}
@@ -22,74 +22,90 @@ use Rattle.xxhsum_program.specs.Prelude.{AllByRecursion, Files, Input, Options, 
 use Rattle.xxhsum_program.specs.declared.check.Report.{Report}
 use Rattle.xxhsum_program.specs.Report.{has_no_line, is_unverified}
 use Rattle.xxhsum_program.specs.Run.{input_name}
-use Rattle.std.specs.Prelude.{◌&&◌, ◌||◌, not}
-use Rattle.std.proofs.Common.{eq-eqb}
-use Rattle.std.proofs.lemmas.Bool.{and_parts, both_ways}
+use Rattle.std.specs.Prelude.{◌&&◌, ◌||◌, nat_le}
+use Rattle.std.proofs.Common.{◌<◌}
+use Rattle.std.proofs.lemmas.Bool.{and_parts}
+use Rattle.std.proofs.lemmas.Bool.Decides.{nat_tests}
 use Rattle.xxhsum_theorems.proofs.HeadlineFacts.{findings_are_lines}
 use Rattle.xxhsum_theorems.specs.Headline.{IsLine, IsLineAtMost}
-use Rattle.xxhsum_theorems.specs.LineLaws.{AreLines, IsListLine, IsListMessage, WritesLines}
+use Rattle.xxhsum_theorems.specs.LineLaws.{AreLines, AreRecords, AreWhole, IsListLine, IsListMessage, IsOneRecord, WritesLines}
 
 -- ---- whole lines
 
+one-part : (is_one : List ℕ → Type 0) (bytes : List ℕ) → is_one bytes → AreWhole is_one bytes
+one-part is_one bytes is = (bytes ∷ [], (is, tt), sym (append-nil bytes))
+
+no-part : (is_one : List ℕ → Type 0) → AreWhole is_one []
+no-part is_one = ([], tt, refl)
+
 a-line : (bytes : List ℕ) → IsOneLine bytes → AreLines bytes
-a-line bytes is = (bytes ∷ [], (is, tt), sym (append-nil bytes))
+a-line bytes is = one-part IsOneLine bytes is
 
 no-line : AreLines []
-no-line = ([], tt, refl)
+no-line = no-part IsOneLine
 
 all-both : {A : Type 0} (holds : A → Type 0) (xs ys : List A) → AllByRecursion holds xs → AllByRecursion holds ys → AllByRecursion holds (xs ++ ys)
 all-both holds [] ys all more = more
 all-both holds (x ∷ xs) ys all more = (all.0, all-both holds xs ys all.1 more)
 
-lines-both : (x y : List ℕ) → AreLines x → AreLines y → AreLines (x ++ y)
-lines-both x y a b = (
+parts-both : (is_one : List ℕ → Type 0) (x y : List ℕ) → AreWhole is_one x → AreWhole is_one y → AreWhole is_one (x ++ y)
+parts-both is_one x y a b = (
   a.0 ++ b.0,
-  all-both IsOneLine a.0 b.0 a.1 b.1,
+  all-both is_one a.0 b.0 a.1 b.1,
   ap (λ (l : List ℕ). l ++ y) a.2 ∙ ap (λ (l : List ℕ). concat a.0 ++ l) b.2 ∙ sym (concat-append a.0 b.0),
 )
 
+lines-both : (x y : List ℕ) → AreLines x → AreLines y → AreLines (x ++ y)
+lines-both x y a b = parts-both IsOneLine x y a b
+
+parts-if : (is_one : List ℕ → Type 0) (test : Bool) (x y : List ℕ) → AreWhole is_one x → AreWhole is_one y → AreWhole is_one (if test then x else y)
+parts-if is_one true x y a b = a
+parts-if is_one false x y a b = b
+
 lines-if : (test : Bool) (x y : List ℕ) → AreLines x → AreLines y → AreLines (if test then x else y)
-lines-if true x y a b = a
-lines-if false x y a b = b
+lines-if test x y a b = parts-if IsOneLine test x y a b
 
--- ---- bytes without a newline
+-- ---- bytes without a control character
 
--- True if the byte is not in the list.
-abbrev is_without : ℕ → List ℕ → Bool
-is_without b [] = true
-is_without b (c ∷ cs) = not (nat_eq c b) && is_without b cs
+-- True if no byte is a control character.
+abbrev are_plain : List ℕ → Bool
+are_plain [] = true
+are_plain (c ∷ cs) = nat_le 32 c && are_plain cs
 
-without : (b : ℕ) (bytes : List ℕ) → is_without b bytes ≡ true → Lacks b bytes
-without b [] is = tt
-without b (c ∷ cs) is =
-    let both = and_parts (not (nat_eq c b)) (is_without b cs) is in
-    ((λ e. both_ways (not (nat_eq c b)) (ap not (eq-eqb c b e)) both.0), without b cs both.1)
+without : (b : ℕ) (bytes : List ℕ) → b < 32 → are_plain bytes ≡ true → Lacks b bytes
+without b [] low is = tt
+without b (c ∷ cs) low is =
+    let both = and_parts (nat_le 32 c) (are_plain cs) is in
+    ((λ e. let no : ⊥ = grind (arith, nat_tests, both.0, low, e) in no), without b cs low both.1)
 
 -- ---- numbers
 
-glyph-by : (test : Bool) (d : ℕ) → (if test then 48 + d else (if false then 55 + d else 87 + d)) ≢ 10
-glyph-by true d = λ (is : 48 + d ≡ 10). omega arith
-glyph-by false d = λ (is : 87 + d ≡ 10). omega arith
+glyph-by : (b : ℕ) → b < 32 → (test : Bool) (d : ℕ) → (if test then 48 + d else (if false then 55 + d else 87 + d)) ≢ b
+glyph-by b low true d = λ (is : 48 + d ≡ b). omega arith
+glyph-by b low false d = λ (is : 87 + d ≡ b). omega arith
 
-lacks-if : (test : Bool) (x y : List ℕ) → Lacks 10 x → Lacks 10 y → Lacks 10 (if test then x else y)
-lacks-if true x y a b = a
-lacks-if false x y a b = b
+lacks-if : (b : ℕ) (test : Bool) (x y : List ℕ) → Lacks b x → Lacks b y → Lacks b (if test then x else y)
+lacks-if b true x y l l' = l
+lacks-if b false x y l l' = l'
 
-digits-lack : (k n : ℕ) (behind : List ℕ) → Lacks 10 behind → Lacks 10 (digits_onto k 10 false n behind)
-digits-lack zero n behind l = l
-digits-lack (suc k) n behind l =
-    let more : Lacks 10 (digit_glyph false (n % 10) ∷ behind) = (glyph-by (nat_lt (n % 10) 10) (n % 10), l) in
-    lacks-if (n / 10 == 0) (digit_glyph false (n % 10) ∷ behind) (digits_onto k 10 false (n / 10) (digit_glyph false (n % 10) ∷ behind)) more
-    (digits-lack k (n / 10) (digit_glyph false (n % 10) ∷ behind) more)
+digits-lack : (b : ℕ) → b < 32 → (k n : ℕ) (behind : List ℕ) → Lacks b behind → Lacks b (digits_onto k 10 false n behind)
+digits-lack b low zero n behind l = l
+digits-lack b low (suc k) n behind l =
+    let more : Lacks b (digit_glyph false (n % 10) ∷ behind) = (glyph-by b low (nat_lt (n % 10) 10) (n % 10), l) in
+    lacks-if b (n / 10 == 0) (digit_glyph false (n % 10) ∷ behind) (digits_onto k 10 false (n / 10) (digit_glyph false (n % 10) ∷ behind)) more
+    (digits-lack b low k (n / 10) (digit_glyph false (n % 10) ∷ behind) more)
 
-decimal-lacks : (n : ℕ) → Lacks 10 (decimal n)
+decimal-lacks : (b : ℕ) → b < 32 → (n : ℕ) → Lacks b (decimal n)
 unfolding digits
-decimal-lacks n = digits-lack 64 n [] tt
+decimal-lacks b low n = digits-lack b low 64 n [] tt
+
+plain : (word : List ℕ) → are_plain word ≡ true → Lacks 10 word
+plain word is = without 10 word (omega arith) is
 
 -- Lemma: a number with a text behind it and a newline is one line.
 number-line : (n : ℕ) (text : List ℕ) → Lacks 10 text → IsOneLine (decimal n ++ (text ++ 10 ∷ []))
 number-line n text l =
-    (decimal n ++ text, sym (append_assoc (decimal n) text (10 ∷ [])), lacks_both 10 (decimal n) text (decimal-lacks n) l)
+    (decimal n ++ text, sym (append_assoc (decimal n) text (10 ∷ [])), lacks_both 10 (decimal n) text (decimal-lacks 10 (omega arith) n) l)
 
 -- ---- the check of a list
 
@@ -107,13 +123,13 @@ summary-lines options report =
     lines-if (nat_eq report.proper 0 || options.is_status_only) [] _ no-line
     (lines-both _ _
     (counted report.improper (codes " line is improperly formatted") (codes " lines are improperly formatted")
-    (without 10 (codes " line is improperly formatted") refl) (without 10 (codes " lines are improperly formatted") refl))
+    (plain (codes " line is improperly formatted") refl) (plain (codes " lines are improperly formatted") refl))
     (lines-both _ _
     (counted report.unread (codes " listed file could not be read") (codes " listed files could not be read")
-    (without 10 (codes " listed file could not be read") refl) (without 10 (codes " listed files could not be read") refl))
+    (plain (codes " listed file could not be read") refl) (plain (codes " listed files could not be read") refl))
     (lines-both _ _
     (counted report.different (codes " computed checksum did NOT match") (codes " computed checksums did NOT match")
-    (without 10 (codes " computed checksum did NOT match") refl) (without 10 (codes " computed checksums did NOT match") refl))
+    (plain (codes " computed checksum did NOT match") refl) (plain (codes " computed checksums did NOT match") refl))
     no-line)))
 
 unverified-lines : MessageIsOneLine → (options : Options) (list : List ℕ) (report : Report) → AreLines (unverified_text options list report)
@@ -209,8 +225,8 @@ names_message files input lists message law none =
 
 -- ---- audits
 
-class-lacks : (class : Class) (found : List Found) (word : List ℕ) → Lacks 10 word → Lacks 10 (class_text class found word)
-class-lacks class found word l = lacks_both 10 (decimal _) word (decimal-lacks _) l
+class-lacks : (b : ℕ) → b < 32 → (class : Class) (found : List Found) (word : List ℕ) → are_plain word ≡ true → Lacks b (class_text class found word)
+class-lacks b low class found word plain = lacks_both b (decimal _) word (decimal-lacks b low _) (without b word low plain)
 
 -- The counts before the last.
 abbrev front_counts : List Found → List ℕ
@@ -224,39 +240,89 @@ abbrev counts_before : List Found → List (List ℕ) → List ℕ
 counts_before found unread =
     front_counts found ++ class_text Of.Missing found (codes " missing, ") ++ decimal (length unread) ++ codes " unreadable"
 
-counts-lack : (found : List Found) (unread : List (List ℕ)) → Lacks 10 (counts_before found unread)
-counts-lack found unread =
-    lacks_both 10 _ _
-    (lacks_both 10 _ _
-    (lacks_both 10 (front_counts found) _
-    (lacks_both 10 _ _
-    (lacks_both 10 _ _
-    (lacks_both 10 _ _
-    (lacks_both 10 _ _ (class-lacks Of.Same found (codes " same, ") (without 10 (codes " same, ") refl))
-    (class-lacks Of.Changed found (codes " changed, ") (without 10 (codes " changed, ") refl)))
-    (class-lacks Of.Moved found (codes " moved, ") (without 10 (codes " moved, ") refl)))
-    (class-lacks Of.Copied found (codes " copied, ") (without 10 (codes " copied, ") refl)))
-    (class-lacks Of.New found (codes " new, ") (without 10 (codes " new, ") refl)))
-    (class-lacks Of.Missing found (codes " missing, ") (without 10 (codes " missing, ") refl)))
-    (decimal-lacks (length unread)))
-    (without 10 (codes " unreadable") refl)
+counts-lack : (b : ℕ) → b < 32 → (found : List Found) (unread : List (List ℕ)) → Lacks b (counts_before found unread)
+counts-lack b low found unread =
+    lacks_both b _ _
+    (lacks_both b _ _
+    (lacks_both b (front_counts found) _
+    (lacks_both b _ _
+    (lacks_both b _ _
+    (lacks_both b _ _
+    (lacks_both b _ _ (class-lacks b low Of.Same found (codes " same, ") refl)
+    (class-lacks b low Of.Changed found (codes " changed, ") refl))
+    (class-lacks b low Of.Moved found (codes " moved, ") refl))
+    (class-lacks b low Of.Copied found (codes " copied, ") refl))
+    (class-lacks b low Of.New found (codes " new, ") refl))
+    (class-lacks b low Of.Missing found (codes " missing, ") refl))
+    (decimal-lacks b low (length unread)))
+    (without b (codes " unreadable") low refl)
+
+counts-end : (options : Options) (found : List Found) (unread : List (List ℕ)) (nul : Bool) → options.ends_in_nul ≡ nul
+    → counts_text options found unread ≡ counts_before found unread ++ (if nul then 0 else 10) ∷ []
+counts-end options found unread nul is =
+    ap (λ (nul : Bool). counts_before found unread ++ (if nul then 0 else 10) ∷ []) is
 
 counts-line : (options : Options) (found : List Found) (unread : List (List ℕ)) → options.ends_in_nul ≡ false → IsOneLine (counts_text options found unread)
-counts-line options found unread speaks = (
-  counts_before found unread,
-  ap (λ (nul : Bool). counts_before found unread ++ (if nul then 0 else 10) ∷ []) speaks,
-  counts-lack found unread,
-)
+counts-line options found unread speaks =
+    (counts_before found unread, counts-end options found unread false speaks, counts-lack 10 (omega arith) found unread)
 
-shown-lines : RemarkIsOneLine → (options : Options) (remarks : List Remark) → options.ends_in_nul ≡ false → AreLines (shown_texts options remarks)
-shown-lines line options [] speaks = no-line
-shown-lines line options (one ∷ remarks) speaks =
-    lines-both (shown_text options one) (shown_texts options remarks)
-    (lines-if (options.is_quiet && is_same one) [] (remark_text options.ends_in_nul one) no-line
-    (a-line _ (subst (λ nul. IsOneLine (remark_text nul one)) (sym speaks) (line one))))
-    (shown-lines line options remarks speaks)
+-- Lemma: shown results are whole if each result is.
+shown-whole : (is_one : List ℕ → Type 0) (nul : Bool) (options : Options) → options.ends_in_nul ≡ nul
+    → (remarks : List Remark) → AllByRecursion (λ one. AreWhole is_one (remark_text nul one)) remarks → AreWhole is_one (shown_texts options remarks)
+shown-whole is_one nul options ends [] all = no-part is_one
+shown-whole is_one nul options ends (one ∷ remarks) all =
+    parts-both is_one (shown_text options one) (shown_texts options remarks)
+    (parts-if is_one (options.is_quiet && is_same one) [] (remark_text options.ends_in_nul one) (no-part is_one)
+    (subst (λ nul. AreWhole is_one (remark_text nul one)) (sym ends) all.0))
+    (shown-whole is_one nul options ends remarks all.1)
+
+each-line : RemarkIsOneLine → (remarks : List Remark) → AllByRecursion (λ one. AreLines (remark_text false one)) remarks
+each-line line [] = tt
+each-line line (one ∷ remarks) = (a-line _ (line one), each-line line remarks)
+
+-- Lemma: a report is whole if its results and its counts are.
+report-whole : (is_one : List ℕ → Type 0) (nul : Bool) (options : Options) (found : List Found) (unread : List (List ℕ)) → options.ends_in_nul ≡ nul
+    → AllByRecursion (λ one. AreWhole is_one (remark_text nul one)) (remarks_of found unread) → is_one (counts_text options found unread)
+    → AreWhole is_one (report_text options found unread)
+report-whole is_one nul options found unread ends all counts =
+    parts-if is_one options.is_status_only [] _ (no-part is_one)
+    (parts-both is_one (shown_texts options (remarks_of found unread)) (counts_text options found unread)
+    (shown-whole is_one nul options ends (remarks_of found unread) all) (one-part is_one _ counts))
 
 pub report_is_lines : RemarkIsOneLine → (options : Options) (found : List Found) (unread : List (List ℕ)) → options.ends_in_nul ≡ false → AreLines (report_text options found unread)
-report_is_lines line options found unread speaks =
-    lines-if options.is_status_only [] _ no-line
-    (lines-both (shown_texts options (remarks_of found unread)) (counts_text options found unread) (shown-lines line options (remarks_of found unread) speaks) (a-line _ (counts-line options found unread speaks)))
+report_is_lines line options found unread ends =
+    report-whole IsOneLine false options found unread ends (each-line line (remarks_of found unread)) (counts-line options found unread ends)
+
+-- ---- records that end with a NUL
+
+words-plain : (r : Remark) → are_plain (told_words r) ≡ true
+words-plain (Classed (Same l n)) = refl
+words-plain (Classed (Changed l n)) = refl
+words-plain (Classed (Moved l n)) = refl
+words-plain (Classed (Copied o n)) = refl
+words-plain (Classed (New n)) = refl
+words-plain (Classed (Missing l)) = refl
+words-plain (Unreadable n) = refl
+
+other-records : (o : Option (List ℕ)) → OtherLacks 0 o → AreRecords (other_record o)
+other-records None lacks = no-part IsOneRecord
+other-records (Some other) lacks = one-part IsOneRecord (other ++ 0 ∷ []) (other, refl, lacks)
+
+pub remark_is_records : (r : Remark) → HasNoNul r → AreRecords (remark_text true r)
+remark_is_records r lacks =
+    let first = told_name r ++ 58 ∷ 32 ∷ told_words r in
+    let other = other_record (told_other r) in
+    let plain : Lacks 0 (58 ∷ 32 ∷ told_words r) = without 0 (58 ∷ 32 ∷ told_words r) (omega arith) (words-plain r) in
+    subst AreRecords (append_assoc first (0 ∷ []) other ∙ append_assoc (told_name r) (58 ∷ 32 ∷ told_words r) (0 ∷ other))
+    (parts-both IsOneRecord (first ++ 0 ∷ []) other
+    (one-part IsOneRecord (first ++ 0 ∷ []) (first, refl, lacks_both 0 (told_name r) (58 ∷ 32 ∷ told_words r) lacks.0 plain)) (other-records (told_other r) lacks.1))
+
+each-record : (remarks : List Remark) → AllByRecursion HasNoNul remarks → AllByRecursion (λ one. AreRecords (remark_text true one)) remarks
+each-record [] all = tt
+each-record (one ∷ remarks) all = (remark_is_records one all.0, each-record remarks all.1)
+
+pub report_is_records : (options : Options) (found : List Found) (unread : List (List ℕ)) → options.ends_in_nul ≡ true
+    → AllByRecursion HasNoNul (remarks_of found unread) → AreRecords (report_text options found unread)
+report_is_records options found unread ends all =
+    report-whole IsOneRecord true options found unread ends (each-record (remarks_of found unread) all)
+    (counts_before found unread, counts-end options found unread true ends, counts-lack 0 (omega arith) found unread)

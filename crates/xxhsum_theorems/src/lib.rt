@@ -18,11 +18,11 @@ ghost use Rattle.xxhsum_audit.specs.Text.{HasNoNul, IsSameRemark, Remark, remark
 ghost use Rattle.xxhsum_app.specs.Audits.{duplicate_text};
 ghost use Rattle.xxhsum_app.specs.Names.{ListNone};
 ghost use Rattle.xxhsum_app.specs.ReadList.{ListSaysNothing};
-ghost use Rattle.xxhsum_app.specs.Report.{report_text};
+ghost use Rattle.xxhsum_app.specs.Report.{remarks_of, report_text};
 ghost use Rattle.xxhsum_app.specs.Run.{WalksFolders};
 ghost use Rattle.xxhsum_app.specs.Walk.{tree_of};
 ghost use Rattle.xxhsum_theorems.specs.Headline.{AreFilesBelow, IsLineAtMost, IsLineOrMessage, PrintsBeginning};
-ghost use Rattle.xxhsum_theorems.specs.LineLaws.{AreLines, IsListLine, WritesLines};
+ghost use Rattle.xxhsum_theorems.specs.LineLaws.{AreLines, AreRecords, IsListLine, WritesLines};
 ghost use Rattle.xxhsum_line.specs.Entry.{Says};
 ghost use Rattle.xxhsum_line.specs.Escapes.{one_line};
 ghost use Rattle.xxhsum_line.specs.Laws.{IsOneLine};
@@ -111,7 +111,7 @@ pub fn each_stream<W: Sink, E: Sink>()
 /// one that reports another file as `OK`. The outcome of a name is one line and no message, or one message and no line.
 /// A line of a list has the same, or neither. The check of a list writes whole lines. The message about a list without
 /// entries or names has one of the four forms of [`IsListMessage`]. Each result of an audit is one line, and its report
-/// is whole lines, unless they end with a NUL (`-z`).
+/// is whole lines. With `-z`, they are whole records instead, each ended by its only NUL, if no name has a NUL.
 pub fn one_line_a_name<S: Store, R: Source>()
     ensures names { (kind : Kind) (shape : Shape) (name : List ℕ) (outcome : Outcome)
         → IsLineOrMessage (name_events kind (plain_style shape) name outcome) }
@@ -130,6 +130,10 @@ pub fn one_line_a_name<S: Store, R: Source>()
     ensures audits { (remark : Remark) → IsOneLine (remark_text false remark) }
     ensures reports { (options : Options) (found : List Found) (unread : List (List ℕ))
         → options.ends_in_nul ≡ false → AreLines (report_text options found unread) }
+    ensures records { (remark : Remark) → HasNoNul remark → AreRecords (remark_text true remark) }
+    ensures reports_of_records { (options : Options) (found : List Found) (unread : List (List ℕ))
+        → options.ends_in_nul ≡ true → AllByRecursion HasNoNul (remarks_of found unread)
+        → AreRecords (report_text options found unread) }
 {
     laws_of_lines();
     laws_of_texts();

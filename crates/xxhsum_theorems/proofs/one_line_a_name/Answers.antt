@@ -1,7 +1,7 @@
 use Rattle.xxhsum_app.specs.Audits.{duplicate_text}
 use Rattle.xxhsum_program.specs.Files.{files_of, input_of}
 use Rattle.xxhsum_theorems.proofs.HeadlineFacts.{findings_are_lines, line_or_message}
-use Rattle.xxhsum_theorems.proofs.LineFacts.{list_message, lists_are_lines, names_message, report_is_lines}
+use Rattle.xxhsum_theorems.proofs.LineFacts.{list_message, lists_are_lines, names_message, remark_is_records, report_is_lines, report_is_records}
 use Rattle.xxhsum_theorems.proofs.one_line_a_name.Goals as goal
 
 pub returns : goal.returns
@@ -20,4 +20,6 @@ returns g c =
       twice = λ among name. message (duplicate_text among name);
       audits = c.laws_of_texts.ensures.one_line;
       reports = λ options found unread speaks. report_is_lines c.laws_of_texts.ensures.one_line options found unread speaks;
+      records = remark_is_records;
+      reports_of_records = report_is_records;
     }

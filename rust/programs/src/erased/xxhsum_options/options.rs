@@ -50,7 +50,7 @@ pub struct Options {
     pub is_tagged: bool,
     /// `--little-endian`: digests are printed, and read, with their lowest byte first.
     pub is_little_endian: bool,
-    /// `-z`, `--zero`: each printed line ends with a NUL, and its name isn't escaped.
+    /// `-z`, `--zero`: each printed line ends with a NUL, and no name in it is escaped.
     pub ends_in_nul: bool,
     /// `--audit`: the first argument is a checksum list, with which the named files are compared.
     pub audits: bool,
@@ -75,7 +75,7 @@ pub enum ParsedArgs {
     Help,
     /// An error: the argument of this index is not a valid option.
     WrongOption { at: usize },
-    /// An error: `-z` was given with `-c` or `--audit`.
+    /// An error: `-z` was given with `-c`.
     NulsInList,
     /// An error: `-r` was given with `-c` or lists of names.
     WalkBesideLists,
@@ -132,10 +132,10 @@ pub fn parse_args(kind: Kind, words: &[Vec<u8>]) -> ParsedArgs {
     run_from(options, words.len(), words)
 }
 
-// Returns the run by these options, of the names from this index on. Refuses a NUL ending if no digests are printed, a
-// walk without a directory name, and standard input that would stay unread.
+// Returns the run by these options, of the names from this index on. Refuses a NUL ending of a check, a walk
+// without a directory name, and standard input that would stay unread.
 fn run_from(options: Options, names_from: usize, words: &[Vec<u8>]) -> ParsedArgs {
-    if options.ends_in_nul && (options.checks || options.audits) {
+    if options.ends_in_nul && options.checks {
         return ParsedArgs::NulsInList;
     }
     if options.walks && (options.checks || options.names_from.are_listed()) {
