@@ -1,16 +1,18 @@
 """Tests of values at the edges of comparisons: jumps, requests, lengths, and files or copies that are refused. Each
-test takes a random generator, which it doesn't use, and raises Wrong."""
+test takes a random generator and raises Wrong."""
 import contextlib
 import struct
 import types
+import unittest.mock
 
 import antt
-from machine_code import disassembly, object_contents, scalar, stream_state, whole_blocks
+from machine_code import disassembly, object_contents, scalar, stream_state, unwinding, whole_blocks
 from machine_code.instructions import TABLE
 from machine_code.memory import Words
 from machine_code.objects import Immediate, Register
-from symbolic_terms import (Request, Unsupported, at_most, comparison, definition, given, is_same_number, operations, plus,
-                            polynomials, symbol, times, variable)
+from machine_code.values import arithmetic
+from symbolic_terms import (Request, Unsupported, at_most, comparison, definition, given, is_same_number, minus, nodes, operations,
+                            plus, polynomials, rules, symbol, times, variable)
 from symbolic_terms.induction import Induction
 
 from . import processors
@@ -155,4 +157,100 @@ def stored_words(_):
             raise Wrong(f"the word of a {cell} cell")
 
 
-ALL = [jumps, jumps_of_arm, forms, narrow_sums, lost_flags, unions, remainders, replaced_variables, identities, sections, copies_of_memory, seeds, lengths, orders, stored_words]
+def bounds(_):
+    """Compares operations of a term and a number near its greatest value with Python's, at each end of both."""
+    for width in (1, 8, 13, 63, 64):
+        name, top = f"e{width}", (1 << width) - 1
+        x = symbol(name, width)
+        for b in sorted({1, 2, 3, 10, top // 2 + 1, top - 1, top, top + 1} - {0}):
+            for what, found, expected in (
+                    ("remainder", operations.remainder(x, b), lambda a: a % b), ("quotient", operations.quotient(x, b), lambda a: a // b),
+                    ("difference", operations.monus(b, x), lambda a: max(0, b - a)), ("or", operations.either(x, b), lambda a: a | b),
+                    ("and", operations.both(x, b), lambda a: a & b), ("xor", operations.xor(x, b), lambda a: a ^ b),
+                    ("sum", operations.add(x, b), lambda a: a + b), ("product", operations.multiply(x, b), lambda a: a * b),
+                    ("sum of two", operations.add_at(64, (b, x), (1, operations.xor(operations.add(x, 1), b))),
+                     lambda a: (b * a + (a + 1 ^ b)) % (1 << 64))):
+                for value in {0, 1, top // 2, top - 1, top} - {-1}:
+                    expect(nodes.values_at([found], {name: value})[0], expected(value), f"the {what} of {value} and {b}")
+            for what, found, is_decided, holds in (("below", lambda: operations.is_below(x, b), b > top, True),
+                                                   ("above", lambda: operations.is_below(b, x), b >= top, False)):
+                if is_decided:
+                    expect(found(), holds, f"{width} bits {what} {b}")
+                else:
+                    refuses(found, f"{width} bits {what} {b}")
+
+
+def sums_of_parts(draw):
+    """Compares sums of xored and shifted parts of sums and products with Python's. Operations compare their values."""
+    x, y = (symbol(name, 64) for name in ("p64", "q64"))
+    for _ in range(150):
+        width, k, n = draw.choice((32, 64, 128)), draw.randrange(64), draw.randrange(1, 65)
+        a, b = (draw.choice((operations.add, operations.multiply, operations.xor))(x, y) for _ in range(2))
+        a = operations.xor(operations.bits(a, draw.choice((0, k)), n), draw.choice((0, 1, (1 << n) - 1, draw.getrandbits(n))))
+        found = operations.add_at(width, (1 << draw.randrange(width), a), (draw.choice((1, -1, 3)), b), (1, draw.getrandbits(64)))
+        operations.xor(operations.bits(found, k, n), draw.getrandbits(n))
+
+
+def no_bits(_):
+    """Tests that no bits of a value are no segments, and that a term or itself is the term."""
+    x = symbol("r64", 64)
+    for value in (5, x, operations.add(x, 1), operations.xor(x, 5)):
+        for n in (0, -1):
+            expect(rules.bits_of(value, 3, n) == [], True, f"{n} bits")
+    for operation in (operations.either, operations.both):
+        expect(operation(x, x) is x, True, "a term and itself")
+
+
+def unset_flags(_):
+    """Tests that no condition holds if the flags aren't set."""
+    for name in ("e", "ne", "b", "ae", "a", "be", "l", "ge", "g", "le"):
+        refuses(lambda: processors.made().condition(name), f"{name} of no flags", (Unsupported,))
+
+
+def moved_bits(_):
+    """Tests that united numbers are only moved by a number, and only masked by one."""
+    n = variable("n")
+    with given(at_most(n, 100)):
+        united = arithmetic("or", 64, n, times(4, n))
+        for word, a, b in (("lshr", united, n), ("lshr", 5, united), ("and", united, n), ("and", united, united), ("shl", united, 3),
+                           ("or", united, 1), ("xor", united, 1), ("sub", united, 1)):
+            refuses(lambda: arithmetic(word, 64, a, b), f"{word} of united numbers")
+        for found in (arithmetic("and", 64, united, 24), arithmetic("and", 64, 24, united)):
+            expect(found.mask, 24, "a mask of united numbers")
+
+
+def powers(_):
+    """Tests that the definitions have no power with an exponent above 4,096."""
+    expect(antt.OPERATORS["^"](2, 4096) == 1 << 4096, True, "a power")
+    refuses(lambda: antt.OPERATORS["^"](2, 4097), "a power with a greater exponent", antt.Unreadable)
+
+
+def points_of_facts(draw):
+    """Tests where points are drawn that satisfy facts: the known ones first, and until one or enough are found."""
+    names, known = ["a", "b"], [{"a": 10 ** 6 + k, "b": 7 * k} for k in range(polynomials.KEPT)]
+    expect(polynomials.drawn_points(names, draw, known, polynomials.NEAR) == known, True, "known points")
+    expect(polynomials.drawn_points(names, draw, (), 1) == [{"a": 0, "b": 0}], True, "the first point")
+    a = variable("a")
+    with given(minus(a, 5)):
+        for around in ((), known, [{"a": 1, "b": 2}]):
+            found = polynomials.drawn_points(["a"], draw, [{"a": point["a"]} for point in around], 100)
+            expect(len(found) == polynomials.KEPT and all(point["a"] >= 5 for point in found), True, "points from 5 on")
+    with given(minus(times(3, a), plus(variable("b"), 10)), at_most(a, 100)):
+        expect(all(3 * point["a"] >= point["b"] + 10 and point["a"] <= 100 for point in polynomials.under.points), True, "points")
+    for late, count, tried in ((0, 8, 8), (50, 8, 58), (58, 4, 62), (80, 1, 81), (400, 0, 90)):
+        asked = []
+        with unittest.mock.patch.object(polynomials, "moved", lambda point, _: asked.append(1) or (point if len(asked) > late else None)):
+            expect(len(polynomials.drawn_points(names, draw, (), 90)), count, f"points of which the first {late} don't fit")
+        expect(len(asked), tried, f"tried points of which the first {late} don't fit")
+
+
+def spoiled_stack(_):
+    """Tests that an instruction that sets the stack pointer in another way than by a distance spoils it."""
+    for mnemonic in ("and", "mov", "or", "xor", "lea", "imul", "shl", "adc", "sbb"):
+        x = processors.instruction(mnemonic, Immediate(64), Register("rsp"))
+        expect("rsp" in unwinding.X86.effect(x)[3], True, f"{mnemonic} of the stack pointer")
+
+
+ALL = [jumps, jumps_of_arm, forms, narrow_sums, lost_flags, unions, remainders, replaced_variables, identities, sections,
+       copies_of_memory, seeds, lengths, orders, stored_words, bounds, sums_of_parts, no_bits, unset_flags, moved_bits, powers,
+       points_of_facts, spoiled_stack]
