@@ -80,7 +80,7 @@ def lists(_):
         found = summed(asked)
         for title in {*expected, *found}:
             if found.get(title) != expected.get(title):
-                raise Wrong(f"{title}: {found.get(title)} and not {expected.get(title)} with is_all={is_all}")
+                raise Wrong(f"{title}: {found.get(title)} and not {expected.get(title)} of tasks.tsv, {is_all=}")
 
 
 def outcomes(_):

@@ -11,7 +11,7 @@ from machine_code.values import Names, address, joined
 from symbolic_terms import (REFUSALS, RUNS, Input, Memory, NotShown, Piece, at_most, given, is_same_number, minus, moved, plus, same,
                             step_between, symbol, times, variable)
 
-from . import choices, contents, processors
+from . import assumptions, choices, contents, processors
 from .values import expect, refuses
 
 BLOCK, FIRST = 16, 3              # stripes of a block, and the place in it where a loop begins
@@ -135,8 +135,8 @@ def places_of_v4(cpu):
 def states(_):
     """Tests the states at which digests are tested: no stripes, or more than 240 bytes."""
     proof = types.SimpleNamespace(q=None, longest_secret=1 << 60, longest_piece=1 << 40, room=512, whole=8)
-    found = list(coverage.states(90, proof))
-    expect(len(found) > 60, True, "the number of states")
+    found = list(coverage.states(3000, proof))
+    expect(len(found) > 2000, True, "the number of states")
     expect(all(not (b or j) or 64 * (q * b + j) + f > 240 for q, _, b, j, f in found), True, "the stripes of a state")
 
 
@@ -311,4 +311,4 @@ def plus_address(place):
 
 
 ALL = [heads, sources_of_v4, turns, records, places, tasks_of_streams, states, held_words, steps_in_blocks, places_in_inputs, families, advances,
-       earlier_guesses, changed_cells, long_calls, *choices.ALL, *contents.ALL]
+       earlier_guesses, changed_cells, long_calls, *assumptions.ALL, *choices.ALL, *contents.ALL]
