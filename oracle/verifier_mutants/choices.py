@@ -298,6 +298,25 @@ def each_update(_):
                 expect(len(any_updates.left_out(hash_name)), 1, "chunks that are left out")
 
 
+def proved_updates(_):
+    """Tests the stripes and facts of each update's proof, and that it is repeated with a total that becomes 2^64 - 1."""
+    proof, asked = any_updates.AnyUpdates(processors.made(), "64"), []
+    proof.update_between = lambda *of: asked.append(of)
+    a, d = variable("a"), variable("d")
+    for one in any_updates.updates("64"):
+        is_empty = any_updates.length_of(one, "64", 1) == 0
+        end = plus(a, one.fills + one.further, times(2, d) if one.more else 0)
+        proof.update(one)
+        proof.lost_total(one)
+        expect(len(asked), 1 if is_empty else 2, f"proofs of {one}")
+        for (*numbers, facts, family, total), lost in zip(asked, (None, minus(LONGEST, variable("lost")))):
+            expect(numbers == [a, one.r, end, one.s] and facts == [minus(d, 1)] * one.more, True, f"the proof of {one}")
+            expect(
+                (family.stripe, family.count, family.total, total) == (32, 4, end, lost), True, f"the proof of {one}"
+            )
+        asked.clear()
+
+
 def edges_of_blocks(_):
     """Tests the lengths at the edges of blocks, whose stripes a secret's length determines."""
     for secret, stripes in ((None, 16), (136, 9), (192, 16), (256, 24)):
@@ -456,6 +475,7 @@ ALL = [
     told,
     missed_lengths,
     each_update,
+    proved_updates,
     edges_of_blocks,
     queries,
     chunks,
