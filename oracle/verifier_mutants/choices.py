@@ -12,10 +12,12 @@ from machine_code import (
     any_secret,
     any_updates,
     calls,
+    cargo_calls,
     cargo_streams,
     cargo_tasks,
     coverage,
     every_length,
+    long_seeds,
     tasks,
     xxh3_states,
     xxh3_updates,
@@ -23,6 +25,7 @@ from machine_code import (
 from machine_code.cargo import CargoProgram
 from symbolic_terms import (
     LONGEST,
+    REFUSALS,
     NotShown,
     Request,
     WrongRule,
@@ -30,7 +33,9 @@ from symbolic_terms import (
     comparison,
     given,
     minus,
+    names_of,
     plus,
+    suppositions,
     symbol,
     times,
     value_at,
@@ -380,6 +385,35 @@ def chunks(_):
                 expect(length >= xxh3_updates.LONG_PIECE, is_long, "a chunk that a separate function takes")
 
 
+def starts_of_updates(_):
+    """Tests that each full buffer, at each place in a block, is a start of an update, and ends where its case has it."""
+    for whole, is_split in itertools.product((2, 4, 8), (False, True)):
+        found, q = list(xxh3_updates.starts(whole, is_split)), 9
+        places = [(g, j, 20 * (j % 2)) for g in range(1, whole + 1) for j in range(q)] + [(1, 3, r) for r in range(64)]
+        for g, j, r in places:
+            behind = 5 + (j + g) // q, (j + g) % q
+            point = {"q": q, "b": 5, "j": j, "g": g, "r": r, "i": q - j, "y": g - (q - j)}
+            if not any(
+                coverage.has(point, one.facts, [*zip((*one.place, one.g, one.r, *one.behind), (5, j, g, r, *behind))])
+                for one in found
+            ):
+                raise Wrong(f"no start of {whole} stripes has {point}")
+    for least, most in ((1, 4), (2, 4), (1, 3), (3, 2)):
+        expect([g for g, _ in xxh3_updates.stripes_of(most, least)] == [*range(least, most + 1)], True, "few stripes")
+    ((g, facts),) = xxh3_updates.stripes_of(8, 2)
+    expect([value_at(fact, {"g": 5}) for fact in facts] == [3, 3] and g == variable("g"), True, "many stripes")
+
+
+def digests(_):
+    """Tests that each state has a digest's case: each number of bytes to 240, and points with stripes."""
+    for kind in (xxh3_states.OwnSecret, xxh3_states.CallersSecret):
+        proof = kind(processors.made())
+        cases = list(proof.digests())
+        short = [f for place, f, *_ in cases if isinstance(place[0], int) and isinstance(f, int)]
+        expect(short == [*range(241)], True, "short messages")
+        expect(len(list(coverage.without_digest(cases, proof, 60))), 0, "states without a digest")
+
+
 def several_updates(_):
     """Tests that an update is also proved with totals and counts of stripes that become 2^64 - 1."""
     proof, asked = xxh3_updates.Xxh3Updates(processors.made()), []
@@ -444,6 +478,97 @@ def points(_):
 # ---- calls
 
 
+def chunks_of_refusals(_):
+    """Tests that the refused chunks have each length, and the refused marks each word."""
+    for waiting in (0, 1, 448, 511, 512, 513, 600):
+        found = [(n, facts) for _, n, facts in cargo_calls.chunks(waiting)]
+        for length in (*range(130), 447, 448, 449, 511, 512, 513, 1 << 40, (1 << 64) - 1):
+            if not any(is_in(length, *case) for case in found):
+                raise Wrong(f"no chunk has {length} bytes beside {waiting}")
+    mark, stripe = 0x5EED1000, 16
+    for word in (
+        0,
+        1,
+        mark - 1,
+        mark + stripe,
+        mark + stripe + 1,
+        (1 << 31) - 1,
+        1 << 31,
+        (1 << 31) + mark - 1,
+        (1 << 31) + mark,
+        (1 << 32) - 1,
+        *range(mark, mark + stripe),
+    ):
+        has = any(is_in(word, *case) for case in cargo_calls.not_marked(mark, stripe))
+        expect(has, not mark <= word < mark + stripe, f"the word {word:#x} as no mark")
+
+
+def is_in(value, x, facts):
+    """True if a number, or a variable and a number, may be this value under the facts."""
+    names = names_of(x)
+    point = {name: value - value_at(x, {name: 0}) for name in names}
+    return (
+        value_at(x, point) == value
+        and all(number >= 0 for number in point.values())
+        and all(value_at(fact, point) >= 0 for fact in facts)
+    )
+
+
+def copied_states(_):
+    """Tests that a copy of a state has its bytes, and that the original keeps them."""
+
+    def copy(to, source, is_back=False):
+        (to, _), (source, _) = (source.place(), to.place()) if is_back else (to.place(), source.place())
+        to.cells = dict(source.cells)
+
+    for call, is_right in (
+        (copy, True),
+        (functools.partial(copy, is_back=True), False),
+        (lambda *_: None, False),
+        (lambda to, source: copy(to, source) or source.place()[0].store(8, 8, 5), False),
+    ):
+        cpu = processors.made()
+        cpu.call = lambda _, *places, call=call: call(*places)
+        expect(calls.copies(cpu), 3, "copies") if is_right else refuses(
+            lambda: calls.copies(cpu), "a wrong copy", REFUSALS
+        )
+
+
+def ends_of_streams(_):
+    """Tests that only tasks of XXH32 and XXH64 have resets and digests."""
+    for names, is_all in itertools.product((("32", "64"), ("32",)), (False, True)):
+        with patched(tasks, "counted", lambda title, least, ask: ask):
+            asked = [
+                ask.args
+                for ask in tasks.plain_stream_tasks({"a": "made"}, is_all, 50, "{}", names)
+                if hasattr(ask, "args")
+            ]
+        parts = range(tasks.UPDATE_PARTS) if is_all else [None]
+        expect(
+            asked == [("made", name, part, 50, len(names) > 1) for name in names for part in parts],
+            True,
+            "tasks of streams",
+        )
+
+
+def nothing_supposed(_):
+    """Tests that a proof begins without the hypotheses of another one."""
+    cpu = processors.made()
+    whole, plain = xxh3_states.OwnSecret(cpu), any_updates.AnyUpdates(cpu, "64")
+    plain.begin(100)
+    for begin in (
+        lambda: every_length.EveryLength(cpu, "64"),
+        lambda: long_seeds.LongSeeds(cpu),
+        lambda: whole.begin(5),
+        lambda: plain.state(0, 0),
+        plain.read,
+        whole.read,
+    ):
+        suppositions.values["a call"] = 5
+        begin()
+        expect("a call" not in suppositions.values, True, "hypotheses of another proof")
+
+
 def nothing_assumed(_):
     """Tests that calls which don't depend on a seed assume no term to be nonzero."""
 
@@ -479,7 +604,13 @@ ALL = [
     edges_of_blocks,
     queries,
     chunks,
+    starts_of_updates,
+    digests,
     several_updates,
     points,
+    chunks_of_refusals,
+    copied_states,
+    ends_of_streams,
+    nothing_supposed,
     nothing_assumed,
 ]

@@ -5,7 +5,7 @@ import types
 import unittest.mock
 
 import same_bytes
-from machine_code import cargo_exports, exports, object_contents
+from machine_code import cargo, cargo_exports, exports, object_contents, unwinding
 from machine_code.object_contents import CODE, CONSTANTS, INFO, MERGEABLE, NOBITS, PROGBITS, SHADOW_STACK, WRITTEN
 from machine_code.objects import Register
 from same_bytes import NONE, NOTE, RELA, STRTAB, SYMTAB
@@ -184,6 +184,70 @@ def loaded_sections(_):
     expect(found == [".text.f", ".rodata.cst16", ".rodata", ".text.g"], True, "loaded sections")
 
 
+def relocations(_):
+    """Tests the targets of relocations, in which assemblers differ: calls of local names, and mergeable sections."""
+    whole = types.SimpleNamespace(heads=made().heads, symbols=made().symbols)
+    local, label, section = G, LABEL, 4
+    whole.symbols.append(types.SimpleNamespace(name="c", info=0x01, other=0, section=4, value=16, size=16))
+    whole.symbols.append(types.SimpleNamespace(name="", info=0x03, other=0, section=4, value=0, size=0))
+    for machine, symbol, kind, expected in (
+        (62, F, 4, (5, 4, "f", 0, -4)),
+        (62, local, 4, (5, 2, ".text.g", -4, 0)),
+        (62, local, 2, (5, 2, ".text.g", -4, 0)),
+        (183, local, 4, (5, 4, ".text.g", -4, 0)),
+        (62, label, 2, (5, 2, ".text.f", 4, 0)),
+        (62, section, 2, (5, 2, ".rodata", -4, 0)),
+        (62, 6, 2, (5, 2, ".rodata.cst16", 16, -4)),
+        (62, 7, 2, (5, 2, ".rodata.cst16", -4, 0)),
+    ):
+        whole.machine = machine
+        found = same_bytes.Object.relocation(whole, 5, symbol << 32 | kind, -4)
+        expect(found == expected, True, f"a relocation of kind {kind} to {symbol}: {found}")
+
+
+def names(_):
+    """Tests which names and sections of an object are compared."""
+    other = [
+        *SECTIONS,
+        (".comment", PROGBITS, 0, 9, 1, 0, 0, 0),
+        (".weird", PROGBITS, 0, 9, 1, 0, 0, 0),
+        (".rel", 9, 0, 9, 8, 0, 0, 0),
+    ]
+    whole = made(other, [*SYMBOLS, ("_GLOBAL_OFFSET_TABLE_", 0x10, 0, 0, 0, 0)])
+    whole.place = lambda symbol: same_bytes.Object.place(whole, symbol)
+    head, _, found = same_bytes.Object.names(whole, ["a", "b"])
+    expect(head == (62, 0, bytes((1, 0, 0)), ["a", "b"]), True, "the head of an object")
+    expected = [("f", ".text.f+0x0", 8, 0x12, 0), ("memcpy", 0x10, 0), ".weird", "the stack may be executed: False"]
+    expect(found == expected, True, f"the names of an object: {found}")
+    stack = [one[0] for one in SECTIONS].index(".note.GNU-stack")
+    for flags, is_run in ((4, True), (0, False), (1, False)):
+        whole.heads[stack].flags = flags
+        expect(same_bytes.Object.names(whole, [])[2][-1] == f"the stack may be executed: {is_run}", True, "the stack")
+
+
+def spoiled_frames(_):
+    """Tests that an instruction that changes the stack pointer by no known distance is refused, on each processor."""
+    for name, is_right in (("rax", True), ("rsp", False), ("sp", False)):
+        processor = types.SimpleNamespace(NUMBERS={}, ENTRY=(8, {16: -8}), effect=lambda _: (0, {}, {}, [name], (0, 0)))
+        fault = unwinding.difference(processor, None, processor.ENTRY, processor.ENTRY)
+        expect(fault is None, is_right, f"a changed {name}")
+
+
+def names_of_cargo(_):
+    """Tests the names of the cargo crate's functions, without the interface's number."""
+    for name, expected in (
+        ("twox_rust_7_xxh3_write", "xxh3_write"),
+        ("twox_rust_7_xxh3_write_v4", "xxh3_write"),
+        ("twox_core.a.b.i7", "twox_core.a.b"),
+        ("twox_core.a.b.i12_v3", "twox_core.a.b"),
+        ("twox_rust_interface", "interface"),
+        ("twox_rust_interface_v3", "interface"),
+    ):
+        expect(cargo.plain(name) == expected, True, f"the name of {name}")
+    for name in ("twox_core.a.b", "twox_rust_xxh3_write", "f", "twox_core.a.b.i7_v2"):
+        refuses(lambda: cargo.plain(name), f"the name {name}", (Unsupported,))
+
+
 # ---- exports
 
 
@@ -352,4 +416,17 @@ def shared_functions(_):
     expect(cargo_exports.shared(first, other) == {*"jk"}, True, "a function within a section")
 
 
-ALL = [sections, symbols, properties, loaded_sections, codes, titles, exports_of_v3, shared_functions]
+ALL = [
+    sections,
+    symbols,
+    properties,
+    loaded_sections,
+    relocations,
+    names,
+    spoiled_frames,
+    names_of_cargo,
+    codes,
+    titles,
+    exports_of_v3,
+    shared_functions,
+]

@@ -1,22 +1,23 @@
 """Tests of values at the edges of comparisons: jumps, requests, lengths, and files or copies that are refused. Each
 test takes a random generator and raises Wrong."""
 import contextlib
+import operator
 import struct
 import types
 import unittest.mock
 
 import antt
-from machine_code import disassembly, object_contents, scalar, stream_state, unwinding, whole_blocks
+from machine_code import disassembly, flags, instructions, object_contents, scalar, stream_state, unwinding, whole_blocks
 from machine_code.instructions import TABLE
 from machine_code.memory import Words
-from machine_code.objects import Immediate, Register
+from machine_code.objects import Immediate, Place, Register
 from machine_code.values import arithmetic
 from symbolic_terms import (Request, Unsupported, at_most, comparison, definition, given, is_same_number, minus, nodes, operations,
                             plus, polynomials, rules, symbol, times, variable)
 from symbolic_terms.induction import Induction
 
 from . import processors
-from .values import Wrong, expect, refuses
+from .values import Wrong, expect, refuses, value_of
 
 assert scalar                     # imported because it fills the table of instructions
 
@@ -251,6 +252,91 @@ def spoiled_stack(_):
         expect("rsp" in unwinding.X86.effect(x)[3], True, f"{mnemonic} of the stack pointer")
 
 
+def near_offsets(_):
+    """Tests which offsets are small enough to compare addresses by them."""
+    n, far = variable("n"), 1 << 62
+    with given(at_most(n, 8)):
+        for at, holds in ((0, True), (far, True), (-far, True), (far + 1, False), (-far - 1, False), (n, True), (plus(n, far - 8), True),
+                          (plus(n, far - 7), False), (plus(n, -far), True), (plus(n, -far - 1), False)):
+            expect(flags.is_near(at), holds, f"the offset {at}")
+
+
+def lost_flags_of_shifts(_):
+    """Tests which flags a shift or rotation leaves: none of a rotation, the zero flag of a shift, all by no bits."""
+    for mnemonic, key, k, kept in (("rol", "iq", 3, ""), ("rol", "iq", 0, "e b"), ("rol", "iq", 64, "e b"), ("shl", "iq", 3, "e"),
+                                   ("shr", "iq", 3, "e"), ("shl", "iq", 64, "e b"), ("shld", "iqq", 4, ""), ("shrd", "iqq", 4, ""),
+                                   ("shld", "iqq", 64, "e b"), ("shrd", "iqq", 0, "e b")):
+        cpu = processors.made()
+        cpu.set_flags("logic", 64, 0, 0, 0)
+        registers = [Register(name) for name in ("rbx", "rax")][-len(key[1:]):]
+        TABLE[mnemonic, key][1](cpu, processors.instruction(mnemonic, Immediate(k), *registers))
+        for name in ("e", "b"):
+            if name in kept.split():
+                expect(cpu.condition(name), name == "e" and k % 64 == 0, f"{name} after {mnemonic} by {k}")
+            else:
+                refuses(lambda: cpu.condition(name), f"{name} after {mnemonic} by {k}")
+
+
+def forms_of_operands(_):
+    """Tests the letters of operands, by which the table has its forms."""
+    for operand, letter in ((Immediate(1), "i"), (Register("al"), "b"), (Register("ah"), "h"), (Register("ax"), "w"), (Register("eax"), "l"),
+                            (Register("rax"), "q"), (Register("xmm1"), "x"), (Register("ymm1"), "y"), (Register("zmm1"), "z"),
+                            (Register("st"), "?"), (Place(0, "rax", None, 1), "m"), (Place(0, "rip", None, 1), "m"),
+                            (Place(0, None, None, 1), "m"), (Place(0, None, "r9", 4), "m"), (Place(0, "eax", None, 1), "?"),
+                            (Place(0, "rax", "ecx", 1), "?"), (Place(0, "eip", None, 1), "?"), (Place(0, "fs", "rax", 1), "?")):
+        expect(instructions.letter(operand) == letter, True, f"the letter of {operand}")
+
+
+def tables_of_bits(_):
+    """Tests that of the functions of three bits only xor is run."""
+    names = [Register(f"zmm{k}") for k in range(3)]
+    for table in (0x96, 0x95, 0x97, 0, 0xFF, 0x69):
+        cpu, x = processors.made(), processors.instruction("vpternlogq", Immediate(table), *names)
+        for k in range(3):
+            cpu.vectors[k] = [1 << k] * 8
+        if table == 0x96:
+            TABLE["vpternlogq", "izzz"][1](cpu, x)
+            expect(cpu.vectors[2][0], 7, "three bits")
+        else:
+            refuses(lambda: TABLE["vpternlogq", "izzz"][1](cpu, x), f"the table {table:#x}", (Unsupported,))
+
+
+def masks_of_numbers(_):
+    """Compares masked numbers with all of their values."""
+    n = variable("n")
+    for most in (1, 3, 5, 7, 8, 100):
+        with given(at_most(n, most)):
+            for mask in (*range(17), 24, 96, 0xF0, 255, 256):
+                for x in (n, plus(times(8, n), 3)):
+                    found = arithmetic("and", 64, x, mask)
+                    for value in range(most + 1) if not isinstance(found, nodes.Node) else ():
+                        point = {"n": value}
+                        expect(polynomials.value_at(found, point), polynomials.value_at(x, point) & mask, f"{x} under {mask}")
+
+
+def numbers_and_terms(_):
+    """Compares operators of a term and a number that facts bound, in both orders, and of two terms."""
+    n, x = variable("n"), symbol("x64", 64)
+    with given(at_most(n, 100)):
+        a, b = symbol("n", 64).values[0], x.values[0]
+        for what, of in (("+", operator.add), ("*", operator.mul), ("^", operator.xor), ("|", operator.or_), ("&", operator.and_),
+                         ("%", operator.mod), ("//", operator.floordiv)):
+            expect(value_of(of(x, n)), of(b, a), f"{what} of a term and a number")
+            expect(value_of(of(x, operations.add(x, 1))), of(b, b + 1), f"{what} of terms")
+            expect(value_of(of(n, x)), of(a, b), f"{what} of a number and a term") if what not in "%//" else None
+
+
+def forgotten_terms(_):
+    """Tests that terms made since a mark are forgotten everywhere."""
+    x = symbol("x64", 64)
+    point = nodes.mark()
+    for k in range(20):
+        operations.add_at(64, (k, x), (3, operations.multiply_at(64, x, operations.xor(operations.add(x, k), 9))))
+    nodes.release(point)
+    expect(nodes.mark() == point, True, "the tables after a release")
+
+
 ALL = [jumps, jumps_of_arm, forms, narrow_sums, lost_flags, unions, remainders, replaced_variables, identities, sections,
        copies_of_memory, seeds, lengths, orders, stored_words, bounds, sums_of_parts, no_bits, unset_flags, moved_bits, powers,
-       points_of_facts, spoiled_stack]
+       points_of_facts, spoiled_stack, near_offsets, lost_flags_of_shifts, forms_of_operands, tables_of_bits, masks_of_numbers,
+       numbers_and_terms, forgotten_terms]
