@@ -23,15 +23,18 @@ from machine_code import (
     xxh3_updates,
 )
 from machine_code.cargo import CargoProgram
+from machine_code.xxh3_updates import EMPTY
 from symbolic_terms import (
     LONGEST,
     REFUSALS,
     NotShown,
     Request,
+    Unsupported,
     WrongRule,
     at_most,
     comparison,
     given,
+    is_same_number,
     minus,
     names_of,
     plus,
@@ -400,6 +403,7 @@ def starts_of_updates(_):
                 raise Wrong(f"no start of {whole} stripes has {point}")
     for least, most in ((1, 4), (2, 4), (1, 3), (3, 2)):
         expect([g for g, _ in xxh3_updates.stripes_of(most, least)] == [*range(least, most + 1)], True, "few stripes")
+    expect([g for g, _ in xxh3_updates.stripes_of(5)] == [variable("g")], True, "many stripes")
     ((g, facts),) = xxh3_updates.stripes_of(8, 2)
     expect([value_at(fact, {"g": 5}) for fact in facts] == [3, 3] and g == variable("g"), True, "many stripes")
 
@@ -412,6 +416,48 @@ def digests(_):
         short = [f for place, f, *_ in cases if isinstance(place[0], int) and isinstance(f, int)]
         expect(short == [*range(241)], True, "short messages")
         expect(len(list(coverage.without_digest(cases, proof, 60))), 0, "states without a digest")
+
+
+def whole_digests(_):
+    """Tests that the stripes of a digest's buffer begin at its state's place and end where they should."""
+    for kind in (xxh3_states.OwnSecret, xxh3_states.CallersSecret):
+        proof = kind(processors.made())
+        for place, f, facts, stripes in proof.digests():
+            for part in stripes:
+                expect(all(map(is_same_number, place, part.start)), True, f"the place of {part}")
+                end = plus(proof.stripes(place), part.turns)
+                expect(is_same_number(proof.stripes(part.end), end), True, f"the end of {part}")
+
+
+def kinds_of_pieces(_):
+    """Tests that all updates are those by chunks that fit, and by others that take no stripes, some or many."""
+    proof = xxh3_states.Through(processors.made())
+    proof.small_pieces = lambda: iter(["small"])
+    proof.pieces = lambda to, begin, lefts: iter([(to, any(one is EMPTY for one in begin))])
+    found = list(proof.all_updates())
+    expect(found == ["small", ("none", False), ("none", False), ("some", True), ("many", True)], True, "updates")
+
+
+def short_secrets(_):
+    """Tests that one-shots with secrets that are too short have each kind and length."""
+    asked = []
+
+    def one_shot(_, request):
+        asked.append((request.kind, request.length))
+
+    with patched(calls.one_shots, "of_text", one_shot), patched(calls, "expect", lambda *_: None), patched(
+        Request, "of_definition", lambda *_: 0
+    ):
+        expect(calls.short_secrets(processors.made(), "3-64"), 243, "calls")
+    n = variable("n")
+    asked_once(asked, [("secret", n), ("both", plus(n, 241)), *(("both", k) for k in range(241))], "short secrets")
+
+
+def refused_secrets(_):
+    """Tests that a generated secret needs the answer of success."""
+    proof = long_seeds.LongSeeds(processors.made())
+    proof.proved = lambda *_: (1, 0)
+    refuses(lambda: proof.show(137), "a refused secret", (Unsupported,))
 
 
 def several_updates(_):
@@ -606,10 +652,14 @@ ALL = [
     chunks,
     starts_of_updates,
     digests,
+    whole_digests,
+    kinds_of_pieces,
     several_updates,
     points,
     chunks_of_refusals,
     copied_states,
+    short_secrets,
+    refused_secrets,
     ends_of_streams,
     nothing_supposed,
     nothing_assumed,

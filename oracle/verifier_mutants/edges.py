@@ -11,7 +11,7 @@ from machine_code import disassembly, flags, instructions, object_contents, scal
 from machine_code.instructions import TABLE
 from machine_code.memory import Words
 from machine_code.objects import Immediate, Place, Register
-from machine_code.values import arithmetic
+from machine_code.values import address, arithmetic
 from symbolic_terms import (Request, Unsupported, at_most, comparison, definition, given, is_same_number, minus, nodes, operations,
                             plus, polynomials, rules, symbol, times, variable)
 from symbolic_terms.induction import Induction
@@ -336,7 +336,70 @@ def forgotten_terms(_):
     expect(nodes.mark() == point, True, "the tables after a release")
 
 
+def far_places(_):
+    """Tests that addresses are only compared by their offsets if both are within their object, or near to it."""
+    n, room = variable("n"), Words("room", 1 << 20, alignment=8)
+    with given(minus(n, 1), at_most(n, 100)):
+        near, far = address(room, n), address(room, times(1 << 63, n))
+        for a, b in ((near, far), (far, near)):
+            refuses(lambda: flags.are_one_place(a, b), "places of which one is far away")
+        expect(flags.are_one_place(near, address(room, plus(n, 1))), False, "two places")
+
+
+def quotients(_):
+    """Tests that a quotient of two words, or by 0, is refused."""
+    for above, b, is_right in ((0, 7, True), (1, 7, False), (0, 0, False)):
+        cpu, x = processors.made(), processors.instruction("div", Register("rcx"))
+        cpu.registers.update(rdx=above, rax=100, rcx=b)
+        if is_right:
+            TABLE["div", "q"][1](cpu, x)
+            expect((cpu.registers["rax"], cpu.registers["rdx"]) == (14, 2), True, "a quotient and a remainder")
+        else:
+            refuses(lambda: TABLE["div", "q"][1](cpu, x), f"a quotient of {above} and {b}", (Unsupported,))
+
+
+def selected_words(_):
+    """Tests which words of two vectors shufps selects."""
+    for order in (0b11100100, 0b00011011, 0):
+        cpu, x = processors.made(), processors.instruction("shufps", Immediate(order), Register("xmm1"), Register("xmm2"))
+        source, to = [10, 11, 12, 13], [20, 21, 22, 23]
+        for k, words in ((1, source), (2, to)):
+            cpu.vectors[k][:2] = [words[0] | words[1] << 32, words[2] | words[3] << 32]
+        TABLE["shufps", "ixx"][1](cpu, x)
+        picked = [some[order >> 2 * k & 3] for k, some in enumerate((to, to, source, source))]
+        expect(cpu.vectors[2][:2] == [picked[0] | picked[1] << 32, picked[2] | picked[3] << 32], True, f"words by {order:#x}")
+
+
+def patterns(_):
+    """Tests the patterns of a definition's clause."""
+    made = antt.Definition(types.SimpleNamespace(path="a"), "f", [], False)
+    for words, expected in (("( suc n )", [("suc", "n")]), ("zero n Some", [("zero",), ("name", "n"), ("constructor", "Some")]),
+                            ("( Some n )", None), ("( suc n m )", None)):
+        made.clauses = [([(word, 0) for word in words.split()], [])]
+        if expected:
+            expect(made.patterns(0) == expected, True, f"the pattern {words}")
+        else:
+            refuses(lambda: made.patterns(0), f"the pattern {words}", antt.Unreadable)
+
+
+def runs_of_sources(_):
+    """Tests that runs of two inputs stay two, also if they continue each other."""
+    first, second = stream_state.Source("a", 600), stream_state.Source("b", 600)
+    state = stream_state.State("state", 600, [], [], (0, 512))
+    for at, source in ((0, first), (64, second), (128, second)):
+        state.put_run(at, 64, source, at)
+    for run, holds in (((0, 64, first, 0), True), ((64, 192, second, 0), True), ((0, 128, first, 0), False), ((0, 128, second, 0), False)):
+        expect(state.has_run(run), holds, f"the run {run}")
+
+
+def names_as_values(_):
+    """Tests that equal names agree, whichever strings they are."""
+    expect(polynomials.agree("a name", " ".join(["a", "name"])), True, "a name")
+    expect(polynomials.agree(("a name", 5), (" ".join(["a", "name"]), 5)), True, "a name and a number")
+    expect(polynomials.agree("a name", "names"), False, "another name")
+
+
 ALL = [jumps, jumps_of_arm, forms, narrow_sums, lost_flags, unions, remainders, replaced_variables, identities, sections,
        copies_of_memory, seeds, lengths, orders, stored_words, bounds, sums_of_parts, no_bits, unset_flags, moved_bits, powers,
        points_of_facts, spoiled_stack, near_offsets, lost_flags_of_shifts, forms_of_operands, tables_of_bits, masks_of_numbers,
-       numbers_and_terms, forgotten_terms]
+       numbers_and_terms, forgotten_terms, far_places, quotients, selected_words, patterns, runs_of_sources, names_as_values]

@@ -157,6 +157,8 @@ def heads(_):
     loops.pass_by(None, place)
     expect(len(shown), 0, "proofs while cells are guessed")
     loops.is_guessing = False
+    loops.pass_by(None, ("f", 4))
+    expect(len(shown), 0, "proofs at another place")
     loops.pass_by(None, place)
     expect(len(shown), 1, "proofs of a loop")
     loops.stop, loops.running = place, {}
