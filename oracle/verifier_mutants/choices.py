@@ -307,7 +307,7 @@ def each_update(_):
 
 
 def proved_updates(_):
-    """Tests the stripes and facts of each update's proof, and that it is repeated with a total that becomes 2^64 - 1."""
+    """Tests the stripes and facts of each update's proof, also with a total that becomes 2^64 - 1."""
     proof, asked = any_updates.AnyUpdates(processors.made(), "64"), []
     proof.update_between = lambda *of: asked.append(of)
     a, d = variable("a"), variable("d")
@@ -389,7 +389,7 @@ def chunks(_):
 
 
 def starts_of_updates(_):
-    """Tests that each full buffer, at each place in a block, is a start of an update, and ends where its case has it."""
+    """Tests that each full buffer, at each place in a block, is a start of an update with the right end."""
     for whole, is_split in itertools.product((2, 4, 8), (False, True)):
         found, q = list(xxh3_updates.starts(whole, is_split)), 9
         places = [(g, j, 20 * (j % 2)) for g in range(1, whole + 1) for j in range(q)] + [(1, 3, r) for r in range(64)]
@@ -413,8 +413,10 @@ def digests(_):
     for kind in (xxh3_states.OwnSecret, xxh3_states.CallersSecret):
         proof = kind(processors.made())
         cases = list(proof.digests())
-        short = [f for place, f, *_ in cases if isinstance(place[0], int) and isinstance(f, int)]
+        short = [f for place, f, *_ in cases if is_same_number(place[0], 0) and isinstance(f, int)]
         expect(short == [*range(241)], True, "short messages")
+        starts = {str(place) for place, *_ in cases if isinstance(place[0], int)}
+        expect(starts == {"(0, 0)"}, True, "places of short messages")
         expect(len(list(coverage.without_digest(cases, proof, 60))), 0, "states without a digest")
 
 
@@ -454,7 +456,7 @@ def short_secrets(_):
 
 
 def refused_secrets(_):
-    """Tests that a generated secret needs the answer of success."""
+    """Tests that a generated secret needs the code of success."""
     proof = long_seeds.LongSeeds(processors.made())
     proof.proved = lambda *_: (1, 0)
     refuses(lambda: proof.show(137), "a refused secret", (Unsupported,))
