@@ -1,20 +1,23 @@
 """Tests of values at the edges of comparisons: jumps, requests, lengths, and files or copies that are refused. Each
-test takes a random generator, which it doesn't use, and raises Wrong."""
+test takes a random generator and raises Wrong."""
 import contextlib
+import operator
 import struct
 import types
+import unittest.mock
 
 import antt
-from machine_code import disassembly, object_contents, scalar, stream_state, whole_blocks
+from machine_code import disassembly, flags, instructions, object_contents, scalar, stream_state, unwinding, whole_blocks
 from machine_code.instructions import TABLE
 from machine_code.memory import Words
-from machine_code.objects import Immediate, Register
-from symbolic_terms import (Request, Unsupported, at_most, comparison, definition, given, is_same_number, operations, plus,
-                            polynomials, symbol, times, variable)
+from machine_code.objects import Immediate, Place, Register
+from machine_code.values import address, arithmetic
+from symbolic_terms import (Request, Unsupported, at_most, comparison, definition, given, is_same_number, minus, nodes, operations,
+                            plus, polynomials, rules, symbol, times, variable)
 from symbolic_terms.induction import Induction
 
 from . import processors
-from .values import Wrong, expect, refuses
+from .values import Wrong, expect, refuses, value_of
 
 assert scalar                     # imported because it fills the table of instructions
 
@@ -155,4 +158,248 @@ def stored_words(_):
             raise Wrong(f"the word of a {cell} cell")
 
 
-ALL = [jumps, jumps_of_arm, forms, narrow_sums, lost_flags, unions, remainders, replaced_variables, identities, sections, copies_of_memory, seeds, lengths, orders, stored_words]
+def bounds(_):
+    """Compares operations of a term and a number near its greatest value with Python's, at each end of both."""
+    for width in (1, 8, 13, 63, 64):
+        name, top = f"e{width}", (1 << width) - 1
+        x = symbol(name, width)
+        for b in sorted({1, 2, 3, 10, top // 2 + 1, top - 1, top, top + 1} - {0}):
+            for what, found, expected in (
+                    ("remainder", operations.remainder(x, b), lambda a: a % b), ("quotient", operations.quotient(x, b), lambda a: a // b),
+                    ("difference", operations.monus(b, x), lambda a: max(0, b - a)), ("or", operations.either(x, b), lambda a: a | b),
+                    ("and", operations.both(x, b), lambda a: a & b), ("xor", operations.xor(x, b), lambda a: a ^ b),
+                    ("sum", operations.add(x, b), lambda a: a + b), ("product", operations.multiply(x, b), lambda a: a * b),
+                    ("sum of two", operations.add_at(64, (b, x), (1, operations.xor(operations.add(x, 1), b))),
+                     lambda a: (b * a + (a + 1 ^ b)) % (1 << 64))):
+                for value in {0, 1, top // 2, top - 1, top} - {-1}:
+                    expect(nodes.values_at([found], {name: value})[0], expected(value), f"the {what} of {value} and {b}")
+            for what, found, is_decided, holds in (("below", lambda: operations.is_below(x, b), b > top, True),
+                                                   ("above", lambda: operations.is_below(b, x), b >= top, False)):
+                if is_decided:
+                    expect(found(), holds, f"{width} bits {what} {b}")
+                else:
+                    refuses(found, f"{width} bits {what} {b}")
+
+
+def sums_of_parts(draw):
+    """Compares sums of xored and shifted parts of sums and products with Python's. Operations compare their values."""
+    x, y = (symbol(name, 64) for name in ("p64", "q64"))
+    for _ in range(150):
+        width, k, n = draw.choice((32, 64, 128)), draw.randrange(64), draw.randrange(1, 65)
+        a, b = (draw.choice((operations.add, operations.multiply, operations.xor))(x, y) for _ in range(2))
+        a = operations.xor(operations.bits(a, draw.choice((0, k)), n), draw.choice((0, 1, (1 << n) - 1, draw.getrandbits(n))))
+        found = operations.add_at(width, (1 << draw.randrange(width), a), (draw.choice((1, -1, 3)), b), (1, draw.getrandbits(64)))
+        operations.xor(operations.bits(found, k, n), draw.getrandbits(n))
+
+
+def no_bits(_):
+    """Tests that no bits of a value are no segments, and that a term or itself is the term."""
+    x = symbol("r64", 64)
+    for value in (5, x, operations.add(x, 1), operations.xor(x, 5)):
+        for n in (0, -1):
+            expect(rules.bits_of(value, 3, n) == [], True, f"{n} bits")
+    for operation in (operations.either, operations.both):
+        expect(operation(x, x) is x, True, "a term and itself")
+
+
+def unset_flags(_):
+    """Tests that no condition holds if the flags aren't set."""
+    for name in ("e", "ne", "b", "ae", "a", "be", "l", "ge", "g", "le"):
+        refuses(lambda: processors.made().condition(name), f"{name} of no flags", (Unsupported,))
+
+
+def moved_bits(_):
+    """Tests that united numbers are only moved by a number, and only masked by one."""
+    n = variable("n")
+    with given(at_most(n, 100)):
+        united = arithmetic("or", 64, n, times(4, n))
+        for word, a, b in (("lshr", united, n), ("lshr", 5, united), ("and", united, n), ("and", united, united), ("shl", united, 3),
+                           ("or", united, 1), ("xor", united, 1), ("sub", united, 1)):
+            refuses(lambda: arithmetic(word, 64, a, b), f"{word} of united numbers")
+        for found in (arithmetic("and", 64, united, 24), arithmetic("and", 64, 24, united)):
+            expect(found.mask, 24, "a mask of united numbers")
+
+
+def powers(_):
+    """Tests that the definitions have no power with an exponent above 4,096."""
+    expect(antt.OPERATORS["^"](2, 4096) == 1 << 4096, True, "a power")
+    refuses(lambda: antt.OPERATORS["^"](2, 4097), "a power with a greater exponent", antt.Unreadable)
+
+
+def points_of_facts(draw):
+    """Tests where points are drawn that satisfy facts: the known ones first, and until one or enough are found."""
+    names, known = ["a", "b"], [{"a": 10 ** 6 + k, "b": 7 * k} for k in range(polynomials.KEPT)]
+    expect(polynomials.drawn_points(names, draw, known, polynomials.NEAR) == known, True, "known points")
+    expect(polynomials.drawn_points(names, draw, (), 1) == [{"a": 0, "b": 0}], True, "the first point")
+    a = variable("a")
+    with given(minus(a, 5)):
+        for around in ((), known, [{"a": 1, "b": 2}]):
+            found = polynomials.drawn_points(["a"], draw, [{"a": point["a"]} for point in around], 100)
+            expect(len(found) == polynomials.KEPT and all(point["a"] >= 5 for point in found), True, "points from 5 on")
+    with given(minus(times(3, a), plus(variable("b"), 10)), at_most(a, 100)):
+        expect(all(3 * point["a"] >= point["b"] + 10 and point["a"] <= 100 for point in polynomials.under.points), True, "points")
+    for late, count, tried in ((0, 8, 8), (50, 8, 58), (58, 4, 62), (80, 1, 81), (400, 0, 90)):
+        asked = []
+        with unittest.mock.patch.object(polynomials, "moved", lambda point, _: asked.append(1) or (point if len(asked) > late else None)):
+            expect(len(polynomials.drawn_points(names, draw, (), 90)), count, f"points of which the first {late} don't fit")
+        expect(len(asked), tried, f"tried points of which the first {late} don't fit")
+
+
+def spoiled_stack(_):
+    """Tests that an instruction that sets the stack pointer in another way than by a distance spoils it."""
+    for mnemonic in ("and", "mov", "or", "xor", "lea", "imul", "shl", "adc", "sbb"):
+        x = processors.instruction(mnemonic, Immediate(64), Register("rsp"))
+        expect("rsp" in unwinding.X86.effect(x)[3], True, f"{mnemonic} of the stack pointer")
+
+
+def near_offsets(_):
+    """Tests which offsets are small enough to compare addresses by them."""
+    n, far = variable("n"), 1 << 62
+    with given(at_most(n, 8)):
+        for at, holds in ((0, True), (far, True), (-far, True), (far + 1, False), (-far - 1, False), (n, True), (plus(n, far - 8), True),
+                          (plus(n, far - 7), False), (plus(n, -far), True), (plus(n, -far - 1), False)):
+            expect(flags.is_near(at), holds, f"the offset {at}")
+
+
+def lost_flags_of_shifts(_):
+    """Tests which flags a shift or rotation leaves: none of a rotation, the zero flag of a shift, all by no bits."""
+    for mnemonic, key, k, kept in (("rol", "iq", 3, ""), ("rol", "iq", 0, "e b"), ("rol", "iq", 64, "e b"), ("shl", "iq", 3, "e"),
+                                   ("shr", "iq", 3, "e"), ("shl", "iq", 64, "e b"), ("shld", "iqq", 4, ""), ("shrd", "iqq", 4, ""),
+                                   ("shld", "iqq", 64, "e b"), ("shrd", "iqq", 0, "e b")):
+        cpu = processors.made()
+        cpu.set_flags("logic", 64, 0, 0, 0)
+        registers = [Register(name) for name in ("rbx", "rax")][-len(key[1:]):]
+        TABLE[mnemonic, key][1](cpu, processors.instruction(mnemonic, Immediate(k), *registers))
+        for name in ("e", "b"):
+            if name in kept.split():
+                expect(cpu.condition(name), name == "e" and k % 64 == 0, f"{name} after {mnemonic} by {k}")
+            else:
+                refuses(lambda: cpu.condition(name), f"{name} after {mnemonic} by {k}")
+
+
+def forms_of_operands(_):
+    """Tests the letters of operands, by which the table has its forms."""
+    for operand, letter in ((Immediate(1), "i"), (Register("al"), "b"), (Register("ah"), "h"), (Register("ax"), "w"), (Register("eax"), "l"),
+                            (Register("rax"), "q"), (Register("xmm1"), "x"), (Register("ymm1"), "y"), (Register("zmm1"), "z"),
+                            (Register("st"), "?"), (Place(0, "rax", None, 1), "m"), (Place(0, "rip", None, 1), "m"),
+                            (Place(0, None, None, 1), "m"), (Place(0, None, "r9", 4), "m"), (Place(0, "eax", None, 1), "?"),
+                            (Place(0, "rax", "ecx", 1), "?"), (Place(0, "eip", None, 1), "?"), (Place(0, "fs", "rax", 1), "?")):
+        expect(instructions.letter(operand) == letter, True, f"the letter of {operand}")
+
+
+def tables_of_bits(_):
+    """Tests that of the functions of three bits only xor is run."""
+    names = [Register(f"zmm{k}") for k in range(3)]
+    for table in (0x96, 0x95, 0x97, 0, 0xFF, 0x69):
+        cpu, x = processors.made(), processors.instruction("vpternlogq", Immediate(table), *names)
+        for k in range(3):
+            cpu.vectors[k] = [1 << k] * 8
+        if table == 0x96:
+            TABLE["vpternlogq", "izzz"][1](cpu, x)
+            expect(cpu.vectors[2][0], 7, "three bits")
+        else:
+            refuses(lambda: TABLE["vpternlogq", "izzz"][1](cpu, x), f"the table {table:#x}", (Unsupported,))
+
+
+def masks_of_numbers(_):
+    """Compares masked numbers with all of their values."""
+    n = variable("n")
+    for most in (1, 3, 5, 7, 8, 100):
+        with given(at_most(n, most)):
+            for mask in (*range(17), 24, 96, 0xF0, 255, 256):
+                for x in (n, plus(times(8, n), 3)):
+                    found = arithmetic("and", 64, x, mask)
+                    for value in range(most + 1) if not isinstance(found, nodes.Node) else ():
+                        point = {"n": value}
+                        expect(polynomials.value_at(found, point), polynomials.value_at(x, point) & mask, f"{x} under {mask}")
+
+
+def numbers_and_terms(_):
+    """Compares operators of a term and a number that facts bound, in both orders, and of two terms."""
+    n, x = variable("n"), symbol("x64", 64)
+    with given(at_most(n, 100)):
+        a, b = symbol("n", 64).values[0], x.values[0]
+        for what, of in (("+", operator.add), ("*", operator.mul), ("^", operator.xor), ("|", operator.or_), ("&", operator.and_),
+                         ("%", operator.mod), ("//", operator.floordiv)):
+            expect(value_of(of(x, n)), of(b, a), f"{what} of a term and a number")
+            expect(value_of(of(x, operations.add(x, 1))), of(b, b + 1), f"{what} of terms")
+            expect(value_of(of(n, x)), of(a, b), f"{what} of a number and a term") if what not in "%//" else None
+
+
+def forgotten_terms(_):
+    """Tests that terms made since a mark are forgotten everywhere."""
+    x = symbol("x64", 64)
+    point = nodes.mark()
+    for k in range(20):
+        operations.add_at(64, (k, x), (3, operations.multiply_at(64, x, operations.xor(operations.add(x, k), 9))))
+    nodes.release(point)
+    expect(nodes.mark() == point, True, "the tables after a release")
+
+
+def far_places(_):
+    """Tests that addresses are only compared by their offsets if both are within their object, or near to it."""
+    n, room = variable("n"), Words("room", 1 << 20, alignment=8)
+    with given(minus(n, 1), at_most(n, 100)):
+        near, far = address(room, n), address(room, times(1 << 63, n))
+        for a, b in ((near, far), (far, near)):
+            refuses(lambda: flags.are_one_place(a, b), "places of which one is far away")
+        expect(flags.are_one_place(near, address(room, plus(n, 1))), False, "two places")
+
+
+def quotients(_):
+    """Tests that a quotient of two words, or by 0, is refused."""
+    for above, b, is_right in ((0, 7, True), (1, 7, False), (0, 0, False)):
+        cpu, x = processors.made(), processors.instruction("div", Register("rcx"))
+        cpu.registers.update(rdx=above, rax=100, rcx=b)
+        if is_right:
+            TABLE["div", "q"][1](cpu, x)
+            expect((cpu.registers["rax"], cpu.registers["rdx"]) == (14, 2), True, "a quotient and a remainder")
+        else:
+            refuses(lambda: TABLE["div", "q"][1](cpu, x), f"a quotient of {above} and {b}", (Unsupported,))
+
+
+def selected_words(_):
+    """Tests which words of two vectors shufps selects."""
+    for order in (0b11100100, 0b00011011, 0):
+        cpu, x = processors.made(), processors.instruction("shufps", Immediate(order), Register("xmm1"), Register("xmm2"))
+        source, to = [10, 11, 12, 13], [20, 21, 22, 23]
+        for k, words in ((1, source), (2, to)):
+            cpu.vectors[k][:2] = [words[0] | words[1] << 32, words[2] | words[3] << 32]
+        TABLE["shufps", "ixx"][1](cpu, x)
+        picked = [some[order >> 2 * k & 3] for k, some in enumerate((to, to, source, source))]
+        expect(cpu.vectors[2][:2] == [picked[0] | picked[1] << 32, picked[2] | picked[3] << 32], True, f"words by {order:#x}")
+
+
+def patterns(_):
+    """Tests the patterns of a definition's clause."""
+    made = antt.Definition(types.SimpleNamespace(path="a"), "f", [], False)
+    for words, expected in (("( suc n )", [("suc", "n")]), ("zero n Some", [("zero",), ("name", "n"), ("constructor", "Some")]),
+                            ("( Some n )", None), ("( suc n m )", None)):
+        made.clauses = [([(word, 0) for word in words.split()], [])]
+        if expected:
+            expect(made.patterns(0) == expected, True, f"the pattern {words}")
+        else:
+            refuses(lambda: made.patterns(0), f"the pattern {words}", antt.Unreadable)
+
+
+def runs_of_sources(_):
+    """Tests that runs of two inputs stay two, also if they continue each other."""
+    first, second = stream_state.Source("a", 600), stream_state.Source("b", 600)
+    state = stream_state.State("state", 600, [], [], (0, 512))
+    for at, source in ((0, first), (64, second), (128, second)):
+        state.put_run(at, 64, source, at)
+    for run, holds in (((0, 64, first, 0), True), ((64, 192, second, 0), True), ((0, 128, first, 0), False), ((0, 128, second, 0), False)):
+        expect(state.has_run(run), holds, f"the run {run}")
+
+
+def names_as_values(_):
+    """Tests that equal names agree, whichever strings they are."""
+    expect(polynomials.agree("a name", " ".join(["a", "name"])), True, "a name")
+    expect(polynomials.agree(("a name", 5), (" ".join(["a", "name"]), 5)), True, "a name and a number")
+    expect(polynomials.agree("a name", "names"), False, "another name")
+
+
+ALL = [jumps, jumps_of_arm, forms, narrow_sums, lost_flags, unions, remainders, replaced_variables, identities, sections,
+       copies_of_memory, seeds, lengths, orders, stored_words, bounds, sums_of_parts, no_bits, unset_flags, moved_bits, powers,
+       points_of_facts, spoiled_stack, near_offsets, lost_flags_of_shifts, forms_of_operands, tables_of_bits, masks_of_numbers,
+       numbers_and_terms, forgotten_terms, far_places, quotients, selected_words, patterns, runs_of_sources, names_as_values]

@@ -3,13 +3,15 @@ runs, which places the cases have, and which tasks there are. Each raises Wrong.
 import types
 import unittest.mock
 
-from machine_code import cargo_tasks, coverage, tasks, xxh3_states, xxh3_updates
-from machine_code.induction import Head, Loops, Proof
+from machine_code import cargo_tasks, coverage, tasks, values, xxh3_states, xxh3_updates
+from machine_code.induction import Family, Head, Loops, Proof
 from machine_code.memory import ENTRY, Stack, Words
-from machine_code.stripes import TAKEN, Part, StripesProof, Summary
-from machine_code.values import Names, address
-from symbolic_terms import REFUSALS, RUNS, Input, NotShown, at_most, given, is_same_number, minus, plus, times, variable
+from machine_code.stripes import LEAST_ENTRY, TAKEN, Part, Stripes, StripesProof, Summary, is_at
+from machine_code.values import Names, address, joined
+from symbolic_terms import (REFUSALS, RUNS, Input, Memory, NotShown, Piece, at_most, given, is_same_number, minus, moved, plus, same,
+                            step_between, symbol, times, variable)
 
+from . import assumptions, choices, contents, processors
 from .values import expect, refuses
 
 BLOCK, FIRST = 16, 3              # stripes of a block, and the place in it where a loop begins
@@ -133,8 +135,8 @@ def places_of_v4(cpu):
 def states(_):
     """Tests the states at which digests are tested: no stripes, or more than 240 bytes."""
     proof = types.SimpleNamespace(q=None, longest_secret=1 << 60, longest_piece=1 << 40, room=512, whole=8)
-    found = list(coverage.states(90, proof))
-    expect(len(found) > 60, True, "the number of states")
+    found = list(coverage.states(3000, proof))
+    expect(len(found) > 2000, True, "the number of states")
     expect(all(not (b or j) or 64 * (q * b + j) + f > 240 for q, _, b, j, f in found), True, "the stripes of a state")
 
 
@@ -143,15 +145,6 @@ def held_words(_):
     for word, is_held in ((5, True), (6, False)):
         proof = types.SimpleNamespace(start={"cell": 5}, family=types.SimpleNamespace(seem=lambda _, has, x=word: has(x)))
         expect(Proof.holds(proof, 0), is_held, "a number in a cell")
-
-
-def tasks_of_one_shots(_):
-    """Tests the number of tasks of one-shots: the kinds, the edges for x86-64-v4, and few lengths or more of them."""
-    made = dict.fromkeys(("x86-64-v2", "x86-64-v3", "x86-64-v4"))
-    for is_all, count in ((False, 10 + 3 + 4), (True, 10 + 3 + 10 + 2 * 4)):
-        titles = [task.title for task in tasks.one_shot_tasks(made, is_all)]
-        expect(len(titles), count, "tasks of one-shots")
-        expect(len({*titles}), count, "titles of tasks")
 
 
 def heads(_):
@@ -164,6 +157,8 @@ def heads(_):
     loops.pass_by(None, place)
     expect(len(shown), 0, "proofs while cells are guessed")
     loops.is_guessing = False
+    loops.pass_by(None, ("f", 4))
+    expect(len(shown), 0, "proofs at another place")
     loops.pass_by(None, place)
     expect(len(shown), 1, "proofs of a loop")
     loops.stop, loops.running = place, {}
@@ -178,4 +173,144 @@ def sources_of_v4(_):
     expect([*tasks.before_v4(made)] == ["x86-64-v3"], True, "sources for others")
 
 
-ALL = [heads, sources_of_v4, turns, records, places, tasks_of_streams, states, held_words, tasks_of_one_shots]
+def steps_in_blocks(_):
+    """Tests the places some stripes before and behind another, in blocks of a number of stripes or of any number."""
+    for q in (BLOCK, variable("q")):
+        family, b = Stripes("XXH3", q, (), None, None), variable("b")
+        for n, j, before, behind in ((1, 0, (minus(b, 1), minus(q, 1)), (b, 1)), (4, 0, (minus(b, 1), minus(q, 4)), (b, 4)),
+                                     (1, minus(q, 1), (b, minus(q, 2)), (plus(b, 1), 0)), (4, 8, (b, 4), (b, 12)),
+                                     (4, minus(q, 4), (b, minus(q, 8)), (plus(b, 1), 0)), (1, 1, (b, 0), (b, 2))):
+            for found, expected in ((family.before((b, j), n), before), (family.behind((b, j), n), behind)):
+                expect(all(map(is_same_number, found, expected)), True, f"{n} stripes from {j}")
+        expect(is_same_number(family.stripes((b, 3)), plus(times(q, b), 3)), True, "stripes")
+
+
+def places_in_inputs(_):
+    """Tests which addresses are known to be bytes of an input: in it, in a part of it, or in memory with a copy."""
+    source, n = Input("s", 300), variable("n")
+    piece, room = Piece(source, 64, 128), Memory("room", 100)
+    with given(minus(n, 40), at_most(n, 60)):
+        room.put_run(10, n, source, 5)
+        for memory, offset, at, size, holds in (
+                (source, 10, 10, 20, True), (source, 10, 11, 20, False), (source, 290, 290, 10, True), (source, 290, 290, 11, False),
+                (source, -1, -1, 5, False), (piece, 3, 67, 10, True), (piece, 3, 3, 10, False), (piece, 120, 184, 8, True),
+                (piece, 120, 184, 9, False), (piece, -1, 63, 2, False), (room, 12, 7, 8, True), (room, 12, 12, 8, False),
+                (Input("t", 300), 10, 10, 20, False)):
+            expect(is_at(address(memory, offset), source, at, size), holds, f"{size} bytes at {offset} of {memory.name} as {at}")
+        for offset, size in ((9, 4), (49, 2)):
+            refuses(lambda: is_at(address(room, offset), source, offset - 5, size), f"{size} bytes at {offset} of a copy")
+
+
+def families(_):
+    """Tests the words of a loop, of which a cell has one or several."""
+    known = []
+    for stripe, sizes, together, expected in ((16, (1, 2, 4), 1, 4), (16, (1, 2, 4), 2, 2), (16, (1, 2, 4), 4, 1), (64, (1, 2), 1, 4)):
+        family = Family("f", stripe, 9, 4, lambda k: lambda j: symbol(f"w{k}:{j}", 32), lambda *put: known.append(put), sizes)
+        expect(family.sizes == (sizes if stripe == 16 else (1,)), True, "numbers of words in a cell")
+        family.together = together
+        words = [symbol(f"w3:{j}", 32) for j in range(4)]
+        cells = [words[j] if together == 1 else joined(*((x, 32) for x in words[j:j + together])) for j in range(0, 4, together)]
+        expect(len(cells), expected, "cells")
+        expect(len(family.words(3)) == len(cells) and all(map(same, family.words(3), cells)), True, "words")
+        for missing in (None, *range(expected)):
+            expect(family.seem(3, lambda x, missing=missing: missing is None or x is not cells[missing]), missing is None, "words that are there")
+        family.suppose(3, words)
+        expect(known.pop() == (3, words) and not family.known, True, "assumed words")
+
+
+def advances(_):
+    """Tests by how much values advance, and whether two are the same: numbers, terms, addresses, and tuples of these."""
+    n, x, y, first, second = variable("n"), symbol("x64", 64), symbol("y64", 64), Input("a", 100), Input("b", 100)
+    place, other = address(first, 8), values.arithmetic("add", 64, address(first, 8), address(second, 0))
+    for old, now, step in ((5, 9, 4), (n, plus(n, 64), 64), (n, plus(times(2, n), 1), plus(n, 1)), (place, address(first, 72), 64),
+                           (place, address(first, plus(n, 8)), n), ((8, 5), (8, 9), 4), (("a", n), ("a", plus(n, 2)), 2),
+                           ((first, 5), (first, 8), 3), (x, plus(n, 1), None), (n, x, None), (place, 72, None), (8, place, None),
+                           (place, address(second, 72), None), (place, other, None), ((8, 5), (4, 9), None), ((8, 5), 9, None),
+                           ((8, 5), (8, 9, 1), None), ((8, 5, 1), (8, 9, 1), None), ((first, 5), (second, 8), None), ((8, x), (8, y), None)):
+        found = step_between(old, now)
+        expect(found is None if step is None else is_same_number(found, step), True, f"the step from {old} to {now}")
+        if step is not None:
+            expect(same(moved(old, step, 1), now) and same(moved(old, step, 0), old), True, f"{old} moved by {step}")
+            expect(same(moved(moved(old, step, n), step, 2), moved(old, step, plus(n, 2))), True, f"{old} moved twice")
+    alike = [(5, 5), (n, plus(n, 0)), (x, x), (place, address(first, 8)), ((8, n), (8, plus(n, 0))), ((8, place), (8, address(first, 8)))]
+    unlike = [5, 6, n, plus(n, 1), x, y, place, address(first, 9), address(second, 8), other, (8, n), (4, n), (8, n, 1), (8, x), (8, place), None]
+    expect(all(same(a, b) for a, b in alike), True, "the same values")
+    for i, a in enumerate(unlike):
+        for j, b in enumerate(unlike):
+            expect(same(a, b), i == j, f"{a} and {b} as the same")
+
+
+def earlier_guesses(_):
+    """Tests which cells have the words by facts of another call: those whose values at the start are the words."""
+    words, other, room = [symbol(f"v{j}", 64) for j in range(2)], symbol("other", 64), Words("room", 64, alignment=8)
+    rax, rbx, rcx, rdx, rsi = (("register", name) for name in ("rax", "rbx", "rcx", "rdx", "rsi"))
+    source, cell, head = Input("m", 100), (room, 8, 8), ("f", 4)
+    facts = 2, {rax: 0, rbx: 1}, {rcx: 128, rdx: 1, rsi: 3}, {("room", 8, 8)}
+    for start, places, unset in (({rax: words[0], rbx: words[1]}, {rcx, rdx}, {rsi, cell}), ({rax: words[0], rbx: other}, {rcx, rdx}, {rbx, rsi, cell}),
+                                 ({rax: words[1], rbx: words[0]}, {rcx, rdx}, {rax, rbx, rsi, cell})):
+        proof = Proof.__new__(Proof)
+        proof.head, proof.loops = head, types.SimpleNamespace(guesses={head: facts})
+        proof.cpu, proof.family = types.SimpleNamespace(stack=Stack(), live=[room]), types.SimpleNamespace(words=lambda first: words)
+        proof.start = {**start, rcx: address(source, 8), rdx: 7, rsi: other, cell: 5, ("register", "rdi"): 9}
+        proof.forget()
+        is_right = all(start[name] is words[j] for name, j in facts[1].items())
+        expect(proof.guess_again(0), is_right, "facts of another call")
+        expect(proof.words == {name: j for name, j in facts[1].items() if start[name] is words[j]}, True, "cells of words")
+        expect({*proof.places} == places and proof.places[rdx] == (7, 1) and proof.places[rcx][1] == 128, True, "cells that advance")
+        expect(proof.unset == unset and proof.step == 2, True, "cells that may hold anything")
+    proof.head = "g", 4
+    expect(proof.guess_again(0), False, "facts of another loop")
+
+
+def changed_cells(_):
+    """Tests that a state with another cell or run than the expected ones is refused."""
+    x, y, source = symbol("x64", 64), symbol("y64", 64), Input("m", 100)
+    runs = ((8, 40, source, 0),)
+    right = {0: (8, x), 8: (8, 5), 16: (8, variable("n")), RUNS: runs}
+    state = types.SimpleNamespace()
+
+    def expect_cells(cells):
+        state.cells = cells
+        xxh3_updates.Xxh3Updates.expect_cells("a call", state, right)
+    for cells in (right, {**right, 8: (8, 5), 16: (8, variable("n"))}):
+        expect_cells(cells)
+    wrong = [{at: cell for at, cell in right.items() if at != left} for left in right] + [{**right, 24: (8, 1)}]
+    wrong += [{**right, 0: (8, y)}, {**right, 8: (8, 6)}, {**right, 16: (8, plus(variable("n"), 1))}, {**right, RUNS: ((8, 41, source, 0),)}]
+    for cells in wrong:
+        refuses(lambda: expect_cells(cells), "a changed state", (NotShown,))
+
+
+def long_calls(_):
+    """Tests the arguments of calls of the functions for chunks that don't fit."""
+    for kind in (xxh3_states.OwnSecret, xxh3_states.CallersSecret):
+        proof, calls, other = kind(processors.made()), [], Words("other", 600, alignment=8)
+        with given(*proof.facts):
+            proof.begin(5000)
+            state, piece, at = proof.state((0, 0), 0), Piece(proof.source, 0, 700), proof.at
+            own, elsewhere = address(state, at.secret), address(proof.secret_source)
+            own, elsewhere = (own, elsewhere) if proof.secret_runs() else (elsewhere, own)
+            right = [address(state), address(piece), 700, own, proof.secret_length, address(state, at.buffer)]
+            cpu = types.SimpleNamespace(TAKES_STRIPES=range(6), return_from_another=lambda: "back")
+
+            def call(arguments=right, floor=ENTRY - 256):
+                cpu.argument, cpu.frame, proof.cpu = arguments.__getitem__, lambda: (None, floor), cpu
+                return proof.called(calls, 1, state, piece)
+            for floor in (ENTRY - 256, LEAST_ENTRY):
+                expect(call(floor=floor) == "back" and calls.pop() == (1, state.cells), True, "a call")
+            for floor in (ENTRY - 256 + 8, LEAST_ENTRY - 16):
+                refuses(lambda: call(floor=floor), "a call with another stack", (NotShown,))
+            for k, wrong in ((0, (address(other), address(state, 8))), (1, (address(proof.source), address(piece, 1))), (2, (699, 701)),
+                             (3, (address(other), elsewhere, plus_address(own))), (4, (plus(proof.secret_length, 1), 0)),
+                             (5, (address(state, at.buffer + 64), address(other, at.buffer)))):
+                for x in wrong:
+                    refuses(lambda: call([*right[:k], x, *right[k + 1:]]), f"a call with another argument {k}", REFUSALS)
+            expect(len(calls), 0, "refused calls")
+
+
+def plus_address(place):
+    memory, at = place.place()
+    return address(memory, at + 1)
+
+
+ALL = [heads, sources_of_v4, turns, records, places, tasks_of_streams, states, held_words, steps_in_blocks, places_in_inputs, families, advances,
+       earlier_guesses, changed_cells, long_calls, *assumptions.ALL, *choices.ALL, *contents.ALL]
