@@ -75,6 +75,8 @@ class Browser:
         return self.command("FindElement", using="css selector", value=selector)[ELEMENT]
 
     def click(self, selector):
+        """Clicks an element once the page shows it."""
+        self.wait("return document.querySelector(arguments[0])?.getClientRects().length > 0", selector, seconds=10)
         self.command("ElementClick", id=self.find(selector))
 
     def type(self, selector, text):
