@@ -76,13 +76,6 @@ resume_of (Err fault) json = Err fault
 abbrev pub resume_command : List ℕ → Bor (List ℕ) → Result Command Fault
 resume_command kind json = resume_of (saved_kind_named kind) json
 
--- a command that takes a seed
-abbrev pub seeded_command : List ℕ → List ℕ → List ℕ → Result Command Fault
-seeded_command name kind seed =
-    if bytes_eq name (codes "hash") then hash_command kind seed
-    else if bytes_eq name (codes "save") then save_command kind seed
-    else Err Usage
-
 -- a block has at least one byte
 abbrev pub blocks_of : Result ℕ Fault → Result Command Fault
 blocks_of (Ok zero) = Err BadSize
@@ -92,22 +85,18 @@ blocks_of (Err fault) = Err fault
 abbrev pub blocks_command : List ℕ → Result Command Fault
 blocks_command size = blocks_of (number_named BadSize (2 ^ 64) size)
 
--- a command of two arguments: the second is the size of a block, or an algorithm with the seed 0
-abbrev pub pair_command : List ℕ → List ℕ → Result Command Fault
-pair_command name word =
-    if bytes_eq name (codes "blocks") then blocks_command word
-    else seeded_command name word (codes "0")
-
--- a command with a last argument, which is a saved text or a seed
-abbrev pub last_command : List ℕ → List ℕ → Bor (List ℕ) → Result Command Fault
-last_command name kind last =
-    if bytes_eq name (codes "resume") then resume_command kind last
-    else seeded_command name kind last.now
-
--- the command of the arguments after the program's name
+-- the command of the arguments after the program's name; without a seed it is 0
 abbrev pub command_of : List (Bor (List ℕ)) → Result Command Fault
-command_of (name ∷ word ∷ []) = pair_command name.now word.now
-command_of (name ∷ kind ∷ last ∷ []) = last_command name.now kind.now last
+command_of (name ∷ word ∷ []) =
+    if bytes_eq name.now (codes "hash") then hash_command word.now (codes "0")
+    else if bytes_eq name.now (codes "save") then save_command word.now (codes "0")
+    else if bytes_eq name.now (codes "blocks") then blocks_command word.now
+    else Err Usage
+command_of (name ∷ kind ∷ last ∷ []) =
+    if bytes_eq name.now (codes "hash") then hash_command kind.now last.now
+    else if bytes_eq name.now (codes "save") then save_command kind.now last.now
+    else if bytes_eq name.now (codes "resume") then resume_command kind.now last
+    else Err Usage
 command_of _ = Err Usage
 
 -- a command's seed is one of its algorithm, and a block has at least one byte

@@ -1,7 +1,7 @@
 //! Parses the arguments.
 
 ghost use Rattle.std.specs.Prelude.{◌≡◌, ◌+◌, IfOk};
-ghost use Rattle.xxh_io.specs.Command.{blocks_command, command_of, hash_command, kind_named, last_command, number_named, pair_command, resume_command, save_command, saved_kind_named, seed_named, seeded_command, NumberFits};
+ghost use Rattle.xxh_io.specs.Command.{blocks_command, command_of, hash_command, kind_named, number_named, resume_command, save_command, saved_kind_named, NumberFits};
 ghost use Rattle.xxh_io.specs.declared.fault.Fault.TheVariants.{BadSize};
 
 use crate::fault::Fault;
@@ -33,39 +33,18 @@ pub fn parse<'w>(words: &[&'w str]) -> Result<Command<'w>, Fault>
     ensures number { IfOk result NumberFits }
 {
     match words {
-        [name, word] => pair(name, word),
-        [name, kind, last] => with_last(name, kind, last),
-        _ => Err(Fault::Usage),
-    }
-}
-
-fn pair(name: &str, word: &str) -> Result<Command<'static>, Fault>
-    ensures command { result ≡ pair_command name.now word.now }
-    ensures number { IfOk result NumberFits }
-{
-    match name {
-        "blocks" => blocks(word),
-        _ => seeded(name, word, NO_SEED),
-    }
-}
-
-fn with_last<'w>(name: &str, kind: &str, last: &'w str) -> Result<Command<'w>, Fault>
-    ensures command { result ≡ last_command name.now kind.now last.entry }
-    ensures number { IfOk result NumberFits }
-{
-    match name {
-        "resume" => resume(kind, last),
-        _ => seeded(name, kind, last),
-    }
-}
-
-fn seeded(name: &str, kind: &str, seed: &str) -> Result<Command<'static>, Fault>
-    ensures command { result ≡ seeded_command name.now kind.now seed.now }
-    ensures number { IfOk result NumberFits }
-{
-    match name {
-        "hash" => hash(kind, seed),
-        "save" => save(kind, seed),
+        [name, word] => match *name {
+            "hash" => hash(word, NO_SEED),
+            "save" => save(word, NO_SEED),
+            "blocks" => blocks(word),
+            _ => Err(Fault::Usage),
+        },
+        [name, kind, last] => match *name {
+            "hash" => hash(kind, last),
+            "save" => save(kind, last),
+            "resume" => resume(kind, last),
+            _ => Err(Fault::Usage),
+        },
         _ => Err(Fault::Usage),
     }
 }
@@ -75,7 +54,7 @@ fn hash(kind: &str, seed: &str) -> Result<Command<'static>, Fault>
     ensures number { IfOk result NumberFits }
 {
     let kind = kind_from(kind)?;
-    let seed = seed_from(seed, kind.most_seed())?;
+    let seed = number_from(seed, kind.most_seed(), Fault::BadSeed)?;
     Ok(Command::Hash { kind, seed })
 }
 
@@ -85,11 +64,11 @@ fn save(kind: &str, seed: &str) -> Result<Command<'static>, Fault>
 {
     match saved_kind_from(kind)? {
         SavedKind::X32 => {
-            let seed = seed_from(seed, u64::from(u32::MAX))?;
+            let seed = number_from(seed, u64::from(u32::MAX), Fault::BadSeed)?;
             Ok(Command::Save32 { seed: seed as u32 })
         }
         SavedKind::X64 => {
-            let seed = seed_from(seed, u64::MAX)?;
+            let seed = number_from(seed, u64::MAX, Fault::BadSeed)?;
             Ok(Command::Save64 { seed })
         }
     }
@@ -137,13 +116,6 @@ fn saved_kind_from(name: &str) -> Result<SavedKind, Fault>
         "64" => Ok(SavedKind::X64),
         _ => Err(Fault::Usage),
     }
-}
-
-// Parses a seed in decimal digits, up to the maximum of its algorithm.
-fn seed_from(word: &str, most: u64) -> Result<u64, Fault>
-    ensures { result ≡ seed_named (most + 1) word.now }
-{
-    number_from(word, most, Fault::BadSeed)
 }
 
 // Parses a number in decimal digits, up to the maximum, or returns this error.
