@@ -1,47 +1,20 @@
 //! The digest engine: reads a source to its end through a hasher, and writes the value as a line.
 
-ghost use Rattle.std.specs.Prelude.{◌≡◌, ◌≢◌, ◌↔◌, ◌<◌, ◌≤◌, ◌^◌, ◌⊎◌, ◌++◌, [], true, false, List, ℕ, length, Err, IfOk};
+ghost use Rattle.std.specs.Prelude.{◌≡◌, ◌↔◌, ◌<◌, ◌≤◌, ◌^◌, ◌⊎◌, ◌++◌, true, false, List, ℕ, Err};
 ghost use Rattle.std.specs.List.{concat};
 ghost use Rattle.xxh_io.specs.Digest.{ReadsTo, Writes};
 ghost use Rattle.xxh_io.specs.Hex.{hex_line};
-ghost use Rattle.xxh_program.specs.Feeding.{IsFed};
 ghost use Rattle.xxh_program.specs.Kind.{digits_of, value_of};
 
-use crate::program::feed::Feed;
+use crate::program::feed::{Feed, read_all};
 use crate::program::value::value_of_source;
 use xxh_io::digest_error::DigestError;
 use xxh_io::kind::Kind;
-use xxh_io::streams::{Failed, Sink, Source};
+use xxh_io::streams::{Sink, Source};
 use xxh_io::write::write_line;
 
 // Size of the read buffer of the public calls.
 pub(crate) const OFFERED: usize = 4096;
-
-// Feeds the hasher what is read, until a read returns nothing. Each read is offered the whole buffer.
-pub(crate) fn read_all<H: Feed, R: Source>(
-    hasher: H,
-    max_reads: u64,
-    r: &mut R,
-    buf: &mut [u8],
-) -> Result<H, DigestError>
-    requires works { R.has_failed r.old ≡ false }
-    requires room { 0 < length buf.old }
-    ensures reads { (pieces : List (List ℕ))
-        × ReadsTo R.Source max_reads pieces r.old r.new result
-        × IfOk result (IsFed H.follows H.has_seed hasher (concat pieces)) }
-    ensures read_failed { (result ≡ Err DigestError.ReadFailed) ↔ (R.has_failed r.new ≡ true) }
-    ensures never_writes { result ≢ Err DigestError.WriteFailed }
-{
-    let mut hasher = hasher;
-    for turn in 0..max_reads {
-        match r.read(buf) {
-            Ok(0) => return Ok(hasher),
-            Ok(count) => hasher.feed(&buf[..count]),
-            Err(Failed) => return Err(DigestError::ReadFailed),
-        }
-    }
-    Err(DigestError::TooLong)
-}
 
 // Feeds the hasher what is read, and writes the line of its value.
 pub(crate) fn digest_on<H: Feed, R: Source, W: Sink, const READ: usize>(

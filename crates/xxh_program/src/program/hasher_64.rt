@@ -7,8 +7,8 @@ ghost use Rattle.twox_hash.specs.Record64.{Represents};
 ghost use Rattle.xxh_io.specs.Digest.{ReadsTo, Writes};
 ghost use Rattle.xxh_io.specs.Hex.{hex_line};
 
-use crate::program::engine::{OFFERED, digest_on, read_all};
-use crate::program::feed::Feed;
+use crate::program::engine::{OFFERED, digest_on};
+use crate::program::feed::{Feed, read_all};
 use twox_hash::XxHash64;
 use xxh_io::digest_error::DigestError;
 use xxh_io::streams::{Sink, Source};

@@ -5,8 +5,7 @@ ghost use Rattle.std.specs.List.{concat};
 ghost use Rattle.xxh_io.specs.Digest.{ReadsTo};
 ghost use Rattle.xxh_program.specs.Kind.{value_of};
 
-use crate::program::engine::read_all;
-use crate::program::feed::Feed;
+use crate::program::feed::{Feed, read_all};
 use crate::program::hasher_3_64::with_seed_64;
 use crate::program::hasher_3_128::with_seed_128;
 use twox_hash::{XxHash32, XxHash64};

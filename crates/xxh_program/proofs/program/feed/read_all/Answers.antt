@@ -2,7 +2,7 @@ use Rattle.std.proofs.Common.{ℕ, List, [], ◌∷◌, ◌++◌, sym, subst, ap
 use Rattle.std.specs.List.{concat}
 use Rattle.xxh_io.proofs.PieceFacts.{concat-push, Pieces-push, NoneEmpty-push}
 use Rattle.xxh_program.specs.Feeding.{IsFed}
-use Rattle.xxh_program.proofs.program.engine.read_all.Goals as goal
+use Rattle.xxh_program.proofs.program.feed.read_all.Goals as goal
 
 -- Lemmas on feeding one more chunk to a hasher.
 

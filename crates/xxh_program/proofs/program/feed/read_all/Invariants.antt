@@ -2,7 +2,7 @@ use Rattle.std.proofs.Common.{◌≡◌, ℕ, List, length, false}
 use Rattle.std.specs.List.{concat}
 use Rattle.xxh_io.specs.Pieces.{Pieces, NoneEmpty}
 use Rattle.xxh_program.specs.Feeding.{IsFed}
-use Rattle.xxh_program.proofs.program.engine.read_all.Given as goal
+use Rattle.xxh_program.proofs.program.feed.read_all.Given as goal
 
 -- Invariant: each iteration has read one nonempty chunk and fed it to the hasher, and no read has failed
 abbrev pub invariant-loop-turn : goal.invariant-loop-turn
