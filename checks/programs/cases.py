@@ -5,6 +5,7 @@ docs/XXHSUM.md has the reason of each. The digests in lists are those of the fil
 them."""
 from typing import NamedTuple, Optional
 
+from . import messages
 from .runs import marked
 
 # The parts of two runs that must be equal. Help and version have their maker's name, so their text is not compared.
@@ -30,7 +31,7 @@ class Case(NamedTuple):
 
 def one_line(text):
     """A reported text, as one line: as names are in lists, with a backslash before it if it needs one."""
-    return marked(text) + b'\n'
+    return marked(text.removesuffix(b'\n')) + b'\n'
 
 
 def fails(message, out=b''):
@@ -59,33 +60,30 @@ GOOD_OUT = b'a: OK\n'
 
 
 # The system's messages for reads.
-IO_ERROR, IS_FOLDER, IS_CLOSED = b'Input/output error', b'Is a directory', b'Bad file descriptor'
-UNREAD_LIST = b'%s:1: Error: %s.'
-UNREAD_INPUT = b"Error: Could not read 'stdin': %s."
+IS_FOLDER, IS_CLOSED = 'Is a directory', 'Bad file descriptor'
 
 
-def unread(place, name, why=IO_ERROR):
-    """The message for a file of a list that could not be read to its end, or not opened for another reason."""
-    return place + b": Could not open or read '" + name + b"': " + why + b'.\n'
+def unread_input(why):
+    return fails([messages.unread('stdin', why, end='.')])
 
 
-def no_stdin(place):
+def no_stdin(listed, number):
     """The message for the file stdin, which doesn't exist, as for each missing file."""
-    return unread(place, b'stdin', b'No such file or directory')
+    return messages.unread_listed(listed, number, 'stdin')
 
 
 # A file that opens, and whose reads all fail.
 FAILING = '/proc/self/mem'
 # The message if `-` would be left unread.
 BESIDE_NAMES = b"Error: '-' is standard input, which can't be read with files; for a file of that name use './-'."
-NOT_READ = b"Error: Could not read '/proc/self/mem': Input/output error. \n"
-GONE = b"Error: Could not open 'gone': No such file or directory. \n"
-IMPROPER = fails([b'lines:2: Error: Improperly formatted checksum line.'])
+NOT_READ = messages.unread(FAILING)
+GONE = messages.unopened('gone')
+IMPROPER = fails([messages.in_line('lines', 2)])
 
 
 def one_unread(out):
     """A list prints this, and one of its files could not be read."""
-    return ours(out + b'1 listed file could not be read\n', status=1)
+    return ours(out + messages.counts(unread=1), status=1)
 
 
 def audited(*lines, err=b'', end=b'\n'):
@@ -207,7 +205,7 @@ def names():
         Case(
             'a name that is not UTF-8',
             (b'\xff\xfe', 'a'),
-            expected=ours(X64 + b'  a\n', b"Error: Could not open '\xff\xfe': The name is not UTF-8. \n", 1),
+            expected=ours(X64 + b'  a\n', messages.unopened(b'\xff\xfe', messages.NOT_UTF8), 1),
         ),
         Case('a name beyond ASCII', ('é',)),
         Case('devices', ('/dev/null', '/proc/self/gone')),
@@ -314,9 +312,7 @@ def options():
     ]
     cases += [
         Case(
-            f'the word {word} to a full disk',
-            shell=f'"$X" {word} >/dev/full',
-            expected=fails([b'Error: a failure occurred writing the output.']),
+            f'the word {word} to a full disk', shell=f'"$X" {word} >/dev/full', expected=fails([messages.WRITE_FAILED])
         )
         for word in ('-V', '--help')
     ]
@@ -374,8 +370,8 @@ def input_alone():
         Case('input, XXH3', ('-H3',), given=HELLO),
         Case('a megabyte of input', ('-H2',), given=b'0123456789abcdef' * 65536),
         Case('input that comes in pieces', shell='(printf hel; sleep 0.1; printf lo) | "$X" -H0'),
-        Case('a folder as input', shell='"$X" <d', expected=fails([UNREAD_INPUT % IS_FOLDER])),
-        Case('closed input', shell='"$X" <&-', expected=fails([UNREAD_INPUT % IS_CLOSED])),
+        Case('a folder as input', shell='"$X" <d', expected=unread_input(IS_FOLDER)),
+        Case('closed input', shell='"$X" <&-', expected=unread_input(IS_CLOSED)),
         Case('a file while input is closed', shell='"$X" a <&-'),
         Case('a folder as input, and a file', shell='"$X" a <d'),
     ]
@@ -444,13 +440,13 @@ def verdicts():
         of_list(
             'a folder in a list',
             GOOD + X64 + b'  d\n' + GOOD,
-            expected=one_unread(b'a: OK\n' + unread(b'L:2', b'd', IS_FOLDER) + GOOD_OUT),
+            expected=one_unread(b'a: OK\n' + messages.unread_listed('L', 2, 'd', IS_FOLDER) + GOOD_OUT),
         ),
         of_list('a folder in a list, status', X64 + b'  d\n' + GOOD, '-c', '--status', expected=refused()),
         of_list(
             'a read that fails in a list',
             X64 + b'  ' + FAILING.encode() + b'\n' + GOOD,
-            expected=one_unread(unread(b'L:1', FAILING.encode()) + GOOD_OUT),
+            expected=one_unread(messages.unread_listed('L', 1, FAILING, messages.IO_ERROR) + GOOD_OUT),
         ),
         of_list('an empty list', b''),
         of_list('an empty list, status', b'', '-c', '--status'),
@@ -476,10 +472,7 @@ def plain_lines():
             'carriage returns',
             X64 + b'  a\r\n' + EMPTY + b'  e\r\n# no\r\n\r\n' + X64 + b'  a\r',
             '-cw',
-            expected=ours(
-                b'a: OK\ne: OK\na: OK\n1 line is improperly formatted\n',
-                b'L:4: Error: Improperly formatted checksum line.\n',
-            ),
+            expected=ours(b'a: OK\ne: OK\na: OK\n' + messages.counts(improper=1), messages.in_line('L', 4)),
         ),
         of_list('two carriage returns', X64 + b'  return\r\r\n', '-cw', expected=ours(one_line(b'return\r: OK'))),
         of_list('capital digits', X64.upper() + b'  a\n' + X64[:8].upper() + X64[8:] + b'  a\n'),
@@ -540,16 +533,19 @@ def line_of(count, end=b'\n'):
 
 def not_opened(count):
     """The message for the file of line 2, whose name has this many bytes."""
-    return unread(b'L:2', b'x' * count, b'File name too long')
+    return messages.unread_listed('L', 2, b'x' * count, 'File name too long')
+
+
+def too_long(line):
+    return messages.in_line('L', line, messages.TOO_LONG)
 
 
 def over_long(*lines, out=GOOD_OUT * 2):
     """The messages for a list with lines of these numbers longer than 32,767 bytes."""
-    count = b'1 line is' if len(lines) == 1 else b'%d lines are' % len(lines)
     return {
-        'out': out and out + count + b' improperly formatted\n',
+        'out': out and out + messages.counts(improper=len(lines)),
         'status': 1,
-        'err': b''.join(b'L:%d: Error: Line too long.\n' % line for line in lines),
+        'err': b''.join(too_long(line) for line in lines),
     }
 
 
@@ -601,24 +597,13 @@ def long_lines():
             '-cw',
             '--strict',
             expected=fails(
-                [
-                    b'L:2: Error: Line too long.',
-                    b'L:3: Error: Line too long.',
-                    b'L:4: Error: Improperly formatted checksum line.',
-                ],
-                GOOD_OUT * 2 + b'3 lines are improperly formatted\n',
+                [too_long(2), too_long(3), messages.in_line('L', 4)], GOOD_OUT * 2 + messages.counts(improper=3)
             ),
         ),
         of_list(
             'long lines alone',
             line_of(40000) * 2,
-            expected=fails(
-                [
-                    b'L:1: Error: Line too long.',
-                    b'L:2: Error: Line too long.',
-                    b'L: no properly formatted xxHash checksum lines found',
-                ]
-            ),
+            expected=fails([too_long(1), too_long(2), messages.no_proper_line('L')]),
         ),
     ]
 
@@ -730,14 +715,14 @@ def missing_files():
                 f'{name} is not missing',
                 X64 + b'  ' + file + b'\n' + GOOD,
                 *missing,
-                expected=one_unread(unread(b'L:1', file, why) + GOOD_OUT),
+                expected=one_unread(messages.unread_listed('L', 1, file, why) + GOOD_OUT),
             )
             for name, file, why in (
                 ('a file below no folder', b'a/b', b'Not a directory'),
                 ('a folder in a list', b'd', IS_FOLDER),
                 ('a name that is not UTF-8', b'\xff\xfe', b'The name is not UTF-8'),
                 ('a link to itself', b'loop', b'Too many levels of symbolic links'),
-                ('a read that fails', FAILING.encode(), IO_ERROR),
+                ('a read that fails', FAILING.encode(), messages.IO_ERROR),
             )
         ),
     ]
@@ -779,7 +764,7 @@ def lines_with_nuls():
         ),
         Case('-z and a missing file', ('-z', 'gone', 'a'), expected=ours(raw(X64, 'a'), GONE, 1)),
         *(
-            Case(name, args, expected=fails([b"Wrong parameters: '-z' with '-c'"]))
+            Case(name, args, expected=fails([messages.wrong("'-z' with '-c'")]))
             for name, args in (
                 ('-z with -c', ('-z', '-c', 'good')),
                 ('-c with --zero', ('-c', '--zero', 'good')),
@@ -794,7 +779,7 @@ def audits_with_nuls():
     lines = X64 + b'  a\n' + WRONG + b'  *star\n' + EMPTY + b'  e\n' + X64 + b'  old\n' + X64_LE + b'  lost\n'
     listed = {'lines': lines}
     changed = (b'*star: changed', b'a: same', b'e: same', b'(p): moved from\0old', b'b c: new', b'lost: missing')
-    gone = one_line(b"Error: Could not open 'no\nfile': No such file or directory. ")
+    gone = one_line(messages.unopened('no\nfile'))
     names = ('--audit', 'lines', 'a', 'e', 'b c', '(p)', '*star')
     counts = b'1 same, 0 changed, 1 moved, 1 copied, 0 new, 0 missing, 0 unreadable\0'
     odd = {'lines': GOOD + b'\\' + X64 + b'  old\\nname\n', 'y: z': HELLO}
@@ -839,7 +824,7 @@ def audits_with_nuls():
             '-z and an audit of a malformed list',
             ('-z', '--audit', 'lines', 'a'),
             files={'lines': b'l\n'},
-            expected=fails([b'lines:1: Error: Improperly formatted checksum line.']),
+            expected=fails([messages.in_line('lines', 1)]),
         ),
     ]
 
@@ -853,11 +838,13 @@ def several_lists():
         Case('a missing list', ('-c', 'gone', 'good')),
         Case('a missing list alone', ('-c', 'gone')),
         Case('a missing list, status', ('-c', '--status', 'gone')),
-        Case('a folder as a list', ('-c', 'd', 'good'), expected=fails([UNREAD_LIST % (b'd', IS_FOLDER)], GOOD_OUT)),
+        Case(
+            'a folder as a list', ('-c', 'd', 'good'), expected=fails([messages.in_line('d', 1, IS_FOLDER)], GOOD_OUT)
+        ),
         Case(
             'a list of which each read fails',
             ('-c', FAILING, 'good'),
-            expected=fails([UNREAD_LIST % (FAILING.encode(), IO_ERROR)], GOOD_OUT),
+            expected=fails([messages.in_line(FAILING, 1, messages.IO_ERROR)], GOOD_OUT),
         ),
         Case('options after a list are lists', ('-c', 'good', '-q')),
         Case('lists after --', ('-c', '--', 'good', '-x')),
@@ -872,17 +859,19 @@ def several_lists():
             'stdin in a list from input',
             ('-c',),
             given=GOOD + X64 + b'  stdin\n' + GOOD,
-            expected=one_unread(b'a: OK\n' + no_stdin(b'stdin:2') + GOOD_OUT),
+            expected=one_unread(b'a: OK\n' + no_stdin('stdin', 2) + GOOD_OUT),
         ),
-        of_list('stdin in a list', X64 + b'  stdin\n', given=HELLO, expected=one_unread(no_stdin(b'L:1'))),
+        of_list('stdin in a list', X64 + b'  stdin\n', given=HELLO, expected=one_unread(no_stdin('L', 1))),
         of_list(
             'stdin in a list, twice',
             X64 + b'  stdin\n' + EMPTY + b'  stdin\n',
             given=HELLO,
-            expected=ours(no_stdin(b'L:1') + no_stdin(b'L:2') + b'2 listed files could not be read\n', b'', 1),
+            expected=ours(no_stdin('L', 1) + no_stdin('L', 2) + messages.counts(unread=2), b'', 1),
         ),
-        Case('a folder as input of lists', shell='"$X" -c <d', expected=fails([UNREAD_LIST % (b'stdin', IS_FOLDER)])),
-        Case('closed input of lists', shell='"$X" -c <&-', expected=fails([UNREAD_LIST % (b'stdin', IS_CLOSED)])),
+        Case(
+            'a folder as input of lists', shell='"$X" -c <d', expected=fails([messages.in_line('stdin', 1, IS_FOLDER)])
+        ),
+        Case('closed input of lists', shell='"$X" -c <&-', expected=fails([messages.in_line('stdin', 1, IS_CLOSED)])),
         Case('a pipe as a list', shell=f'mkfifo p; printf "{X64.decode()}  a\\n" >p & "$X" -c p'),
     ]
 
@@ -918,9 +907,7 @@ def trees():
             'names with carriage returns',
             ('--files-from', 'listed'),
             files={'listed': b'return\r\na\r\n'},
-            expected=fails(
-                [b"Error: Could not open 'a\r': No such file or directory. "], b'\\' + X64 + b'  return\\r\n'
-            ),
+            expected=fails([messages.unopened('a\r')], b'\\' + X64 + b'  return\\r\n'),
         ),
         audit('an audit of a list with carriage returns', ('a',), X64 + b'  a\r\n', audited(b'a: same')),
         Case(
@@ -1027,7 +1014,7 @@ def trees():
             'an audit of a folder among the names',
             ('a', 'd'),
             GOOD,
-            audited(b'a: same', b'd: unreadable', err=b'xxhsum: d: Is a directory \n'),
+            audited(b'a: same', b'd: unreadable', err=messages.is_folder('d')),
         ),
         audit(
             'an audit of names with a colon and a space',
@@ -1060,7 +1047,7 @@ def trees():
             'an audit of a list with a line of 32768 bytes',
             ('a',),
             GOOD + line_of(32768) + GOOD,
-            fails([b'lines:2: Error: Line too long.']),
+            fails([messages.in_line('lines', 2, messages.TOO_LONG)]),
         ),
         audit('an audit of a list with a last line of 32767 bytes', ('a',), GOOD + line_of(32767, b'\r')[1:], IMPROPER),
         Case('an audit without a list', ('--audit',), expected=fails([b'Error: --audit needs a list.'])),
@@ -1106,9 +1093,9 @@ def folders():
     bound = '[ "$(id -u)" = 0 ] && run="setpriv --bounding-set=-dac_override,-dac_read_search"; chmod 0 t/b; '
     cases = [(EMPTY, b'B'), (X64, b'a'), (EMPTY, b'b/deep/q'), (X64, b'b/z'), (X64, b'b.x/c')]
     found = b''.join(digits + b'  t/' + name + b'\n' for digits, name in cases)
-    closed = b"Error: Could not open 't/b': Permission denied. "
-    beside = fails([b"Wrong parameters: '-r' with '-c' or lists of names"])
-    alone = fails([b"Wrong parameters: '-r' without a FILE"])
+    closed = messages.unopened('t/b', 'Permission denied')
+    beside = fails([messages.wrong("'-r' with '-c' or lists of names")])
+    alone = fails([messages.wrong("'-r' without a FILE")])
 
     return [
         Case('-r of a tree', shell=tree + '"$X" -r t', expected=ours(found)),
@@ -1133,13 +1120,13 @@ def folders():
         Case(
             '-r of links that lead nowhere',
             ('-r', 'broken', 'd'),
-            expected=fails([b"Error: Could not open 'broken': No such file or directory. "], X64 + b'  d/inner\n'),
+            expected=fails([messages.unopened('broken')], X64 + b'  d/inner\n'),
         ),
         Case('-r of an empty folder', shell='mkdir t; "$X" -r t', expected=ours(b'')),
         Case(
             '-r of a name that is not UTF-8',
             shell='mkdir t; cp a t; cp a "$(printf "t/\\377")"; "$X" -r t',
-            expected=fails([b"Error: Could not open 't/\xff': The name is not UTF-8. "], X64 + b'  t/a\n'),
+            expected=fails([messages.unopened(b't/\xff', messages.NOT_UTF8)], X64 + b'  t/a\n'),
         ),
         Case(
             '-r of many names',
@@ -1188,7 +1175,7 @@ def folders():
                 b't/b: unreadable',
                 b't/b/deep/q: unreadable',
                 b't/b/z: unreadable',
-                err=closed + b'\n',
+                err=closed,
             ),
         ),
         Case('-r without a name', ('-r',), expected=alone),
@@ -1205,8 +1192,6 @@ def named():
     unchanged, so that the author of a list or of a file's name can forge a line."""
     odd = b'gone\na: OK'
     escaped = b'\\' + X64 + b'  gone\\na: OK\n'
-    missing = b'No such file or directory'
-    unopened = b"Error: Could not open '" + odd + b"': " + missing
 
     def in_folder(line, **expected):
         return {
@@ -1214,47 +1199,43 @@ def named():
             'expected': expected,
         }
 
-    listed = b"L:1: Could not open or read '" + odd + b"': " + missing + b'.'
+    listed = messages.unread_listed('L', 1, odd)
     return [
         of_list('a list that forges a line', escaped + GOOD, expected=one_unread(one_line(listed) + GOOD_OUT)),
         of_list(
             'a wrong line of an odd name',
             b'\\' + WRONG + b'  line\\nfeed\n',
-            expected=ours(one_line(b'line\nfeed: FAILED') + b'1 computed checksum did NOT match\n', b'', 1),
+            expected=ours(one_line(b'line\nfeed: FAILED') + messages.counts(different=1), b'', 1),
         ),
         Case(
             'a missing file of an odd name',
             (odd, 'back\\gone'),
-            expected=fails([unopened + b'. ', b"Error: Could not open 'back\\gone': " + missing + b'. ']),
+            expected=fails([messages.unopened(odd), messages.unopened('back\\gone')]),
         ),
-        Case('a missing file of an odd name, -z', ('-z', odd), expected=fails([unopened + b'. '])),
-        Case('a missing list of an odd name', ('-c', odd), expected=fails([unopened])),
-        Case('a folder of an odd name', **in_folder('"$X" x*y', **fails([b'xxhsum: x\ny: Is a directory ']))),
+        Case('a missing file of an odd name, -z', ('-z', odd), expected=fails([messages.unopened(odd)])),
+        Case('a missing list of an odd name', ('-c', odd), expected=fails([messages.unopened(odd, end='')])),
+        Case('a folder of an odd name', **in_folder('"$X" x*y', **fails([messages.is_folder('x\ny')]))),
         Case(
             'a list of an odd name',
-            **in_folder(
-                '"$X" -cw l*L',
-                **fails(
-                    [
-                        b'l\nL:1: Error: Improperly formatted checksum line.',
-                        b'l\nL: no properly formatted xxHash checksum lines found',
-                    ]
-                ),
-            ),
+            **in_folder('"$X" -cw l*L', **fails([messages.in_line('l\nL', 1), messages.no_proper_line('l\nL')])),
         ),
         Case(
             'a list of an odd name, --ignore-missing',
             **in_folder(
                 f'printf "{X64.decode()}  gone\\n" >"$(printf "l\\nL")"; "$X" -c --ignore-missing l*L',
-                out=one_line(b'l\nL: no file was verified'),
+                out=one_line(messages.none_verified('l\nL')),
                 err=b'',
                 status=1,
             ),
         ),
-        Case('a missing list of names of an odd name', ('--files-from', odd), expected=fails([unopened + b'.'])),
+        Case(
+            'a missing list of names of an odd name',
+            ('--files-from', odd),
+            expected=fails([messages.unopened(odd, end='.')]),
+        ),
         Case(
             'an audit of a list of an odd name',
-            **in_folder('"$X" --audit l*L a', **fails([b'l\nL:1: Error: Improperly formatted checksum line.'])),
+            **in_folder('"$X" --audit l*L a', **fails([messages.in_line('l\nL', 1)])),
         ),
         Case(
             'an audit of an odd name that stands twice',

@@ -20,6 +20,7 @@ from checks.lib import command
 from checks.lib.report import Fault, Report, check
 from checks.lib.tools import TOP, ran, write
 
+from . import messages
 from .cases import FILES
 from .runs import HASHES, found, is_utf8, marked
 from .terminals import EMPTY_ROW, ONE_ROW, ROW_END, run
@@ -129,7 +130,7 @@ def refused_names(programs):
         name = b'n' + bytes([byte])
         write(name, b'some bytes')
         _, err, status = found(programs[1], [name])
-        is_refused = status == 1 and b"Could not open '" + name + b"': The name is not UTF-8. \n" in err
+        is_refused = status == 1 and messages.unopened(name, messages.NOT_UTF8) in err
         check(is_refused, f'{name!r}: {status} {err!r}')
         os.remove(name)
     return '128 names'

@@ -19,6 +19,7 @@ from checks.lib import command
 from checks.lib.report import Report
 from checks.lib.tools import text_of, write
 
+from . import messages
 from .runs import marked
 
 CONTENT = b'some bytes'
@@ -36,14 +37,14 @@ def meaning(case, is_older):
 
 def expected(word, name, is_older):
     """Standard output, standard error, and the status of a strict check of the line and of the other one."""
-    good, bad = b'other: OK\n', b'L:1: Error: Improperly formatted checksum line.\n'
+    good, bad = b'other: OK\n', messages.in_line('L', 1)
     if word == 'a comment':
         return good, b'', 0
     if word == 'nothing':
-        return good + b'1 line is improperly formatted\n', bad, 1
+        return good + messages.counts(improper=1), bad, 1
     if not name:
-        gone = b"L:1: Could not open or read '': No such file or directory.\n"
-        return gone + good + b'1 listed file could not be read\n', b'', 1
+        gone = messages.unread_listed('L', 1, '')
+        return gone + good + messages.counts(unread=1), b'', 1
     return (name if is_older else marked(name)) + b': OK\n' + good, b'', 0
 
 

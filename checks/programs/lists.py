@@ -28,6 +28,7 @@ from checks.lib import command
 from checks.lib.report import Report, check
 from checks.lib.tools import write
 
+from . import messages
 from .runs import HASHES, found, is_utf8, marked
 
 # One seed, so that each run draws the names of the run before.
@@ -64,7 +65,6 @@ PARTS = [
     '😀'.encode(),
 ]
 POOL = 1500
-NOT_UTF8 = b'The name is not UTF-8'
 
 
 def make_files(names):
@@ -134,9 +134,9 @@ def refusing(names, text):
         if is_utf8(name):
             output += marked(name) + b': OK\n'
         else:
-            output += b"stdin:%d: Could not open or read '%s': %s.\n" % (number, name, NOT_UTF8)
+            output += messages.unread_listed('stdin', number, name, messages.NOT_UTF8)
             unread += 1
-    return output + b'%d listed files could not be read\n' % unread, b'', 1
+    return output + messages.counts(unread=unread), b'', 1
 
 
 # ---- random lists

@@ -11,13 +11,13 @@ import tempfile
 
 from checks.lib.tools import write
 
+from . import messages
 from .runs import DISK_SIZE, SETTINGS, into_full_pipe, no_small_disk, on_small_disk, without_waiting
 
 SECONDS = 60
 # Maximum length of a write of more than one line.
 MOST = 4096
 FILES = 400
-LOST = b'Error: a failure occurred writing the output.\n'
 PROCESSES = 8
 
 
@@ -120,8 +120,8 @@ def before_messages_of_empty_lists(program, folder):
         write(os.path.join(folder, listed), text)
     parts, _status = writes_of([[program, '-c', 'list', 'none', 'list']], folder)
     ok = name.encode() + b': OK'
-    expected = [ok, b'none: no properly formatted xxHash checksum lines found', ok]
-    found = b''.join(parts).splitlines()
+    expected = [ok + b'\n', messages.no_proper_line('none'), ok + b'\n']
+    found = b''.join(parts).splitlines(keepends=True)
     return None if found == expected else f'{found}'
 
 
@@ -195,7 +195,7 @@ def limited_file(program, folder):
         written = out.read()
     if not MOST < limit < len(whole) < 2 * MOST:
         return f'the last of two writes has to be short, and there are {len(whole)} bytes'
-    if (done.returncode, done.stderr) != (1, LOST) or written != whole[:limit]:
+    if (done.returncode, done.stderr) != (1, messages.WRITE_FAILED) or written != whole[:limit]:
         return f'status {done.returncode}, {len(written)} bytes, {done.stderr!r}'
     return None
 
@@ -203,7 +203,7 @@ def limited_file(program, folder):
 def lost(found, whole, is_right):
     """The error of a run that wrote only a part of its output, which is correct."""
     out, err, status = found
-    if (status, err) != (1, LOST) or not whole.startswith(out) or not is_right(out):
+    if (status, err) != (1, messages.WRITE_FAILED) or not whole.startswith(out) or not is_right(out):
         return f'status {status}, {len(out)} of {len(whole)} bytes, {err}'
     return None
 
@@ -246,7 +246,7 @@ def input_that_waits(program, folder):
     os.close(ours)
     found = [(run.stdout, run.stderr, run.returncode) for run in runs]
     expected = [
-        (b'', b"Error: Could not read 'stdin': Resource temporarily unavailable.\n", 1),
+        (b'', messages.unread('stdin', 'Resource temporarily unavailable', end='.'), 1),
         (b'26c7827d889f6da3  stdin\n', b'', 0),
     ]
     return None if found == expected else f'{found}'

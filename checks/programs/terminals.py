@@ -18,7 +18,7 @@ from typing import Union
 
 from checks.lib.tools import TOP, must, write
 
-from . import runs
+from . import messages, runs
 
 # The time after which a program that hangs is killed. On a busy machine a long file takes a minute.
 SECONDS = 300
@@ -290,13 +290,11 @@ def painting_cases(program, workdir):
     for terminals in ((), ('out',), ('err',), ('out', 'err')):
         on_out, on_err = (visible if stream in terminals else bytes for stream in ('out', 'err'))
         where = ', '.join(terminals) or 'none'
-        messages = b''.join(
-            b"Error: Could not open '%s': No such file or directory. \n" % on_err(name) for name in gone
-        )
+        unopened = b''.join(messages.unopened(on_err(name)) for name in gone)
         checked = b''.join(on_out(name) + b': OK\n' for name in names)
         audited = b''.join(on_out(name) + b': same\n' for name in sorted(names))
         for title, args, expected in (
-            ('messages', gone, (b'', messages, 1)),
+            ('messages', gone, (b'', unopened, 1)),
             ('a check', ['-c', lines], (checked, b'', 0)),
             ('an audit', ['--audit', lines, *names], (audited + counts, b'', 0)),
         ):
@@ -367,7 +365,7 @@ def time_cases(program, settings):
 def terminal_cases(program, short, long, lists, settings):
     """Each test by its name: its function and arguments. The files have `hello`, and LONG bytes; one of the lists
     names the long file, and one has a wrong digest for it."""
-    of_short, refused = (b'26c7827d889f6da3  stdin\n', b'', 0), (b'', b'Wrong parameters\n', 1)
+    of_short, refused = (b'26c7827d889f6da3  stdin\n', b'', 0), (b'', messages.wrong(), 1)
     return {
         **progress_cases(program, short, long, lists),
         **time_cases(program, settings),

@@ -19,6 +19,7 @@ from checks.lib import command
 from checks.lib.report import Report, check
 from checks.lib.tools import install_packages
 
+from .. import messages
 from . import judge, planted, scenarios, traces, worlds
 
 PACKAGES = {'strace': 'strace', 'xxhsum': 'xxhash'}
@@ -145,7 +146,7 @@ def vanishes(programs, world):
     lines = done.out.decode().splitlines(keepends=True)
     counts = lines[-1].replace('4 same', '3 same').replace('0 unreadable', '1 unreadable')
     out = ''.join([*lines[1:-1], f'{gone}: unreadable\n', counts])
-    err = f"Error: Could not open '{gone}': No such file or directory. \n"
+    err = messages.unopened(gone).decode()
     check(lines[0] == f'{gone}: same\n' and len(calls) > 1, f'the run without it prints {lines}')
     check((failed.out.decode(), failed.err.decode(), failed.status) == (out, err, 1), f'{failed[:3]}')
 

@@ -1,5 +1,7 @@
 """Wrong results of wrong programs, which the check of failing calls must detect."""
 
+from .. import messages
+
 
 def reported_twice(done):
     return done._replace(err=done.err * 2)
@@ -32,7 +34,7 @@ def without_last_line(done):
 
 
 def failed(done):
-    return done._replace(status=1, err=done.err + b"Error: Could not open 'a': Input/output error. \n")
+    return done._replace(status=1, err=done.err + messages.unopened('a', messages.IO_ERROR))
 
 
 def message_first(done):

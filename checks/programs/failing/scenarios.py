@@ -3,6 +3,7 @@ fails."""
 import os
 from typing import Callable, NamedTuple, Optional
 
+from .. import messages
 from . import worlds
 from .worlds import COMMENT, JUNK, Fault, Outcome, good, wrong
 
@@ -117,7 +118,7 @@ def of_checks(world):
         return (
             found
             if 'OK' in found.out or not is_opened
-            else found._replace(out=found.out + 'good: no file was verified\n')
+            else found._replace(out=found.out + messages.none_verified('good').decode())
         )
 
     return [

@@ -9,6 +9,8 @@ from typing import NamedTuple
 
 from checks.lib.tools import write
 
+from .. import messages
+
 HELLO = b'hello'
 # Three full reads of a file, and a part of one.
 LONG = bytes(at * 7 % 251 for at in range(400_001))
@@ -26,9 +28,8 @@ FILES = {
     'one/only': b'only',
 }
 FLAGS = {'32': '-H0', '64': '-H1', '128': '-H2', '3': '-H3'}
-MISSING, TOO_LONG = 'No such file or directory', 'File name too long'
-WRITE_FAILED = 'Error: a failure occurred writing the output.\n'
-NO_MEMORY = '\nError: Out of memory.\n'
+TOO_LONG = 'File name too long'
+WRITE_FAILED, NO_MEMORY = messages.WRITE_FAILED.decode(), messages.NO_MEMORY.decode()
 
 
 class Fault(NamedTuple):
@@ -81,7 +82,8 @@ class World:
 
 def refusal(name, fault):
     """The message for a file or a directory that could not be opened or read."""
-    return f"Error: Could not {'read' if fault.step == 'read' else 'open'} '{name}': {fault.why}. \n"
+    message = messages.unread if fault.step == 'read' else messages.unopened
+    return message(name, fault.why).decode()
 
 
 def trouble(world, name, fault):
@@ -89,23 +91,23 @@ def trouble(world, name, fault):
     if fault and fault.name == name:
         return refusal(name, fault)
     if os.path.isdir(world.path(name)):
-        return f'xxhsum: {name}: Is a directory \n'
+        return messages.is_folder(name).decode()
     if not os.path.exists(world.path(name)):
-        return refusal(name, Fault('open', name, MISSING))
+        return refusal(name, Fault('open', name, messages.MISSING))
     return ''
 
 
 def digests(world, names, fault=None, form=World.line, before=''):
     """A line of each name that has a digest, and a message for each other one."""
-    messages = {name: trouble(world, name, fault) for name in names}
-    out = ''.join(form(world, name) for name in names if not messages[name])
-    err = before + ''.join(messages[name] for name in names)
+    troubles = {name: trouble(world, name, fault) for name in names}
+    out = ''.join(form(world, name) for name in names if not troubles[name])
+    err = before + ''.join(troubles[name] for name in names)
     return Outcome(out, err, 1 if err else 0)
 
 
 def of_input(world, name, fault, algorithm='64'):
     if fault:
-        return Outcome('', f"Error: Could not read 'stdin': {fault.why}.\n", 1)
+        return Outcome('', messages.unread('stdin', fault.why, end='.').decode(), 1)
     return Outcome(world.line(name, algorithm).replace(f'  {name}', '  stdin'), '', 0)
 
 
@@ -114,10 +116,10 @@ def of_input(world, name, fault, algorithm='64'):
 
 def walked(world, names, fault):
     """The files below these names, in order, and the messages on the way."""
-    files, messages = [], ''
+    files, err = [], ''
     for name in names:
         if fault and fault.step in ('folder', 'look-up') and fault.name in (name, name + '/'):
-            messages += refusal(name, fault)
+            err += refusal(name, fault)
         elif os.path.isdir(world.path(name)):
             below = [f'{name}/{it}' for it in sorted(os.listdir(world.path(name)), key=os.fsencode)]
             plain = [
@@ -130,15 +132,15 @@ def walked(world, names, fault):
                 and fault.name == it
             ]
             more, message = walked(world, plain, fault)
-            files, messages = files + more, messages + message
+            files, err = files + more, err + message
         else:
             files.append(name)
-    return files, messages
+    return files, err
 
 
 def digests_below(world, names, fault=None):
-    files, messages = walked(world, names, fault)
-    return digests(world, files, fault, before=messages)
+    files, err = walked(world, names, fault)
+    return digests(world, files, fault, before=err)
 
 
 # ---- checks of lists
@@ -171,20 +173,16 @@ def verdict(world, listed, number, line, fault):
     if fault and fault.name == line.name:
         why = fault.why
     elif not os.path.exists(world.path(line.name)):
-        why = TOO_LONG if len(line.name) > 4095 else MISSING
+        why = TOO_LONG if len(line.name) > 4095 else messages.MISSING
     if why:
-        return f"{listed}:{number}: Could not open or read '{line.name}': {why}.\n"
+        return messages.unread_listed(listed, number, line.name, why).decode()
     return f'{line.name}: {"OK" if line.is_good else "FAILED"}\n'
-
-
-def counted(count, one, more):
-    return f'{count} {one if count == 1 else more}\n' if count else ''
 
 
 def checked(world, listed, lines, fault=None, warns=False):
     """The check of one list, as far as it could be read."""
     if fault and fault.name == listed and fault.step == 'open':
-        return Outcome('', f"Error: Could not open '{listed}': {fault.why}\n", 1)
+        return Outcome('', messages.unopened(listed, fault.why, end='').decode(), 1)
     is_cut = bool(fault) and fault.name == listed
     given = lines[: ''.join(line.text for line in lines)[: fault.given].count('\n')] if is_cut else lines
     verdicts, err = [], ''
@@ -192,21 +190,17 @@ def checked(world, listed, lines, fault=None, warns=False):
         if line.name:
             verdicts.append(verdict(world, listed, number, line, fault))
         elif warns and line != COMMENT:
-            err += f'{listed}:{number}: Error: Improperly formatted checksum line.\n'
+            err += messages.in_line(listed, number).decode()
     malformed = sum(not line.name and line != COMMENT for line in given)
     if is_cut:
-        err += f'{listed}:{len(given) + 1}: Error: {fault.why}.\n'
+        err += messages.in_line(listed, len(given) + 1, fault.why).decode()
     if not verdicts:
         # A list that broke off before its first line is not a list without a line.
         is_known = not is_cut or malformed
-        return Outcome(
-            '', err + (f'{listed}: no properly formatted xxHash checksum lines found\n' if is_known else ''), 1
-        )
+        return Outcome('', err + (messages.no_proper_line(listed).decode() if is_known else ''), 1)
     unread = sum('Could not' in it for it in verdicts)
     failed = sum(it.endswith('FAILED\n') for it in verdicts)
-    out = ''.join(verdicts) + counted(malformed, 'line is improperly formatted', 'lines are improperly formatted')
-    out += counted(unread, 'listed file could not be read', 'listed files could not be read')
-    out += counted(failed, 'computed checksum did NOT match', 'computed checksums did NOT match')
+    out = ''.join(verdicts) + messages.counts(malformed, unread, failed).decode()
     return Outcome(out, err, 1 if unread or failed or is_cut else 0)
 
 
@@ -215,9 +209,7 @@ def merged_check(world, listed, lines, fault=None):
     the counts after the last line."""
     given = lines[: ''.join(line.text for line in lines)[: fault.given].count('\n')] if fault else lines
     both = [
-        verdict(world, listed, number, line, None)
-        if line.name
-        else f'{listed}:{number}: Error: Improperly formatted checksum line.\n'
+        verdict(world, listed, number, line, None) if line.name else messages.in_line(listed, number).decode()
         for number, line in enumerate(given, 1)
     ]
     found = checked(world, listed, lines, fault, warns=True)
@@ -239,19 +231,16 @@ def all_checked(world, lists, fault=None, warns=False):
 
 def digests_listed(world, lists, fault=None):
     """The digests of the names in lists."""
-    messages = unread_list(lists, fault)
-    return (
-        Outcome('', messages, 1)
-        if messages
-        else digests(world, [name for names in lists.values() for name in names], fault)
-    )
+    err = unread_list(lists, fault)
+    return Outcome('', err, 1) if err else digests(world, [name for names in lists.values() for name in names], fault)
 
 
 def unread_list(lists, fault):
     """The message for a list of names, or one to audit, that could not be opened or read."""
     if not fault or fault.name not in lists:
         return ''
-    return f"Error: Could not {fault.step} '{fault.name}': {fault.why}.\n"
+    message = messages.unread if fault.step == 'read' else messages.unopened
+    return message(fault.name, fault.why, end='.').decode()
 
 
 # ---- audits
@@ -284,9 +273,9 @@ def classes(entries, found):
 def audited(world, listed, entries, names, fault=None, before='', lost=()):
     """The audit of names against a list with these digests. A name with no digest is unreadable; so are directories
     that could not be read, and the lines of names below them."""
-    messages = unread_list({listed: []}, fault)
-    if messages:
-        return Outcome('', before + messages, 1)
+    err = unread_list({listed: []}, fault)
+    if err:
+        return Outcome('', before + err, 1)
     unread = {name: trouble(world, name, fault) for name in sorted(names, key=os.fsencode)}
     found = {name: world.digest(name) for name in names if not unread[name]}
     hidden = [name for name in entries if name not in names and any(f'{name}/'.startswith(f'{it}/') for it in lost)]
@@ -305,5 +294,5 @@ def audited(world, listed, entries, names, fault=None, before='', lost=()):
 
 def audited_below(world, listed, entries, names, fault=None):
     """The audit of the files below directories."""
-    files, messages = walked(world, names, fault)
-    return audited(world, listed, entries, files, fault, messages, [fault.name.rstrip('/')] if messages else [])
+    files, err = walked(world, names, fault)
+    return audited(world, listed, entries, files, fault, err, [fault.name.rstrip('/')] if err else [])
