@@ -2,7 +2,7 @@
 use Rattle.std.proofs.Common.{◌≡◌, ◌≢◌, ℕ, ◌<◌, List, [], ◌∷◌, ◌++◌, Bool, true, false, Ok, Err, IfErr, codes, nat_eq, ◌||◌, refl, sym, subst, if◌then◌else◌, arith, append-nil, ap, ◌∙◌, Result}
 use Rattle.xxhsum_program.specs.Prelude.{Options, OutOfMemory, Report, SinkRules, Stop, Took, WriteFailed, concat}
 use Rattle.xxhsum_program.proofs.Prelude.{Emits, EmitsTo, Printed, PrintsLine, Refused-join, Refused-more, Reported, StreamRules, Streams, Took-join, is_unverified, streams_of}
-use Rattle.xxhsum_program.specs.ListMessages.{count_text, no_line_text, printed_summary, summary_events, summary_text, unverified_line, unverified_text}
+use Rattle.xxhsum_program.specs.ListMessages.{different_counted, improper_counted, no_line_text, printed_summary, summary_events, summary_text, unread_counted, unverified_line, unverified_text}
 use Rattle.xxhsum_program.specs.Report.{has_no_line}
 use Rattle.xxhsum_program.proofs.OrderFacts.{emits-join, emits-line}
 
@@ -26,11 +26,11 @@ line_join writing a b old mid new (Err OutOfMemory) took only prints = cc
 one-of : (count : ℕ) (silent : Bool) (text : List ℕ) → count ≢ 0 → silent ≡ false → (if nat_eq count 0 || silent then [] else text) ≡ text
 one-of count silent text some speaks = rw speaks (grind arith)
 
-pub summary-is : (options : Options) (report : Report) → report.proper ≢ 0 → options.is_status_only ≡ false → printed_summary options report ≡ count_text report.improper (codes " line is improperly formatted\n") (codes " lines are improperly formatted\n") ++ (count_text report.unread (codes " listed file could not be read\n") (codes " listed files could not be read\n") ++ count_text report.different (codes " computed checksum did NOT match\n") (codes " computed checksums did NOT match\n"))
+pub summary-is : (options : Options) (report : Report) → report.proper ≢ 0 → options.is_status_only ≡ false → printed_summary options report ≡ improper_counted report.improper ++ (unread_counted report.unread ++ different_counted report.different)
 summary-is options report some speaks =
-    let improper = count_text report.improper (codes " line is improperly formatted\n") (codes " lines are improperly formatted\n") in
-    let unread = count_text report.unread (codes " listed file could not be read\n") (codes " listed files could not be read\n") in
-    let different = count_text report.different (codes " computed checksum did NOT match\n") (codes " computed checksums did NOT match\n") in
+    let improper = improper_counted report.improper in
+    let unread = unread_counted report.unread in
+    let different = different_counted report.different in
     one-of report.proper options.is_status_only (concat (improper ∷ unread ∷ different ∷ [])) some speaks ∙ ap (λ bytes. improper ++ (unread ++ bytes)) (append-nil different)
 
 -- Lemma: a list without a well-formed line is reported, and then its summary is printed.

@@ -64,19 +64,30 @@ abbrev pub count_text : ℕ → List ℕ → List ℕ → List ℕ
 count_text count one more =
     if nat_eq count 0 then [] else decimal count ++ (if nat_eq count 1 then one else more)
 
--- The numbers of malformed lines, unread files and mismatches.
+-- The numbers of malformed lines, of unread files and of mismatches.
+abbrev pub improper_counted : ℕ → List ℕ
+improper_counted count =
+    count_text count (codes " line is improperly formatted\n") (codes " lines are improperly formatted\n")
+
+abbrev pub unread_counted : ℕ → List ℕ
+unread_counted count =
+    count_text count (codes " listed file could not be read\n") (codes " listed files could not be read\n")
+
+abbrev pub different_counted : ℕ → List ℕ
+different_counted count =
+    count_text count (codes " computed checksum did NOT match\n") (codes " computed checksums did NOT match\n")
+
 abbrev pub printed_summary : Options → Report → List ℕ
 printed_summary options report =
     if nat_eq report.proper 0 || options.is_status_only then [] else concat
-    (count_text report.improper (codes " line is improperly formatted\n") (codes " lines are improperly formatted\n")
-    ∷ count_text report.unread (codes " listed file could not be read\n") (codes " listed files could not be read\n")
-    ∷ count_text report.different (codes " computed checksum did NOT match\n")
-    (codes " computed checksums did NOT match\n")
-    ∷ [])
+    (improper_counted report.improper ∷ unread_counted report.unread ∷ different_counted report.different ∷ [])
 
--- The line that reports that no file of the list was verified.
+-- The text that no file of the list was verified, and its line.
+abbrev pub unverified_message : List ℕ → List ℕ
+unverified_message list = list ++ codes ": no file was verified"
+
 abbrev pub unverified_line : List ℕ → List ℕ
-unverified_line list = one_line (list ++ codes ": no file was verified")
+unverified_line list = one_line (unverified_message list)
 
 -- That line, if missing files are ignored and no file matches; with all other options.
 abbrev pub unverified_text : Options → List ℕ → Report → List ℕ

@@ -16,7 +16,7 @@ use Rattle.xxhsum_line.specs.Parts.{Lacks}
 use Rattle.xxhsum_program.specs.CheckList.{Checked, ListOutcome, Unopened, outcome_events}
 use Rattle.xxhsum_program.specs.Findings.{Finding}
 use Rattle.xxhsum_program.specs.ListEnd.{Endless, FailedRead, ListEnd, TooMany, Whole, report_at}
-use Rattle.xxhsum_program.specs.ListMessages.{break_events, count_text, end_events, finding_events, line_message, lines_events, no_line_text, numbered, printed_summary, refusal_message, stop_events, summary_text, too_long_text, unverified_text}
+use Rattle.xxhsum_program.specs.ListMessages.{break_events, count_text, end_events, finding_events, line_message, lines_events, no_line_text, numbered, printed_summary, refusal_message, stop_events, summary_text, too_long_text, unverified_message, unverified_text}
 use Rattle.xxhsum_program.specs.Order.{Event, Printed, Reported}
 use Rattle.xxhsum_program.specs.Prelude.{AllByRecursion, Files, Input, Options, SourceRules, concat}
 use Rattle.xxhsum_program.specs.declared.check.Report.{Report}
@@ -99,42 +99,51 @@ decimal-lacks : (b : ℕ) → b < 32 → (n : ℕ) → Lacks b (decimal n)
 unfolding digits
 decimal-lacks b low n = digits-lack b low 64 n [] tt
 
-plain : (word : List ℕ) → are_plain word ≡ true → Lacks 10 word
-plain word is = without 10 word (omega arith) is
+-- True if the bytes are some that are no control characters, and a newline.
+abbrev ends_line : List ℕ → Bool
+ends_line [] = false
+ends_line (c ∷ []) = nat_eq c 10
+ends_line (c ∷ d ∷ ds) = nat_le 32 c && ends_line (d ∷ ds)
 
--- Lemma: a number with a text behind it and a newline is one line.
-number-line : (n : ℕ) (text : List ℕ) → Lacks 10 text → IsOneLine (decimal n ++ (text ++ 10 ∷ []))
-number-line n text l =
-    (decimal n ++ text, sym (append_assoc (decimal n) text (10 ∷ [])), lacks_both 10 (decimal n) text (decimal-lacks 10 (omega arith) n) l)
+-- Lemma: such bytes are a text without a newline, and a newline.
+line-parts : (text : List ℕ) → ends_line text ≡ true → (front : List ℕ) × (text ≡ front ++ 10 ∷ []) × Lacks 10 front
+line-parts [] is = cc
+line-parts (c ∷ []) is = let last : c ≡ 10 = grind (arith, nat_tests, is) in ([], ap (λ d. d ∷ []) last, tt)
+line-parts (c ∷ d ∷ ds) is =
+    let both = and_parts (nat_le 32 c) (ends_line (d ∷ ds)) is in
+    let rest = line-parts (d ∷ ds) both.1 in
+    (c ∷ rest.0, ap (λ (l : List ℕ). c ∷ l) rest.1, (λ e. let no : ⊥ = grind (arith, nat_tests, both.0, e) in no), rest.2)
+
+-- Lemma: a number with such a text behind it is one line.
+number-line : (n : ℕ) (text : List ℕ) → ends_line text ≡ true → IsOneLine (decimal n ++ text)
+number-line n text is =
+    let parts = line-parts text is in
+    (
+      decimal n ++ parts.0,
+      ap (λ l. decimal n ++ l) parts.1 ∙ sym (append_assoc (decimal n) parts.0 (10 ∷ [])),
+      lacks_both 10 (decimal n) parts.0 (decimal-lacks 10 (omega arith) n) parts.2,
+    )
 
 -- ---- the check of a list
 
-counted-by : (none single : Bool) (count : ℕ) (one more : List ℕ) → Lacks 10 one → Lacks 10 more
-    → AreLines (if none then [] else decimal count ++ (if single then one ++ 10 ∷ [] else more ++ 10 ∷ []))
-counted-by true single count one more l l' = no-line
-counted-by false true count one more l l' = a-line _ (number-line count one l)
-counted-by false false count one more l l' = a-line _ (number-line count more l')
+counted-by : (none single : Bool) (count : ℕ) (one more : List ℕ) → ends_line one ≡ true → ends_line more ≡ true
+    → AreLines (if none then [] else decimal count ++ (if single then one else more))
+counted-by true single count one more is is' = no-line
+counted-by false true count one more is is' = a-line _ (number-line count one is)
+counted-by false false count one more is is' = a-line _ (number-line count more is')
 
-counted : (count : ℕ) (one more : List ℕ) → Lacks 10 one → Lacks 10 more → AreLines (count_text count (one ++ 10 ∷ []) (more ++ 10 ∷ []))
-counted count one more l l' = counted-by (nat_eq count 0) (nat_eq count 1) count one more l l'
+counted : (count : ℕ) (one more : List ℕ) → ends_line one ≡ true → ends_line more ≡ true → AreLines (count_text count one more)
+counted count one more is is' = counted-by (nat_eq count 0) (nat_eq count 1) count one more is is'
 
 summary-lines : (options : Options) (report : Report) → AreLines (printed_summary options report)
 summary-lines options report =
     lines-if (nat_eq report.proper 0 || options.is_status_only) [] _ no-line
-    (lines-both _ _
-    (counted report.improper (codes " line is improperly formatted") (codes " lines are improperly formatted")
-    (plain (codes " line is improperly formatted") refl) (plain (codes " lines are improperly formatted") refl))
-    (lines-both _ _
-    (counted report.unread (codes " listed file could not be read") (codes " listed files could not be read")
-    (plain (codes " listed file could not be read") refl) (plain (codes " listed files could not be read") refl))
-    (lines-both _ _
-    (counted report.different (codes " computed checksum did NOT match") (codes " computed checksums did NOT match")
-    (plain (codes " computed checksum did NOT match") refl) (plain (codes " computed checksums did NOT match") refl))
-    no-line)))
+    (lines-both _ _ (counted report.improper _ _ refl refl)
+    (lines-both _ _ (counted report.unread _ _ refl refl) (lines-both _ _ (counted report.different _ _ refl refl) no-line)))
 
 unverified-lines : MessageIsOneLine → (options : Options) (list : List ℕ) (report : Report) → AreLines (unverified_text options list report)
 unverified-lines message options list report =
-    lines-if (is_unverified options.ignores_missing report) _ [] (a-line _ (message (list ++ codes ": no file was verified"))) no-line
+    lines-if (is_unverified options.ignores_missing report) _ [] (a-line _ (message (unverified_message list))) no-line
 
 writes : (event : Event) → IsLine event → WritesLines event
 writes (Printed bytes) is = a-line bytes is
