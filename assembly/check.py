@@ -24,6 +24,7 @@ import re
 import shutil
 import sys
 import tempfile
+from typing import Sequence
 
 from assembly import compile as compiling
 from assembly import prefetch, unwinding, wide
@@ -228,7 +229,7 @@ def is_refused(module, args, annotated, is_wide):
             file.write(module)
         compiling.with_changes = lambda text, wide: annotated if wide == is_wide else with_changes(text, wide)
         try:
-            compiling.run_clang(clang_of_kit(), '', is_wide and os.path.join(workdir, 'wide'), *args)
+            compiling.run_clang(clang_of_kit(), '', os.path.join(workdir, 'wide') if is_wide else '', *args)
         except SystemExit as why:
             return 'is not the one that was proved' in str(why)
         finally:
@@ -275,7 +276,7 @@ def is_same(assembler, text, proved, workdir):
     check(not found, ' / '.join(line[:200] for line in found[:3]))
 
 
-def check_texts(report, library, target):
+def check_texts(report: Report, library: str, target: str) -> None:
     """The sources of a library that was proved and built."""
     out = os.path.join(TOP, library, 'out')
     assemblers = assemblers_for(target)
@@ -345,7 +346,7 @@ def has_sums(assembler, text, workdir):
     check(not found, ' / '.join(line[:200] for line in found[:3]))
 
 
-def check_sums(report, folder, sets):
+def check_sums(report: Report, folder: str, sets: Sequence[str]) -> None:
     """Sources for x86-64 against their sums, if no proved object is available."""
     with tempfile.TemporaryDirectory() as workdir:
         for assembler in assemblers_for('x86-64'):

@@ -19,13 +19,14 @@ import re
 import subprocess
 import sys
 import tempfile
+from typing import NoReturn
 
 from assembly import prefetch, wide
 
 FOR_X86_64 = ['-mbranches-within-32B-boundaries']
 
 
-def stop(why):
+def stop(why: object) -> NoReturn:
     sys.exit(f'assembly/compile.py: {why}')
 
 
@@ -101,7 +102,7 @@ def compile_changed(clang, workdir, text, output, is_wide=False):
     return clang.text(annotated)
 
 
-def with_changes(text, is_wide):
+def with_changes(text: str, is_wide: bool) -> str:
     try:
         return prefetch.add(wide.widen(text) if is_wide else text)
     except ValueError as why:
@@ -133,7 +134,7 @@ def compile_all(clang, widened):
         return compile_changed(clang, workdir, text, clang.output())
 
 
-def run_clang(path, stored, widened, *args):
+def run_clang(path: str, stored: str, widened: str, *args: str) -> int:
     clang = Clang(path, list(args))
     status = clang.run(args)
     if status:

@@ -8,7 +8,7 @@ that returns with a frame.
 
 Unwinders, debuggers and profilers depend on these directives; no value does."""
 import re
-from typing import NamedTuple, Optional
+from typing import Iterator, NamedTuple, Optional, Sequence
 
 OUTSIDE = -1
 
@@ -29,10 +29,11 @@ class Step(NamedTuple):
 
 class Processor:
     """The parts of frames that depend on the processor. `numbers` are DWARF's numbers of the registers that a caller
-    needs back, `jumps` the text of a jump."""
+    needs back, `jumps` the text of a jump, `entry` the depth of a frame at its function's start."""
 
     numbers: dict[str, int]
     jumps: re.Pattern[str]
+    entry: int
 
     def moved(self, text, depth, saved):
         """The depth after an instruction, whose stores of registers are written to `saved`."""
@@ -111,7 +112,7 @@ class Arm(Processor):
 BY_MACHINE = {62: X86(), 183: Arm()}
 
 
-def frames(processor, steps):
+def frames(processor: Processor, steps: Sequence[Step]) -> dict[int, Frame]:
     """The frame before each instruction, by its number; unreachable ones have none."""
     entry = Frame(processor.entry, ())
     found, waiting = {}, [(0, entry)]
@@ -141,7 +142,7 @@ def followed(processor, steps, number, frame, entry):
         yield number + 1, processor.after(text, frame)
 
 
-def directives(processor, steps):
+def directives(processor: Processor, steps: Sequence[Step]) -> Iterator[list[str]]:
     """For each instruction the lines before it."""
     found = frames(processor, steps)
     current = Frame(processor.entry, ())

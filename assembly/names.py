@@ -17,7 +17,7 @@ FUNCTION, MERGED = 2, 0x10
 TOOLS = {62: '', 183: 'aarch64-linux-gnu-'}
 
 
-def plain(name):
+def plain(name: str) -> str:
     name = re.sub(r'::<#[0-9a-f]+>', '', name).replace('::', '.').replace('..L', '.')
     if not re.fullmatch(r'[A-Za-z_.][A-Za-z0-9_.]*', name):
         raise ValueError(f'no assembler takes the name {name}')

@@ -4,7 +4,7 @@ A prefetch hints to the processor to load a line of 64 bytes. By LLVM's definiti
 address is invalid. `add` writes them where the functions of PLACES request the next bytes of an input, and refuses a
 module that lacks a place of a hash that it has. `strip` removes what `add` writes, and nothing else."""
 import re
-from typing import NamedTuple, Optional
+from typing import NamedTuple, Optional, Sequence
 
 
 class Place(NamedTuple):
@@ -144,7 +144,7 @@ class Module:
         return ''.join(before.get(at, '') + line for at, line in enumerate(body.splitlines(keepends=True)))
 
 
-def add(text, places=None):
+def add(text: str, places: Optional[Sequence[Place]] = None) -> str:
     module = Module(text)
     places = PLACES[module.processor()] if places is None else places
     if not places:
@@ -161,7 +161,7 @@ def add(text, places=None):
     return text + '\ndeclare void @llvm.prefetch.p0(ptr, i32, i32, i32)\n'
 
 
-def strip(text):
+def strip(text: str) -> str:
     text = WRITTEN.sub('', text)
     declared = DECLARED.search(text)
     if declared:

@@ -2,6 +2,7 @@
 libgcc at each executed instruction."""
 import os
 import re
+from typing import Any, Callable
 
 from assembly import frames
 from assembly.eh_frame import Table
@@ -15,7 +16,7 @@ ASSEMBLY, C = os.path.join(TOP, 'assembly'), os.path.join(TOP, 'c')
 RETURN_ADDRESS = {62: {16: -8}}
 
 
-def differences(path):
+def differences(path: str) -> tuple[int, list[str]]:
     """The instructions of an object at which its table has another frame than the flow, and the number of all."""
     object_, text = Object(path), Text(path, '')
     table, processor, count, found = Table(object_), frames.BY_MACHINE[object_.machine], 0, []
@@ -30,7 +31,7 @@ def differences(path):
     return count, found
 
 
-def are_reported(assembler, text, workdir):
+def are_reported(assembler: Any, text: str, workdir: str) -> str:
     out = os.path.join(workdir, 'framed.o')
     assembler.assemble(text, out)
     count, found = differences(out)
@@ -50,7 +51,7 @@ def wrong_ones(lines):
     yield 'a register that stays away', [*lines[:restored], *lines[restored + 1 :]]
 
 
-def wrong_ones_are_noticed(assembler, text, workdir, is_noticed):
+def wrong_ones_are_noticed(assembler: Any, text: str, workdir: str, is_noticed: Callable[[str], Any]) -> str:
     out, count = os.path.join(workdir, 'framed.o'), 0
     for what, wrong in wrong_ones(text_of(text).splitlines()):
         assembler.assemble(write(os.path.join(workdir, 'wrong.s'), '\n'.join(wrong) + '\n'), out)
@@ -85,7 +86,7 @@ def run(framed, workdir):
     return ran([program(framed, workdir)], timeout=300)
 
 
-def unwinds(assembler, text, workdir):
+def unwinds(assembler: Any, text: str, workdir: str) -> str:
     """The unwinder finds the caller from each executed instruction, and from one with a wrong frame it doesn't."""
     out = os.path.join(workdir, 'framed.o')
     assembler.assemble(text, out)

@@ -82,7 +82,7 @@ MERGE = re.compile(
 HANDED_ON = '  %a1 = call i64 asm "", "=r,0"(i64 %from_loop)\n'
 
 
-def clang_of_kit():
+def clang_of_kit() -> str:
     kit = os.path.dirname(os.path.dirname(os.path.realpath(shutil.which('rt') or sys.exit('webassembly.py: no rt'))))
     return os.path.join(kit, 'toolchain', 'bin', 'clang')
 

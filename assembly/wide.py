@@ -14,6 +14,7 @@ import os
 import re
 import subprocess
 import sys
+from typing import Iterator
 
 from assembly.names import plain
 
@@ -49,7 +50,7 @@ def with_answer(text, old, new):
     return BODY.sub(rf'\g<1>{new}\g<3>', text)
 
 
-def widen(text):
+def widen(text: str) -> str:
     """The module with the other result, whose wide functions have groups of attributes of their own."""
     if FOR_V4 in text or WIDTH in text:
         refuse('the module is a wide one already')
@@ -74,12 +75,12 @@ def widen(text):
     return text
 
 
-def narrow(text):
+def narrow(text: str) -> str:
     """The module without the changes of `widen`: clang then numbers equal groups of attributes alike again."""
     return with_answer(text.replace(WIDTH, '').replace(FOR_V4, FOR_V3), 'true', 'false')
 
 
-def faults(path, allowed):
+def faults(path: str, allowed: set[str]) -> Iterator[str]:
     """The instructions of an object that are not allowed."""
     out = subprocess.run(
         ['objdump', '-d', '-w', '--no-show-raw-insn', path], check=True, capture_output=True, text=True
@@ -98,7 +99,7 @@ def faults(path, allowed):
         yield f'there is no {", ".join(sorted(wide - found))}'
 
 
-def mnemonics():
+def mnemonics() -> set[str]:
     with open(MNEMONICS, encoding='ascii') as file:
         return set(re.sub('#.*', '', file.read()).split())
 

@@ -31,7 +31,7 @@ class Row:
         return "\t".join([self.part, self.form, self.name, str(self.size), *ours, *peers])
 
 
-def read(file=FILE):
+def read(file: str = FILE) -> tuple[list[str], list["Row"]]:
     """The texts of the first lines, and the rows."""
     comments, rows = [], []
     with open(file) as lines:
@@ -47,7 +47,7 @@ def read(file=FILE):
     return comments, rows
 
 
-def write(comments, rows, file=FILE):
+def write(comments: list[str], rows: list["Row"], file: str = FILE) -> None:
     with open(file, "w") as out:
         out.writelines(f"# {it}\n" for it in comments)
         out.writelines(f"{it}\n" for it in rows)

@@ -5,6 +5,7 @@ than this version if the checksum of the code differs."""
 import glob
 import hashlib
 import os
+from typing import Optional
 
 from checks.lib.tools import TOP
 
@@ -44,7 +45,7 @@ def files(name, top=TOP):
     )
 
 
-def checksum(name, top=TOP):
+def checksum(name: str, top: str = TOP) -> str:
     """The SHA-256 of the names and the bytes of the measured code."""
     whole = hashlib.sha256()
     for path in files(name, top):
@@ -53,12 +54,12 @@ def checksum(name, top=TOP):
     return whole.hexdigest()
 
 
-def stored(file=FILE):
+def stored(file: str = FILE) -> dict[str, str]:
     with open(file) as lines:
         return dict(line.rstrip("\n").split("\t") for line in lines if not line.startswith("#"))
 
 
-def store(sums, file=FILE):
+def store(sums: dict[str, str], file: str = FILE) -> None:
     with open(file, "w") as out:
         out.write(
             "# The SHA-256 of the code that each measurement ran, by bench/page --record. Columns: measurement, "
@@ -67,6 +68,6 @@ def store(sums, file=FILE):
         out.writelines(f"{name}\t{sums[name]}\n" for name in CODE)
 
 
-def is_older(name, sums=None):
+def is_older(name: str, sums: Optional[dict[str, str]] = None) -> bool:
     """True if the code of a measurement has changed since, or nobody knows which code it was."""
     return (stored() if sums is None else sums)[name] != checksum(name)

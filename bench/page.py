@@ -12,8 +12,10 @@ import statistics
 import string
 import sys
 from pathlib import Path
+from typing import Iterable, Optional, Sequence
 
 from bench import figures, measured, objects
+from bench.measured import Row
 from checks.lib import command
 from checks.lib.tools import TOP
 
@@ -60,7 +62,7 @@ DISPATCH = [
 ]
 
 
-def markdown(head, rows):
+def markdown(head: Sequence[str], rows: Iterable[Sequence[str]]) -> list[str]:
     return (
         ["| " + " | ".join(head) + " |", "|---" * len(head) + "|"]
         + ["| " + " | ".join(row) + " |" for row in rows]
@@ -72,7 +74,7 @@ def ranged(values):
     return "not measured" if not values else f"{statistics.median(values):.2f} ({min(values):.2f} to {max(values):.2f})"
 
 
-def best(row):
+def best(row: Row) -> float:
     return row.best_peer(PEERS)[1].median
 
 
@@ -88,7 +90,7 @@ def summary(parts, ratio):
     return markdown(["what", "x86-64-v2, the default", "x86-64-v3"], lines)
 
 
-def data_of(name):
+def data_of(name: str) -> list[str]:
     return Path(f"{DATA}/{name}.tsv").read_text().splitlines()
 
 
@@ -103,7 +105,7 @@ def age(code, sums=None):
     return f" Older than this version: {why}." if objects.is_older(code, sums) else ""
 
 
-def origin(name, first=None):
+def origin(name: str, first: Optional[str] = None) -> re.Match[str]:
     """The date, the commit and the processor of a file of data, from its first line."""
     found = re.search(
         r"(on (\d{4}-\d\d-\d\d), (?:at|stored by) commit) (\w+), on (.+?)(?: and rustc|, | \(|\.$|\. )",

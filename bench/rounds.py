@@ -48,12 +48,12 @@ def programs(workdir, file_size):
         yield measured.Row("program", way, algorithm, file_size, speed, 100 * figures.spread(ours), {"xxhsum": peer})
 
 
-def command(*args):
+def command(*args: str) -> str:
     done = subprocess.run(args, capture_output=True, text=True)
     return (done.stdout.strip() or done.stderr.strip()).split("\n")[0]
 
 
-def processor():
+def processor() -> str:
     with open("/proc/cpuinfo") as lines:
         return next(
             (it.split(":", 1)[1].strip() for it in lines if it.startswith("model name")), "an unknown processor"

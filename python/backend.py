@@ -53,12 +53,12 @@ PROJECT = project()
 STEM = f'{PROJECT["name"].replace("-", "_")}-{PROJECT["version"]}'
 
 
-def read(*path):
+def read(*path: str) -> bytes:
     with open(os.path.join(*path), 'rb') as file:
         return file.read()
 
 
-def proved(path):
+def proved(path: str) -> str:
     """The path of a file of the proved library: in a source package, or otherwise in the repository."""
     packed = os.path.join(HERE, 'proved', os.path.basename(path))
     return packed if os.path.exists(packed) else os.path.join(C, path)
@@ -67,7 +67,7 @@ def proved(path):
 # ---- the extension ----
 
 
-def renamed(text, prefix):
+def renamed(text: str, prefix: str) -> str:
     """The source with a prefix before each name that the linker sees, so that two instruction sets fit into one
     file, and with these names hidden, so that no library in the process sees them. The names that c/guards.c guards
     lose their mark: the extension passes no null."""

@@ -61,7 +61,7 @@ class Handler(http.server.SimpleHTTPRequestHandler):
         pass
 
 
-def server(port, handler=Handler):
+def server(port: int, handler: type[http.server.SimpleHTTPRequestHandler] = Handler) -> http.server.ThreadingHTTPServer:
     return http.server.ThreadingHTTPServer(("127.0.0.1", port), handler)
 
 

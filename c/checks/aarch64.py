@@ -2,13 +2,14 @@
 import functools
 import os
 import tempfile
+from typing import Sequence
 
 from assembly.check import check_texts
 from c.checks import clients, headers, installed, package, values
 from c.checks.library import Built, C
 from c.checks.sides import EmulatedSide, run
 from checks.lib.arm_roots import TOOLS, debian_root
-from checks.lib.report import check
+from checks.lib.report import Report, check
 from checks.lib.tools import TOP, install_packages, must, replace_once, text_of, write
 
 HEADER = '/usr/include/xxhash.h'
@@ -26,7 +27,7 @@ THEIRS = '/usr/lib/aarch64-linux-gnu/libxxhash.so.0'
 RIGHT, WRONG = '#define XXH_PRIME32_1  0x9E3779B1U', '#define XXH_PRIME32_1  0x9E3779B3U'
 
 
-def reference(built, name, change=(), flags=('-O2',)):
+def reference(built: Built, name: str, change: Sequence[str] = (), flags: Sequence[str] = ('-O2',)) -> str:
     """Builds only the reference's header as a shared library, with one change."""
     folder = os.path.join(built.workdir, name)
     header, path = write(os.path.join(folder, 'xxhash.h'), text_of(HEADER)), os.path.join(folder, 'reference.so')
@@ -96,7 +97,7 @@ def check_programs(report, built, root):
     report.attempt("Debian's python3-xxhash on the Debian package", package_serves, built, sides, root)
 
 
-def check_all(report, quick):
+def check_all(report: Report, quick: bool) -> None:
     install_packages(PACKAGES)
     with tempfile.TemporaryDirectory() as workdir:
         built = Built(workdir, 'aarch64', TOOLS)

@@ -10,7 +10,7 @@ import time
 from typing import NamedTuple, Optional
 
 from c.checks.sides import Side, check_library, loaded, run
-from checks.lib.report import Fault, check, last_line
+from checks.lib.report import Fault, Report, check, last_line
 from checks.lib.tools import free_port, write
 
 HERE = os.path.dirname(os.path.abspath(__file__))
@@ -29,7 +29,7 @@ class Sides(NamedTuple):
 # ---- python3-xxhash ----
 
 
-def python_hashes(sides):
+def python_hashes(sides: 'Sides') -> str:
     command = [PYTHON, '-B', os.path.join(HERE, 'python_hashes.py')]
     theirs, ours, wrong = (run(side, command) for side in (sides.theirs, sides.ours, sides.wrong))
     check(theirs.status == 0, last_line(theirs.out))
@@ -307,7 +307,7 @@ def lighttpd_tags(sides):
     return f'ETag {tag} on both; a library that stops at each hash is noticed'
 
 
-def check_all(report, sides):
+def check_all(report: Report, sides: 'Sides') -> None:
     theirs, ours, wrong = sides.theirs, sides.ours, sides.wrong
     report.attempt('python3-xxhash', python_hashes, sides)
     for choice in ('xxh64', 'xxh3', 'xxh128'):

@@ -9,7 +9,7 @@ import tempfile
 from typing import NamedTuple
 
 from checks.lib.debian_apt import sources
-from checks.lib.report import Fault, check, last_line
+from checks.lib.report import Fault, Report, check, last_line
 from checks.lib.tools import TOP, install_packages, must, ran, text_of, write
 
 HEADER, CODE = text_of('c/include/xxhash.h'), text_of('c/source/xxhash.c')
@@ -192,7 +192,7 @@ def stopping_is_detected(copy):
     return last_line(done.stdout)
 
 
-def check_all(report):
+def check_all(report: Report) -> None:
     install_packages(
         {**PACKAGES, **{name: package for program in PROGRAMS.values() for name, package in program.packages.items()}}
     )

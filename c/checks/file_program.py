@@ -6,7 +6,7 @@ from checks.lib.report import check
 from checks.lib.tools import TOP, must
 
 
-def file_program_agrees(prefix):
+def file_program_agrees(prefix: str) -> str:
     """Compares the xxhsum below this folder by each of its names with Debian's, with lists that one writes and the
     other checks, and tests its manual page."""
     file = os.path.join(TOP, 'LICENSE')

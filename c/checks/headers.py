@@ -1,7 +1,8 @@
 """Programs that are built with the installed files: the headers, pkg-config with -static, CMake."""
 import os
 
-from checks.lib.report import check
+from c.checks.library import Built
+from checks.lib.report import Report, check
 from checks.lib.tools import TOP, must, ran
 
 DISPATCHED = (
@@ -12,7 +13,7 @@ EXAMPLE_C = os.path.join(TOP, 'examples', 'c', 'hash-file.c')
 MARK = 'twox_c'
 
 
-def package_path(built):
+def package_path(built: Built) -> dict[str, str]:
     return {**os.environ, 'PKG_CONFIG_PATH': os.path.join(built.folder, 'pkgconfig')}
 
 
@@ -41,7 +42,7 @@ def dispatch_header_serves(built):
     must([path])
 
 
-def dispatch_header_is_refused(built, *flags, word):
+def dispatch_header_is_refused(built: Built, *flags: str, word: str) -> str:
     return refuses(built, DISPATCHED.split('\n')[0], word, 'gcc', *flags)
 
 
@@ -49,7 +50,7 @@ def holds(built, program):
     return MARK in must([built.tools + 'nm', program])
 
 
-def static_by_pkg_config(built):
+def static_by_pkg_config(built: Built) -> list[str]:
     """A program that is linked with -static by pkg-config contains our code, also if Debian's archive is installed.
     With Debian's own pkg-config file it doesn't."""
     flags = must(['pkg-config', '--cflags', '--libs', '--static', 'libxxhash'], env=package_path(built)).split()
@@ -62,7 +63,7 @@ def static_by_pkg_config(built):
     return [path]
 
 
-def by_cmake(built):
+def by_cmake(built: Built) -> tuple[list[str], list[str]]:
     """examples/cmake, which finds the package xxHash. Returns its two programs."""
     folder = os.path.join(built.workdir, 'example-cmake')
     must(['cmake', '-S', os.path.join(TOP, 'examples', 'cmake'), '-B', folder, f'-DCMAKE_PREFIX_PATH={built.prefix}'])
@@ -72,7 +73,7 @@ def by_cmake(built):
     return [os.path.join(folder, 'hash-file')], [path]
 
 
-def cpp_by_cmake(built):
+def cpp_by_cmake(built: Built) -> list[str]:
     """examples/cpp, which wraps the states in classes."""
     folder = os.path.join(built.workdir, 'example-cpp')
     must(['cmake', '-S', os.path.join(TOP, 'examples', 'cpp'), '-B', folder, f'-DCMAKE_PREFIX_PATH={built.prefix}'])
@@ -80,7 +81,7 @@ def cpp_by_cmake(built):
     return [os.path.join(folder, 'hash-file')]
 
 
-def check_all(report, built):
+def check_all(report: Report, built: Built) -> None:
     report.attempt('xxh_x86dispatch.h', dispatch_header_serves, built)
     report.attempt(
         'xxh_x86dispatch.h with XXH_INLINE_ALL is refused',

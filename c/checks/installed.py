@@ -2,10 +2,11 @@
 import os
 import shutil
 import subprocess
+from typing import Sequence
 
-from c.checks.library import C
+from c.checks.library import C, Built
 from c.checks.sides import THEIRS
-from checks.lib.report import check
+from checks.lib.report import Report, check
 from checks.lib.tools import must, ran, text_of, write
 
 HEADER = '/usr/include/xxhash.h'
@@ -51,7 +52,9 @@ int main()
 ASKS = '#include <xxh_x86dispatch.h>\nint main(void) { return XXH_featureTest(); }\n'
 
 
-def own_states_agree(built, theirs, paths, compiler, folder, run=()):
+def own_states_agree(
+    built: Built, theirs: str, paths: Sequence[str], compiler: str, folder: str, run: Sequence[str] = ()
+) -> str:
     """States by a header, between bytes that must not change, and memory that was never reset."""
     found = []
     for name in ('own_states', 'own_states_3'):
@@ -110,7 +113,7 @@ def faults_are_detected(built):
     return f'{len(FAULTS)} faults'
 
 
-def their_header(workdir):
+def their_header(workdir: str) -> str:
     """Debian's header in a folder of its own, so that none of another folder is used instead."""
     folder = os.path.join(workdir, 'their-header')
     os.makedirs(folder)
@@ -140,7 +143,7 @@ def features_are_known(built):
     return f'{here} here, and on {len(others)} others'
 
 
-def check_all(report, built, paths):
+def check_all(report: Report, built: Built, paths: Sequence[str]) -> None:
     headers = {'theirs': their_header(built.workdir), 'ours': built.include}
     for compiler in ('gcc', 'clang'):
         for name, folder in headers.items():

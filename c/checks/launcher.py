@@ -54,7 +54,7 @@ def runs(args, message=b'', **more):
     return done.returncode, done.stdout
 
 
-def launches(workdir, v3, compiler):
+def launches(workdir: str, v3: bool, compiler: str) -> str:
     """Name, arguments, exit status and standard streams are those of the build; if that is missing, it prints a
     one-line error."""
     folder = lay_out(workdir, compiler)

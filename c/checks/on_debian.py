@@ -15,7 +15,7 @@ import tempfile
 from typing import NamedTuple, Optional
 
 from c.checks.library import Built, C
-from checks.lib.report import check
+from checks.lib.report import Report, check
 from checks.lib.roots import TAKEN, new_base, new_root
 from checks.lib.tools import clean_copy, install_packages, text_of
 
@@ -135,7 +135,7 @@ def laid_out(workdir):
     return taken
 
 
-def check_release(report, release, base, workdir):
+def check_release(report: Report, release: str, base: str, workdir: str) -> None:
     """The scripts of a release, on a copy of a root of it."""
     expected = [script for script in scripts() if release in script.releases]
     with new_root(base, os.path.join(workdir, f'root-{release}'), RELEASES[release], laid_out(workdir), '') as root:
@@ -149,7 +149,7 @@ def check_release(report, release, base, workdir):
             report.attempt(f'Debian {release}: {script.name}', same_on_both, *libraries, script)
 
 
-def check_all(report, release):
+def check_all(report: Report, release: str) -> None:
     install_packages(PACKAGES)
     with tempfile.TemporaryDirectory() as workdir:
         check_release(report, release, new_base(RELEASES[release], os.path.join(workdir, 'base')), workdir)

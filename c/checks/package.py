@@ -11,7 +11,7 @@ from c.checks.file_program import file_program_agrees
 from c.checks.launcher import OLD, SETS
 from c.checks.library import C, sets_here, sets_of_library
 from c.checks.sides import THEIRS, Side, others, run
-from checks.lib.report import check, last_line
+from checks.lib.report import Report, check, last_line
 from checks.lib.tools import TOP, bytes_of, must, ran, write
 
 NAME = 'twox-hash'
@@ -205,7 +205,7 @@ def leaves_nothing(package):
     return f"{len(listed)} paths are gone; Debian's library has the bytes and the place that it had"
 
 
-def check_all(report, workdir, sides, v3):
+def check_all(report: Report, workdir: str, sides: clients.Sides, v3: bool) -> None:
     if is_installed():
         report.record('the Debian package', f'{NAME} is installed here, and this check would remove it: do so by hand')
         return

@@ -4,7 +4,7 @@ import os
 import re
 import subprocess
 import tempfile
-from typing import NamedTuple
+from typing import NamedTuple, Optional
 
 from checks.lib.report import check
 
@@ -72,7 +72,7 @@ def loaded(logs: str) -> set[str]:
     return files
 
 
-def run(side, args, expect_loaded=True, folder=None, **more):
+def run(side: 'Side', args: list[str], expect_loaded: bool = True, folder: Optional[str] = None, **more: str) -> Done:
     """Runs a program on a side. It must load that side's library, and no other."""
     with tempfile.TemporaryDirectory() as workdir:
         logs = os.path.join(workdir, 'log')

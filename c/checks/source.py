@@ -7,7 +7,7 @@ import tempfile
 
 from c.checks.library import C
 from checks.lib.debian_apt import sources
-from checks.lib.report import check, last_line
+from checks.lib.report import Report, check, last_line
 from checks.lib.tools import TOP, bytes_of, four_hashes, install_packages, must, ran, replace_once, text_of, write
 
 HEADER, SOURCE = os.path.join(C, 'include', 'xxhash.h'), os.path.join(C, 'source', 'xxhash.c')
@@ -530,5 +530,5 @@ def check_target(report, target, rounds):
         check_their_tests(report, source)
 
 
-def check_all(report, target, rounds):
+def check_all(report: Report, target: str, rounds: int) -> None:
     check_target(report, target, rounds) if target in TARGETS else check_here(report, rounds)

@@ -8,7 +8,7 @@ import tempfile
 
 from c.checks.values import names_are_theirs
 from checks.docs.printed import section_of
-from checks.lib.report import Fault, check, last_line
+from checks.lib.report import Fault, Report, check, last_line
 from checks.lib.roots import TAKEN, new_base, new_root
 from checks.lib.tools import clean_copy, install_packages, replace_once
 
@@ -86,7 +86,7 @@ def missing_name_is_detected(machine):
     raise Fault('it is not detected')
 
 
-def check_all(report):
+def check_all(report: Report) -> None:
     install_packages(PACKAGES)
     with tempfile.TemporaryDirectory() as workdir:
         taken = os.path.join(workdir, 'taken')

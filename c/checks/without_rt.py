@@ -5,12 +5,13 @@ import re
 import shutil
 import tempfile
 import time
+from typing import Callable
 
 from c.checks import aarch64, installed, launcher, values
 from c.checks.library import Built
 from c.checks.sides import THEIRS, Side
 from checks.lib import arm_roots
-from checks.lib.report import Fault, check, last_line
+from checks.lib.report import Fault, Report, check, last_line
 from checks.lib.tools import clean_copy, hide_rt, install_packages, must, path_without, ran, text_of, write
 
 PACKAGES = {
@@ -323,7 +324,7 @@ def check_arm(report, copy, workdir):
     )
 
 
-def check_all(report, target, has_v3, examples):
+def check_all(report: Report, target: str, has_v3: bool, examples: Callable[..., None]) -> None:
     install_packages(PACKAGES if target == 'x86-64' else ARM_PACKAGES)
     with tempfile.TemporaryDirectory() as workdir:
         hide_rt(workdir)

@@ -10,6 +10,7 @@
   don't begin with "Whether" or "What";
 - each argument of a command has a help text, and no function of Python has more than 40 lines, except in the files of
   LONG_FUNCTIONS;
+- functions of Python that another module calls have types, except in the verifier (checks/docs/hints.py);
 - identifiers of Python, shell, C and JavaScript have none of the words of checks/docs/identifiers.txt;
 - the pages of checks/docs/plain.py have sentences of at most 30 words;
 - docs/CONTRACTS.md names each file of `specs/`;
@@ -34,7 +35,7 @@ from checks.lib import command
 from checks.lib.report import Report, check
 from checks.lib.tools import TOP, install_packages, must, ran, text_of, write
 
-from . import commits, identifiers, plain, words
+from . import commits, hints, identifiers, plain, words
 
 PACKAGES = {
     'black': 'black',
@@ -213,6 +214,11 @@ WRONG = {
         ('wrong.py', 'def f():\n' + '    f()\n' * MOST_LINES),
         ('wrong.py', 'class A:\n    async def f(self):\n        """Doc."""\n' + '        f()\n' * MOST_LINES),
     ],
+    hints.functions_without_types: [
+        ('wrong.py', 'import wrong\n\n\ndef f(a) -> None:\n    wrong.f(a)\n'),
+        ('wrong.py', 'from wrong import f\n\n\ndef f(*, a: int):\n    pass\n'),
+        ('wrong.py', 'from .wrong import f\n\n\ndef f(**a) -> None:\n    pass\n'),
+    ],
     long_lines: [(f'wrong{ending}', 'x' * 121) for ending in ('.py', '.sh', '.c', '.js')],
     rustfmt: [('wrong.rs', 'fn  main(){}\n')],
     clippy: [('wrong.rs', 'pub fn one(a: bool) -> bool { a == true }\n')],
@@ -335,6 +341,7 @@ def check_code(report, every):
     report.attempt('black', is_clean, black, python)
     report.attempt('mypy', is_clean, mypy, typed(python))
     report.attempt('help of arguments', is_clean, arguments_without_help, typed(python))
+    report.attempt('types of shared functions', is_clean, hints.functions_without_types, typed(python))
     report.attempt('lengths of functions', is_clean, long_functions, python)
     report.attempt('rustfmt', is_clean, rustfmt, rust)
     report.attempt('clippy', is_clean, clippy, roots)

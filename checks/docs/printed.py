@@ -9,7 +9,7 @@ Java lacks the interface -->."""
 import os
 import re
 import subprocess
-from typing import Iterable, Iterator, NamedTuple, Optional
+from typing import Callable, Iterable, Iterator, NamedTuple, Optional
 
 from checks.lib.report import Fault, check, last_line
 from checks.lib.tools import TOP, text_of
@@ -123,7 +123,11 @@ def is_printed(out: str, shown: str) -> bool:
     return any(re.fullmatch(pattern, line.strip()) for line in out.splitlines())
 
 
-def run(sections_of_page, shell, installation=lambda packages: None):
+def run(
+    sections_of_page: Iterable[Section],
+    shell: Callable[[str], tuple[int, str]],
+    installation: Callable[[list[str]], Optional[str]] = lambda packages: None,
+) -> str:
     """Types sections into a shell, a function that runs a script and returns its status and its output. Returns the
     whole output. A command that fails, or prints something else than the page shows, is an error. The installation
     is a command that installs the packages of a section, or None."""
@@ -134,8 +138,9 @@ def run(sections_of_page, shell, installation=lambda packages: None):
         typed += commands(it)
     _, out = shell(script(typed))
     parts, statuses = re.split(rf'\n{MARK} \d+\n', out), re.findall(rf'\n{MARK} (\d+)\n', out)
-    for number, it in enumerate(typed):
+    for number, one in enumerate(typed):
         status = statuses[number] if number < len(statuses) else 'none, since the shell ended'
-        check(status == '0', f'{it.where}: status {status}: {last_line(parts[number])}')
-        check(not it.shown or is_printed(parts[number], it.shown), f'{it.where}: prints {last_line(parts[number])!r}')
+        check(status == '0', f'{one.where}: status {status}: {last_line(parts[number])}')
+        is_shown = not one.shown or is_printed(parts[number], one.shown)
+        check(is_shown, f'{one.where}: prints {last_line(parts[number])!r}')
     return ''.join(parts)

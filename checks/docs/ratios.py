@@ -1,7 +1,7 @@
 """The tables of speed in README.md, computed from bench/data, and the ratios in its sentences."""
 import re
 import statistics
-from typing import Iterator, NamedTuple
+from typing import Iterator, NamedTuple, Optional
 
 from bench import measured, objects, page
 from checks.lib.tools import text_of
@@ -67,7 +67,7 @@ def speeds() -> Iterator[Speed]:
     yield Speed('Node, Chromium', "`xxhash.h` as WebAssembly", web, 'web', 'web')
 
 
-def table_of_speed():
+def table_of_speed() -> str:
     lines = []
     for it in speeds():
         day = page.origin(it.data)[2] + ' †' * objects.is_older(it.code)
@@ -75,7 +75,7 @@ def table_of_speed():
     return '\n'.join(page.markdown(['product', 'peer', 'median', 'lowest', 'date'], lines))
 
 
-def table_of_hashes():
+def table_of_hashes() -> str:
     """The times of one-shots, at x86-64-v3."""
     rows = {(it.name, it.size): it.speed for it in libraries()['x86-64-v3'] if it.form == 'oneshot'}
     lines = [
@@ -90,7 +90,7 @@ def table_of_hashes():
     return '\n'.join(page.markdown(['hash', '16 bytes', '1 KiB', '1 MiB', 'equal pairs among 2^32 items'], lines))
 
 
-def sentence_of_web():
+def sentence_of_web() -> str:
     """The ratios of both modules in an engine, over all hashes and sizes."""
     parts = []
     for engine in ('Node 20', 'Chromium 156'):
@@ -99,14 +99,14 @@ def sentence_of_web():
     return ' and '.join(parts)
 
 
-def sentences_of_c():
+def sentences_of_c() -> Iterator[str]:
     """The ratios of the library and of the header, as parts of sentences."""
     for it in speeds():
         if it.product in ('C library', 'C header'):
             yield f'{it.middle()} times as fast as {it.peer} in the median, {min(it.ratios):.2f} times at worst'
 
 
-def that_differ(text=None):
+def that_differ(text: Optional[str] = None) -> Iterator[str]:
     """Each table that README.md lacks, and each ratio in its sentences that is in no table."""
     text = text_of(PAGE) if text is None else text
     for table in (table_of_speed(), table_of_hashes()):
@@ -119,7 +119,7 @@ def that_differ(text=None):
         yield f'{PAGE} says {sorted(unknown)}, which are in no table'
 
 
-def with_tables(text):
+def with_tables(text: str) -> str:
     """A page with the tables of bench/data in place of those with the same first line."""
     for table in (table_of_speed(), table_of_hashes()):
         head = table.partition('\n')[0]
@@ -127,7 +127,7 @@ def with_tables(text):
     return text
 
 
-def counts_that_differ(text=None):
+def counts_that_differ(text: Optional[str] = None) -> Iterator[str]:
     """README.md has the number of measurements, and of those below 0.95, also for the crate."""
     text = text_of(PAGE) if text is None else text
     rows = [page.best(it) for part, of in libraries().items() if part in page.SETS for it in of]

@@ -8,7 +8,7 @@ from . import edits, source, toolchain
 CLAUSE = re.compile(r"\s*ensures(?: (\w+))? \{")
 
 
-def main(files):
+def main(files: dict) -> int:
     """Lists, for each crate, the public functions that no edit changes, each with the names of its clauses."""
     for crate, its in files.items():
         aimed = {(it.path, it.body.head) for it in (edits.Edit(file, crate, set()) for file in its) if it.body}

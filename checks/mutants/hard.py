@@ -1,6 +1,7 @@
 """Mutants that are refused only because a proof answer no longer fits, tried again without the proof answers of
 their function. A mutant that the automatic search then proves was never refused by the contract. One that it doesn't
 prove is refused only if it proves the unchanged body: otherwise nothing is known."""
+import argparse
 import glob
 import os
 import re
@@ -15,7 +16,7 @@ SURVIVES, OPEN, NOTHING = "proved without its answers", "not proved without them
 UNKNOWN = "unknown: the unchanged body is not proved without its answers either"
 
 
-def main(given, files):
+def main(given: argparse.Namespace, files: dict) -> int:
     """Tries them crate by crate: each has a line, and each crate."""
     weak = names_of_weak()
     Built(files, given.jobs)

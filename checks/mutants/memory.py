@@ -9,6 +9,7 @@ import os
 import random
 import re
 import tempfile
+from typing import Iterable
 
 from . import source, toolchain
 
@@ -116,7 +117,7 @@ def without_sample(refusals):
     return {its_sum: why for its_sum, why in refusals.items() if rng.random() >= SAMPLED}
 
 
-def write(refusals):
+def write(refusals: Iterable[tuple[str, str, str]]) -> None:
     """Adds refusals to the repository's list: (edit, its checksum, reason)."""
     toolchain.write(
         WRITTEN, HEAD + "".join(f"{name} {half(its_sum)} {why}\n" for name, its_sum, why in sorted(refusals))

@@ -1,4 +1,5 @@
 """Tries the edits of the crates in parallel, and prints the results."""
+import argparse
 import concurrent.futures
 import functools
 import os
@@ -7,6 +8,7 @@ import subprocess
 import sys
 import tempfile
 import time
+from typing import Any, Callable
 
 from . import aims, edits, hard, memory, source, toolchain
 from .proofs import Built, Heard
@@ -16,7 +18,7 @@ from .trial import BY_ANSWERS, BY_NAMES, Trial
 WEAK = (BY_ANSWERS, BY_NAMES, toolchain.BY_LIMIT)
 
 
-def main(given):
+def main(given: argparse.Namespace) -> int:
     os.chdir(toolchain.TOP)
     with tempfile.TemporaryDirectory(prefix="wrong-bodies-edits-") as workdir:
         files = {it: found for it in chosen_crates(given) if (found := edits.files_of(it, workdir))}
@@ -24,7 +26,7 @@ def main(given):
             return aims.main(files)
         if given.hard:
             return hard.main(given, files)
-        proofs = Heard(given.jobs) if given.beside_ci else Built(files, given.jobs)
+        proofs: Any = Heard(given.jobs) if given.beside_ci else Built(files, given.jobs)
         trials = try_all(files, proofs, given.jobs, lambda it: print_result(it, given.v), memory.Memory(given.anew))
     if given.write:
         memory.write(refusals(trials))
@@ -82,7 +84,7 @@ def print_result(trial, is_verbose):
     )
 
 
-def try_all(files, proofs, jobs, print_end, remembered):
+def try_all(files: dict, proofs: Any, jobs: int, print_end: Callable[..., None], remembered: memory.Memory) -> list:
     """Tries the edits of each crate that is proved, with as many concurrent checks as fit. Of those that are ready,
     a crate's first check comes before all others, since its edits wait for it; then those of crates that took the
     longest, so that none is left for the end."""

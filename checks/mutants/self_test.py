@@ -6,6 +6,7 @@ import os
 import re
 import tempfile
 import types
+from typing import Collection
 
 from . import copies, edits, proofs, run, source, toolchain
 from .memory import Memory
@@ -32,7 +33,7 @@ fn second(a: u64) -> u64
 """
 
 
-def main(jobs, chosen):
+def main(jobs: int, chosen: Collection[str]) -> int:
     crates, names = toolchain.crates(), sorted(file.removesuffix(".edits") for file in os.listdir(PLANTED))
     with tempfile.TemporaryDirectory() as workdir:
         files = {

@@ -29,7 +29,7 @@ class Case(NamedTuple):
     wrong: str = ''
 
 
-def one_line(text):
+def one_line(text: bytes) -> bytes:
     """A reported text, as one line: as names are in lists, with a backslash before it if it needs one."""
     return marked(text.removesuffix(b'\n')) + b'\n'
 
@@ -718,10 +718,10 @@ def missing_files():
                 expected=one_unread(messages.unread_listed('L', 1, file, why) + GOOD_OUT),
             )
             for name, file, why in (
-                ('a file below no folder', b'a/b', b'Not a directory'),
+                ('a file below no folder', b'a/b', 'Not a directory'),
                 ('a folder in a list', b'd', IS_FOLDER),
-                ('a name that is not UTF-8', b'\xff\xfe', b'The name is not UTF-8'),
-                ('a link to itself', b'loop', b'Too many levels of symbolic links'),
+                ('a name that is not UTF-8', b'\xff\xfe', messages.NOT_UTF8),
+                ('a link to itself', b'loop', 'Too many levels of symbolic links'),
                 ('a read that fails', FAILING.encode(), messages.IO_ERROR),
             )
         ),

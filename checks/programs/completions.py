@@ -4,7 +4,7 @@ import os
 import re
 import subprocess
 
-from checks.lib.report import Fault, check
+from checks.lib.report import Fault, Report, check
 from checks.lib.tools import TOP, text_of, write
 
 NAMES = ('xxhsum', 'xxh32sum', 'xxh64sum', 'xxh128sum', 'xxh3sum')
@@ -78,7 +78,7 @@ def for_fish(options):
 WRITERS = {'bash': for_bash, 'zsh': for_zsh, 'fish': for_fish}
 
 
-def write_files(program):
+def write_files(program: str) -> None:
     options = options_of(help_of(program))
     for shell, writer in WRITERS.items():
         write(os.path.join(TOP, FOLDER, FILES[shell]), writer(options))
@@ -132,7 +132,7 @@ def is_detected(test, shell, text):
     check(False, 'it was not detected')
 
 
-def over_completions(program, report):
+def over_completions(program: str, report: Report) -> None:
     """Tests the files, and that each test detects an option more and one less."""
     text = help_of(program)
     planted = {

@@ -3,6 +3,7 @@ those of the help, the page some of them."""
 import re
 import subprocess
 
+from checks.lib.report import Report
 from checks.lib.tools import text_of
 
 from .cases import CASES
@@ -57,7 +58,7 @@ def differences(of_program):
             yield place, sorted(found ^ of_program)
 
 
-def over_pages(program, report):
+def over_pages(program: str, report: Report) -> None:
     """Compares the three with the help, and with helps that have one option more or one less, which each must
     detect."""
     asked = of_help(program)

@@ -8,6 +8,7 @@ import resource
 import signal
 import subprocess
 import tempfile
+from typing import Collection, Iterator, Optional
 
 from checks.lib.tools import write
 
@@ -276,7 +277,7 @@ def fault_of(program, case):
         return case(program, folder)
 
 
-def cases_on_pipes(program, names=tuple(CASES)):
+def cases_on_pipes(program: str, names: Collection[str] = tuple(CASES)) -> Iterator[tuple[str, Optional[str]]]:
     """The tests, each with its error. That of a disk is left out, with the reason, if none can be mounted."""
     with tempfile.TemporaryDirectory() as folder:
         why = no_small_disk(folder)

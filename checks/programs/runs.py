@@ -2,7 +2,7 @@
 import fcntl
 import os
 import subprocess
-from typing import Optional, Sequence, Union
+from typing import Any, Optional, Sequence, Union
 
 from checks.lib.tools import write
 
@@ -79,7 +79,7 @@ def no_small_disk(folder: str) -> str:
     return done.stderr.strip() if done.returncode else ''
 
 
-def without_waiting(file):
+def without_waiting(file: Any) -> Any:
     """Sets O_NONBLOCK, so that a call that would wait fails."""
     fcntl.fcntl(file, fcntl.F_SETFL, fcntl.fcntl(file, fcntl.F_GETFL) | os.O_NONBLOCK)
     return file

@@ -14,7 +14,7 @@ import subprocess
 import tempfile
 import threading
 import time
-from typing import Union
+from typing import Any, Collection, Iterator, Optional, Sequence, Union
 
 from checks.lib.tools import TOP, must, write
 
@@ -87,7 +87,9 @@ class Ends:
         return text
 
 
-def run(program, args, terminals=('err',), given=os.devnull, settings=SETTINGS):
+def run(
+    program: str, args: Sequence[Any], terminals: Any = ('err',), given: Any = os.devnull, settings: Any = SETTINGS
+) -> tuple[bytes, bytes, Union[int, str]]:
     """The output and errors of the program, and its status, with these streams on terminals. Its input is this file,
     or a terminal without input."""
     ends = {name: Ends(name in terminals) for name in ('out', 'err')}
@@ -384,7 +386,7 @@ def terminal_cases(program, short, long, lists, settings):
     }
 
 
-def cases_on_terminals(program, names=None):
+def cases_on_terminals(program: str, names: Optional[Collection[str]] = None) -> Iterator[tuple[str, Optional[str]]]:
     """The tests, or those of these names: each by its name, with its error, or nothing."""
     with tempfile.TemporaryDirectory() as workdir:
         os.mkdir(os.path.join(workdir, 'folder'))

@@ -68,7 +68,7 @@ def definitions():
                 yield f'`{crate}`', f'`{name}`', ', '.join(f'`{it}`' for it in found)
 
 
-def text():
+def text() -> str:
     parts = [line for name in (*STATED, *LISTED) for line in of_crate(name)]
     return (
         '\n'.join(

@@ -1,8 +1,9 @@
 """docs/api.txt: a line for each public name."""
 import os
 import re
+from typing import Iterable
 
-from docs.api.rattle import TOP, text_of, trait_of
+from docs.api.rattle import TOP, Crate, text_of, trait_of
 
 
 def lines_of_type(crate, path):
@@ -65,7 +66,7 @@ def lines_of_python():
     yield from re.findall(r"'(\w+)'", listed)
 
 
-def text(crates):
+def text(crates: Iterable[Crate]) -> str:
     parts = {f'The crate {crate.name}': lines_of_crate(crate) for crate in crates}
     parts |= {'C': lines_of_c(), 'JavaScript': lines_of_javascript(), 'Python': lines_of_python()}
     head = 'Every public name, a line each. Made by docs/api/make: not to be changed by hand.'

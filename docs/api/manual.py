@@ -65,6 +65,6 @@ def markdown_of(lines):
     return '\n'.join(out)
 
 
-def text():
+def text() -> str:
     pages = [markdown_of(text_of('docs', name).splitlines()) for name in PAGES]
     return re.sub(r'\n{3,}', '\n\n', '\n'.join([HEAD, *pages])).rstrip('\n') + '\n'

@@ -17,7 +17,7 @@ ITEM = re.compile(
 CLAUSE = re.compile(r'(requires|ensures)\b')
 
 
-def text_of(*names):
+def text_of(*names: str) -> str:
     with open(os.path.join(TOP, *names), encoding='utf-8') as file:
         return file.read()
 
@@ -96,7 +96,7 @@ class Module:
         self.file, self.items = file, read_items(text_of(file).split('\n'))
 
 
-def modules_of(crate):
+def modules_of(crate: str) -> dict[str, "Module"]:
     """The modules of a crate by their paths."""
     source = os.path.join(CRATES, crate, 'src')
     found = {}
@@ -175,13 +175,13 @@ def nearest(module, owners):
     return max(owners, key=lambda owner: len(os.path.commonprefix([module.split('::'), owner.split('::')])))
 
 
-def type_of(block):
+def type_of(block: Item) -> str:
     """The name of the type that a block of `impl` is for."""
     text = re.sub(r'^impl(<[^>]*>)? ?', '', block.signature)
     text = text.rpartition(' for ')[2]
     return re.match(r'[\w:]*', text.lstrip('&'))[0].split('::')[-1]
 
 
-def trait_of(block):
+def trait_of(block: Item) -> str:
     """The trait that a block of `impl` is of, if it is of one."""
     return re.sub(r'^impl(<.*?>)? (?=\S)', '', block.signature).rpartition(' for ')[0]

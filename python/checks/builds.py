@@ -5,10 +5,10 @@ import tarfile
 import zipfile
 
 from assembly.same_bytes import Object, compare_sums
-from checks.lib.report import check
+from checks.lib.report import Report, check
 from checks.lib.tools import write
 from python import backend
-from python.checks.environment import DEBIANS, PATH, PYTHON, PYTHON_FOLDER, TOP, copied, must, run
+from python.checks.environment import DEBIANS, PATH, PYTHON, PYTHON_FOLDER, TOP, Built, copied, must, run
 
 OF_TABLE = '-m unittest tests.test_values tests.test_objects tests.test_many tests.test_files'.split()
 
@@ -118,7 +118,7 @@ def names_are_hidden(built):
     return f'1 name is shown, {len(asked)} are asked for'
 
 
-def parts_that_differ(workdir, tools, instructions, prefix, change=('', '')):
+def parts_that_differ(workdir, tools, instructions, prefix, change: tuple[str, str] = ('', '')):
     """The source of an instruction set with its names changed as in the build, assembled, with its names changed
     back: the parts that differ from the proved object, and the number of sections. `change` replaces a correct word
     by a wrong one."""
@@ -132,7 +132,7 @@ def parts_that_differ(workdir, tools, instructions, prefix, change=('', '')):
     return [line.split(':')[0] for line in compare_sums(sums, f'{path}.o')], len(Object(f'{path}.o').parts()) - 1
 
 
-def text_is_proved(workdir, machine, tools=''):
+def text_is_proved(workdir: str, machine: str, tools: str = '') -> str:
     """Each section of the package's code is that of the proved object. The names differ only in being hidden. A
     wrong constant is detected."""
     compared = 0
@@ -178,7 +178,7 @@ def sets_are_chosen(built):
     return '7 processors, and one that is too old'
 
 
-def check_all(report, built):
+def check_all(report: Report, built: Built) -> None:
     report.attempt('python/build without rt and without a network', built_without_rt, built)
     report.attempt('the source package builds the same wheel', source_is_complete, built)
     report.attempt('pip install . in a fresh environment', pip_builds, built)

@@ -2,6 +2,8 @@
 import glob
 import os
 import shutil
+import subprocess
+from typing import Any, Optional, Sequence
 
 from checks.lib.report import Fault, check, last_line
 from checks.lib.tools import TOP, ran
@@ -35,12 +37,14 @@ def environment(**more: str) -> dict[str, str]:
     return {**inherited, 'PATH': PATH, 'PYTHONDONTWRITEBYTECODE': '1', **quiet, **more}
 
 
-def run(command, folder=None, timeout=1200, **more):
+def run(
+    command: Sequence[Any], folder: Optional[str] = None, timeout: float = 1200, **more: Any
+) -> subprocess.CompletedProcess[str]:
     """A program's status and both of its outputs, in the environment of such a user."""
     return ran(command, cwd=folder, env=environment(**more), timeout=timeout)
 
 
-def must(command, folder=None, **more):
+def must(command: Sequence[Any], folder: Optional[str] = None, **more: Any) -> str:
     """The output of a program that must succeed."""
     done = run(command, folder, **more)
     if done.returncode:
@@ -57,7 +61,7 @@ def copied(folder: str) -> str:
     return os.path.join(folder, 'python')
 
 
-def packed(folder, *args, **more):
+def packed(folder: str, *args: str, **more: str) -> list[str]:
     """The source package and the wheel that python/build makes in a copy, called with these arguments."""
     must([os.path.join(folder, 'build'), *(args or [PYTHON])], **more)
     names = sorted(os.listdir(os.path.join(folder, 'out')), key=lambda name: name.endswith('.whl'))

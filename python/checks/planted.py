@@ -1,8 +1,9 @@
 """Wrong builds, each of which the tests must detect."""
 import os
-from typing import NamedTuple
+import subprocess
+from typing import Iterable, NamedTuple
 
-from checks.lib.report import check, last_line
+from checks.lib.report import Report, check, last_line
 from checks.lib.tools import replace_once, text_of, write
 from python.checks.environment import copied, packed, site
 from python.checks.suite import first_failure, tests
@@ -151,7 +152,7 @@ PLANTED = [
 ]
 
 
-def noticed(done):
+def noticed(done: subprocess.CompletedProcess[str]) -> str:
     """The test that failed first, if one did."""
     check(done.returncode == 1 and 'FAILED (' in done.stdout, f'no test fails: {last_line(done.stdout)}')
     return first_failure(done.stdout).split(':')[0]
@@ -179,7 +180,7 @@ def constant_is_noticed(workdir, instructions):
     return noticed(tests(path, 'values', TWOX_HASH_INSTRUCTIONS=instructions))
 
 
-def check_all(report, workdir, sets):
+def check_all(report: Report, workdir: str, sets: Iterable[str]) -> None:
     for number, mistake in enumerate(PLANTED):
         report.attempt(f'noticed: {mistake.name}', notices, workdir, number, mistake)
     for instructions in sets:

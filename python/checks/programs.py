@@ -3,9 +3,9 @@ import os
 import random
 import re
 
-from checks.lib.report import check
+from checks.lib.report import Report, check
 from checks.lib.tools import write
-from python.checks.environment import DEBIANS, PYTHON, must, run
+from python.checks.environment import DEBIANS, PYTHON, Built, must, run
 
 HERE = os.path.dirname(os.path.abspath(__file__))
 STAND_IN = 'import sys\n\nimport twox_hash\n\nsys.modules["xxhash"] = twox_hash\n'
@@ -80,7 +80,7 @@ def duplicates(sides, built):
     )
 
 
-def check_all(report, built):
+def check_all(report: Report, built: Built) -> None:
     sides = Sides(built)
     report.attempt('dask: tokens of arrays', agrees, sides, [os.path.join(HERE, 'dask_tokens.py')])
     report.attempt("dask: its own tests of hashing", dasks_own_tests, sides)

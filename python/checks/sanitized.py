@@ -1,7 +1,7 @@
 """The C of the package under AddressSanitizer and UndefinedBehaviorSanitizer, called with hostile buffers (fuzz.py)."""
 import os
 
-from checks.lib.report import check, last_line
+from checks.lib.report import Report, check, last_line
 from checks.lib.tools import replace_once
 from python.checks.environment import PYTHON, PYTHON_FOLDER, copied, must, packed, run, site
 
@@ -94,7 +94,7 @@ def notices(workdir):
     check(done.returncode and 'AddressSanitizer' in done.stdout, f'it is not noticed: {last_line(done.stdout)}')
 
 
-def check_all(report, workdir):
+def check_all(report: Report, workdir: str) -> None:
     report.attempt('hostile shapes, strides and buffers under ASan and UBSan', passes, workdir)
     report.attempt('noticed there: sizes that wrap', notices, workdir)
     report.attempt('objects over the code of xxhash.h there', source_passes, workdir)

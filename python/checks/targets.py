@@ -3,7 +3,7 @@ import os
 from typing import NamedTuple
 
 from checks.lib.arm_roots import debian_root
-from checks.lib.report import check
+from checks.lib.report import Report, check
 from checks.lib.tools import replace_once
 from python.checks.builds import text_is_proved
 from python.checks.environment import copied, packed, run, site
@@ -53,7 +53,7 @@ FAULTS = {
 FEWER = {'TWOX_HASH_OBJECTS': '10000', 'timeout': 7200}
 
 
-def packages(target):
+def packages(target: 'Target') -> dict[str, str]:
     """The packages that build for a target and run its programs, by a file of each."""
     folder = target.tools[:-1]
     return {
@@ -104,7 +104,7 @@ def notices(emulated, number, mistake):
     return noticed(tests(built, mistake.tests, python=emulated.python, **FEWER))
 
 
-def check_all(report, name, workdir):
+def check_all(report: Report, name: str, workdir: str) -> None:
     target = TARGETS[name]
     if target.calls != 'source':
         report.attempt(

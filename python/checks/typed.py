@@ -2,9 +2,9 @@
 import os
 import re
 
-from checks.lib.report import check, last_line
+from checks.lib.report import Report, check, last_line
 from checks.lib.tools import write
-from python.checks.environment import PYTHON, must, run
+from python.checks.environment import PYTHON, Built, must, run
 
 MYPY = [PYTHON, '-m', 'mypy', '--strict', '--cache-dir=/dev/null']
 RIGHT = '''
@@ -82,7 +82,7 @@ def users_program(built):
     return f'{len(WRONG)} wrong lines are noticed'
 
 
-def check_all(report, built):
+def check_all(report: Report, built: Built) -> None:
     report.attempt(
         'mypy --strict on the package', lambda: last_line(must([*MYPY, os.path.join(built.site, 'twox_hash')]))
     )

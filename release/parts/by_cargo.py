@@ -2,9 +2,11 @@
 import functools
 import os
 import shutil
+from typing import Optional
 
 from checks.lib.arm_roots import debian_root
 from checks.lib.tools import must
+from release.parts.commit import Commit
 from release.parts.packing import tree_of
 
 TARGETS = {'x86_64': 'x86_64-unknown-linux-gnu', 'aarch64': 'aarch64-unknown-linux-gnu'}
@@ -36,7 +38,7 @@ def sysroot_flags(commit, machine):
 
 
 @functools.cache
-def installed(commit, machine):
+def installed(commit: Commit, machine: str) -> Optional[str]:
     """A folder with bin and share, in the layout of `cargo install` and its users. Or None if there is no compiler."""
     if not shutil.which(COMPILERS[machine]):
         print(f'no {COMPILERS[machine]}: the programs for {machine} are omitted')
@@ -59,7 +61,7 @@ def installed(commit, machine):
     )
 
 
-def put_completions(commit, share):
+def put_completions(commit: Commit, share: str) -> None:
     for file, pattern in COMPLETIONS.items():
         path = os.path.join(share, pattern.format('xxhsum'))
         os.makedirs(os.path.dirname(path))
@@ -84,7 +86,7 @@ def laid_out(commit, built, folder):
     return folder
 
 
-def files(commit, machine):
+def files(commit: Commit, machine: str) -> dict[str, str]:
     """The files of an archive, or none if there is no compiler."""
     folder = installed(commit, machine)
     return tree_of(folder) if folder else {}

@@ -4,7 +4,7 @@ import glob
 import os
 
 from checks.lib.arm_roots import debian_root
-from checks.lib.report import check, last_line
+from checks.lib.report import Report, check, last_line
 from checks.lib.tools import TOP, four_hashes, install_packages, must, ran
 
 NAME = '64-bit ARM, under qemu'
@@ -66,7 +66,7 @@ def wheel(workdir, folder, stem):
     return ', '.join(map(os.path.basename, paths))
 
 
-def check_all(report, workdir, folder, stem):
+def check_all(report: Report, workdir: str, folder: str, stem: str) -> None:
     install_packages(PACKAGES)
     for name, test in (('the library for C', library), ('the Debian package', package), ('the wheels', wheel)):
         report.attempt(f'{NAME}: {name}', test, workdir, folder, stem)

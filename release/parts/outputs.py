@@ -11,7 +11,7 @@ import tempfile
 import zipfile
 from typing import Any
 
-from checks.lib.report import check, last_line
+from checks.lib.report import Report, check, last_line
 from checks.lib.tools import TOP, bytes_of, flip_bit, must, ran, text_of, write
 from release.parts import written
 from release.parts.packing import read_tar
@@ -29,7 +29,7 @@ def make(workdir, folder, log, umask):
     return last_line(done.stdout)
 
 
-def twice(workdir, folder, log):
+def twice(workdir: str, folder: str, log: str) -> str:
     """The files in the folder are those of a second run, under another umask, byte for byte."""
     other = os.path.join(workdir, 'a second folder')
     summary, again = (
@@ -53,7 +53,7 @@ def proved_clone(workdir):
     return clone
 
 
-def texts_are_regenerated(workdir):
+def texts_are_regenerated(workdir: str) -> str:
     """Regenerates the assembly source of every target from the proved code, including the targets that CI skips."""
     clone = proved_clone(workdir)
     for build, targets in TEXTS.items():
@@ -64,7 +64,7 @@ def texts_are_regenerated(workdir):
     return ', '.join(TEXTS['rust/build-library'])
 
 
-def wrong_bodies_are_refused(workdir):
+def wrong_bodies_are_refused(workdir: str) -> str:
     """Each mutant, even if this machine remembers that it was refused. The planted ones of all crates have the
     expected verdicts; CI tests those of the smallest crates."""
     program = os.path.join(proved_clone(workdir), 'checks', 'wrong-bodies')
@@ -74,7 +74,7 @@ def wrong_bodies_are_refused(workdir):
     return last_line(done.stdout)
 
 
-def stem(folder):
+def stem(folder: str) -> str:
     """The name and the version with which file names begin."""
     found = glob.glob(os.path.join(folder, 'twox_hash-*.spdx'))
     check(len(found) == 1, f'{folder} has no release')
@@ -100,7 +100,7 @@ def change_is_noticed(workdir, folder):
     return os.path.basename(path)
 
 
-def members(path):
+def members(path: str) -> dict[str, Any]:
     """The content of an archive, except its provenance."""
     found: dict[str, Any]
     if path.endswith('.whl'):
@@ -119,7 +119,7 @@ def members(path):
     return {name: data for name, data in found.items() if os.path.basename(name) not in ('PROVENANCE', 'RECORD')}
 
 
-def commit_of(folder):
+def commit_of(folder: str) -> str:
     """The commit that a release names."""
     return re.search(r'^  commit (\w+)$', text_of(os.path.join(folder, 'PROVENANCE')), re.M)[1]
 
@@ -217,7 +217,7 @@ def modes_of(path):
     return [line.split(maxsplit=2) for line in lines]
 
 
-def all_users_can_read(folder):
+def all_users_can_read(folder: str) -> str:
     """Each file of each archive has one of the usual modes, whatever the umask of release/make was, and the programs
     can be run."""
     count = 0
@@ -236,7 +236,7 @@ def is_archive(name):
     return name.endswith(('.gz', '.tgz', '.crate', '.whl', '.deb'))
 
 
-def check_all(report, workdir, folder):
+def check_all(report: Report, workdir: str, folder: str) -> None:
     report.attempt('the modes of all files', all_users_can_read, folder)
     report.attempt('SHA256SUMS', sums_agree, folder)
     report.attempt('a changed byte is detected', change_is_noticed, workdir, folder)

@@ -3,9 +3,10 @@ import gzip
 import io
 import os
 import tarfile
+from typing import Mapping, Union
 
 
-def tree_of(folder, below=''):
+def tree_of(folder: str, below: str = '') -> dict[str, str]:
     """The files and links below a folder, by their names in an archive."""
     found = {}
     for place, folders, names in os.walk(folder):
@@ -34,7 +35,7 @@ def entry(name, source, seconds):
     return member, data
 
 
-def write_tar(path, files, seconds):
+def write_tar(path: str, files: Mapping[str, Union[str, bytes]], seconds: int) -> None:
     """A tar.gz of files by name: each is a path or bytes."""
     with open(path, 'wb') as out, gzip.GzipFile('', 'wb', 9, out, seconds) as packed, tarfile.open(
         fileobj=packed, mode='w', format=tarfile.GNU_FORMAT
@@ -44,7 +45,7 @@ def write_tar(path, files, seconds):
             archive.addfile(member, None if data is None else io.BytesIO(data))
 
 
-def read_tar(path):
+def read_tar(path: str) -> dict[str, bytes]:
     """The bytes of each file of a tar.gz, by name."""
     with tarfile.open(path, 'r:gz') as archive:
         return {member.name: archive.extractfile(member).read() for member in archive if member.isfile()}

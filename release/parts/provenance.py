@@ -6,6 +6,7 @@ import shutil
 import time
 
 from checks.lib.tools import must, text_of
+from release.parts.commit import Commit
 from release.parts.written import sum_of
 
 VERDICT = re.compile(r'^logic=')
@@ -22,7 +23,7 @@ def sums(folder, names):
     return [f'{sum_of(f"{folder}/{name}")}  {name}' for name in names if os.path.isfile(f'{folder}/{name}')]
 
 
-def kit_folder():
+def kit_folder() -> str:
     return os.path.dirname(os.path.dirname(os.path.realpath(must(['which', 'rt']).strip())))
 
 
@@ -95,7 +96,7 @@ def programs(without_rt):
     ]
 
 
-def text(commit, log, without_rt):
+def text(commit: Commit, log: str, without_rt: bool) -> str:
     """PROVENANCE: what was packed, what proved and compiled it, and the SHA-256 of its inputs."""
     parts = {
         f'twox_hash {commit.version}': [f'commit {commit.name}', f'of {commit.date}'],
@@ -109,7 +110,7 @@ def text(commit, log, without_rt):
     return '\n'.join('\n'.join([title, *(f'  {line}' for line in lines), '']) for title, lines in parts.items())
 
 
-def spdx(commit):
+def spdx(commit: Commit) -> str:
     holder = re.search(r'^Copyright.*$', commit.read('LICENSE'), re.M)[0]
     created = time.strftime('%Y-%m-%dT%H:%M:%SZ', time.gmtime(commit.seconds))
     return f'''SPDXVersion: SPDX-2.3

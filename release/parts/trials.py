@@ -3,7 +3,7 @@ as they are printed."""
 import functools
 import os
 import re
-from typing import Any, Callable, NamedTuple, Optional
+from typing import Any, Callable, Iterable, NamedTuple, Optional
 
 from checks.docs import printed
 from checks.lib.report import Fault, check
@@ -245,7 +245,7 @@ def sums(root):
     return f'{len(typed(root, "What an archive is made of").splitlines())} files'
 
 
-def installation(packages):
+def installation(packages: Iterable[str]) -> Optional[str]:
     """The command that installs the packages of a page: Debian's, and the release's own."""
     names = [f'{TAKEN}/twox-hash_*_amd64.deb' if name == 'twox-hash' else name for name in packages]
     return f'apt-get install -y -qq {" ".join(names)} > /dev/null' if names else None
@@ -290,7 +290,7 @@ def pages_of(suite):
     ]
 
 
-def headings_without_trial():
+def headings_without_trial() -> list[str]:
     """The headings of docs/RELEASES.md whose commands are never run."""
     tried = {trial.heading for trial in TRIALS}
     return [

@@ -13,12 +13,12 @@ SUMS = 'SHA256SUMS'
 MARK = '# Written by release/make, which deletes these files before it writes here again\n'
 
 
-def sum_of(path):
+def sum_of(path: str) -> str:
     with open(path, 'rb') as file:
         return hashlib.file_digest(file, 'sha256').hexdigest()
 
 
-def write_sums(folder):
+def write_sums(folder: str) -> int:
     """The sums of all files in a folder, and their number."""
     names = sorted(set(os.listdir(folder)) - {SUMS})
     with open(os.path.join(folder, SUMS), 'w', encoding='utf-8') as file:
@@ -43,7 +43,7 @@ def sums_in(folder):
     return {name: total for total, name in re.findall(r'^([0-9a-f]{64})  ([^/\n]+)$', ''.join(lines), re.M)}
 
 
-def earlier_files(folder):
+def earlier_files(folder: str) -> list[str]:
     """The files of an earlier release in a folder. Stops if anything else is there."""
     if not os.path.lexists(folder):
         return []
@@ -65,7 +65,7 @@ def is_written(folder, name, sums):
     return name in sums and is_file(path) and sum_of(path) == sums[name]
 
 
-def replace(folder, build_dir):
+def replace(folder: str, build_dir: str) -> None:
     """Writes the files of a folder, replacing those of an earlier release. A run that is killed leaves whole files,
     which are in the sums."""
     earlier, names = earlier_files(folder), sorted(os.listdir(build_dir), key=lambda name: name != SUMS)

@@ -137,7 +137,7 @@ def main():
     )
     parser.add_argument('--page', action='store_true', help='write docs/EDITS.md')
     chosen, report, right = parser.parse_args(), Report(), weakened.Right()
-    groups = {
+    groups: dict[str, list] = {
         'rules': [*weakened.refusals(), *weakened.wider_lists()],
         'mistakes': [*weakened.mistakes()],
         'weakened rows': [*weakened.weakened_edits(right.eraser)],

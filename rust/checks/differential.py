@@ -22,7 +22,7 @@ def values(text):
     return {int(number): int(value) for number, value in re.findall(r'^(\d+) (\d+)$', text, re.M)}
 
 
-def in_rattle(sources, folder):
+def in_rattle(sources: dict[int, str], folder: str) -> dict[int, str]:
     """The value of each source, by its number, as `rt try` runs it."""
     modules = ''.join(f'mod case_{number};\n' for number in sources)
     calls = ''.join(f'    println!(rt; "{number} {{}}", case_{number}::case())?;\n' for number in sources)
@@ -36,7 +36,7 @@ def in_rattle(sources, folder):
     return values(done.stdout)
 
 
-def in_rust(sources, folder, *flags):
+def in_rust(sources: dict[int, str], folder: str, *flags: str) -> dict[int, str]:
     """The same as rustc compiles them."""
     modules = ''.join(f'#[path = "case_{number}.rs"] mod case_{number};\n' for number in sources)
     calls = ''.join(f'    println!("{number} {{}}", case_{number}::case());\n' for number in sources)

@@ -1,6 +1,7 @@
 """docs/EDITS.md: the rows of the eraser's tables of edits, and how many rules, sources and weakened erasers there
 are."""
 from checks.lib.tools import text_of
+from rust.checks.erasers import Eraser
 from rust.checks.planted_sources import CHANGED_CRATES, CHANGED_PROGRAMS, PLANTED
 from rust.checks.scenarios import SCENARIOS
 
@@ -48,7 +49,7 @@ def paths_of(eraser):
     )
 
 
-def page(eraser, counts, callees):
+def page(eraser: Eraser, counts: dict[str, int], callees: int) -> str:
     packages, names, own = eraser.packages, eraser.names, eraser.own
     erased = sum(not planted.reason for planted in PLANTED)
     count = lambda table: str(sum(len(entries) for entries in table.values()))

@@ -6,6 +6,7 @@ import signal
 import sys
 import types
 from collections import Counter
+from typing import Iterator
 
 RUST = os.path.dirname(os.path.dirname(os.path.abspath(__file__)))
 CRATES = os.path.join(os.path.dirname(RUST), 'crates')
@@ -19,7 +20,7 @@ def path_of(part):
 
 
 @functools.cache
-def source_of(part):
+def source_of(part: str) -> str:
     with open(path_of(part), encoding='utf-8') as file:
         return file.read()
 
@@ -30,7 +31,7 @@ def code_of(part, source):
 
 
 @contextlib.contextmanager
-def limits():
+def limits() -> Iterator[None]:
     """A weakened eraser may not end, and may take all memory."""
 
     def stop(*_):
@@ -99,7 +100,7 @@ class Eraser:
             return str(reason)
 
 
-def spans_of(eraser, sources):
+def spans_of(eraser: 'Eraser', sources: dict[str, str]) -> dict:
     """The toolchain's tokens of each source, by name, or its refusal."""
     try:
         return eraser.tokens.toolchain_tokens(sources)

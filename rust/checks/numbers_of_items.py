@@ -5,9 +5,10 @@ import os
 import shutil
 import subprocess
 
-from checks.lib.report import check, last_line
+from checks.lib.report import Report, check, last_line
 from checks.lib.tools import ran, text_of, write
 from rust.checks.erasers import RUST
+from rust.checks.weakened import Right
 
 CALLS, SECONDS = 10_000, 120
 FEATURES = ('xxhash32', 'xxhash64', 'xxhash3_64', 'xxhash3_128', 'std', 'alloc')
@@ -234,7 +235,7 @@ def is_noticed(right, workdir, number, change, seed):
     return found
 
 
-def check_all(report, right, workdir, seed):
+def check_all(report: Report, right: Right, workdir: str, seed: int) -> None:
     done = library(right, workdir, 'plain', False, flags=('--cfg', 'twox_hash_no_assembly'))
     check(done.returncode == 0, last_line(done.stdout))
     report.attempt('own items, beside the proved ones in their places', is_same, right, workdir, 'whole', seed)

@@ -88,7 +88,7 @@ def erased_tests(eraser):
     return files
 
 
-def run_tests(workdir):
+def run_tests(workdir: str) -> str:
     """Runs them in a copy of the crate, and returns how many there are."""
     folder = os.path.join(workdir, 'tests')
     shutil.copytree(RUST, folder, ignore=shutil.ignore_patterns('programs', 'checks', 'target'))

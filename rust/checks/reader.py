@@ -6,6 +6,7 @@ contracts, with these replacements; it reports what it can't explain."""
 import os
 import re
 from dataclasses import dataclass
+from typing import Optional
 
 from checks.lib.tools import text_of
 
@@ -316,7 +317,7 @@ def with_own_items(tokens, file):
     return tokens
 
 
-def unexplained(source, erased, crate, file, tree):
+def unexplained(source: str, erased: str, crate: str, file: str, tree: Tree) -> Optional[tuple[str, str]]:
     """The furthest place that nothing explains, as the tokens of both from there on; or None."""
     tokens, expected = [*with_own_items(tokens_of(source), file), *[''] * 8], tokens_of(erased)
     begin = behind_imports(expected, file)
@@ -363,7 +364,7 @@ def sources(crates, tree):
                     yield crate, crate if inside in ('lib', 'main') else f'{crate}/{inside}', path
 
 
-def faults(crates, folder, tree=LIBRARY):
+def faults(crates: str, folder: str, tree: Tree = LIBRARY) -> tuple[int, list[str]]:
     """The number of files read, and what can't be explained in them."""
     count, found = 0, []
     for crate, file, source in sources(crates, tree):

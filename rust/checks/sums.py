@@ -3,7 +3,7 @@ compiled over Rust's core library, which is built from Debian's sources, and lin
 sum is that of the same calls by the reference's header."""
 import os
 
-from checks.lib.report import check, last_line
+from checks.lib.report import Report, check, last_line
 from checks.lib.tools import ran, text_of, write
 from rust.checks.workspace import SOURCE_PACKAGES, SourceWorkspace, errors_of, install_packages, must
 
@@ -82,7 +82,7 @@ def is_the_sum(workspace, target, expected, flags=''):
     return found
 
 
-def check_sums_of_targets(report, path):
+def check_sums_of_targets(report: Report, path: str) -> None:
     install_packages(packages())
     must(['gcc', '-O2', os.path.join(SUMS, 'reference.c'), '-o', os.path.join(path, 'reference')])
     expected, workspace = must([os.path.join(path, 'reference')]).strip(), SourceWorkspace(path, 'sums')

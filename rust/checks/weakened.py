@@ -7,11 +7,14 @@ import dataclasses
 import os
 import re
 from collections import Counter
+from typing import Any, Iterable, Iterator, Optional
 
 from rust.checks import reader
 from rust.checks.erasers import CRATES, PARTS, Eraser, source_of, spans_of
 from rust.checks.planted_sources import CHANGED_CRATES, CHANGED_PROGRAMS, LIBRARY, PLANTED, PROGRAM
 from rust.checks.scenarios import SCENARIOS
+from rust.eraser.edits import Edit
+from rust.eraser.packages import Package
 
 # Mistakes that are no missing refusal: the part, its text, and the wrong one.
 MISTAKES = (
@@ -96,7 +99,7 @@ MISTAKES = (
 )
 
 
-def refusals():
+def refusals() -> Iterator[tuple[str, dict[str, str]]]:
     """Each refusal of the eraser: its part, its line, and the part's source without it."""
     for part in PARTS:
         source = source_of(part)
@@ -110,7 +113,7 @@ def refusals():
                 yield f'{part}, line {node.lineno}: {text[:80]}', {part: '\n'.join(without)}
 
 
-def wider_lists():
+def wider_lists() -> Iterator[tuple[str, dict[str, str]]]:
     """The eraser with one more keyword, or one function of a layout less."""
     forms, source = Eraser().forms, source_of('forms')
     for word in sorted(forms.KEYWORDS - forms.ALLOWED_KEYWORDS):
@@ -120,7 +123,7 @@ def wider_lists():
         yield f'the function {word}', {'forms': source.replace(f"'{word}'", "'none'", 1)}
 
 
-def mistakes():
+def mistakes() -> Iterator[tuple[str, dict[str, str]]]:
     for name, part, old, new in MISTAKES:
         if source_of(part).count(old) != 1:
             raise ValueError(f'{name}: {part} has the text {source_of(part).count(old)} times')
@@ -262,7 +265,7 @@ def balanced(text):
     return source + '>' * source.endswith('<V') + '() { }' * (') fn ' in source or '] fn ' in source)
 
 
-def weakened_edits(eraser):
+def weakened_edits(eraser: Eraser) -> Iterator[tuple]:
     """Each row of both tables, weakened: the package, the row, what was done, and the weaker row."""
     for package in (eraser.packages.LIBRARY_PACKAGE, eraser.packages.PROGRAM_PACKAGE):
         for edit in package.edits:
@@ -287,7 +290,7 @@ def damaged(new):
     return new[:begin] + new[begin + len(middle) :]
 
 
-def edit_is_noticed(right, package, edit, what, weaker):
+def edit_is_noticed(right: 'Right', package: Package, edit: Edit, what: str, weaker: Edit) -> bool:
     """True if the second reader, or a source where the row may not apply, detects a weaker row."""
     eraser = right.eraser
     if what == 'other code':
@@ -303,7 +306,7 @@ def edit_is_noticed(right, package, edit, what, weaker):
 # ---- names of the other tables ----
 
 
-def weakened_names(right):
+def weakened_names(right: 'Right') -> Iterator[tuple]:
     """Each name of the tables of names and of own items, weakened: what it is, its table, its key, the other one, and a
     file."""
     own, names, packages = right.eraser.own, right.eraser.names, right.eraser.packages
@@ -326,7 +329,7 @@ def weakened_names(right):
             yield f'the path {path}', package.paths, path, f'{new}::x', files
 
 
-def name_is_noticed(right, table, key, weaker, files):
+def name_is_noticed(right: 'Right', table: dict, key: str, weaker: Any, files: Iterable[str]) -> bool:
     """True if the second reader can't explain a file with another name."""
     before, table[key] = table[key], weaker
     try:
@@ -349,7 +352,7 @@ def reader_notices(right, package, file, edit, weaker):
     return unexplained(right, file, right.texts[file], right.with_edit(package, file, edit, weaker)) is not None
 
 
-def unexplained(right, file, source, rust):
+def unexplained(right: 'Right', file: str, source: str, rust: str) -> Optional[tuple[str, str]]:
     """What the second reader can't explain in a file's Rust, or None."""
     crate, name = file.split('/')[0], right.eraser.erase.target_of(file).removesuffix('.rs')
     is_of_programs = right.eraser.forms.is_of_programs(file)

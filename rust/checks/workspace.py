@@ -4,7 +4,7 @@ import re
 import shutil
 import subprocess
 import sys
-from typing import Optional
+from typing import Any, Optional, Sequence
 
 from checks.lib import arm_roots
 from checks.lib.report import check, last_line
@@ -72,7 +72,7 @@ serde = { version = "1.0", features = ["derive"], optional = true }
 '''
 
 
-def must(command, **more):
+def must(command: Sequence[Any], **more: Any) -> str:
     """Runs a tool of the check itself, which must succeed."""
     done = subprocess.run(command, capture_output=True, text=True, **more)
     if done.returncode:

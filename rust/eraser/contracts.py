@@ -15,12 +15,12 @@ def refuse(token, why):
     raise Refused(f'line {token.line}: {why}')
 
 
-def drop(tokens, first, last):
+def drop(tokens: list[Token], first: int, last: int) -> None:
     for i in range(first, last + 1):
         tokens[i] = Token('gone', '', tokens[i].line)
 
 
-def first_with_comments(tokens, i):
+def first_with_comments(tokens: list[Token], i: int) -> int:
     """The first token of the comments on the lines right above token `i`, and of attributes."""
     while True:
         before = i - 1
@@ -206,7 +206,7 @@ def label_examples(tokens):
             token.text = fence[1] + ('```rattle' if begins and not fence[2] else '```' + fence[2])
 
 
-def without_contracts(tokens):
+def without_contracts(tokens: list[Token]) -> list[Token]:
     """The tokens without contracts, with `gone` tokens in their places."""
     drop_clauses(tokens)
     drop_ghosts(tokens)
@@ -229,7 +229,7 @@ def merged(before, after):
     return '\n' * lines + after.rsplit('\n', 1)[1]
 
 
-def tidied(tokens):
+def tidied(tokens: list[Token]) -> str:
     """The text, without the lines and spaces that removed tokens leave."""
     lines = []
     for token in tokens:

@@ -84,7 +84,7 @@ def matched(tokens, places, at, pattern):
 
 
 @functools.cache
-def parts_of(pattern):
+def parts_of(pattern: str) -> list[str]:
     """The tokens of a pattern, with `$name` as one."""
     return (
         significant(re.sub(r'\$(\w+)', r'ˑ\1', pattern))
@@ -104,7 +104,7 @@ def places_in(tokens, function):
     return [i for i in places if begin <= i <= end]
 
 
-def sums_of(tokens):
+def sums_of(tokens: list[Token]) -> dict[str, str]:
     """A sum of the code of each function, by its name. A name that occurs twice has none."""
     places, found = [i for i, token in enumerate(tokens) if not token.is_blank() and token.kind != 'comment'], {}
     for i, after in zip(places, places[1:]):
@@ -125,7 +125,7 @@ def sums_of(tokens):
     return found
 
 
-def apply(edit, tokens, sums):
+def apply(edit: Edit, tokens: list[Token], sums: dict[str, str]) -> int:
     """Applies an edit wherever it matches. Returns how often."""
     if edit.function and sums.get(edit.function) not in edit.was.split():
         raise Refused(

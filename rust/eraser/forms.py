@@ -2,8 +2,12 @@
 tested here: the toolchain names each function that is called (callees.py)."""
 import os
 from collections import Counter, namedtuple
+from typing import TYPE_CHECKING, NoReturn
 
-from rust.eraser.tokens import CLOSE, OPEN, Refused, closing
+from rust.eraser.tokens import CLOSE, OPEN, Refused, Token, closing
+
+if TYPE_CHECKING:
+    from rust.eraser.items import Items
 
 # Rust's keywords, those that are written as names included. The library's sources have some of them.
 KEYWORDS = set(
@@ -61,7 +65,7 @@ LIBRARY_FORMS = Forms(ALLOWED_KEYWORDS, MACROS, STD)
 PROGRAM_FORMS = Forms(ALLOWED_KEYWORDS | PROGRAM_KEYWORDS, MACROS | PROGRAM_MACROS, STD | PROGRAM_STD)
 
 
-def refuse(token, why):
+def refuse(token: Token, why: str) -> NoReturn:
     raise Refused(f'line {token.line}: {why}')
 
 
@@ -73,7 +77,7 @@ def texts_of(code):
     return [token.text for token in code]
 
 
-def check_forms(tokens, file, items):
+def check_forms(tokens: list[Token], file: str, items: 'Items') -> None:
     """Refuses forms without a rule, in a file without contracts. `items` are those of all sources."""
     code = [token for token in tokens if not token.is_blank()]
     known = PROGRAM_FORMS if is_of_programs(file) else LIBRARY_FORMS

@@ -1,4 +1,6 @@
 """Names that differ: paths of Rattle's library, modules that a tree has in another form, and Rattle's prelude."""
+from typing import Sequence
+
 from rust.eraser.contracts import drop, first_with_comments
 from rust.eraser.tokens import Refused, Token, closing, following, preceding
 
@@ -58,7 +60,7 @@ def segments(tokens, i):
     return found
 
 
-def rename_paths(tokens, paths):
+def rename_paths(tokens: list[Token], paths: dict[str, str]) -> None:
     """Puts the paths of replacements in the place of those of Rattle's library."""
     for i, token in enumerate(tokens):
         if not begins_path(tokens, i):
@@ -89,7 +91,7 @@ def split_group(tokens, i, begin, paths):
     tokens[use] = Token('edited', lines, tokens[use].line)
 
 
-def rename_roots(tokens, tree, crate, crates):
+def rename_roots(tokens: list[Token], tree: str, crate: str, crates: Sequence[str]) -> None:
     """Paths from a crate's root begin at its module below `tree`."""
     places = [i for i, token in enumerate(tokens) if not token.is_blank()]
     for at, place in enumerate(places):
@@ -104,7 +106,7 @@ def rename_roots(tokens, tree, crate, crates):
         tokens[place] = Token('edited', f'{tree}::{crate if token.text == "crate" else token.text}', token.line)
 
 
-def replace_modules(tokens, file):
+def replace_modules(tokens: list[Token], file: str) -> None:
     """Imports the module in the place of each that the tree lacks, or drops its declaration and its exports."""
     folder = file.removesuffix('.rt').removesuffix('/lib')
     for i, token in enumerate(tokens):
@@ -128,13 +130,13 @@ def drop_statement(tokens, i):
     drop(tokens, first_with_comments(tokens, first), end)
 
 
-def prelude_of(tokens, names):
+def prelude_of(tokens: list[Token], names: dict[str, set[str]]) -> list[str]:
     """The names of Rattle's prelude that a file needs."""
     texts = {token.text for i, token in enumerate(tokens) if token.kind == 'word' and not is_derived(tokens, i)}
     return sorted(name for name, needs in names.items() if needs & texts)
 
 
-def import_prelude(tokens, file, names):
+def import_prelude(tokens: list[Token], file: str, names: list[str]) -> None:
     """Imports names of Rattle's prelude, behind the comments at the beginning of a file."""
     lines = f'use crate::rattle::prelude::{braced(names)};\n' if names else ''
     if file == f'{TWICE}.rt':
@@ -155,5 +157,5 @@ def braced(names):
     return names[0] if len(names) == 1 else '{' + ', '.join(names) + '}'
 
 
-def paths_of(paths, file):
+def paths_of(paths: dict[str, str], file: str) -> dict[str, str]:
     return {**paths, 'std::simd': 'super::simd'} if file.startswith(f'{TWICE}/') else paths

@@ -116,7 +116,7 @@ def body_of(tokens, i, path):
     return i, closing(tokens, i), f'{path}{turbofish}({", ".join(names)})'
 
 
-def replace_items(tokens, file):
+def replace_items(tokens: list[Token], file: str) -> None:
     """Gives each listed item of a file its form in the crate."""
     for name, (path, _) in ITEMS.get(file, {}).items():
         i = place_of(tokens, name)
@@ -132,7 +132,7 @@ def replace_items(tokens, file):
         tokens[first] = Token('edited', text, tokens[first].line)
 
 
-def inline_functions(tokens, file):
+def inline_functions(tokens: list[Token], file: str) -> None:
     """Gives each listed function of a file its attribute."""
     for name, attribute in INLINED.get(file, {}).items():
         i = place_of(tokens, name)
@@ -145,7 +145,7 @@ def inline_functions(tokens, file):
         tokens[first] = Token('edited', attribute, tokens[first].line)
 
 
-def move_bounds(tokens, file):
+def move_bounds(tokens: list[Token], file: str) -> None:
     """Moves the bound of a type and of its methods to the methods that need it."""
     for i in places_of(tokens, 'S', ':') if file in BOUNDS else ():
         colon = following(tokens, i)

@@ -8,16 +8,19 @@ import os
 import re
 import subprocess
 
+from rust.eraser.packages import Package
 from rust.eraser.tokens import Refused, rattle
 
 HERE = os.path.dirname(os.path.abspath(__file__))
 # The sums of the files of `main`: a program has no `mir.json`. They call the crates below, the streams of the process,
 # and of the standard library `is_terminal`, `alloc` and `var`.
 PROGRAMS_READ = {'1672933e99ffd7604939f2872a2ebfc3', 'acdd16c9a538985f3d82804cfc66ad94'}
+# The sections of stored.txt by name: the sum, and the lines.
+Sections = dict[str, tuple[str, list[str]]]
 STORED, CALLEES = os.path.join(HERE, 'stored.txt'), os.path.join(HERE, 'callees.txt')
 
 
-def sum_of(files):
+def sum_of(files: dict[str, str]) -> str:
     """A sum of names and texts."""
     return hashlib.sha256(json.dumps(sorted(files.items())).encode()).hexdigest()[:32]
 
@@ -27,12 +30,12 @@ def read(path):
         return file.read()
 
 
-def eraser_files():
+def eraser_files() -> dict[str, str]:
     folder = [os.path.join(HERE, name) for name in sorted(os.listdir(HERE)) if name.endswith(('.py', 'callees.txt'))]
     return {os.path.basename(path): read(path) for path in folder}
 
 
-def stored():
+def stored() -> Sections:
     """The sections of stored.txt: each name, its sum, and its lines."""
     sections = {}
     for line in read(STORED).splitlines() if os.path.exists(STORED) else ():
@@ -44,7 +47,7 @@ def stored():
     return sections
 
 
-def write(sections):
+def write(sections: Sections) -> None:
     with open(STORED, 'w', encoding='utf-8') as file:
         file.write(
             '# Written by rust/erase: sums of what it read and wrote, and what each crate calls of other crates.\n'
@@ -161,7 +164,7 @@ def proved_mir(crates, crate, of_ci=False):
         return json.load(file)
 
 
-def calls(crates, texts, package, sections, of_ci=False):
+def calls(crates: str, texts: dict[str, str], package: Package, sections: Sections, of_ci: bool = False) -> Sections:
     """The section of each crate of a package: from stored.txt if its sources are the same, else of the proved
     library."""
     found = {}

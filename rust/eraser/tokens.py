@@ -42,14 +42,14 @@ class Token:
         return self.kind in ('space', 'comment', 'gone')
 
 
-def rattle():
+def rattle() -> str:
     found = shutil.which('rt')
     if not found:
         raise Refused('the sources have changed since they were erased: this needs the toolchain `rt`')
     return os.path.join(os.path.dirname(os.path.realpath(found)), 'rattle')
 
 
-def toolchain_tokens(texts):
+def toolchain_tokens(texts: dict[str, str]) -> dict[str, list]:
     """The toolchain's tokens of each file, by name: line, first byte, end, kind and text. Comments are none."""
     with tempfile.TemporaryDirectory() as folder:
         paths = [os.path.join(folder, f'{number}.rt') for number in range(len(texts))]
@@ -70,7 +70,7 @@ def toolchain_tokens(texts):
     return dict(zip(texts, found))
 
 
-def lex(text, spans):
+def lex(text: str, spans: list) -> list[Token]:
     """The tokens of a file, of which the toolchain's are given. Joined, they are the file."""
     if bad := NO_TEXT.search(text):
         raise Refused(f'line {text.count(chr(10), 0, bad.start()) + 1}: the character {bad[0]!r}')
@@ -111,7 +111,7 @@ def parts_of_code(part, span):
     return split(part, span[0])
 
 
-def split(text, line):
+def split(text: str, line: int) -> list[Token]:
     found, at = [], 0
     while at < len(text):
         match = CODE.match(text, at)
@@ -146,7 +146,7 @@ def end_of_nested_comment(text, start, line):
     raise Refused(f'line {line}: a comment without an end')
 
 
-def following(tokens, i):
+def following(tokens: list[Token], i: int) -> int:
     """The index of the next token that isn't blank, or the number of tokens."""
     i += 1
     while i < len(tokens) and tokens[i].is_blank():
@@ -154,7 +154,7 @@ def following(tokens, i):
     return i
 
 
-def preceding(tokens, i):
+def preceding(tokens: list[Token], i: int) -> int:
     """The index of the token before that isn't blank, or -1."""
     i -= 1
     while i >= 0 and tokens[i].is_blank():
@@ -162,7 +162,7 @@ def preceding(tokens, i):
     return i
 
 
-def closing(tokens, i):
+def closing(tokens: list[Token], i: int) -> int:
     """The index of the bracket that closes the one at `i`."""
     expected = []
     for at in range(i, len(tokens)):

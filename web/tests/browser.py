@@ -12,6 +12,7 @@ import tempfile
 import time
 import urllib.error
 import urllib.request
+from typing import Optional
 
 from checks.lib.tools import free_port, write
 
@@ -22,6 +23,8 @@ TIMEOUTS = {"script": 300_000, "pageLoad": 60_000}
 
 class Browser:
     """One window. `close` ends everything that was started."""
+
+    name: str
 
     def __init__(self, width=1000, height=1400):
         self.workdir = tempfile.mkdtemp(prefix="twox-browser-")
@@ -213,7 +216,7 @@ class WebKit(ByDriver):
         self.run("document.querySelector(arguments[0]).click()", selector)
 
 
-def mini_browser():
+def mini_browser() -> Optional[str]:
     """Debian installs it with WebKit's library."""
     found = sorted(glob.glob("/usr/lib/*/webkit2gtk-4.*/MiniBrowser"))
     return found[-1] if found else None

@@ -5,10 +5,12 @@ import re
 import shutil
 import subprocess
 import tempfile
+from typing import Iterable, Optional
 
 from checks.lib import tools
-from checks.lib.report import Fault, check
+from checks.lib.report import Fault, Report, check
 from checks.lib.tools import bytes_of, text_of
+from web.tests.browser import Browser
 from web.tests.values import long_digests
 
 HERE = os.path.dirname(os.path.abspath(__file__))
@@ -367,7 +369,7 @@ def tests_in_jsc(module, vectors):
     environment = {**os.environ, "JSC_useWasmSIMD": str(int(vectors))}
     ran = subprocess.run(
         [
-            jsc(),
+            jsc() or "jsc",
             "-m",
             os.path.join(HERE, "run_jsc.mjs"),
             "--",
@@ -385,7 +387,7 @@ def tests_in_jsc(module, vectors):
     return all_right(result["lines"])
 
 
-def jsc():
+def jsc() -> Optional[str]:
     """Debian installs it with WebKit's library."""
     folders = [f"/usr/lib/x86_64-linux-gnu/javascriptcoregtk-{it}" for it in ("4.0", "4.1")]
     found = [f"{it}/jsc" for it in folders if os.path.exists(f"{it}/jsc")]
@@ -409,7 +411,7 @@ def lines_read(folder):
     return f"{result['count']} lines"
 
 
-def check_in_node(checks, folder, nodes):
+def check_in_node(checks: Report, folder: str, nodes: Iterable[str]) -> None:
     checks.attempt(
         "the modules have their sums",
         lambda: must(["sha256sum", "--check", "SHA256SUMS"], WEB).strip().replace("\n", ", "),
@@ -424,7 +426,7 @@ def check_in_node(checks, folder, nodes):
     checks.attempt("Node without WebAssembly is told so", refused_in_node, folder, nodes[0])
 
 
-def check_package(checks, folder, nodes):
+def check_package(checks: Report, folder: str, nodes: Iterable[str]) -> None:
     checks.attempt("the package, as npm packs it, has its files and no other", packed, folder)
     xxhash = 'import xxhash from "twox_hash/xxhash-wasm";'
     for node in nodes:
@@ -451,14 +453,14 @@ def check_package(checks, folder, nodes):
     checks.attempt("the package's types, by tsc --strict", types, folder)
 
 
-def check_in_jsc(checks):
+def check_in_jsc(checks: Report) -> None:
     checks.attempt("WebKit's engine (jsc): the tests of twox_hash_simd.wasm", tests_in_jsc, MODULES[1], True)
     checks.attempt(
         "WebKit's engine (jsc), without vectors: the tests of twox_hash.wasm", tests_in_jsc, MODULES[0], False
     )
 
 
-def check_in_browser(checks, name, folder, browser, address):
+def check_in_browser(checks: Report, name: str, folder: str, browser: Browser, address: str) -> None:
     checks.attempt(
         f"{name}: the tests of the module and its streams", tests_in_page, browser, f"{address}/bundles/", folder
     )

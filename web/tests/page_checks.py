@@ -459,7 +459,7 @@ PRIVATE = "README.md.orig docs.bak/x web-old/x LICENSE2 oracle/vectors.txt~ orac
 NO_FILES = "README.md/x web/outside web/../.git/config docs/%2e%2e/.git/config".split()
 
 
-def served_and_no_more(folder):
+def served_and_no_more(folder: str) -> None:
     """Without a browser: from a tree of its own, serve.py serves the listed files, and none with the same beginning
     or elsewhere."""
     top, before = os.path.join(folder, "served"), serve.TOP
@@ -534,7 +534,7 @@ IN_EACH_BROWSER = {
 }
 
 
-def take_picture(page):
+def take_picture(page: Page) -> str:
     page.open()
     page.set_key("1234")
     page.browser.run("document.getElementById('key').open = false")

@@ -3,7 +3,7 @@ import os
 import re
 import subprocess
 import tempfile
-from typing import NamedTuple, Optional
+from typing import Container, Iterator, NamedTuple, Optional
 
 from checks.lib.tools import TOP
 
@@ -17,7 +17,7 @@ SOME_BYTES = {
 XXHSUM = {"xxh32": "-H0", "xxh64": "-H1", "xxh3_64": "-H3", "xxh3_128": "-H2"}
 
 
-def reference(path):
+def reference(path: str) -> dict[str, str]:
     """The digests by xxhsum."""
     lines = {algorithm: line_of(path, algorithm).split() for algorithm in XXHSUM}
     return {
@@ -28,7 +28,7 @@ def reference(path):
     }
 
 
-def line_of(path, algorithm, *args, folder=None):
+def line_of(path: str, algorithm: str, *args: str, folder: Optional[str] = None) -> str:
     """The line that xxhsum prints for a file."""
     return subprocess.run(
         ["xxhsum", XXHSUM[algorithm], *args, path], capture_output=True, text=True, check=True, cwd=folder
@@ -54,7 +54,7 @@ def generated(start, length):
     return bytes(out)
 
 
-def vectors(lengths):
+def vectors(lengths: Container[int]) -> Iterator[Vector]:
     """The requests of XXH3 with a secret, whose inputs have these lengths."""
     with open(os.path.join(TOP, "oracle", "vectors.txt"), encoding="utf-8") as file:
         for line in file:
@@ -70,7 +70,7 @@ def vectors(lengths):
                 )
 
 
-def long_digests():
+def long_digests() -> dict[str, str]:
     """xxhsum's digests of the long input of the module's tests."""
     with tempfile.NamedTemporaryFile() as file:
         file.write(bytes(i % 251 for i in range(1_000_003)))

@@ -1,6 +1,8 @@
 """The expected result of a run in which one system call fails."""
-from .scenarios import INPUT
-from .traces import BY_NAME, FOR_MEMORY
+from typing import Sequence
+
+from .scenarios import INPUT, Scenario
+from .traces import BY_NAME, FOR_MEMORY, Call, Done
 from .worlds import NO_MEMORY, WRITE_FAILED, Fault, Outcome
 
 # The errors of each call. Linux returns each of these for some file system or device.
@@ -34,7 +36,7 @@ READS = ('read', 'readv', 'pread64')
 WRITES = ('write', 'writev')
 
 
-def errors_of(call):
+def errors_of(call: Call) -> Sequence[str]:
     """The errors for this call: all of one class alike."""
     if call.name in FOR_MEMORY:
         # Without an address, `brk` only returns the end of the memory.
@@ -89,7 +91,7 @@ def faults_of(calls, at, error):
     return [None]
 
 
-def is_tried(scenario, calls, at):
+def is_tried(scenario: Scenario, calls: Sequence[Call], at: int) -> bool:
     """True if this call is made to fail: in runs into one pipe those for memory, and the reads of the lists."""
     if scenario.out != 'merged' or calls[at].name in FOR_MEMORY:
         return True
@@ -99,7 +101,7 @@ def is_tried(scenario, calls, at):
 # ---- whether a run is as expected
 
 
-def text(outcome):
+def text(outcome: Outcome) -> tuple[bytes, bytes, int]:
     return outcome.out.encode(), outcome.err.encode(), outcome.status
 
 
@@ -145,7 +147,7 @@ def is_repeated(scenario, call, error):
     return error == 'EINTR' and call.name in (*READS, 'getdents64') and scenario.program == 'xxhsum'
 
 
-def fault_in(scenario, right, planned, at, error, done):
+def fault_in(scenario: Scenario, right: Outcome, planned: Sequence[Call], at: int, error: str, done: Done) -> str:
     """The error of a run in which the call of this index failed, or nothing."""
     if not any(call.is_failed for call in done.calls) or any(call.is_failed for call in done.before):
         return 'the call did not fail'
@@ -159,11 +161,12 @@ def fault_in(scenario, right, planned, at, error, done):
     if call.name in WRITES:
         return after_failed_write(scenario, right, planned, at, done)
     faults = [None] if is_repeated(scenario, call, error) else faults_of(planned, at, error)
-    allowed = [text(right if fault is None else scenario.outcome(fault)) for fault in faults]
+    outcome = scenario.outcome or (lambda fault: right)
+    allowed = [text(right if fault is None else outcome(fault)) for fault in faults]
     return '' if (done.out, done.err, done.status) in allowed else f'expected {" or ".join(map(repr, allowed))}'
 
 
-def right_of(scenario, done):
+def right_of(scenario: Scenario, done: Done) -> Outcome:
     """The expected result without a failure. Help and version are compared elsewhere."""
     if scenario.outcome is None or scenario.out not in ('pipe', 'merged'):
         return Outcome(done.out.decode(), done.err.decode(), done.status)

@@ -1,6 +1,9 @@
 """Wrong results of wrong programs, which the check of failing calls must detect."""
 
+from typing import Callable, Sequence
+
 from .. import messages
+from .traces import Call
 
 
 def reported_twice(done):
@@ -77,7 +80,7 @@ PLANTED = {
 }
 
 
-def failing_call(calls, name, error, errors_of):
+def failing_call(calls: Sequence[Call], name: str, error: str, errors_of: Callable[[Call], Sequence[str]]) -> int:
     """The index of the first call of this name; for look-ups the one below a directory, which has no alternative;
     for memory the last one, so that some output is buffered."""
     at = [it for it, call in enumerate(calls) if call.name == name and error in errors_of(call)]

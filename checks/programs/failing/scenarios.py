@@ -1,11 +1,11 @@
 """The scenarios of checks/failing_calls: the arguments of a run, its streams, and the expected result if one step
 fails."""
 import os
-from typing import Callable, NamedTuple, Optional
+from typing import Any, Callable, NamedTuple, Optional
 
 from .. import messages
 from . import worlds
-from .worlds import COMMENT, JUNK, Fault, Outcome, good, wrong
+from .worlds import COMMENT, JUNK, Fault, Outcome, World, good, wrong
 
 INPUT = 'standard input'
 # Each read of it fails.
@@ -299,7 +299,7 @@ def of_xxh(world):
 GROUPS = (of_names, of_input, of_checks, of_one_pipe, of_folders, of_lists_of_names, of_audits, of_streams, of_xxh)
 
 
-def input_of(scenario, world):
+def input_of(scenario: Scenario, world: World) -> Any:
     """The run's standard input: a file, or a pipe that has its bytes before the run begins, so that each run has the
     same reads."""
     if scenario.given != 'pipe':

@@ -3,7 +3,7 @@ import os
 import re
 import signal
 import subprocess
-from typing import NamedTuple
+from typing import Any, NamedTuple, Sequence
 
 from checks.programs.runs import SETTINGS
 
@@ -35,7 +35,7 @@ class Done(NamedTuple):
 
     out: bytes
     err: bytes
-    status: object
+    status: Any
     before: list
     calls: list
 
@@ -75,7 +75,7 @@ def ended(process):
         return out or b'', err or b'', f'not ended after {SECONDS} s'
 
 
-def traced(command, injections, streams, folder, trace):
+def traced(command: Sequence[str], injections: Sequence[str], streams: Any, folder: str, trace: str) -> Done:
     """Runs these arguments with these faults, and over these streams."""
     names = ','.join(f'?{name}' for name in (*BY_NAME, *BY_DESCRIPTOR, *FOR_MEMORY, MAIN[0]))
     strace = ['strace', '-qq', '-s', '0', '-o', trace, '-e', f'trace={names}', '-e', 'signal=none']
@@ -87,14 +87,14 @@ def traced(command, injections, streams, folder, trace):
     return Done(out, err, status, *calls_of(trace))
 
 
-def injection(before, calls, at, error):
+def injection(before: Any, calls: Sequence[Call], at: int, error: str) -> list[str]:
     """Makes the call of this index fail. strace counts the calls of one name, from the program's start on."""
     name = calls[at].name
     count = sum(call.name == name for call in [*before, *calls[: at + 1]])
     return [f'{name}:error={error}:when={count}']
 
 
-def vanishing(before, calls, places):
+def vanishing(before: Any, calls: Sequence[Call], places: Sequence[int]) -> list[str]:
     """Makes the calls of these indices fail, at most two of each name, since their file has vanished. A name that can't
     be looked up is also opened as a directory."""
     counts = {}
@@ -109,7 +109,7 @@ def vanishing(before, calls, places):
     ]
 
 
-def memory_injections(before, calls, at):
+def memory_injections(before: Any, calls: Sequence[Call], at: int) -> list[str]:
     """Makes the call of this index fail, and each one for memory after it. The system's `brk` fails without an
     error, by returning less than was requested."""
     earlier = [*before, *calls[:at]]

@@ -5,7 +5,7 @@ output."""
 import os
 import re
 import subprocess
-from typing import NamedTuple
+from typing import Callable, Collection, NamedTuple, Optional, Sequence
 
 from checks.lib.tools import write
 
@@ -97,7 +97,13 @@ def trouble(world, name, fault):
     return ''
 
 
-def digests(world, names, fault=None, form=World.line, before=''):
+def digests(
+    world: World,
+    names: Sequence[str],
+    fault: Optional[Fault] = None,
+    form: Callable[[World, str], str] = World.line,
+    before: str = '',
+) -> Outcome:
     """A line of each name that has a digest, and a message for each other one."""
     troubles = {name: trouble(world, name, fault) for name in names}
     out = ''.join(form(world, name) for name in names if not troubles[name])
@@ -105,7 +111,7 @@ def digests(world, names, fault=None, form=World.line, before=''):
     return Outcome(out, err, 1 if err else 0)
 
 
-def of_input(world, name, fault, algorithm='64'):
+def of_input(world: World, name: str, fault: Optional[Fault], algorithm: str = '64') -> Outcome:
     if fault:
         return Outcome('', messages.unread('stdin', fault.why, end='.').decode(), 1)
     return Outcome(world.line(name, algorithm).replace(f'  {name}', '  stdin'), '', 0)
@@ -138,7 +144,7 @@ def walked(world, names, fault):
     return files, err
 
 
-def digests_below(world, names, fault=None):
+def digests_below(world: World, names: Sequence[str], fault: Optional[Fault] = None) -> Outcome:
     files, err = walked(world, names, fault)
     return digests(world, files, fault, before=err)
 
@@ -154,11 +160,11 @@ class Line(NamedTuple):
     is_good: bool = True
 
 
-def good(world, name):
+def good(world: World, name: str) -> 'Line':
     return Line(world.line(name), name)
 
 
-def wrong(name):
+def wrong(name: str) -> 'Line':
     return Line(f'{"0" * 16}  {name}\n', name, False)
 
 
@@ -179,7 +185,9 @@ def verdict(world, listed, number, line, fault):
     return f'{line.name}: {"OK" if line.is_good else "FAILED"}\n'
 
 
-def checked(world, listed, lines, fault=None, warns=False):
+def checked(
+    world: World, listed: str, lines: Sequence['Line'], fault: Optional[Fault] = None, warns: bool = False
+) -> Outcome:
     """The check of one list, as far as it could be read."""
     if fault and fault.name == listed and fault.step == 'open':
         return Outcome('', messages.unopened(listed, fault.why, end='').decode(), 1)
@@ -204,7 +212,7 @@ def checked(world, listed, lines, fault=None, warns=False):
     return Outcome(out, err, 1 if unread or failed or is_cut else 0)
 
 
-def merged_check(world, listed, lines, fault=None):
+def merged_check(world: World, listed: str, lines: Sequence['Line'], fault: Optional[Fault] = None) -> Outcome:
     """The content of one pipe of both streams, if every malformed line is reported: each message at its place, and
     the counts after the last line."""
     given = lines[: ''.join(line.text for line in lines)[: fault.given].count('\n')] if fault else lines
@@ -221,7 +229,9 @@ def merged_check(world, listed, lines, fault=None):
     return Outcome(''.join([*both, *break_of, *counts]), '', found.status)
 
 
-def all_checked(world, lists, fault=None, warns=False):
+def all_checked(
+    world: World, lists: dict[str, list['Line']], fault: Optional[Fault] = None, warns: bool = False
+) -> Outcome:
     each = [checked(world, listed, lines, fault, warns) for listed, lines in lists.items()]
     return Outcome(''.join(it.out for it in each), ''.join(it.err for it in each), max(it.status for it in each))
 
@@ -229,13 +239,13 @@ def all_checked(world, lists, fault=None, warns=False):
 # ---- lists of names
 
 
-def digests_listed(world, lists, fault=None):
+def digests_listed(world: World, lists: dict[str, list[str]], fault: Optional[Fault] = None) -> Outcome:
     """The digests of the names in lists."""
     err = unread_list(lists, fault)
     return Outcome('', err, 1) if err else digests(world, [name for names in lists.values() for name in names], fault)
 
 
-def unread_list(lists, fault):
+def unread_list(lists: Collection[str], fault: Optional[Fault]) -> str:
     """The message for a list of names, or one to audit, that could not be opened or read."""
     if not fault or fault.name not in lists:
         return ''
@@ -270,7 +280,15 @@ def classes(entries, found):
     ]
 
 
-def audited(world, listed, entries, names, fault=None, before='', lost=()):
+def audited(
+    world: World,
+    listed: str,
+    entries: dict[str, str],
+    names: Sequence[str],
+    fault: Optional[Fault] = None,
+    before: str = '',
+    lost: Sequence[str] = (),
+) -> Outcome:
     """The audit of names against a list with these digests. A name with no digest is unreadable; so are directories
     that could not be read, and the lines of names below them."""
     err = unread_list({listed: []}, fault)
@@ -292,7 +310,9 @@ def audited(world, listed, entries, names, fault=None, before='', lost=()):
     )
 
 
-def audited_below(world, listed, entries, names, fault=None):
+def audited_below(
+    world: World, listed: str, entries: dict[str, str], names: Sequence[str], fault: Optional[Fault] = None
+) -> Outcome:
     """The audit of the files below directories."""
     files, err = walked(world, names, fault)
     return audited(world, listed, entries, files, fault, err, [fault.name.rstrip('/')] if err else [])

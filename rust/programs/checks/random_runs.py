@@ -192,17 +192,17 @@ def compare(ours, proved, rng, name, args, given, workdir):
     return found[2]
 
 
-def compare_runs(ours, proved, count, seed, workdir):
+def compare_runs(ours: dict[str, str], proved: dict[str, str], count: int, seed: int, workdir: str) -> str:
     """Runs both programs this many times; they have the names 'xxh' and 'xxhsum' in both dictionaries."""
-    rng, workdir = random.Random(seed), os.fsencode(workdir)
-    lay_out(rng, workdir)
-    lists, statuses = lists_of(proved['xxhsum'], workdir), {}
+    rng, folder = random.Random(seed), os.fsencode(workdir)
+    lay_out(rng, folder)
+    lists, statuses = lists_of(proved['xxhsum'], folder), {}
     for _ in range(count):
         if rng.random() < 0.3:
             name, called, (args, given) = 'xxh', b'xxh', random_xxh(rng)
         else:
-            name, called, (args, given) = 'xxhsum', rng.choice(CALLED), random_xxhsum(rng, lists, workdir)
-        status = compare(ours[name], proved[name], rng, called, args, given, workdir)
+            name, called, (args, given) = 'xxhsum', rng.choice(CALLED), random_xxhsum(rng, lists, folder)
+        status = compare(ours[name], proved[name], rng, called, args, given, folder)
         statuses[name, status] = statuses.get((name, status), 0) + 1
     check(count < 100 or len(statuses) == 4, f'only these statuses came: {statuses}')
     return ', '.join(f'{count} of {name} with {status}' for (name, status), count in sorted(statuses.items()))
@@ -311,7 +311,7 @@ def random_json(rng, state):
     )
 
 
-def compare_json(ours, proved, count, seed, workdir):
+def compare_json(ours: dict[str, str], proved: dict[str, str], count: int, seed: int, workdir: str) -> str:
     """This many texts for `xxh resume`."""
     rng, statuses = random.Random(seed), {}
     for _ in range(count):

@@ -4,7 +4,7 @@ import os
 import resource
 import subprocess
 
-from checks.lib.report import check
+from checks.lib.report import Report, check
 from checks.lib.tools import must, write
 
 SOURCE = os.path.join(os.path.dirname(os.path.abspath(__file__)), 'refused.c')
@@ -115,7 +115,7 @@ def many_arguments(programs, workdir):
     return f'{reported} of {len(LIMITS)} limits are too small'
 
 
-def check_all(report, programs, workdir):
+def check_all(report: Report, programs: dict[str, str], workdir: str) -> None:
     library = os.path.join(workdir, 'refused.so')
     must(['gcc', '-O1', '-fno-builtin', '-shared', '-fPIC', SOURCE, '-o', library])
     folder = os.path.join(workdir, 'refused')
