@@ -1,5 +1,5 @@
 -- A line that is written in two parts, of which either may be refused.
-use Rattle.std.proofs.Common.{◌≡◌, ◌≢◌, ℕ, ◌<◌, List, [], ◌∷◌, ◌++◌, Bool, true, false, Ok, Err, IfErr, codes, nat_eq, ◌||◌, refl, sym, subst, if◌then◌else◌, arith, append-nil, ap, ◌∙◌, Result}
+use Rattle.std.proofs.Common.{◌≡◌, ◌≢◌, ℕ, ◌<◌, List, [], ◌∷◌, ◌++◌, Bool, true, false, Ok, Err, IfErr, nat_eq, ◌||◌, refl, sym, subst, if◌then◌else◌, arith, append-nil, ap, ◌∙◌, Result}
 use Rattle.xxhsum_program.specs.Prelude.{Options, OutOfMemory, Report, SinkRules, Stop, Took, WriteFailed, concat}
 use Rattle.xxhsum_program.proofs.Prelude.{Emits, EmitsTo, Printed, PrintsLine, Refused-join, Refused-more, Reported, StreamRules, Streams, Took-join, is_unverified, streams_of}
 use Rattle.xxhsum_program.specs.ListMessages.{different_counted, improper_counted, no_line_text, printed_summary, summary_events, summary_text, unread_counted, unverified_line, unverified_text}
