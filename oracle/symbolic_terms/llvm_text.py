@@ -6,7 +6,7 @@ import re
 from dataclasses import dataclass
 
 from .refusals import Unsupported
-from .words import signed
+from .modular import signed
 
 TOKEN = re.compile(r'c"[^"]*"|"[^"]*"|[%@][-\w.$]+|-?\d+|[\w.]+|\.\.\.|[][(){}<>,*=]|![\w.]*|#\d+')
 ATTRIBUTES = {"noundef", "noalias", "nocapture", "readonly", "writeonly", "immarg", "inbounds", "nuw", "nsw", "exact",

@@ -8,7 +8,7 @@ from .nodes import Node, symbol
 from .operations import bits, side_by_side
 from .polynomials import Poly, constant_of, is_natural, is_number, lifted, minus, plus
 from .refusals import Undecided, Unsupported
-from .words import BINARY, compare_numbers, rotated, signed
+from .modular import BINARY, compare_numbers, rotated, signed
 
 
 WORD = 64

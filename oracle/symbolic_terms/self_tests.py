@@ -10,7 +10,7 @@ import table
 
 from . import comparison, definition, halves, nodes, operations, reference
 from .requests import Request
-from .words import BINARY
+from .modular import BINARY
 from .nodes import BITS, NODES, SUM, SYMBOL, Node, most_of, symbol, values_at
 from .operations import (add, add_at, bits, both, either, monus, multiply, multiply_at, quotient, remainder,
                          shift_right,

@@ -13,7 +13,7 @@ from symbolic_terms import (BINARY, Input, Memory, Piece, Undecided, Unsupported
                             given, is_inside, is_natural, is_number, lifted, minus, nodes, operations, parts_of, plus,
                             rotated, rules,
                             self_tests, signed, symbol, times, value_at, variable, wrapped, zeros_below)
-from symbolic_terms import polynomials, words as symbolic_words
+from symbolic_terms import polynomials, modular as symbolic_words
 from symbolic_terms.memory import in_order, outside, taken
 
 EDGES = 0, 1, 2, 127, 128, 255, 256, (1 << 31) - 1, 1 << 31, (1 << 32) - 1, 1 << 32, (1 << 63) - 1, 1 << 63, (1 << 64) - 1

@@ -4,7 +4,7 @@ from symbolic_terms import Unsupported
 from ..aarch64.objects import Immediate, Instruction, Program, Shift
 from ..aarch64.processor import form
 from ..aarch64.table import Processor
-from ..aarch64.words import shifted
+from ..aarch64.scalar import shifted
 from .library import ForRust
 from .objects import Allocator, OfRustc
 
