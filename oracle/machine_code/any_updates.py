@@ -15,7 +15,7 @@ from symbolic_terms import (LONGEST, Bytes, Input, NotShown, Piece, Request, at_
 from . import layouts, streams
 from .every_length import UNROLLED, Cases
 from .induction import Family, Loops
-from .memory import Words
+from .memory import WordMemory
 
 # An update of a state with r buffered bytes. It fills their stripe or not, takes `further` stripes, plus any number of
 # turns of the unrolled loop with `more`, and leaves s bytes in the buffer.
@@ -83,8 +83,8 @@ class AnyUpdates(Cases):
             accumulators = [self.cpu.fresh("accumulator", self.width) for _ in range(4)]
             suppositions.suppose(lambda j: self.accumulator(j, a), accumulators)
         size = self.library.SIZES[self.hash_name]
-        state = Words("state", size, [(at, 1, self.cpu.fresh("a byte", 8)) for at in range(size)],
-                      alignment=streams.ALIGNMENT.get(self.hash_name, 8))
+        state = WordMemory("state", size, [(at, 1, self.cpu.fresh("a byte", 8)) for at in range(size)],
+                           alignment=streams.ALIGNMENT.get(self.hash_name, 8))
         for at, size, x in self.parts(a, r, accumulators):
             state.store(at, size, x)
         return state

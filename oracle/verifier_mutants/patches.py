@@ -10,7 +10,7 @@ import types
 from . import edits
 
 TOP = os.path.dirname(os.path.dirname(os.path.dirname(os.path.abspath(__file__))))
-KEPT = "verifier_mutants", "verifier_mutants.patches", "verifier_mutants.edits", "verifier_mutants.runs", "tools"
+NEVER_RELOADED = "verifier_mutants", "verifier_mutants.patches", "verifier_mutants.edits", "verifier_mutants.runs", "tools"
 ROOTS = [os.path.join(TOP, *path) for path in (("oracle",), ("assembly",), ("checks", "lib"))]
 
 
@@ -105,9 +105,9 @@ def import_again(loader, patch):
     """Imports all of the repository's modules again, one of them changed. Returns the checks' module."""
     loader.changed[patch.path] = patch.code
     for name in [*loader.paths]:
-        if name not in KEPT:
+        if name not in NEVER_RELOADED:
             sys.modules.pop(name, None)
             package, _, last = name.rpartition(".")
-            if package in KEPT:
+            if package in NEVER_RELOADED:
                 vars(sys.modules[package]).pop(last, None)
     return importlib.import_module("verifier_mutants.checks")

@@ -47,7 +47,7 @@ class Coverage:
         for k, one in enumerate(known.checks):
             known.module.begin()
             began = time.process_time()
-            if one.kind == "planted":
+            if one.type == "planted":
                 self.frames[k] = frames_of(one.ask.args[0])
             else:
                 self.called[k] = codes_called(one.ask, files)
@@ -60,9 +60,9 @@ class Coverage:
 
     def chosen(self, checks, patch, one, is_warm):
         """Yields the numbers of the checks that may detect a mutant, the most likely ones first."""
-        for kind in BUDGET:
-            found = [k for k in self.called if checks[k].kind == kind and (not is_warm or self.called[k] & patch.keys)]
-            yield from self.within_budget(sorted(found, key=lambda k: self.seconds[k]), kind)
+        for check_type in BUDGET:
+            found = [k for k in self.called if checks[k].type == check_type and (not is_warm or self.called[k] & patch.keys)]
+            yield from self.within_budget(sorted(found, key=lambda k: self.seconds[k]), check_type)
         function, ranks = one.function.rpartition(".")[2], {}
         for k, frames in self.frames.items():
             here = [(at != one.line, name != function, i) for i, (path, name, at) in enumerate(frames)
@@ -71,11 +71,11 @@ class Coverage:
                 ranks[k] = min(here)
         yield from self.within_budget(sorted(ranks, key=ranks.get), "planted")
 
-    def within_budget(self, numbers, kind):
+    def within_budget(self, numbers, check_type):
         used = 0
         for count, k in enumerate(numbers):
             used += self.seconds[k]
-            if count and used > BUDGET[kind]:
+            if count and used > BUDGET[check_type]:
                 return
             yield k
 
@@ -134,7 +134,7 @@ def outcome(known, coverage, one):
         try:
             checks[k].ask()
         except BaseException:
-            return checks[k].kind, checks[k].title, is_warm
+            return checks[k].type, checks[k].title, is_warm
     return UNDETECTED, "", is_warm
 
 

@@ -20,7 +20,7 @@ class PlainStreams(AnyUpdates):
 
     def __init__(self, vm, hash_name):
         super().__init__(vm, hash_name)
-        self.told, self.cases = [], 0
+        self.messages, self.cases = [], 0
 
     def call(self, what, state, *rest, family=None):
         self.cpu.seed, self.cpu.has_asked, self.cases = None, False, self.cases + 1
