@@ -1,9 +1,8 @@
-#!/usr/bin/env python3
 """Compares objects as a linker sees them. To trust the assembly source, read this program and eh_frame.py:
 
-    assembly/same_bytes.py PROVED OURS             compares an object with the proved one
-    assembly/same_bytes.py --sums OBJECT           prints a sum for each part of an object
-    assembly/same_bytes.py --against SUMS OBJECT   compares an object with such sums
+    assembly/same-bytes PROVED OURS             compares an object with the proved one
+    assembly/same-bytes --sums OBJECT           prints a sum for each part of an object
+    assembly/same-bytes --against SUMS OBJECT   compares an object with such sums
 
 The parts of an object are its loaded sections, `names`, `notes` and `frames`.
 
@@ -25,7 +24,7 @@ import struct
 import sys
 from collections import namedtuple
 
-from eh_frame import Table
+from assembly.eh_frame import Table
 
 Head = namedtuple('Head', 'name kind flags address offset size link info align entry')
 Symbol = namedtuple('Symbol', 'name info other section value size')
@@ -204,7 +203,7 @@ def compare_sums(path, ours):
     return list(differences(read_sums(path), sums(Object(ours)), lambda *_: 'other than what was proved'))
 
 
-def main(args):
+def run(args):
     if len(args) == 2 and args[0] == '--sums':
         for name, total in sums(Object(args[1])).items():
             print(f'{total}  {name}')
@@ -223,9 +222,9 @@ def main(args):
     return 1 if found else 0
 
 
-if __name__ == '__main__':
+def main():
     try:
-        sys.exit(main(sys.argv[1:]))
+        return run(sys.argv[1:])
     except (OSError, ValueError, LookupError, struct.error) as fault:
-        print(f'same_bytes.py: {fault}', file=sys.stderr)
-        sys.exit(2)
+        print(f'same-bytes: {fault}', file=sys.stderr)
+        return 2

@@ -2,9 +2,9 @@
 import os
 import sys
 
-import antt
-import table
-from reasons import Reasons
+from oracle import antt
+from oracle import table
+from oracle.reasons import Reasons
 
 OTHERS = {word: [other for other in "+ - * / %".split() if other != word] for word in "+ - * / %".split()}
 OTHERS["^"] = ["*"]

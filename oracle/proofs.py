@@ -4,9 +4,9 @@ import os
 import re
 import sys
 
-import antt
-import proved_cases
-import table
+from oracle import antt
+from oracle import proved_cases
+from oracle import table
 
 GENERATOR = """-- The n bytes of a test case whose generator starts at x, as oracle/vectors.c generates them.
 unfoldable pub drawn : ℕ → ℕ → List ℕ

@@ -1,6 +1,6 @@
 """Chooses the test cases of the oracle's table that the proofs compute: for each hash the edges of each range, with all
 sorts of seeds; secrets from 136 bytes on; and inputs longer than a block."""
-import table
+from oracle import table
 
 PLAIN = {
     "32": [0, 1, 3, 4, 7, 13, 15, 16, 17, 31, 32, 47, 64, 65],

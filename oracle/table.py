@@ -1,7 +1,7 @@
 """The test cases of the oracle's table, and the definition's value for each."""
 import os
 
-from specs import CRATES, ENTRIES, HASHES, TOP
+from oracle.specs import CRATES, ENTRIES, HASHES, TOP
 
 FOLDER = os.path.dirname(os.path.abspath(__file__))
 __all__ = ["CRATES", "ENTRIES", "HASHES", "TOP"]

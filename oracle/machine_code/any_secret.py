@@ -4,7 +4,7 @@ sources have separate paths for q = 16 (see every_length.py), from 31,744 bytes 
 import collections
 import functools
 
-from symbolic_terms import LONGEST, NotShown, at_most, given, is_same, minus, plus, symbol, times, variable
+from oracle.symbolic_terms import LONGEST, NotShown, at_most, given, is_same, minus, plus, symbol, times, variable
 
 from .every_length import DERIVED, FAR, MANY, PREFETCHED
 from .stripes import Part

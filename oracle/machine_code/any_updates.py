@@ -9,8 +9,8 @@ all else is symbolic. A digest returns the definition's value and leaves the sta
 import collections
 import functools
 
-from symbolic_terms import (LONGEST, Bytes, Input, NotShown, Piece, Request, at_most, given, is_same, is_same_number,
-                            lifted, minus, plus, same, seed_symbol, suppositions, times, variable)
+from oracle.symbolic_terms import (LONGEST, Bytes, Input, NotShown, Piece, Request, at_most, given, is_same, is_same_number,
+                                   lifted, minus, plus, same, seed_symbol, suppositions, times, variable)
 
 from . import layouts, streams
 from .every_length import UNROLLED, Cases

@@ -4,8 +4,8 @@ import functools
 import itertools
 import random
 
-from symbolic_terms import (LONGEST_SECRET, Bytes, Input, NotShown, Request, at_most, definition, given, is_same, minus, nodes,
-                            plus, symbol, times, variable)
+from oracle.symbolic_terms import (LONGEST_SECRET, Bytes, Input, NotShown, Request, at_most, definition, given, is_same, minus, nodes,
+                                   plus, symbol, times, variable)
 
 from . import layouts, one_shots, streams
 from .memory import Numbers, OnlyRead, WordMemory

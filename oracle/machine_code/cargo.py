@@ -5,7 +5,7 @@ Each call of an XXH3 stream takes the secret as an argument. The stream begins w
 import os
 import re
 
-from symbolic_terms import TOP, NotShown, Unsupported, is_same
+from oracle.symbolic_terms import TOP, NotShown, Unsupported, is_same
 
 from . import layouts
 from .object_contents import HIDDEN, WEAK

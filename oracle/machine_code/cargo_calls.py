@@ -2,7 +2,7 @@
 import itertools
 import re
 
-from symbolic_terms import Input, at_most, given, is_natural, is_same_number, minus, plus, variable
+from oracle.symbolic_terms import Input, at_most, given, is_natural, is_same_number, minus, plus, variable
 
 from . import layouts
 from .calls import LIMITS, callers_secret, expect, invalid_fields

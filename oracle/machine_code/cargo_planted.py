@@ -4,7 +4,7 @@ import re
 import subprocess
 import tempfile
 
-from symbolic_terms import NotShown
+from oracle.symbolic_terms import NotShown
 
 from . import any_updates, cargo_calls
 from .cargo import FOLDER, CargoProcessor, CargoProgram

@@ -1,6 +1,6 @@
 """Proves the chunks of XXH3 streams of a cargo source, like xxh3_states.py for the C library. A stream has no mark, seed or
 secret: each call takes the secret as an argument."""
-from symbolic_terms import at_most, is_same_number, minus
+from oracle.symbolic_terms import at_most, is_same_number, minus
 
 from . import layouts
 from .xxh3_states import CallersSecret, Through

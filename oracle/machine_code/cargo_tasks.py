@@ -2,7 +2,7 @@
 sources for x86-64-v3 and v4 are c/asm's, byte for byte, and have the same tasks."""
 import functools
 
-from symbolic_terms import comparison
+from oracle.symbolic_terms import comparison
 
 from . import calls, cargo_calls, cargo_streams, every_length, tasks, xxh3_updates
 from .cargo import FOLDER, CargoProgram, export_name

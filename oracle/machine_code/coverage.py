@@ -2,7 +2,7 @@
 case. Only the polynomials and facts that a case's proof uses are taken from it."""
 import random
 
-from symbolic_terms import names_of, plus, value_at
+from oracle.symbolic_terms import names_of, plus, value_at
 
 from . import xxh3_updates
 

@@ -19,6 +19,7 @@ import tempfile
 import traceback
 
 HERE = os.path.dirname(os.path.abspath(__file__))
+TOP = os.path.dirname(os.path.dirname(HERE))
 UNPLANTED = os.path.join(HERE, "unplanted.txt")
 MODULES = ("grammar", "object_contents", "objects", "disassembly", "sources", "unwinding", "processor", "memory", "stream_state",
            "streams", "calls", "cargo", "exports", "instructions", "any_updates", "every_length", "xxh3_updates", "xxh3_states",
@@ -35,7 +36,7 @@ def path_of(module):
 
 
 def name_of(module):
-    return "symbolic_terms." + module.split("/")[-1] if module.startswith(".") else "machine_code." + module
+    return "oracle.symbolic_terms." + module.split("/")[-1] if module.startswith(".") else "oracle.machine_code." + module
 
 
 # ---- the checks
@@ -113,7 +114,7 @@ class Loader(importlib.abc.MetaPathFinder, importlib.abc.SourceLoader):
 
 def every_text():
     """Returns all planted faults, in a fixed order."""
-    from machine_code import cargo_planted, planted, planted_checks, planted_lines, planted_objects, planted_values, tasks
+    from oracle.machine_code import cargo_planted, planted, planted_checks, planted_lines, planted_objects, planted_values, tasks
     assert tasks
     return [*planted_lines.X86_ASKED, *planted_lines.ARM_ASKED, *planted_lines.X86_ALIKE, *planted_objects.X86_ASKED,
             *planted_objects.ARM_ASKED, *planted.ASKED, *cargo_planted.ASKED, *planted_checks.X86_ASKED, *planted_checks.ARM_ASKED,
@@ -122,7 +123,7 @@ def every_text():
 
 def refusal(one):
     """Returns the refusal of a planted fault, or None."""
-    from symbolic_terms.refusals import REFUSALS
+    from oracle.symbolic_terms.refusals import REFUSALS
     try:
         one.ask()
     except REFUSALS as error:
@@ -133,8 +134,9 @@ def refusal(one):
 def place_of(error, known):
     """Returns the innermost of the known checks in a refusal's traceback, or None."""
     for frame in reversed(traceback.extract_tb((error.__cause__ or error).__traceback__)):
+        file = os.path.normpath(frame.filename)
         for key, (path, first, last) in known.items():
-            if path == frame.filename and first <= frame.lineno <= last:
+            if path == file and first <= frame.lineno <= last:
                 return key
     return None
 
@@ -142,16 +144,16 @@ def place_of(error, known):
 def output_without(cache, module, line, number):
     """Tests a planted fault in a separate process with the check at a line disabled. Returns its output. The processes
     share the other modules' compiled code, in the folder `cache`."""
-    command = [sys.executable, os.path.abspath(__file__), module, str(line), str(number)]
+    command = [sys.executable, TOP, __name__, "", module, str(line), str(number)]
     known = {**os.environ, "PYTHONPYCACHEPREFIX": cache, "PYTHONDONTWRITEBYTECODE": ""}
     done = subprocess.run(command, capture_output=True, text=True, env=known)
     return "no end" if done.returncode == -signal.SIGXCPU else done.stdout
 
 
-def of_process(module, line, number):
+def main():
+    module, line, number = sys.argv[1:]
     resource.setrlimit(resource.RLIMIT_CPU, (LONGEST, LONGEST + 1))
     sys.meta_path.insert(0, Loader(module, int(line)))
-    sys.path.insert(0, os.path.dirname(HERE))
     print(refusal(every_text()[int(number)]), end="")
     return 0
 
@@ -191,7 +193,3 @@ def report(is_all, jobs=1):
             bad += [f"{key}: switched off, and not noticed"] if not is_noticed and key not in listed else []
             bad += [f"{key}: it is noticed, and has a reason"] if is_noticed and key in listed else []
     return len(asked), bad
-
-
-if __name__ == "__main__":
-    sys.exit(of_process(*sys.argv[1:]))

@@ -6,7 +6,7 @@ import struct
 import subprocess
 import tempfile
 
-from symbolic_terms import Unsupported
+from oracle.symbolic_terms import Unsupported
 
 from .object_contents import X86_64, Object
 from .sources import GNU

@@ -8,10 +8,10 @@ import collections
 import functools
 import itertools
 
-import specs
-from symbolic_terms import (LONGEST, LONGEST_SECRET, REFUSALS, Bytes, Input, NotShown, Poly, Request, at_most,
-                            definition, given, minus, nodes, parts_of, plus, seed_symbol, suppositions, times, value_at,
-                            variable)
+from oracle import specs
+from oracle.symbolic_terms import (LONGEST, LONGEST_SECRET, REFUSALS, Bytes, Input, NotShown, Poly, Request, at_most,
+                                   definition, given, minus, nodes, parts_of, plus, seed_symbol, suppositions, times, value_at,
+                                   variable)
 
 from . import one_shots
 from .induction import Family, Loops

@@ -5,7 +5,7 @@ import re
 import shutil
 import subprocess
 
-from tools import TOP, must, text_of, write
+from checks.lib.tools import TOP, must, text_of, write
 
 from .instructions import V3, V4
 from .objects import Immediate, Register

@@ -1,6 +1,6 @@
 """Lists the exports of the sources for C with the beginnings of the titles of tasks that prove them. A source with
 another name, or without one of these, fails."""
-from symbolic_terms import NotShown
+from oracle.symbolic_terms import NotShown
 
 from . import streams
 from .cargo_exports import shared

@@ -6,7 +6,7 @@ A source is a comment, an optional guard, functions and constants, the guard's e
 is one section: its name, then instructions, labels and frames without a gap."""
 import re
 
-from symbolic_terms import Unsupported
+from oracle.symbolic_terms import Unsupported
 
 NAME = r"[A-Za-z_][A-Za-z0-9_]*(?:\.[A-Za-z0-9_]+)*"
 LABEL = r"\.L[0-9]+_[0-9a-f]+(?:\.[A-Za-z0-9_]+)?"

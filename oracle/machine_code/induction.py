@@ -7,8 +7,8 @@ dropped. The flags are unset at a loop head."""
 import contextlib
 import functools
 
-from symbolic_terms import (REFUSALS, RUNS, Induction, Input, Node, NotShown, Undecided, divided, given, is_natural,
-                            is_number, is_same_number, minus, plus, same, step_between, times)
+from oracle.symbolic_terms import (REFUSALS, RUNS, Induction, Input, Node, NotShown, Undecided, divided, given, is_natural,
+                                   is_number, is_same_number, minus, plus, same, step_between, times)
 
 from .values import Address, half_of, joined, with_half
 

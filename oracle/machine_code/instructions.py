@@ -6,7 +6,7 @@ table is refused. scalar.py and lanes.py fill it: each entry is a function of th
 returns the next instruction's place if that isn't the following one. `form` also passes it the operands."""
 import functools
 
-from symbolic_terms import Unsupported
+from oracle.symbolic_terms import Unsupported
 
 from .objects import Immediate, Place, Register
 

@@ -1,6 +1,6 @@
 """Semantics of vector instructions. A register of 512 bits is eight lanes of 64 bits, each a value. The older forms
 keep a register's upper lanes and require aligned memory; forms with a `v` set these lanes to 0."""
-from symbolic_terms import Unsupported, plus
+from oracle.symbolic_terms import Unsupported, plus
 
 from .instructions import OLDER, V1, V2, V3, V4, VECTORS, form
 from .objects import Register

@@ -5,11 +5,11 @@ everything below the stack pointer: there is no red zone across a call."""
 import collections
 import contextlib
 
-from symbolic_terms import (Input, Memory, Node, Poly, Undecided, Unsupported, divided, is_inside, is_natural,
-                            is_same_number, lifted, minus, ones, plus, taken)
-from symbolic_terms.nodes import memo
-from symbolic_terms.operations import bits
-from symbolic_terms.polynomials import WORD
+from oracle.symbolic_terms import (Input, Memory, Node, Poly, Undecided, Unsupported, divided, is_inside, is_natural,
+                                   is_same_number, lifted, minus, ones, plus, taken)
+from oracle.symbolic_terms.nodes import memo
+from oracle.symbolic_terms.operations import bits
+from oracle.symbolic_terms.polynomials import WORD
 
 from .values import place_of
 

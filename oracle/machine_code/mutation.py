@@ -17,8 +17,8 @@ import os
 import random
 import tempfile
 
-from reasons import CRASH, UNNOTICED, Called, Reasons, is_fault
-from symbolic_terms import definition, nodes
+from oracle.reasons import CRASH, UNNOTICED, Called, Reasons, is_fault
+from oracle.symbolic_terms import definition, nodes
 
 from .executions import Library
 from .instructions import PARTS, SETS, TABLE, VECTORS, letters

@@ -1,16 +1,12 @@
 """Checks the contents of a source's object: sections by name, kind, flags and alignment, symbols by kind, binding and
 visibility, and the one note. A linker or a loader may handle anything else in its own way."""
-import os
 import re
 import struct
-import sys
 
-from symbolic_terms import TOP, Unsupported
-
-sys.path.append(os.path.join(TOP, "assembly"))
-from eh_frame import Table
-from same_bytes import (FRAMES, LOADED, NONE, NOTE, RELA, STRTAB, SYMTAB, USED, Object, difference, differences, is_global,
-                        notes_of, properties_of)
+from oracle.symbolic_terms import Unsupported
+from assembly.eh_frame import Table
+from assembly.same_bytes import (FRAMES, LOADED, NONE, NOTE, RELA, STRTAB, SYMTAB, USED, Object, difference, differences, is_global,
+                                 notes_of, properties_of)
 
 PROGBITS, NOBITS, UNWIND = 1, 8, 0x70000001           # section types
 CODE, CONSTANTS, MERGEABLE, WRITTEN, INFO = LOADED | 4, LOADED, LOADED | 0x10, LOADED | 1, 0x40      # section flags

@@ -8,7 +8,7 @@ import functools
 import re
 import subprocess
 
-from symbolic_terms import Unsupported
+from oracle.symbolic_terms import Unsupported
 
 from .disassembly import expect_bytes
 from .object_contents import CODE, Loaded

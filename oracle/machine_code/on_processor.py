@@ -10,7 +10,7 @@ import random
 import struct
 import subprocess
 
-from symbolic_terms import NotShown, ones
+from oracle.symbolic_terms import NotShown, ones
 
 from .disassembly import NOPS
 from .instructions import OLDER, PARTS, SETS, TABLE, V3, V4, WIDE, letters, needs_v4

@@ -1,5 +1,5 @@
 """Runs the one-shots of a source: calls an export for a request and returns the result as a term."""
-from symbolic_terms import Node
+from oracle.symbolic_terms import Node
 
 from .values import address, joined, low
 

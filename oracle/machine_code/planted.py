@@ -7,7 +7,7 @@ import subprocess
 import tempfile
 import unittest.mock
 
-from symbolic_terms import REFUSALS, TOP, NotShown, Request, WrongRule, definition, nodes, operations, variable
+from oracle.symbolic_terms import REFUSALS, TOP, NotShown, Request, WrongRule, definition, nodes, operations, variable
 
 from . import (any_updates, calls, coverage, every_length, exports, layouts, on_processor, one_shots, source_layouts,
                streams, values, xxh3_states, xxh3_updates)

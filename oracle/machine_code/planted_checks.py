@@ -2,7 +2,7 @@
 import os
 import tempfile
 
-from symbolic_terms import TOP, variable
+from oracle.symbolic_terms import TOP, variable
 
 from . import any_updates, calls, cargo_planted, every_length, exports, layouts, xxh3_states, xxh3_updates
 from .aarch64 import objects, table

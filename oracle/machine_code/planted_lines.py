@@ -2,7 +2,7 @@
 import os
 import re
 
-from symbolic_terms import TOP
+from oracle.symbolic_terms import TOP
 
 from .grammar import expect_grammar
 from .planted import Asked, Wrong

@@ -2,7 +2,7 @@
 frames: each is a committed source with other lines, and its executed instructions are unchanged."""
 import os
 
-from symbolic_terms import TOP, NotShown
+from oracle.symbolic_terms import TOP, NotShown
 
 from . import calls, exports
 from .aarch64 import objects, table

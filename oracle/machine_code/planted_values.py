@@ -3,7 +3,7 @@ with operands that it must refuse."""
 import collections
 import types
 
-from symbolic_terms import Induction, plus, symbol, variable
+from oracle.symbolic_terms import Induction, plus, symbol, variable
 
 from . import cargo, flags, induction, stripes, values
 from .aarch64 import processor

@@ -6,7 +6,7 @@ The flags are unset. Errors are: an address outside of the passed objects, a loa
 store to read-only memory, a branch on a symbol, and a form of an instruction that the table lacks."""
 import functools
 
-from symbolic_terms import Unsupported, is_natural, is_number, is_same_number, minus, ones
+from oracle.symbolic_terms import Unsupported, is_natural, is_number, is_same_number, minus, ones
 
 from . import flags
 from .instructions import PARTS, VECTORS, WIDE, known

@@ -8,9 +8,9 @@ import collections
 import functools
 import random
 
-from reasons import CRASH
-from symbolic_terms import REFUSALS, NotShown, Request, WrongRule, is_same, nodes
-from symbolic_terms.mutation import definition_at
+from oracle.reasons import CRASH
+from oracle.symbolic_terms import REFUSALS, NotShown, Request, WrongRule, is_same, nodes
+from oracle.symbolic_terms.mutation import definition_at
 
 from . import any_secret, any_updates, calls, every_length, layouts, long_seeds, one_shots, streams, xxh3_states, xxh3_updates
 from .memory import Numbers

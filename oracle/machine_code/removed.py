@@ -8,7 +8,7 @@ import collections
 import contextlib
 import unittest.mock
 
-from symbolic_terms import REFUSALS, WrongRule, comparison
+from oracle.symbolic_terms import REFUSALS, WrongRule, comparison
 
 from . import tasks
 from .cargo_exports import BEGIN

@@ -1,5 +1,5 @@
 """Semantics of instructions on words."""
-from symbolic_terms import BINARY, Poly, Unsupported, is_same_number, lifted, ones, operations, plus
+from oracle.symbolic_terms import BINARY, Poly, Unsupported, is_same_number, lifted, ones, operations, plus
 
 from .flags import carry
 from .instructions import V1, V3, form

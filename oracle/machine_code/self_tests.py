@@ -7,8 +7,8 @@ import random
 import tempfile
 import types
 
-from symbolic_terms.processes import Task
-from verifier_mutants import checks, edges, inductions, objects, processors, values
+from oracle.symbolic_terms.processes import Task
+from oracle.verifier_mutants import checks, edges, inductions, objects, processors, values
 
 from . import (any_updates, cargo_calls, cargo_exports, cargo_planted, cargo_streams, cargo_tasks, disabled_checks, exports,
                mutation, on_processor, planted, planted_checks, planted_lines, planted_objects, planted_values, removed,

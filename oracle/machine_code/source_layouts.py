@@ -3,7 +3,7 @@ import glob
 import os
 import re
 
-from symbolic_terms import TOP
+from oracle.symbolic_terms import TOP
 
 from . import layouts
 from .streams import ForC

@@ -5,7 +5,7 @@ import struct
 import subprocess
 import tempfile
 
-from symbolic_terms import NotShown, Unsupported
+from oracle.symbolic_terms import NotShown, Unsupported
 
 from .grammar import expect_grammar
 from .object_contents import Object, difference, differences

@@ -2,8 +2,8 @@
 symbolic length."""
 import contextlib
 
-from symbolic_terms import (NODES, RUNS, SYMBOL, Input, Node, Unsupported, in_order, is_inside, is_natural,
-                            is_same_number, is_within, minus, outside, plus)
+from oracle.symbolic_terms import (NODES, RUNS, SYMBOL, Input, Node, Unsupported, in_order, is_inside, is_natural,
+                                   is_same_number, is_within, minus, outside, plus)
 
 from .memory import WordMemory
 

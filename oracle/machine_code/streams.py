@@ -1,6 +1,6 @@
 """Runs the streams of a source: reset, updates that end at given offsets, digest. A state has any content before its
 reset. Each update gets its chunk as a separate memory object. No digest changes the state."""
-from symbolic_terms import Piece, Unsupported, is_same, is_same_number
+from oracle.symbolic_terms import Piece, Unsupported, is_same, is_same_number
 
 from . import layouts
 from .memory import WordMemory

@@ -7,8 +7,8 @@ from an iteration that ends a block, and then proved with everything else."""
 import collections
 import functools
 
-from symbolic_terms import (REFUSALS, Input, NotShown, divided, given, is_natural, is_same_number, minus, moved, plus,
-                            same, suppositions, times, variable)
+from oracle.symbolic_terms import (REFUSALS, Input, NotShown, divided, given, is_natural, is_same_number, minus, moved, plus,
+                                   same, suppositions, times, variable)
 
 from . import layouts
 from .induction import Family, Proof

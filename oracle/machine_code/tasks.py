@@ -3,8 +3,8 @@ import functools
 import itertools
 import os
 
-from symbolic_terms import REFUSALS, TOP, Request, WrongRule, comparison, nodes, variable
-from symbolic_terms.processes import Task
+from oracle.symbolic_terms import REFUSALS, TOP, Request, WrongRule, comparison, nodes, variable
+from oracle.symbolic_terms.processes import Task
 
 from . import (any_secret, any_updates, calls, coverage, every_length, exports, lanes, layouts, long_seeds, one_shots,
                scalar, streams, xxh3_states, xxh3_updates)

@@ -5,7 +5,7 @@ may follow, a register stays where it was, or is stored or loaded, exactly as th
 Stores through another register than the stack pointer aren't followed here."""
 import struct
 
-from symbolic_terms import NotShown, signed
+from oracle.symbolic_terms import NotShown, signed
 
 from .instructions import PARTS, VECTORS
 from .object_contents import CODE, Table

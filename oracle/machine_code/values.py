@@ -5,8 +5,8 @@ is a number. An object's address is only known to be nonzero and aligned. Values
 operations.py are also compared at the points."""
 import contextlib
 
-from symbolic_terms import (BINARY, Node, Poly, Undecided, WrongRule, as_word, constant_of, divided, is_natural, lifted,
-                            minus, nodes, ones, operations, parts_of, plus, symbol, wrapped, zeros_below)
+from oracle.symbolic_terms import (BINARY, Node, Poly, Undecided, WrongRule, as_word, constant_of, divided, is_natural, lifted,
+                                   minus, nodes, ones, operations, parts_of, plus, symbol, wrapped, zeros_below)
 
 WORD = 64
 HALF, WHOLE = 1 << 63, 1 << 64

@@ -3,8 +3,8 @@ update by a chunk that doesn't fit in the buffer adds its length, and is one cal
 import functools
 import itertools
 
-from symbolic_terms import (LONGEST, NotShown, Piece, at_most, given, is_natural, is_same_number, minus, nodes, plus, same, times,
-                            variable)
+from oracle.symbolic_terms import (LONGEST, NotShown, Piece, at_most, given, is_natural, is_same_number, minus, nodes, plus, same, times,
+                                   variable)
 
 from . import exports, layouts, streams
 from .memory import ENTRY

@@ -13,8 +13,8 @@ import collections
 import functools
 import itertools
 
-from symbolic_terms import (LONGEST, LONGEST_SECRET, RUNS, Bytes, NotShown, Piece, at_most, given, is_natural, is_same,
-                            is_same_number, minus, nodes, plus, same, suppositions, times, variable)
+from oracle.symbolic_terms import (LONGEST, LONGEST_SECRET, RUNS, Bytes, NotShown, Piece, at_most, given, is_natural, is_same,
+                                   is_same_number, minus, nodes, plus, same, suppositions, times, variable)
 
 from . import layouts
 from .every_length import FAR, Cases

@@ -4,8 +4,8 @@ This module extends antt.py with subtraction of symbolic numbers, messages as li
 of calls in a recursion."""
 import functools
 
-import antt
-import specs
+from oracle import antt
+from oracle import specs
 
 from . import operations
 from .nodes import WrongRule, is_same, memo

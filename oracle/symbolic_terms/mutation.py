@@ -15,10 +15,10 @@ import resource
 import signal
 import sys
 
-import antt
-import mutants
-import proved_cases
-from reasons import CRASH, UNNOTICED, WRONG_RULE
+from oracle import antt
+from oracle import mutants
+from oracle import proved_cases
+from oracle.reasons import CRASH, UNNOTICED, WRONG_RULE
 
 from . import definition, every_length, header_calls, nodes, reference
 from .header_names import OURS, names_of

@@ -3,18 +3,15 @@ import hashlib
 import os
 import shutil
 import subprocess
-import sys
 import tempfile
 
-FOLDER = os.path.dirname(os.path.abspath(__file__))
-sys.path.append(os.path.join(FOLDER, "..", "..", "checks", "lib"))
-
-import tools
+from checks.lib import tools
 
 from .machine import Module
 from .memory import Memory
 from .nodes import Node
 
+FOLDER = os.path.dirname(os.path.abspath(__file__))
 HEADERS = "/usr/include"          # folder of Debian's libxxhash-dev
 VECTORS = {"scalar": ["-DXXH_VECTOR=0"], "sse2": ["-DXXH_VECTOR=1"], "avx2": ["-DXXH_VECTOR=2", "-mavx2"]}
 # Forms of c/include/xxhash.h: also without products of 128 bits, with words that are read byte by byte, as on

@@ -6,7 +6,7 @@ import random
 import re
 import sys
 
-import table
+from oracle import table
 
 from . import comparison, definition, halves, nodes, operations, reference
 from .requests import Request

@@ -5,8 +5,8 @@ import os
 import tempfile
 import unittest.mock
 
-import mutants
-from reasons import Reasons, is_fault
+from oracle import mutants
+from oracle.reasons import Reasons, is_fault
 
 from . import (c_header, comparison, cuts, every_length, header_coverage, header_faults, header_mutants, mutation,
                plain_streams, processes, self_tests, xxh3_streams)

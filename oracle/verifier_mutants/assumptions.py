@@ -4,11 +4,11 @@ import itertools
 import types
 import unittest.mock
 
-from machine_code import coverage, xxh3_states, xxh3_updates
-from machine_code.memory import ENTRY, Stack, WordMemory
-from machine_code.stripes import DEEP, TAKEN, ACCUMULATOR_BYTES, Part, Summary
-from machine_code.values import Names, address
-from symbolic_terms import LONGEST, Input, NotShown, given, minus, plus, same, variable
+from oracle.machine_code import coverage, xxh3_states, xxh3_updates
+from oracle.machine_code.memory import ENTRY, Stack, WordMemory
+from oracle.machine_code.stripes import DEEP, TAKEN, ACCUMULATOR_BYTES, Part, Summary
+from oracle.machine_code.values import Names, address
+from oracle.symbolic_terms import LONGEST, Input, NotShown, given, minus, plus, same, variable
 
 from . import processors
 from .values import expect, refuses

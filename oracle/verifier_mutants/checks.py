@@ -11,20 +11,20 @@ import re
 import tempfile
 import unittest.mock
 
-import same_bytes
-from machine_code import (any_secret, any_updates, calls, cargo_exports, cargo_streams, cargo_tasks,
-                          coverage, disabled_checks,
-                          disassembly, every_length, exports, instructions, long_seeds, object_contents, on_processor, one_shots, planted,
-                          planted_values, sources, streams,
-                          tasks, xxh3_states, xxh3_updates)
-from machine_code.cargo import CargoProcessor, CargoProgram
-from machine_code.grammar import expect_grammar
-from machine_code.instructions import V1, V2, V3, V4
-from machine_code import objects as program_objects
-from machine_code.objects import Program
-from machine_code.processor import Processor
-from machine_code.unwinding import expect_frames
-from symbolic_terms import REFUSALS, TOP, Request, comparison, definition, nodes, polynomials, variable
+from assembly import same_bytes
+from oracle.machine_code import (any_secret, any_updates, calls, cargo_exports, cargo_streams, cargo_tasks,
+                                 coverage, disabled_checks,
+                                 disassembly, every_length, exports, instructions, long_seeds, object_contents, on_processor, one_shots, planted,
+                                 planted_values, sources, streams,
+                                 tasks, xxh3_states, xxh3_updates)
+from oracle.machine_code.cargo import CargoProcessor, CargoProgram
+from oracle.machine_code.grammar import expect_grammar
+from oracle.machine_code.instructions import V1, V2, V3, V4
+from oracle.machine_code import objects as program_objects
+from oracle.machine_code.objects import Program
+from oracle.machine_code.processor import Processor
+from oracle.machine_code.unwinding import expect_frames
+from oracle.symbolic_terms import REFUSALS, TOP, Request, comparison, definition, nodes, polynomials, variable
 
 from . import edges, inductions, objects, processors, values
 from .values import Wrong

@@ -8,7 +8,7 @@ import re
 import types
 import unittest.mock
 
-from machine_code import (
+from oracle.machine_code import (
     any_secret,
     any_updates,
     calls,
@@ -22,9 +22,9 @@ from machine_code import (
     xxh3_states,
     xxh3_updates,
 )
-from machine_code.cargo import CargoProgram
-from machine_code.xxh3_updates import EMPTY
-from symbolic_terms import (
+from oracle.machine_code.cargo import CargoProgram
+from oracle.machine_code.xxh3_updates import EMPTY
+from oracle.symbolic_terms import (
     LONGEST,
     REFUSALS,
     NotShown,

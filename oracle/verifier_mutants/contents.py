@@ -4,12 +4,12 @@ import struct
 import types
 import unittest.mock
 
-import same_bytes
-from machine_code import cargo, cargo_exports, exports, object_contents, unwinding
-from machine_code.object_contents import CODE, CONSTANTS, INFO, MERGEABLE, NOBITS, PROGBITS, SHADOW_STACK, WRITTEN
-from machine_code.objects import Register
-from same_bytes import NONE, NOTE, RELA, STRTAB, SYMTAB
-from symbolic_terms import NotShown, Unsupported
+from assembly import same_bytes
+from oracle.machine_code import cargo, cargo_exports, exports, object_contents, unwinding
+from oracle.machine_code.object_contents import CODE, CONSTANTS, INFO, MERGEABLE, NOBITS, PROGBITS, SHADOW_STACK, WRITTEN
+from oracle.machine_code.objects import Register
+from assembly.same_bytes import NONE, NOTE, RELA, STRTAB, SYMTAB
+from oracle.symbolic_terms import NotShown, Unsupported
 
 from .processors import instruction
 from .values import expect, refuses

@@ -6,15 +6,15 @@ import struct
 import types
 import unittest.mock
 
-import antt
-from machine_code import disassembly, flags, instructions, object_contents, scalar, stream_state, unwinding, whole_blocks
-from machine_code.instructions import TABLE
-from machine_code.memory import WordMemory
-from machine_code.objects import Immediate, Place, Register
-from machine_code.values import address, arithmetic
-from symbolic_terms import (Request, Unsupported, at_most, comparison, definition, given, is_same_number, minus, nodes, operations,
-                            plus, polynomials, rules, symbol, times, variable)
-from symbolic_terms.induction import Induction
+from oracle import antt
+from oracle.machine_code import disassembly, flags, instructions, object_contents, scalar, stream_state, unwinding, whole_blocks
+from oracle.machine_code.instructions import TABLE
+from oracle.machine_code.memory import WordMemory
+from oracle.machine_code.objects import Immediate, Place, Register
+from oracle.machine_code.values import address, arithmetic
+from oracle.symbolic_terms import (Request, Unsupported, at_most, comparison, definition, given, is_same_number, minus, nodes, operations,
+                                   plus, polynomials, rules, symbol, times, variable)
+from oracle.symbolic_terms.induction import Induction
 
 from . import processors
 from .values import Wrong, expect, refuses, value_of

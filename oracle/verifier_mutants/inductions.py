@@ -3,13 +3,13 @@ runs, which places the cases have, and which tasks there are. Each raises Wrong.
 import types
 import unittest.mock
 
-from machine_code import cargo_tasks, coverage, tasks, values, xxh3_states, xxh3_updates
-from machine_code.induction import Family, Head, Loops, Proof
-from machine_code.memory import ENTRY, Stack, WordMemory
-from machine_code.stripes import LEAST_ENTRY, TAKEN, Part, Stripes, StripesProof, Summary, is_at
-from machine_code.values import Names, address, joined
-from symbolic_terms import (REFUSALS, RUNS, Input, Memory, NotShown, Piece, at_most, given, is_same_number, minus, moved, plus, same,
-                            step_between, symbol, times, variable)
+from oracle.machine_code import cargo_tasks, coverage, tasks, values, xxh3_states, xxh3_updates
+from oracle.machine_code.induction import Family, Head, Loops, Proof
+from oracle.machine_code.memory import ENTRY, Stack, WordMemory
+from oracle.machine_code.stripes import LEAST_ENTRY, TAKEN, Part, Stripes, StripesProof, Summary, is_at
+from oracle.machine_code.values import Names, address, joined
+from oracle.symbolic_terms import (REFUSALS, RUNS, Input, Memory, NotShown, Piece, at_most, given, is_same_number, minus, moved, plus, same,
+                                   step_between, symbol, times, variable)
 
 from . import assumptions, choices, contents, processors
 from .values import expect, refuses

@@ -4,10 +4,10 @@ Expected values come from the formats: LEB128 and DWARF's directives for frames,
 import struct
 import types
 
-import eh_frame
-import same_bytes
-from machine_code import disassembly, unwinding
-from machine_code.objects import Immediate, Instruction, Place, Register
+from assembly import eh_frame
+from assembly import same_bytes
+from oracle.machine_code import disassembly, unwinding
+from oracle.machine_code.objects import Immediate, Instruction, Place, Register
 
 from .values import Wrong, expect, refuses
 

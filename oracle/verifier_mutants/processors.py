@@ -3,11 +3,11 @@
 Expected values are those of the processor's manual and of the calling convention."""
 import types
 
-from machine_code import lanes, processor, scalar
-from machine_code.memory import ENTRY, RED, Constants, Numbers, OnlyRead, ReturnTo, Stack, WordMemory
-from machine_code.objects import Immediate, Instruction, Place, Register
-from machine_code.values import address
-from symbolic_terms import at_most, given, nodes, operations, symbol, variable
+from oracle.machine_code import lanes, processor, scalar
+from oracle.machine_code.memory import ENTRY, RED, Constants, Numbers, OnlyRead, ReturnTo, Stack, WordMemory
+from oracle.machine_code.objects import Immediate, Instruction, Place, Register
+from oracle.machine_code.values import address
+from oracle.symbolic_terms import at_most, given, nodes, operations, symbol, variable
 
 from .values import Wrong, expect, refuses, value_of
 

@@ -11,7 +11,7 @@ import tempfile
 import time
 import traceback
 
-import antt
+from oracle import antt
 
 from . import edits, patches
 
@@ -29,7 +29,7 @@ class Known:
 
     def __init__(self, loader, folder):
         self.loader, self.objects = loader, {}
-        self.module = importlib.import_module("verifier_mutants.checks")
+        self.module = importlib.import_module("oracle.verifier_mutants.checks")
         self.checks = self.module.prepare(folder, self.objects)
         self.by_code = patches.functions_by_code()
         gc.collect()
@@ -97,7 +97,7 @@ def codes_called(ask, files):
 
 def frames_of(planted):
     """Runs a planted file's test. Returns where the refusal was raised: (file, function, line), the innermost first."""
-    from symbolic_terms import REFUSALS
+    from oracle.symbolic_terms import REFUSALS
     found = []
     try:
         planted.ask()

@@ -3,18 +3,18 @@
 Each test takes a random generator and raises Wrong. The expected values are computed here, on numbers."""
 import operator
 
-import antt
-import table
-from machine_code import flags, memory as machine_memory, values
-from machine_code.flags import Flags
-from machine_code.values import Either, address
-from symbolic_terms import (BINARY, Input, Memory, Piece, Undecided, Unsupported, at_most, compare_numbers,
-                            divided,
-                            given, is_inside, is_natural, is_number, lifted, minus, nodes, operations, parts_of, plus,
-                            rotated, rules,
-                            self_tests, signed, symbol, times, value_at, variable, wrapped, zeros_below)
-from symbolic_terms import polynomials, modular as symbolic_modular
-from symbolic_terms.memory import in_order, outside, taken
+from oracle import antt
+from oracle import table
+from oracle.machine_code import flags, memory as machine_memory, values
+from oracle.machine_code.flags import Flags
+from oracle.machine_code.values import Either, address
+from oracle.symbolic_terms import (BINARY, Input, Memory, Piece, Undecided, Unsupported, at_most, compare_numbers,
+                                   divided,
+                                   given, is_inside, is_natural, is_number, lifted, minus, nodes, operations, parts_of, plus,
+                                   rotated, rules,
+                                   self_tests, signed, symbol, times, value_at, variable, wrapped, zeros_below)
+from oracle.symbolic_terms import polynomials, modular as symbolic_modular
+from oracle.symbolic_terms.memory import in_order, outside, taken
 
 EDGES = 0, 1, 2, 127, 128, 255, 256, (1 << 31) - 1, 1 << 31, (1 << 32) - 1, 1 << 32, (1 << 63) - 1, 1 << 63, (1 << 64) - 1
 
@@ -625,7 +625,7 @@ def inputs(rng):
 
 def definition(rng):
     """Evaluates the definitions on test vectors of the reference library, with the evaluator's own library."""
-    from symbolic_terms import definition as symbolic
+    from oracle.symbolic_terms import definition as symbolic
     cases = [case for case in map(table.Case, table.lines()[::211]) if case.length <= 600]
     entries = symbolic.read().run()
     for case in cases:

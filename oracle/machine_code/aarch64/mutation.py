@@ -8,7 +8,7 @@ import os
 import re
 import tempfile
 
-from symbolic_terms import Unsupported
+from oracle.symbolic_terms import Unsupported
 
 from .. import executions, mutation
 from . import objects

@@ -2,7 +2,7 @@
 import collections
 import re
 
-from symbolic_terms import Unsupported
+from oracle.symbolic_terms import Unsupported
 
 from .. import objects
 from ..disassembly import expect_bytes

@@ -2,7 +2,7 @@
 for x86-64. A call leaves the return address in a register."""
 import operator
 
-from symbolic_terms import TESTS, Undecided, Unsupported, is_number, is_same_number, plus, signed
+from oracle.symbolic_terms import TESTS, Undecided, Unsupported, is_number, is_same_number, plus, signed
 
 from ..flags import is_below, is_equal
 from ..memory import ENTRY, Stack, WordMemory, copy, fill

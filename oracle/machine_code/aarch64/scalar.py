@@ -1,5 +1,5 @@
 """Semantics of instructions on words, control flow and memory."""
-from symbolic_terms import Unsupported, lifted, ones, plus, rotated
+from oracle.symbolic_terms import Unsupported, lifted, ones, plus, rotated
 
 from ..flags import is_equal
 

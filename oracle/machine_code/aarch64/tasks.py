@@ -3,8 +3,8 @@ import functools
 import os
 import types
 
-from symbolic_terms import TOP, comparison, cuts
-from symbolic_terms.processes import Task
+from oracle.symbolic_terms import TOP, comparison, cuts
+from oracle.symbolic_terms.processes import Task
 
 from .. import (calls, cargo_tasks, every_length, exports, planted_checks, planted_lines, planted_objects, removed,
                 self_tests, streams)

@@ -1,7 +1,7 @@
 """Semantics of vector instructions. A vector is two lanes of 64 bits."""
 import functools
 
-from symbolic_terms import Undecided, Unsupported
+from oracle.symbolic_terms import Undecided, Unsupported
 
 from ..values import WORD, arithmetic, bits, joined, low
 from .objects import Register, Vector

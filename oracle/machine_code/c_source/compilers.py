@@ -5,7 +5,7 @@ import shutil
 import subprocess
 import tempfile
 
-from symbolic_terms import TOP
+from oracle.symbolic_terms import TOP
 
 from ..instructions import V2, V3
 from .objects import CProcessor, CProgram

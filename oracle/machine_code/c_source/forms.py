@@ -1,6 +1,6 @@
 """Forms of instructions that compilers of C use and the assembly sources don't. Importing this module adds them to the
 table."""
-from symbolic_terms import Node, Unsupported, ones
+from oracle.symbolic_terms import Node, Unsupported, ones
 
 from .. import lanes, scalar
 from ..flags import carry

@@ -3,8 +3,8 @@ and XXH64 with any updates."""
 import collections
 import functools
 
-from symbolic_terms import at_most, is_same_number, minus, plus, times, variable
-from symbolic_terms.polynomials import as_word, is_natural
+from oracle.symbolic_terms import at_most, is_same_number, minus, plus, times, variable
+from oracle.symbolic_terms.polynomials import as_word, is_natural
 
 from .. import any_updates, every_length
 from ..every_length import DERIVED, TURNS, Case, xxh3_case

@@ -5,7 +5,7 @@ import contextlib
 import functools
 import itertools
 
-from symbolic_terms import REFUSALS, NotShown, Unsupported, is_same
+from oracle.symbolic_terms import REFUSALS, NotShown, Unsupported, is_same
 
 from ..memory import Stack, WordMemory
 from ..objects import RELOCATED, Immediate, Instruction, Register, operands, split

@@ -4,8 +4,8 @@ import contextlib
 import functools
 import itertools
 
-from symbolic_terms import (LONGEST_SECRET, REFUSALS, Input, NotShown, Request, at_most, definition, given, is_same,
-                            plus, symbol, variable)
+from oracle.symbolic_terms import (LONGEST_SECRET, REFUSALS, Input, NotShown, Request, at_most, definition, given, is_same,
+                                   plus, symbol, variable)
 
 from .. import calls
 from ..memory import WordMemory

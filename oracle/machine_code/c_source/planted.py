@@ -2,7 +2,7 @@
 import collections
 import functools
 
-from symbolic_terms import REFUSALS, Request, WrongRule, comparison, header_mutants
+from oracle.symbolic_terms import REFUSALS, Request, WrongRule, comparison, header_mutants
 
 from .. import one_shots, streams
 from . import inductions, other_calls

@@ -2,8 +2,8 @@
 definition."""
 import functools
 
-from symbolic_terms import Request, comparison, cuts
-from symbolic_terms.comparison import title_of
+from oracle.symbolic_terms import Request, comparison, cuts
+from oracle.symbolic_terms.comparison import title_of
 
 from .. import calls, one_shots, streams
 from ..tasks import compared, count_shown, counted

@@ -1,5 +1,5 @@
 """Reads rustc's object for 64-bit ARM."""
-from symbolic_terms import Unsupported
+from oracle.symbolic_terms import Unsupported
 
 from ..aarch64.objects import Immediate, Instruction, Program, Shift
 from ..aarch64.processor import form

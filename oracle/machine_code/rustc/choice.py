@@ -3,8 +3,8 @@
 The features of each level are those of the x86-64 psABI, with their bits from Intel's and AMD's manuals."""
 import functools
 
-from symbolic_terms import (LONGEST_SECRET, Input, NotShown, Piece, Request, at_most, definition, given, is_same,
-                            is_same_number, minus, plus, seed_symbol, symbol, variable)
+from oracle.symbolic_terms import (LONGEST_SECRET, Input, NotShown, Piece, Request, at_most, definition, given, is_same,
+                                   is_same_number, minus, plus, seed_symbol, symbol, variable)
 
 from .. import layouts
 from ..cargo import LONGEST_WITHOUT, SHORTEST

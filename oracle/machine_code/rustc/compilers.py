@@ -6,7 +6,7 @@ import shutil
 import subprocess
 import tempfile
 
-from symbolic_terms import TOP
+from oracle.symbolic_terms import TOP
 
 from ..instructions import V1, V3
 from . import arm, objects

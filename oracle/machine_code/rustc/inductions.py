@@ -1,5 +1,5 @@
 """The cases of the inductions over rustc's object: those of the assembly source, of which some are split in two."""
-from symbolic_terms import at_most, minus, plus, times, variable
+from oracle.symbolic_terms import at_most, minus, plus, times, variable
 
 from .. import any_updates, every_length
 from .compilers import ASSEMBLY

@@ -11,8 +11,8 @@ import collections
 import functools
 import re
 
-from symbolic_terms import Unsupported, is_natural, is_number, is_same_number, minus
-from symbolic_terms.memory import Unset
+from oracle.symbolic_terms import Unsupported, is_natural, is_number, is_same_number, minus
+from oracle.symbolic_terms.memory import Unset
 
 from .. import lanes
 from ..instructions import NAMES, V1, V3, V4, known, letters

@@ -3,7 +3,7 @@ import collections
 import functools
 import re
 
-from symbolic_terms import REFUSALS, Request, WrongRule, comparison, definition
+from oracle.symbolic_terms import REFUSALS, Request, WrongRule, comparison, definition
 
 from .. import any_updates, every_length, one_shots, xxh3_updates
 from ..tasks import count_shown

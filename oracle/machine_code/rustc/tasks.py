@@ -3,8 +3,8 @@ import functools
 import itertools
 import re
 
-from symbolic_terms import comparison, cuts
-from symbolic_terms.comparison import title_of
+from oracle.symbolic_terms import comparison, cuts
+from oracle.symbolic_terms.comparison import title_of
 
 from .. import any_updates, every_length, xxh3_updates
 from ..instructions import V1, V3

@@ -2,8 +2,8 @@
 call returns, refusals, and the other values of a stream. Each function returns its number of cases, or raises."""
 import functools
 
-from symbolic_terms import (Input, NotShown, Piece, Request, at_most, definition, given, is_same, is_same_number, minus,
-                            plus, seed_symbol, variable)
+from oracle.symbolic_terms import (Input, NotShown, Piece, Request, at_most, definition, given, is_same, is_same_number, minus,
+                                   plus, seed_symbol, variable)
 
 from .. import one_shots, streams
 from ..cargo import LONGEST_WITHOUT, SHORTEST, TOO_SHORT, call_into, expect_code, export_name

@@ -4,7 +4,7 @@ stream, its secret and the chunk; ../cargo_streams.py proves this call. Digests 
 import functools
 import types
 
-from symbolic_terms import LONGEST, Input, NotShown, Piece, Request, at_most, given, is_same_number, plus, same, times
+from oracle.symbolic_terms import LONGEST, Input, NotShown, Piece, Request, at_most, given, is_same_number, plus, same, times
 
 from .. import layouts
 from ..cargo_streams import CargoUpdates

@@ -1,6 +1,6 @@
 """Calls a module for a request like web/twox_hash.js: one-shots, and streams whose record is saved and restored after
 an update. A call that succeeds must write its value; a refused one must write nothing."""
-from symbolic_terms import Memory, Node, Piece, Unsupported
+from oracle.symbolic_terms import Memory, Node, Piece, Unsupported
 
 from .. import layouts
 from .values import address

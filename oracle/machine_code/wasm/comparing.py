@@ -1,6 +1,6 @@
 """Compares the modules with the definition: for each request both must compute the same term."""
-from symbolic_terms import Request, comparison, definition, nodes
-from symbolic_terms.cuts import cuts_of
+from oracle.symbolic_terms import Request, comparison, definition, nodes
+from oracle.symbolic_terms.cuts import cuts_of
 
 MOST_NODES = 300_000
 

@@ -5,9 +5,9 @@ XXH32 and XXH64: stripe * a + r bytes, r a number. XXH3 above 240 bytes: 64 q B 
 secrets, of 64 + 8 q + u bytes, u < 8, J is symbolic, and q is a number below 16, or symbolic and at least 17."""
 import collections
 
-import specs
-from symbolic_terms import (Bytes, NotShown, Request, at_most, given, minus, nodes, plus, seed_symbol, suppositions,
-                            times, variable)
+from oracle import specs
+from oracle.symbolic_terms import (Bytes, NotShown, Request, at_most, given, minus, nodes, plus, seed_symbol, suppositions,
+                                   times, variable)
 
 from ..every_length import Cases
 from ..induction import Family

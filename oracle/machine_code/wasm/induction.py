@@ -2,7 +2,7 @@
 
 A cell is a variable, a lane of one, a value on the operand stack, a global, or a cell of the stack's or a live object's
 memory. After the proof of a loop, execution continues with its last iteration."""
-from symbolic_terms import RUNS, NotShown, minus
+from oracle.symbolic_terms import RUNS, NotShown, minus
 
 from ..induction import Proof
 from ..stripes import Stripes, StripesProof

@@ -12,8 +12,8 @@ All other fields have any value. Of wrong accumulators there is one at a time.""
 import itertools
 import random
 
-from symbolic_terms import Input, Memory, Request, at_most, given, minus, parts_of, plus, times, value_at, variable
-from symbolic_terms.polynomials import names_of
+from oracle.symbolic_terms import Input, Memory, Request, at_most, given, minus, parts_of, plus, times, value_at, variable
+from oracle.symbolic_terms.polynomials import names_of
 
 from .. import coverage
 from . import calls

@@ -13,9 +13,9 @@ import functools
 import itertools
 import random
 
-from reasons import CRASH, UNNOTICED, WRONG_RULE, Called, is_fault
-from symbolic_terms import REFUSALS, Request, WrongRule, comparison, nodes
-from symbolic_terms.mutation import differs
+from oracle.reasons import CRASH, UNNOTICED, WRONG_RULE, Called, is_fault
+from oracle.symbolic_terms import REFUSALS, Request, WrongRule, comparison, nodes
+from oracle.symbolic_terms.mutation import differs
 
 from ..xxh3_updates import TAKE_BLOCKS
 from . import calls, every_length, executions, invalid_records, refusals

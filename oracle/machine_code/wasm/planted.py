@@ -1,7 +1,7 @@
 """Planted faults in modules: instructions inserted at the start of an export, each of which must be refused."""
 import functools
 
-from symbolic_terms import REFUSALS, Poly, Request, is_same, is_same_number, variable
+from oracle.symbolic_terms import REFUSALS, Poly, Request, is_same, is_same_number, variable
 
 from .. import coverage, layouts
 from ..xxh3_updates import TAKE, TAKE_MANY

@@ -2,7 +2,7 @@
 that a counter saturates at 2^64 - 1."""
 import itertools
 
-from symbolic_terms import Memory, Request, Unsupported, at_most, given, plus, variable
+from oracle.symbolic_terms import Memory, Request, Unsupported, at_most, given, plus, variable
 
 from . import calls
 from .calls import SECRET_TOO_SHORT, Stream, answered, expect_unchanged

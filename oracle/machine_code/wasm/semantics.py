@@ -1,6 +1,6 @@
 """Semantics of the instructions that only pop values and push one: PURE maps each to a function of its immediates and
 these values."""
-from symbolic_terms import ones
+from oracle.symbolic_terms import ones
 
 from .values import HALF, WORD, Address, binary, compare, condition, decided, high, low, side_by_side
 

@@ -4,7 +4,7 @@ assembly source.
 The functions have no names: the call graph identifies them. They get the names of an assembly source."""
 import functools
 
-from symbolic_terms import RUNS, NotShown
+from oracle.symbolic_terms import RUNS, NotShown
 
 from .. import values as of_text
 from ..stripes import DEEP

@@ -3,10 +3,10 @@ import functools
 import hashlib
 import os
 
-from symbolic_terms import comparison, cuts
-from symbolic_terms.processes import Task
-from symbolic_terms.comparison import title_of
-from symbolic_terms.tasks import STREAM_SECRETS
+from oracle.symbolic_terms import comparison, cuts
+from oracle.symbolic_terms.processes import Task
+from oracle.symbolic_terms.comparison import title_of
+from oracle.symbolic_terms.tasks import STREAM_SECRETS
 
 from .. import coverage
 from .. import tasks as of_texts

@@ -2,10 +2,10 @@
 64-bit lanes."""
 import contextlib
 
-from symbolic_terms import (BINARY, Memory, Node, Poly, Undecided, Unsupported, at_most, compare_numbers, divided,
-                            halves, is_natural, is_number, is_same_number, minus, ones, operations, plus, rotated,
-                            times, wrapped, zeros_below)
-from symbolic_terms.polynomials import polynomial, remainder
+from oracle.symbolic_terms import (BINARY, Memory, Node, Poly, Undecided, Unsupported, at_most, compare_numbers, divided,
+                                   halves, is_natural, is_number, is_same_number, minus, ones, operations, plus, rotated,
+                                   times, wrapped, zeros_below)
+from oracle.symbolic_terms.polynomials import polynomial, remainder
 
 from .. import values as of_text
 

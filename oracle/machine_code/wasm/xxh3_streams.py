@@ -6,8 +6,8 @@ Each call takes the secret, of any length that fits in memory. Calls test if the
 record without stripes, whose accumulators are known, is a separate case."""
 import functools
 
-from symbolic_terms import (LONGEST as MOST_BYTES, Node, NotShown, Request, at_most, given, is_natural, is_same_number, minus,
-                            plus, same, symbol, times, variable)
+from oracle.symbolic_terms import (LONGEST as MOST_BYTES, Node, NotShown, Request, at_most, given, is_natural, is_same_number, minus,
+                                   plus, same, symbol, times, variable)
 
 from .. import layouts
 from ..cargo_streams import FEW
